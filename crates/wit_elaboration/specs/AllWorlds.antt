@@ -2,7 +2,7 @@
 use Rattle.std.specs.Prelude.{◌≡◌, ℕ, List, map, Contains, Option, None, Some}
 use Rattle.std.specs.List.{AllZip}
 use Rattle.wit_data.specs.declared.world.World.{World}
-use Rattle.wit_elaboration.specs.Elaborated.{elaborated_exports, elaborated_imports}
+use Rattle.wit_elaboration.specs.Elaborated.{with_elaborated_lists}
 use Rattle.wit_elaboration.specs.Elaboration.{graph_uses}
 use Rattle.wit_elaboration.specs.Imported.{HasConflict, IsRefusedName}
 use Rattle.wit_elaboration.specs.declared.entries.Lists.{Lists}
@@ -10,12 +10,9 @@ use Rattle.wit_graph_data.specs.declared.error_kind.ResolveErrorKind.{ResolveErr
 use Rattle.wit_graph_data.specs.declared.error_kind.ResolveErrorKind.TheVariants.{InvalidTransitiveDependency}
 use Rattle.wit_graph_data.specs.declared.graph.Graph.{Graph}
 
--- a world with its lists elaborated over a graph
+-- a world with its lists elaborated, over the types and interfaces of a graph
 abbrev pub elaborated_world : Graph → World → World
-elaborated_world g world = record world {
-  imports = elaborated_imports g.types (graph_uses g) world.imports world.exports;
-  exports = elaborated_exports g.types (graph_uses g) world.exports;
-}
+elaborated_world g world = with_elaborated_lists g.types (graph_uses g) world
 
 -- the graph with all its worlds elaborated
 abbrev pub all_elaborated : Graph → Graph

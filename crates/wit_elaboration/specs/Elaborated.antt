@@ -94,7 +94,14 @@ elaborated_exports types uses exports =
     filter (λ e. not (is_interface e)) exports
     ++ fresh_entries [] (flat_map (export_with_needs types uses (is_exported exports)) (filter is_interface exports))
 
+-- a world with its lists elaborated, over these types and uses
+abbrev pub with_elaborated_lists : List TypeDef → List (List ℕ) → World → World
+with_elaborated_lists types uses world = record world {
+  imports = elaborated_imports types uses world.imports world.exports;
+  exports = elaborated_exports types uses world.exports;
+}
+
 -- from a world's lists to its elaboration, which there is where there is no conflict
 pub record Elaborated (types : List TypeDef) (uses : List (List ℕ)) (old new : World) : Type 0 where
   pub no_conflict : HasConflict uses old.exports → ⊥
-  pub world_is : new ≡ record old { imports = elaborated_imports types uses old.imports old.exports; exports = elaborated_exports types uses old.exports }
+  pub world_is : new ≡ with_elaborated_lists types uses old

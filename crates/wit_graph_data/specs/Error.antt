@@ -1,4 +1,4 @@
--- The numbers and places of errors.
+-- The numbers and places of errors; and when nothing is refused.
 use Rattle.std.specs.Prelude.{ℕ, Option, None}
 use Rattle.wit_sources.specs.declared.source_map.MapFault.{MapFault}
 use Rattle.wit_sources.specs.declared.source_map.MapFault.TheVariants as fault
@@ -42,6 +42,10 @@ error_number (StabilityMismatch span from into) = 8
 error_number (Semantic span message cause) = cause_number cause
 error_number OffsetOverflow = 27
 error_number OutOfMemory = 28
+
+-- accepted: no cause of a table of causes holds
+abbrev pub NoCause : (ResolveErrorKind → Type 0) → Type 0
+NoCause table = (error : ResolveErrorKind) → table error → ⊥
 
 -- where the fault is: the first of two places, and unknown for the two errors that have none
 abbrev pub error_span : ResolveErrorKind → Option (ℕ × ℕ)

@@ -10,6 +10,7 @@ use Rattle.wit_data.specs.declared.world.World.{World}
 use Rattle.wit_data.specs.declared.world.WorldItem.TheVariants as item
 use Rattle.wit_data.specs.declared.world.WorldKey.TheVariants as key
 use Rattle.wit_elaboration.specs.Entries.{Entry}
+use Rattle.wit_graph_data.specs.Error.{NoCause}
 use Rattle.wit_graph_data.specs.examples.Samples.{entry_of, foo_bar, foo_bar_of, sample, type_of, world_of}
 use Rattle.wit_graph_data.specs.declared.cause.Cause.TheVariants.{NameTaken, TypeExported}
 use Rattle.wit_graph_data.specs.declared.error_kind.ResolveErrorKind.{ResolveErrorKind}
@@ -47,10 +48,10 @@ of_another_v imports exports = two_packages (world_of (codes "v") imports export
 
 pub record ExamplesOfNamesInUse : Type 0 where
   -- the name of a world of another package is free, for either turn: whatever is told, there is no reason
-  pub free_to_importize : (error : ResolveErrorKind) → IsImportizeCause of_w 0 (Some (codes "v")) error → ⊥
-  pub free_to_exportize : (error : ResolveErrorKind) → IsExportizeCause of_w 0 (true ∷ []) (Some (codes "v")) error → ⊥
+  pub free_to_importize : NoCause (IsImportizeCause of_w 0 (Some (codes "v")))
+  pub free_to_exportize : NoCause (IsExportizeCause of_w 0 (true ∷ []) (Some (codes "v")))
   -- also the other way round
-  pub free_in_the_second : (error : ResolveErrorKind) → IsImportizeCause of_w 2 (Some (codes "w")) error → ⊥
+  pub free_in_the_second : NoCause (IsImportizeCause of_w 2 (Some (codes "w")))
   -- and two worlds have it then, each in its package
   pub importized_to_it : transformed of_w 0 (importized (Some (codes "v"))) ≡ of_another_v [] []
   pub exportized_to_it : transformed of_w 0 (exportized (true ∷ []) (Some (codes "v"))) ≡ of_another_v [] (a ∷ [])

@@ -16,14 +16,13 @@ use Rattle.wit_graph_theory.specs.facts.ListFacts.{contained_at, place_of}
 use Rattle.wit_elaboration.proofs.Filters.{Contains-filter}
 use Rattle.wit_link_spec.specs.Addition.{Addition, active_includes, active_world_id, addition_maps, own_worlds, remapped_world}
 use Rattle.wit_link_spec.specs.steps.AdditionRefs.{new_ids_of}
-use Rattle.wit_link_spec.specs.Cause.{AdditionIsAccepted, IsCause, borrow_in_result_15, conflict_4, duplicate_5, excluded_11, excluded_owner_12, gate_unreleased_10, gate_without_version_9, interface_not_found_3, mismatch_8, no_getter_18, not_a_resource_14, not_strongly_unique_17, offset_overflow_27, package_not_found_1, rename_unmatched_16, shadowing_7, type_not_defined_13, world_not_found_2}
+use Rattle.wit_link_spec.specs.Cause.{AdditionIsAccepted, IsCause, borrow_in_result_15, duplicate_5, excluded_11, excluded_owner_12, gate_unreleased_10, gate_without_version_9, interface_not_found_3, not_a_resource_14, of_world, offset_overflow_27, package_not_found_1, type_not_defined_13, world_not_found_2}
 use Rattle.wit_link_spec.specs.Gates.{include_is_active}
-use Rattle.wit_link_spec.specs.Pushed.{pushed}
+use Rattle.wit_link_spec.specs.Pushed.{placed_include, placed_includes, pushed}
 use Rattle.wit_link_spec.specs.WorldReasons.{WorldIsAccepted}
 use Rattle.wit_link_spec.specs.facts.PassedFacts.{has_image}
 use Rattle.wit_link_spec.specs.Reasons.{HasPackage, IsResolved}
 use Rattle.wit_link_spec.specs.facts.OwnThingFacts.{own_world_from}
-use Rattle.wit_link_include.specs.facts.AdditionFacts.{placed_include, placed_includes}
 use Rattle.wit_remap.specs.steps.Added.{added_world}
 use Rattle.wit_remap.specs.steps.Movers.{goes, id_or}
 use Rattle.wit_remap.specs.declared.worlds.PlacedWorld.{PlacedWorld}
@@ -37,10 +36,7 @@ module _ (a : Addition) (is_new : IsNew a) (checked : IsChecked a) (each_world :
   is_accepted _ (package_not_found_1 span requested known is) = checked.found.packages span requested known is
   is_accepted _ (world_not_found_2 span requested home is) = checked.found.worlds span requested home is
   is_accepted _ (interface_not_found_3 span requested home is) = checked.found.interfaces span requested home is
-  is_accepted _ (conflict_4 k span name reached is) = (each_world k).exports span name is
   is_accepted _ (duplicate_5 name span1 span2 is) = is_new.absent is.there
-  is_accepted _ (shadowing_7 k j span word name reached is) = ((each_world k).includes reached.has_image j).unshadowed span word name is
-  is_accepted _ (mismatch_8 k j span from into reached is) = ((each_world k).includes reached.has_image j).agrees span from into is
   is_accepted _ (gate_without_version_9 span message is) = checked.met.version span message is
   is_accepted _ (gate_unreleased_10 span message is) = checked.met.released span message is
   is_accepted _ (excluded_11 span message is) = checked.needs.references span message is
@@ -48,10 +44,8 @@ module _ (a : Addition) (is_new : IsNew a) (checked : IsChecked a) (each_world :
   is_accepted _ (type_not_defined_13 span message is) = checked.found.types span message is
   is_accepted _ (not_a_resource_14 span message is) = checked.resources span message is
   is_accepted _ (borrow_in_result_15 span message is) = checked.no_borrow span message is
-  is_accepted _ (rename_unmatched_16 k j span message reached is) = ((each_world k).includes reached.has_image j).renames span message is
-  is_accepted _ (not_strongly_unique_17 k span message reached is) = (each_world k).labels span message is
-  is_accepted _ (no_getter_18 k span message reached is) = (each_world k).setters span message is
   is_accepted _ (offset_overflow_27 is) = is_new.fits is
+  is_accepted _ (of_world k error reached is) = each_world k error is
 
   -- and it is added
   pub is_added : (new : Graph) → new ≡ pushed a → IsAdded a new (length a.graph.packages)

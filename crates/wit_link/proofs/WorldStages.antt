@@ -8,18 +8,19 @@ use Rattle.wit_data.specs.Shape.{IsShaped}
 use Rattle.wit_data.specs.declared.world.World.{World}
 use Rattle.wit_data.specs.declared.world.WorldInclude.{WorldInclude}
 use Rattle.wit_elaboration.specs.Valid.{IsValid}
+use Rattle.wit_graph_data.specs.Error.{NoCause}
 use Rattle.wit_graph_data.specs.declared.error_kind.ResolveErrorKind.{ResolveErrorKind}
 use Rattle.wit_graph_data.specs.declared.error_kind.ResolveErrorKind.TheVariants.{OutOfMemory}
 use Rattle.wit_graph_data.specs.declared.graph.Graph.{Graph}
 use Rattle.wit_graph_theory.specs.facts.ListFacts.{from_map}
 use Rattle.wit_link_spec.specs.Addition.{Addition, own_worlds}
 use Rattle.wit_link_spec.specs.Cause.{IsCause, IsReached}
-use Rattle.wit_link_spec.specs.Include.{EntryLists}
-use Rattle.wit_link_spec.specs.Pushed.{pushed, with_parts, with_world, with_worlds}
+use Rattle.wit_link_spec.specs.Pushed.{placed_includes, pushed, with_parts, with_world, with_worlds}
 use Rattle.wit_link_spec.specs.Reasons.{IsResolved}
-use Rattle.wit_link_spec.specs.WorldReasons.{AtWorld, HaveLists, WorldIsAccepted, made, written}
+use Rattle.wit_link_spec.specs.WorldReasons.{AtWorld, WorldIsAccepted}
+use Rattle.wit_link_spec.specs.facts.WorldCauseFacts.{cause_world}
 use Rattle.wit_link_laws.specs.laws.StageFacts.{IncludedAreThere, IncludesCanBe, WorldsCanBe}
-use Rattle.wit_link_include.specs.facts.AdditionFacts.{home, image_at, next_stage, placed_includes, reached_accepted, world_cause}
+use Rattle.wit_link_include.specs.facts.AdditionFacts.{home, image_at, next_stage, reached_accepted, world_cause}
 use Rattle.wit_link_include.specs.steps.Included as local
 use Rattle.wit_link_include.specs.facts.ReadyFacts.{can_be_added}
 use Rattle.wit_remap.specs.declared.worlds.PlacedWorld.{PlacedWorld}
@@ -51,10 +52,10 @@ module _ (a : Addition) (done rest : List PlacedWorld) (placed : PlacedWorld) (g
   pub is_ready : IncludedAreThere → IncludesCanBe → WorldsCanBe → IsValid a.graph → IsShaped a.unresolved → IsResolved a → local.CanBeAdded (home a) g placed.world placed.includes
   is_ready there includes worlds valid shaped image = told (local.CanBeAdded (home a)) (can_be_added there includes worlds a valid shaped image (length done) is.fine turn)
 
-  pub adding-next : (new : Graph) → new ≡ local.with_including (home a) g placed.world placed.includes → local.IsAcceptedWorld (home a) g placed.world placed.includes → IsAdding a (done ++ placed ∷ []) new
+  pub adding-next : (new : Graph) → new ≡ local.with_including (home a) g placed.world placed.includes → NoCause (local.IsWorldCause (home a) g placed.world placed.includes) → IsAdding a (done ++ placed ∷ []) new
   adding-next new new_is fine =
       let long : length (done ++ placed ∷ []) ≡ length done + 1 = length_push done placed in
-      let one : WorldIsAccepted a (length done) = reached_accepted a (length done) turn (back (local.IsAcceptedWorld (home a)) fine) in
+      let one : WorldIsAccepted a (length done) = reached_accepted a (length done) turn (back (λ (h : Graph) (w : World) (l : List WorldInclude). NoCause (local.IsWorldCause (home a) h w l)) fine) in
       record {
         graph = back (λ (h : Graph) (w : World) (l : List WorldInclude). new ≡ local.with_including (home a) h w l) new_is ∙ sym (next_stage a (length done) turn) ∙ ap (with_worlds a) (sym long);
         fine = subst (IsReached a) (sym long) (below_more (WorldIsAccepted a) (length done) is.fine one);
@@ -71,22 +72,9 @@ module _ (a : Addition) (k : ℕ) (past : length (own_worlds a) ≤ k) where
   no_world : AtWorld a k → ⊥
   no_world at = let within : k < length (own_worlds a) = slice_get_within (own_worlds a) k (at.place, at.world) at.is in omega arith
 
-  no_lists : (world : World) (lists : EntryLists) (moves : ℕ) → HaveLists a k world lists moves → ⊥
-  no_lists world lists moves (made at image fine) = no_world at
-  no_lists world lists moves (written at none) = no_world at
-
   -- where there is no world no cause holds against it
   pub none_fine : WorldIsAccepted a k
-  none_fine = record {
-    includes = λ image j. record {
-      unshadowed = λ span word name is. no_world is.at.at;
-      agrees = λ span brings has is. no_world is.at.at;
-      renames = λ span message is. no_world is.at.at;
-    };
-    labels = λ span message is. no_lists is.world is.lists is.moves is.have;
-    setters = λ span message is. no_lists is.world is.lists is.moves is.have;
-    exports = λ span name is. no_world is.at;
-  }
+  none_fine error is = no_world (cause_world a k error is)
 
 pub each_fine : (a : Addition) → IsReached a (length (own_worlds a)) → (k : ℕ) → WorldIsAccepted a k
 each_fine a fine k = elim (below_or_not k (length (own_worlds a))) [ inl below ↦ fine k below | inr past ↦ none_fine a k past ]

@@ -6,6 +6,7 @@ use Rattle.wit_data.specs.Shape.{IsShaped}
 use Rattle.wit_data.specs.declared.types.TypeDef.{TypeDef}
 use Rattle.wit_data.specs.declared.unresolved.UnresolvedPackage.{UnresolvedPackage}
 use Rattle.wit_data.specs.declared.unresolved.UnresolvedPackageGroup.{UnresolvedPackageGroup}
+use Rattle.wit_graph_data.specs.Error.{NoCause}
 use Rattle.wit_graph_data.specs.declared.error_kind.ResolveErrorKind.{ResolveErrorKind}
 use Rattle.wit_graph_data.specs.declared.error_kind.ResolveErrorKind.TheVariants.{OffsetOverflow}
 use Rattle.wit_graph_data.specs.declared.features.Features.{Features}
@@ -63,7 +64,7 @@ packages_of at (group ∷ groups) = map (λ (u : UnresolvedPackage). (u, at)) (g
 -- adding unresolved packages has a reason to be refused with this error: they can be sorted, and one of them
 -- can't be added to what those before it make of the graph
 pub record IsPushCause (features : Features) (g : Graph) (unresolved : List Unresolved) (error : ResolveErrorKind) : Type 0 where
-  pub sortable : (e : ResolveErrorKind) → IsSortCause unresolved e → ⊥
+  pub sortable : NoCause (IsSortCause unresolved)
   pub order : List ℕ
   pub sorted : List Unresolved
   pub are_sorted : AreSorted unresolved order sorted

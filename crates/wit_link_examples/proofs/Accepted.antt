@@ -21,10 +21,11 @@ use Rattle.wit_link_spec.specs.Gates.{OptionalSpan}
 use Rattle.wit_link_spec.specs.Reasons.{AdditionOverflows, IsActiveFunction, IsResolved}
 use Rattle.wit_link_spec.specs.Reasons as part
 use Rattle.wit_link_spec.specs.Spans.{package_spans}
-use Rattle.wit_link_spec.specs.WorldReasons.{AreNotStronglyUnique, AtInclude, AtWorld, IncludeIsAccepted, IncludeMismatches, LacksGetter, RenamesNothing, Shadows, WorldHasConflict}
-use Rattle.wit_link_examples.proofs.AtWorlds.{all_fine, at_of, fine_without, no_include, of_first}
+use Rattle.wit_link_spec.specs.WorldReasons.{AtInclude, AtWorld, IncludeIsAccepted, IsCauseAtWorld}
+use Rattle.wit_link_spec.specs.facts.WorldCauseFacts.{cause_world}
+use Rattle.wit_link_examples.proofs.AtWorlds.{all_fine, fine_without, no_include, of_first}
 use Rattle.wit_link_examples.proofs.HasImage.{image}
-use Rattle.wit_link_examples.proofs.WorldTests.{IsPlain, fine, plain_exports, plain_getters, plain_labels}
+use Rattle.wit_link_examples.proofs.WorldTests.{IsPlain, fine, plain_accepted}
 use Rattle.wit_link_examples.specs.IncludedWorlds.{including}
 use Rattle.wit_link_examples.specs.Packages.{adding, first_package, include_with, no_features}
 
@@ -75,12 +76,7 @@ module _ (a : Addition) (y : AtWorld a 0) (p : Passes a y) where
   is_accepted _ (reason.package_not_found_1 span requested known c) = p.has_image.packages span requested known c
   is_accepted _ (reason.world_not_found_2 span requested home c) = p.has_image.worlds span requested home c
   is_accepted _ (reason.interface_not_found_3 span requested home c) = p.has_image.interfaces span requested home c
-  is_accepted _ (reason.conflict_4 k span name reached c) = of_first a p.later (λ (n : ℕ). WorldHasConflict a n span name) (λ n (x : WorldHasConflict a n span name). x.at) (plain_exports a 0 y p.plain span name) k c
   is_accepted _ (reason.duplicate_5 name span1 span2 c) = not_passed p.absent c.there
-  is_accepted _ (reason.shadowing_7 k j span word name reached c) =
-      of_first a p.later (λ (n : ℕ). Shadows a n j span word name) (λ n (x : Shadows a n j span word name). x.at.at) ((p.includes j).unshadowed span word name) k c
-  is_accepted _ (reason.mismatch_8 k j span from into reached c) =
-      of_first a p.later (λ (n : ℕ). IncludeMismatches a n j span from into) (λ n (x : IncludeMismatches a n j span from into). x.at.at) ((p.includes j).agrees span from into) k c
   is_accepted _ (reason.gate_without_version_9 span message c) = p.has_image.version span message c
   is_accepted _ (reason.gate_unreleased_10 span message c) = p.has_image.released span message c
   is_accepted _ (reason.excluded_11 span message c) = p.has_image.references span message c
@@ -88,13 +84,8 @@ module _ (a : Addition) (y : AtWorld a 0) (p : Passes a y) where
   is_accepted _ (reason.type_not_defined_13 span message c) = p.has_image.types span message c
   is_accepted _ (reason.not_a_resource_14 span message c) = nothing_in a.unresolved.required_resource_types (c.t, c.place) p.required c.required
   is_accepted _ (reason.borrow_in_result_15 span message c) = no_active c.f c.active
-  is_accepted _ (reason.rename_unmatched_16 k j span message reached c) =
-      of_first a p.later (λ (n : ℕ). RenamesNothing a n j span message) (λ n (x : RenamesNothing a n j span message). x.at.at) ((p.includes j).renames span message) k c
-  is_accepted _ (reason.not_strongly_unique_17 k span message reached c) =
-      of_first a p.later (λ (n : ℕ). AreNotStronglyUnique a n span message) (λ n (x : AreNotStronglyUnique a n span message). at_of a n x.world x.lists x.moves x.have) (plain_labels a 0 y p.plain span message) k c
-  is_accepted _ (reason.no_getter_18 k span message reached c) =
-      of_first a p.later (λ (n : ℕ). LacksGetter a n span message) (λ n (x : LacksGetter a n span message). at_of a n x.world x.lists x.moves x.have) (plain_getters a 0 y p.plain span message) k c
   is_accepted _ (reason.offset_overflow_27 c) = fits c
+  is_accepted _ (reason.of_world k error reached c) = of_first a p.later (λ (n : ℕ). IsCauseAtWorld a n error) (λ n x. cause_world a n error x) (plain_accepted a 0 y p.plain (λ image. p.includes) error) k c
 
 -- ---- the first package
 

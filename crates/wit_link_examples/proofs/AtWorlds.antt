@@ -7,8 +7,13 @@ use Rattle.wit_graph_theory.specs.examples.TestFacts.{none_some}
 use Rattle.wit_link_spec.specs.Addition.{Addition, active_includes, own_worlds, remapped_world}
 use Rattle.wit_link_spec.specs.Include.{EntryLists, PartiallyLinked, lists_of}
 use Rattle.wit_link_spec.specs.Pushed.{with_all_includes, with_includes, with_worlds}
-use Rattle.wit_link_spec.specs.WorldReasons.{AtInclude, AtWorld, HaveLists, IncludeIsAccepted}
-use Rattle.wit_link_spec.specs.WorldReasons as reason
+use Rattle.wit_link_spec.specs.Reasons.{IsResolved}
+use Rattle.wit_link_spec.specs.WorldReasons.{AtInclude, AtWorld, IncludeIsAccepted}
+
+-- the lists of world k by which its labels are told: with all its includes, or as they are written where it lists none
+pub data HaveLists (a : Addition) (k : ℕ) : EntryLists → Type 0 where
+  made : (at : AtWorld a k) → IsResolved a → ((j : ℕ) → IncludeIsAccepted a k j) → HaveLists a k (with_all_includes a at.place at.world (with_worlds a k)).lists
+  written : (at : AtWorld a k) → at.world.includes ≡ [] → HaveLists a k (lists_of at.world)
 
 module _ (a : Addition) (k : ℕ) where
   pub world_same : (x y : AtWorld a k) → (x.place ≡ y.place) × (x.world ≡ y.world)
@@ -46,21 +51,19 @@ module _ (a : Addition) (k : ℕ) where
       cc
 
   pub fine_without : (j : ℕ) → (AtInclude a k j → ⊥) → IncludeIsAccepted a k j
-  fine_without j none = record { unshadowed = λ span word name c. none c.at; agrees = λ span brings has c. none c.at; renames = λ span message c. none c.at }
+  fine_without j none error c = none c.at
 
-  -- the lists of a world: those with its includes, or those as it is written where it has no include
-  pub lists_are : (y : AtWorld a k) (world : World) (lists : EntryLists) (moves : ℕ) → HaveLists a k world lists moves
-      → (world ≡ y.world) × ((lists ≡ (with_all_includes a y.place y.world (with_worlds a k)).lists) ⊎ ((y.world.includes ≡ []) × (lists ≡ lists_of y.world)))
-  lists_are y _ _ _ (reason.made at image fine) =
+  pub lists_are : (y : AtWorld a k) (lists : EntryLists) → HaveLists a k lists → (lists ≡ (with_all_includes a y.place y.world (with_worlds a k)).lists) ⊎ ((y.world.includes ≡ []) × (lists ≡ lists_of y.world))
+  lists_are y _ (made at image fine) =
       let same = world_same at y in
-      (same.1, inl (ap (λ (p : ℕ). (with_all_includes a p at.world (with_worlds a k)).lists) same.0 ∙ ap (λ (w : World). (with_all_includes a y.place w (with_worlds a k)).lists) same.1))
-  lists_are y _ _ _ (reason.written at none) =
+      inl (ap (λ (p : ℕ). (with_all_includes a p at.world (with_worlds a k)).lists) same.0 ∙ ap (λ (w : World). (with_all_includes a y.place w (with_worlds a k)).lists) same.1)
+  lists_are y _ (written at none) =
       let same = world_same at y in
-      (same.1, inr (subst (λ (w : World). w.includes ≡ []) same.1 none, ap lists_of same.1))
+      inr (subst (λ (w : World). w.includes ≡ []) same.1 none, ap lists_of same.1)
 
-  pub at_of : (world : World) (lists : EntryLists) (moves : ℕ) → HaveLists a k world lists moves → AtWorld a k
-  at_of _ _ _ (reason.made at image fine) = at
-  at_of _ _ _ (reason.written at none) = at
+  pub list_world : (lists : EntryLists) → HaveLists a k lists → AtWorld a k
+  list_world _ (made at image fine) = at
+  list_world _ (written at none) = at
 
 -- ---- where there is one world, and one include of it
 

@@ -11,6 +11,7 @@ use Rattle.wit_data.specs.declared.world.World.{World}
 use Rattle.wit_data.specs.declared.world.WorldItem.TheVariants as item
 use Rattle.wit_data.specs.declared.world.WorldKey.TheVariants as key
 use Rattle.wit_elaboration.specs.Imported.{HasConflict}
+use Rattle.wit_graph_data.specs.declared.error_kind.ResolveErrorKind.TheVariants.{InvalidTransitiveDependency, ItemShadowing, StabilityMismatch}
 use Rattle.wit_graph_data.specs.examples.Samples.{entry_of, no_docs, sample}
 use Rattle.wit_graph_theory.specs.examples.TestFacts.{none_in, one_of_two, only_one}
 use Rattle.wit_labels.specs.examples.Examples.{function_entry}
@@ -19,12 +20,13 @@ use Rattle.wit_link_spec.specs.Cause as reason
 use Rattle.wit_link_spec.specs.Gates.{OptionalSpan}
 use Rattle.wit_link_spec.specs.Include.{include_stability, is_other_package, lists_of}
 use Rattle.wit_link_spec.specs.Reasons.{IsResolved}
-use Rattle.wit_link_spec.specs.WorldReasons.{AreNotStronglyUnique, AtInclude, HasStability, IncludeIsAccepted, IncludeMismatches, LacksGetter, Shadows, WorldHasConflict}
-use Rattle.wit_link_spec.specs.WorldReasons as world_reason
-use Rattle.wit_link_examples.proofs.AtWorlds.{all_fine, at_of, include_same, of_first, of_first_include}
+use Rattle.wit_link_spec.specs.IncludeCause.{HasStability, mismatch_8, shadowing_7}
+use Rattle.wit_link_spec.specs.WorldReasons.{AtInclude, IncludeIsAccepted, IsCauseAtFinish, IsCauseAtInclude, of_finish}
+use Rattle.wit_link_spec.specs.FinishCause.{conflict_4, no_getter_18, not_strongly_unique_17}
+use Rattle.wit_link_examples.proofs.AtWorlds.{all_fine, include_same, list_world, of_first, of_first_include}
 use Rattle.wit_link_examples.proofs.HasImage.{image}
-use Rattle.wit_link_examples.proofs.Matching.{of_alike, of_conflict, of_getter, of_mismatch, of_shadowing}
-use Rattle.wit_link_examples.proofs.WorldCauses.{first_reached, include_reached, label_same, other_feature, stability_of}
+use Rattle.wit_link_examples.proofs.Matching.{ClashAt, LonelySetterAt, apart_of, of_alike, of_conflict, of_getter, of_mismatch, of_shadowing}
+use Rattle.wit_link_examples.proofs.WorldCauses.{at_first_include, first_reached, label_same, other_feature, stability_of}
 use Rattle.wit_link_examples.proofs.WorldTests.{Passes, conflict_of, fine, none_alike, none_lacks, one_list, unshadowed}
 use Rattle.wit_link_examples.specs.Packages.{adding, exporting_c, gate_f, gate_g, gated_entry, including_lists, no_features, since_one, three, three_exporting}
 use Rattle.wit_link_examples.specs.WorldCauses.{ExamplesOfIncludedCauses, both_export, both_import}
@@ -69,17 +71,18 @@ only_gate : (i : ℕ) (brings : Stability) → HasStability (gated_entry since_o
 only_gate i brings (docs, place, external_id, inside) =
     ap (λ (e : Entry). stability_of e.1) (only_one (gated_entry since_one) (key.Interface i, item.Interface i brings docs place external_id) inside)
 
-since : (span : OptionalSpan) (brings has : Stability) → IncludeMismatches (exports (gated_entry since_one) (gated_entry gate_f)) 0 0 span brings has → ⊥
-since span brings has c =
-    let same = include_same (exports (gated_entry since_one) (gated_entry gate_f)) 0 0 c.at (gate_include since_one) in
-    elim (one_list c.word c.at.before.lists (lists_of c.at.old) c.current c.brought c.list.0 c.list.1) [
+since : (span : OptionalSpan) (brings has : Stability) → IsCauseAtInclude (exports (gated_entry since_one) (gated_entry gate_f)) 0 0 (StabilityMismatch span brings has) → ⊥
+since span brings has x =
+    let same = include_same (exports (gated_entry since_one) (gated_entry gate_f)) 0 0 x.at (gate_include since_one) in
+    let c = apart_of _ _ _ _ span brings has x.cause in
+    elim (one_list c.word x.at.before.lists (lists_of x.at.old) c.current c.brought c.list.0 c.list.1) [
       | inl both ↦
           let comes : HasStability [] c.i brings = subst (λ (es : List Entry). HasStability es c.i brings) (both.1 ∙ ap (λ (w : World). w.imports) same.old_is) c.comes in
           none_in _ comes.3
       | inr both ↦
           let comes : HasStability (gated_entry since_one ∷ []) c.i brings = subst (λ (es : List Entry). HasStability es c.i brings) (both.1 ∙ ap (λ (w : World). w.exports) same.old_is) c.comes in
           let is = only_gate c.i brings comes in
-          let counts : include_stability (is_other_package c.at.old.package 1) since_one has ≡ since_one = subst (λ (s : Stability). include_stability (is_other_package c.at.old.package 1) s has ≡ s) (sym is) c.counts in
+          let counts : include_stability (is_other_package x.at.old.package 1) since_one has ≡ since_one = subst (λ (s : Stability). include_stability (is_other_package x.at.old.package 1) s has ≡ s) (sym is) c.counts in
           let here : Unknown ≡ since_one = subst (λ (w : World). include_stability (is_other_package w.package 1) since_one has ≡ since_one) same.old_is counts in
           known here
     ]
@@ -129,10 +132,10 @@ closed (j, (x, d, exported, used, outside, reaches), is_exported) =
 
 -- ---- labels with what comes
 
-not_alike : (span : OptionalSpan) (message : List ℕ) → AreNotStronglyUnique (imports (codes "ab") (codes "ac")) 0 span message → ⊥
+not_alike : ClashAt (imports (codes "ab") (codes "ac")) 0 → ⊥
 not_alike = none_alike (imports (codes "ab") (codes "ac")) 0 (import_include (codes "ab") (codes "ac")).at (record { imports = refl; exports = refl; written = λ none. cc })
 
-getter_comes : (span : OptionalSpan) (message : List ℕ) → LacksGetter (imports (codes "[get]p") (codes "[set]p")) 0 span message → ⊥
+getter_comes : LonelySetterAt (imports (codes "[get]p") (codes "[set]p")) 0 → ⊥
 getter_comes = none_lacks (imports (codes "[get]p") (codes "[set]p")) 0 (import_include (codes "[get]p") (codes "[set]p")).at (record { imports = refl; exports = refl; written = λ none. cc })
 
 -- the labels of the setter and of f are not that of the getter
@@ -151,113 +154,89 @@ crosswise_include = record { at = record { place = 1; world = _; is = refl }; in
 
 pub included_causes : ExamplesOfIncludedCauses
 included_causes = record {
-  conflict = reason.conflict_4 0 _ _ (first_reached (exporting 0)) (record {
+  conflict = reason.of_world 0 _ (first_reached (exporting 0)) (of_finish _ (exporting_image 0) (all_fine (exporting 0) (exporting_include 0) (λ j. refl)
+      (fine (exporting 0) 0 0 (exporting_include 0) (record { import_labels = refl; export_labels = refl; import_keys = refl; export_keys = refl; names = refl }))) (record {
     at = (exporting_include 0).at;
-    has_image = exporting_image 0;
-    includes_are_accepted = all_fine (exporting 0) (exporting_include 0) (λ j. refl)
-        (fine (exporting 0) 0 0 (exporting_include 0) (record { import_labels = refl; export_labels = refl; import_keys = refl; export_keys = refl; names = refl }));
-    b = _;
-    is = refl;
-    conflict = (0, (2, 1, (0, lit< tt, refl), (0, lit< tt, refl), b_outside, (0 ∷ [], ((0, lit< tt, refl), refl))), (1, lit< tt, refl));
-    name_is = (
-      key.Interface 2,
-      (
-        [],
-        entry_of 2,
-        entry_of 0 ∷ [],
+    whole = _;
+    whole_is = refl;
+    cause = conflict_4 (codes "foo:bar/c") (record {
+      conflict = (0, (2, 1, (0, lit< tt, refl), (0, lit< tt, refl), b_outside, (0 ∷ [], ((0, lit< tt, refl), refl))), (1, lit< tt, refl));
+      name_is = (
+        key.Interface 2,
+        (
+          [],
+          entry_of 2,
+          entry_of 0 ∷ [],
+          refl,
+          λ e inside. absurd (none_in e inside),
+          (2, (0, lit< tt, refl), (1, 1, (0, lit< tt, refl), ([], refl), b_outside, (0, (0 ∷ [], ((0, lit< tt, refl), refl)), (1, lit< tt, refl)))),
+          refl,
+        ),
         refl,
-        λ e inside. absurd (none_in e inside),
-        (2, (0, lit< tt, refl), (1, 1, (0, lit< tt, refl), ([], refl), b_outside, (0, (0 ∷ [], ((0, lit< tt, refl), refl)), (1, lit< tt, refl)))),
-        refl,
-      ),
-      refl,
-    );
-    span_is = refl;
-  });
+      );
+    });
+  }));
   closed = λ span name c.
       let found = of_conflict (exporting 1) span name c in
-      of_first (exporting 1) (λ k. refl) (λ (k : ℕ). WorldHasConflict (exporting 1) k span name) (λ k x. x.at)
+      of_first (exporting 1) (λ k. refl) (λ (k : ℕ). IsCauseAtFinish (exporting 1) k (InvalidTransitiveDependency span name)) (λ k x. x.at)
       (λ x. closed (conflict_of (exporting 1) 0 (exporting_include 1).at span name x)) found.0 found.1;
-  shadows = reason.shadowing_7 0 0 _ _ _ (include_reached _ (exports_image (codes "f") (codes "f"))) (record {
+  shadows = at_first_include _ _ (exports_image (codes "f") (codes "f")) (record {
     at = export_include (codes "f") (codes "f");
-    current = _;
-    brought = _;
-    list = (inr (refl, refl), inr (refl, refl));
-    shadowed = record { before = []; after = []; are = refl; there = (0, lit< tt, refl) };
-    span_is = refl;
+    cause = shadowing_7 (codes "export") (codes "f") (record {
+      current = _;
+      brought = _;
+      list = (inr (refl, refl), inr (refl, refl));
+      shadowed = record { before = []; after = []; are = refl; there = (0, lit< tt, refl) };
+    });
   });
   imported = λ span word name c.
       let found = of_shadowing crosswise span word name c in
-      of_first_include crosswise (λ k. refl) crosswise_include.at (λ j. refl) (λ (k j : ℕ). Shadows crosswise k j span word name) (λ k j x. x.at)
+      of_first_include crosswise (λ k. refl) crosswise_include.at (λ j. refl) (λ (k j : ℕ). IsCauseAtInclude crosswise k j (ItemShadowing span word name)) (λ k j x. x.at)
       (unshadowed crosswise 0 0 crosswise_include refl refl span word name) found.0 found.1 found.3;
-  mismatch = reason.mismatch_8 0 0 _ _ _ (include_reached _ (gates_image gate_g)) (record {
+  mismatch = at_first_include _ _ (gates_image gate_g) (record {
     at = gate_include gate_g;
-    word = codes "export";
-    current = _;
-    brought = _;
-    i = 0;
-    list = (inr (refl, refl), inr (refl, refl));
-    there = (no_docs, None, None, (0, lit< tt, refl));
-    comes = (no_docs, None, None, (0, lit< tt, refl));
-    apart = record { from_known = λ same. cc; into_known = λ same. cc; differ = other_feature };
-    counts = refl;
-    span_is = refl;
+    cause = mismatch_8 gate_g gate_f (record {
+      word = codes "export";
+      current = _;
+      brought = _;
+      i = 0;
+      list = (inr (refl, refl), inr (refl, refl));
+      there = (no_docs, None, None, (0, lit< tt, refl));
+      comes = (no_docs, None, None, (0, lit< tt, refl));
+      apart = record { from_known = λ same. cc; into_known = λ same. cc; differ = other_feature };
+      counts = refl;
+    });
   });
   since = λ span brings has c.
       let found = of_mismatch (exports (gated_entry since_one) (gated_entry gate_f)) span brings has c in
       of_first_include (exports (gated_entry since_one) (gated_entry gate_f)) (λ k. refl) (gate_include since_one).at (λ j. refl)
-      (λ (k j : ℕ). IncludeMismatches (exports (gated_entry since_one) (gated_entry gate_f)) k j span brings has) (λ k j x. x.at) (since span brings has) found.0 found.1 found.2;
-  alike = reason.not_strongly_unique_17 0 _ _ (first_reached (imports (codes "ab") (codes "AB"))) (record {
-    world = _;
-    lists = _;
-    moves = 0;
-    have = world_reason.made (import_include (codes "ab") (codes "AB")).at (imports_image (codes "ab") (codes "AB"))
-        (imports_fine (codes "ab") (codes "AB") (record { import_labels = refl; export_labels = refl; import_keys = refl; export_keys = refl; names = refl }));
-    word = codes "import";
-    entries = _;
-    list = inl (refl, refl);
-    n = codes "ab";
-    m = codes "AB";
-    clash = (0, 1, lit< tt, refl, refl, refl);
-    span_is = refl;
-    message_is = refl;
-  });
-  alike_exports = reason.not_strongly_unique_17 0 _ _ (first_reached (exports (function_entry (codes "ab")) (function_entry (codes "AB")))) (record {
-    world = _;
-    lists = _;
-    moves = 0;
-    have = world_reason.made (export_include (codes "ab") (codes "AB")).at (exports_image (codes "ab") (codes "AB"))
-        (all_fine _ (export_include (codes "ab") (codes "AB")) (λ j. refl)
-        (fine _ 0 0 (export_include (codes "ab") (codes "AB")) (record { import_labels = refl; export_labels = refl; import_keys = refl; export_keys = refl; names = refl })));
-    word = codes "export";
-    entries = _;
-    list = inr (refl, refl);
-    n = codes "ab";
-    m = codes "AB";
-    clash = (0, 1, lit< tt, refl, refl, refl);
-    span_is = refl;
-    message_is = refl;
-  });
+      (λ (k j : ℕ). IsCauseAtInclude (exports (gated_entry since_one) (gated_entry gate_f)) k j (StabilityMismatch span brings has)) (λ k j x. x.at) (since span brings has) found.0 found.1 found.3;
+  alike = reason.of_world 0 _ (first_reached (imports (codes "ab") (codes "AB"))) (of_finish _ (imports_image (codes "ab") (codes "AB"))
+      (imports_fine (codes "ab") (codes "AB") (record { import_labels = refl; export_labels = refl; import_keys = refl; export_keys = refl; names = refl })) (record {
+    at = (import_include (codes "ab") (codes "AB")).at;
+    whole = _;
+    whole_is = refl;
+    cause = not_strongly_unique_17 (codes "import") (codes "ab") (codes "AB") (record { entries = _; list = inl (refl, refl); clash = (0, 1, lit< tt, refl, refl, refl) });
+  }));
+  alike_exports = reason.of_world 0 _ (first_reached (exports (function_entry (codes "ab")) (function_entry (codes "AB")))) (of_finish _ (exports_image (codes "ab") (codes "AB"))
+      (all_fine _ (export_include (codes "ab") (codes "AB")) (λ j. refl)
+      (fine _ 0 0 (export_include (codes "ab") (codes "AB")) (record { import_labels = refl; export_labels = refl; import_keys = refl; export_keys = refl; names = refl }))) (record {
+    at = (export_include (codes "ab") (codes "AB")).at;
+    whole = _;
+    whole_is = refl;
+    cause = not_strongly_unique_17 (codes "export") (codes "ab") (codes "AB") (record { entries = _; list = inr (refl, refl); clash = (0, 1, lit< tt, refl, refl, refl) });
+  }));
   not_alike = λ span message c.
       let found = of_alike (imports (codes "ab") (codes "ac")) span message c in
-      of_first (imports (codes "ab") (codes "ac")) (λ k. refl) (λ (k : ℕ). AreNotStronglyUnique (imports (codes "ab") (codes "ac")) k span message) (λ k x. at_of _ k x.world x.lists x.moves x.have) (not_alike span message) found.0 found.2;
-  no_getter = reason.no_getter_18 0 _ _ (first_reached (imports (codes "f") (codes "[set]p"))) (record {
-    world = _;
-    lists = _;
-    moves = 0;
-    have = world_reason.made (import_include (codes "f") (codes "[set]p")).at (imports_image (codes "f") (codes "[set]p"))
-        (imports_fine (codes "f") (codes "[set]p") (record { import_labels = refl; export_labels = refl; import_keys = refl; export_keys = refl; names = refl }));
-    word = codes "import";
-    entries = _;
-    list = inl (refl, refl);
-    label = codes "[set]p";
-    f = _;
-    setter = ((0, lit< tt, refl), (refl, refl));
-    no_getter = no_getter;
-    span_is = refl;
-    message_is = refl;
-  });
+      of_first (imports (codes "ab") (codes "ac")) (λ k. refl) (ClashAt (imports (codes "ab") (codes "ac"))) (λ k x. list_world _ k x.lists x.have) not_alike found.0 found.2;
+  no_getter = reason.of_world 0 _ (first_reached (imports (codes "f") (codes "[set]p"))) (of_finish _ (imports_image (codes "f") (codes "[set]p"))
+      (imports_fine (codes "f") (codes "[set]p") (record { import_labels = refl; export_labels = refl; import_keys = refl; export_keys = refl; names = refl })) (record {
+    at = (import_include (codes "f") (codes "[set]p")).at;
+    whole = _;
+    whole_is = refl;
+    cause = no_getter_18 (codes "import") (codes "[set]p") _ (record { entries = _; list = inl (refl, refl); setter = ((0, lit< tt, refl), (refl, refl)); absent = no_getter });
+  }));
   getter_comes = λ span message c.
       let found = of_getter (imports (codes "[get]p") (codes "[set]p")) span message c in
-      of_first (imports (codes "[get]p") (codes "[set]p")) (λ k. refl) (λ (k : ℕ). LacksGetter (imports (codes "[get]p") (codes "[set]p")) k span message) (λ k x. at_of _ k x.world x.lists x.moves x.have) (getter_comes span message) found.0 found.1;
+      of_first (imports (codes "[get]p") (codes "[set]p")) (λ k. refl) (LonelySetterAt (imports (codes "[get]p") (codes "[set]p"))) (λ k x. list_world _ k x.lists x.have) getter_comes found.0 found.1;
 }

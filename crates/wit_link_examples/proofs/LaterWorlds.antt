@@ -7,36 +7,34 @@ use Rattle.wit_data.specs.declared.world.World.{World}
 use Rattle.wit_data.specs.declared.world.WorldInclude.{WorldInclude}
 use Rattle.wit_data.specs.declared.world.WorldKey.TheVariants as key
 use Rattle.wit_elaboration.specs.Elaborated.{import_steps, import_steps_within}
+use Rattle.wit_graph_data.specs.declared.cause.Cause.TheVariants as cause
+use Rattle.wit_graph_data.specs.declared.error_kind.ResolveErrorKind.TheVariants.{ItemShadowing, Semantic, StabilityMismatch}
 use Rattle.wit_graph_data.specs.examples.Samples.{no_docs}
 use Rattle.wit_graph_theory.specs.examples.TestFacts.{only_one}
 use Rattle.wit_labels.specs.examples.Examples.{function_entry}
 use Rattle.wit_link_spec.specs.Addition.{Addition, active_includes, own_worlds}
 use Rattle.wit_link_spec.specs.Cause.{IsReached}
 use Rattle.wit_link_spec.specs.Cause as reason
-use Rattle.wit_link_spec.specs.Gates.{OptionalSpan}
 use Rattle.wit_link_spec.specs.Gates as asked
 use Rattle.wit_link_spec.specs.Include.{EntryLists}
 use Rattle.wit_link_spec.specs.Reasons.{IsResolved, LacksVersion}
-use Rattle.wit_link_spec.specs.WorldReasons.{AreNotStronglyUnique, AtInclude, AtWorld, HaveLists, IncludeIsAccepted, IncludeMismatches, LacksGetter, Shadows, WorldIsAccepted}
+use Rattle.wit_link_spec.specs.WorldReasons.{AtInclude, AtWorld, IncludeIsAccepted, IsCauseAtInclude, IsCauseAtWorld, WorldIsAccepted, written_no_getter_18, written_not_strongly_unique_17}
 use Rattle.wit_link_spec.specs.WorldReasons as world_reason
-use Rattle.wit_link_examples.proofs.AtWorlds.{at_of, fine_without, no_include, of_first, world_same}
+use Rattle.wit_link_spec.specs.IncludeCause.{mismatch_8, shadowing_7}
+use Rattle.wit_link_spec.specs.facts.WorldCauseFacts.{includes_accepted}
+use Rattle.wit_link_examples.proofs.AtWorlds.{HaveLists, fine_without, list_world, made, no_include, of_first, world_same, written}
 use Rattle.wit_link_examples.proofs.HasImage.{image}
-use Rattle.wit_link_examples.proofs.Matching.{of_alike}
+use Rattle.wit_link_examples.proofs.Matching.{ClashAt, of_alike}
 use Rattle.wit_link_examples.proofs.WorldCauses.{first_reached, label_same, other_feature}
-use Rattle.wit_link_examples.proofs.WorldTests.{IsPlain, fine, none_alike, plain_exports, plain_getters, plain_labels}
-use Rattle.wit_link_examples.specs.LaterWorlds.{ExamplesOfLaterWorlds, alike_unversioned, w_of_alike, before_alike, include_of, including_unversioned, shadowing_first, two_gates}
+use Rattle.wit_link_examples.proofs.WorldTests.{IsPlain, fine, none_alike, plain_accepted}
+use Rattle.wit_link_examples.specs.LaterWorlds.{ExamplesOfLaterWorlds, alike_unversioned, before_alike, include_of, including_unversioned, shadowing_first, two_gates, w_is_alike, w_of_alike}
 use Rattle.wit_link_examples.specs.Packages.{gate_f, gate_g, loose_interface, since_one}
 
 -- ---- a world with which nothing is wrong
 
 -- it is plain, and includes nothing
 plain_is_fine : (a : Addition) (k : ℕ) (y : AtWorld a k) → ((j : ℕ) → slice_get (active_includes a y.world) j ≡ None) → IsPlain a k y → WorldIsAccepted a k
-plain_is_fine a k y no_includes p = record {
-  includes = λ image j. fine_without a k j (no_include a k y j (no_includes j));
-  labels = plain_labels a k y p;
-  setters = plain_getters a k y p;
-  exports = plain_exports a k y p;
-}
+plain_is_fine a k y no_includes p = plain_accepted a k y p (λ image j. fine_without a k j (no_include a k y j (no_includes j)))
 
 -- ---- the third world, and its second include
 
@@ -68,41 +66,36 @@ include_fine (suc i) below = absurd (omega (arith, below))
 gates_image : IsResolved two_gates
 gates_image = image two_gates (record { packages = refl; items = refl; types = refl; interfaces = refl; worlds = refl })
 
-mismatch : IncludeMismatches two_gates 2 1 (Some (50, 60)) gate_g gate_f
+mismatch : IsCauseAtInclude two_gates 2 1 (StabilityMismatch (Some (50, 60)) gate_g gate_f)
 unfolding post_order post_order_within import_steps import_steps_within
 mismatch = record {
   at = second_include;
-  word = codes "import";
-  current = _;
-  brought = _;
-  i = 0;
-  list = (inl (refl, refl), inl (refl, refl));
-  there = (no_docs, None, None, (0, lit< tt, refl));
-  comes = (no_docs, None, None, (0, lit< tt, refl));
-  apart = record { from_known = λ same. cc; into_known = λ same. cc; differ = other_feature };
-  counts = refl;
-  span_is = refl;
+  cause = mismatch_8 gate_g gate_f (record {
+    word = codes "import";
+    current = _;
+    brought = _;
+    i = 0;
+    list = (inl (refl, refl), inl (refl, refl));
+    there = (no_docs, None, None, (0, lit< tt, refl));
+    comes = (no_docs, None, None, (0, lit< tt, refl));
+    apart = record { from_known = λ same. cc; into_known = λ same. cc; differ = other_feature };
+    counts = refl;
+  });
 }
 
 -- ---- labels of a world behind another
 
 -- world w as it is written, with the labels that are not strongly unique
-written_alike : (a : Addition) (k place : ℕ) → slice_get (own_worlds a) k ≡ Some (place, w_of_alike)
-    → AreNotStronglyUnique a k None (codes "import `AB` in world `w` conflicts with import `ab` (names must be strongly unique)")
-written_alike a k place is = record {
-  world = w_of_alike;
-  lists = _;
-  moves = a.offset;
-  have = world_reason.written (record { place = place; world = w_of_alike; is = is }) refl;
+written_alike : (a : Addition) (k place : ℕ) → slice_get (own_worlds a) k ≡ Some (place, w_of_alike) → IsCauseAtWorld a k w_is_alike
+written_alike a k place is = written_not_strongly_unique_17 _ (record {
+  at = record { place = place; world = w_of_alike; is = is };
+  no_includes = refl;
   word = codes "import";
-  entries = _;
-  list = inl (refl, refl);
   n = codes "AB";
   m = codes "ab";
-  clash = (0, 1, lit< tt, refl, refl, refl);
-  span_is = refl;
+  clash = record { entries = _; list = inl (refl, refl); clash = (0, 1, lit< tt, refl, refl, refl) };
   message_is = refl;
-}
+})
 
 abbrev empty_first : AtWorld (before_alike []) 0
 empty_first = record { place = 0; world = _; is = refl }
@@ -117,28 +110,28 @@ setter_first = before_alike (function_entry (codes "[set]p") ∷ [])
 abbrev setter_world : AtWorld setter_first 0
 setter_world = record { place = 0; world = _; is = refl }
 
-lacks_getter : LacksGetter setter_first 0 None (codes "import `[set]p` in world `v` has no corresponding getter `[get]p`")
-lacks_getter = record {
-  world = _;
-  lists = _;
-  moves = 0;
-  have = world_reason.written setter_world refl;
+lacks_getter : IsCauseAtWorld setter_first 0 (Semantic None (codes "import `[set]p` in world `v` has no corresponding getter `[get]p`") cause.NoGetter)
+lacks_getter = written_no_getter_18 _ _ (record {
+  at = setter_world;
+  no_includes = refl;
   word = codes "import";
-  entries = _;
-  list = inl (refl, refl);
   label = codes "[set]p";
   f = _;
-  setter = ((0, lit< tt, refl), (refl, refl));
-  no_getter = λ has. differ (codes "[set]p") (codes "[get]p") refl (label_same _ _ (only_one (key.Name (codes "[set]p")) (key.Name (codes "[get]p")) has));
+  setter = record {
+    entries = _;
+    list = inl (refl, refl);
+    setter = ((0, lit< tt, refl), (refl, refl));
+    absent = λ has. differ (codes "[set]p") (codes "[get]p") refl (label_same _ _ (only_one (key.Name (codes "[set]p")) (key.Name (codes "[get]p")) has));
+  };
   span_is = refl;
   message_is = refl;
-}
+})
 
-first_told : (span : OptionalSpan) (message : List ℕ) (k : ℕ) → IsReached setter_first k → AreNotStronglyUnique setter_first k span message → ⊥
-first_told span message zero reached c = none_alike setter_first 0 setter_world (record { imports = refl; exports = refl; written = λ none. (refl, refl) }) span message c
-first_told span message (suc k) reached c =
+first_told : (k : ℕ) → IsReached setter_first k → ClashAt setter_first k → ⊥
+first_told zero reached c = none_alike setter_first 0 setter_world (record { imports = refl; exports = refl; written = λ none. (refl, refl) }) c
+first_told (suc k) reached c =
     let below : 0 < suc k = omega arith in
-    (reached 0 below).setters None (codes "import `[set]p` in world `v` has no corresponding getter `[get]p`") lacks_getter
+    reached 0 below _ lacks_getter
 
 -- ---- no image
 
@@ -151,9 +144,9 @@ unmade_world = record { place = 1; world = _; is = refl }
 some_includes : (include : WorldInclude) → include ∷ [] ≡ [] → ⊥
 some_includes include none = cc
 
-no_lists : (world : World) (lists : EntryLists) (moves : ℕ) → HaveLists including_unversioned 0 world lists moves → ⊥
-no_lists _ _ _ (world_reason.made at has fine) = has.version None (codes "package [foo:main] contains a feature gate with a version specifier, so it must have a version") lacks_version
-no_lists _ _ _ (world_reason.written at none) = some_includes (include_of 0) (subst (λ (w : World). w.includes ≡ []) (world_same including_unversioned 0 at unmade_world).1 none)
+no_lists : (lists : EntryLists) → HaveLists including_unversioned 0 lists → ⊥
+no_lists _ (made at has fine) = has.version None (codes "package [foo:main] contains a feature gate with a version specifier, so it must have a version") lacks_version
+no_lists _ (written at none) = some_includes (include_of 0) (subst (λ (w : World). w.includes ≡ []) (world_same including_unversioned 0 at unmade_world).1 none)
 
 -- ---- a world behind one whose include is refused
 
@@ -169,18 +162,18 @@ no_image has = has.version None (codes "package [foo:bar] contains a feature gat
 abbrev including_second : AtWorld unmade 1
 including_second = record { place = 1; world = _; is = refl }
 
-unmade_lists : (world : World) (lists : EntryLists) (moves : ℕ) → HaveLists unmade 1 world lists moves → ⊥
-unmade_lists _ _ _ (world_reason.made at has fine) = no_image has
-unmade_lists _ _ _ (world_reason.written at none) = some_includes (include_of 0) (subst (λ (w : World). w.includes ≡ []) (world_same unmade 1 at including_second).1 none)
+lists_none : (at : AtWorld unmade 1) → at.world.includes ≡ [] → ⊥
+lists_none at none = some_includes (include_of 0) (subst (λ (w : World). w.includes ≡ []) (world_same unmade 1 at including_second).1 none)
+
+second_unmade : WorldIsAccepted unmade 1
+second_unmade _ (world_reason.of_include j error image earlier is) = no_image image
+second_unmade _ (world_reason.of_finish error image includes is) = no_image image
+second_unmade _ (written_not_strongly_unique_17 message is) = lists_none is.at is.no_includes
+second_unmade _ (written_no_getter_18 span message is) = lists_none is.at is.no_includes
 
 fine_unmade : (i : ℕ) → i < 2 → WorldIsAccepted unmade i
 fine_unmade zero below = plain_is_fine unmade 0 (record { place = 0; world = _; is = refl }) (λ j. refl) (record { lists = record { imports = refl; exports = refl; written = λ none. (refl, refl) }; no_exports = refl })
-fine_unmade (suc zero) below = record {
-  includes = λ has j. absurd (no_image has);
-  labels = λ span message c. unmade_lists c.world c.lists c.moves c.have;
-  setters = λ span message c. unmade_lists c.world c.lists c.moves c.have;
-  exports = λ span name c. no_image c.has_image;
-}
+fine_unmade (suc zero) below = second_unmade
 fine_unmade (suc (suc i)) below = absurd (omega (arith, below))
 
 shadowing_image : IsResolved (shadowing_first [])
@@ -192,38 +185,38 @@ shadowing_world = record { place = 1; world = _; is = refl }
 abbrev shadowing_include : AtInclude (shadowing_first []) 1 0
 shadowing_include = record { at = shadowing_world; include = include_of 0; is = refl; before = _; before_is = refl; old = _; old_is = refl }
 
-shadows : Shadows (shadowing_first []) 1 0 (Some (50, 60)) (codes "import") (codes "f")
+shadows : IsCauseAtInclude (shadowing_first []) 1 0 (ItemShadowing (Some (50, 60)) (codes "import") (codes "f"))
 unfolding post_order post_order_within import_steps import_steps_within
 shadows = record {
   at = shadowing_include;
-  current = _;
-  brought = _;
-  list = (inl (refl, refl), inl (refl, refl));
-  shadowed = record { before = []; after = []; are = refl; there = (0, lit< tt, refl) };
-  span_is = refl;
+  cause = shadowing_7 (codes "import") (codes "f") (record {
+    current = _;
+    brought = _;
+    list = (inl (refl, refl), inl (refl, refl));
+    shadowed = record { before = []; after = []; are = refl; there = (0, lit< tt, refl) };
+  });
 }
 
-refused_lists : (world : World) (lists : EntryLists) (moves : ℕ) → HaveLists (shadowing_first []) 1 world lists moves → ⊥
-refused_lists _ _ _ (world_reason.made at has fine) = (fine 0).unshadowed (Some (50, 60)) (codes "import") (codes "f") shadows
-refused_lists _ _ _ (world_reason.written at none) = some_includes (include_of 0) (subst (λ (w : World). w.includes ≡ []) (world_same (shadowing_first []) 1 at shadowing_world).1 none)
+refused_lists : (lists : EntryLists) → HaveLists (shadowing_first []) 1 lists → ⊥
+refused_lists _ (made at has fine) = fine 0 _ shadows
+refused_lists _ (written at none) = some_includes (include_of 0) (subst (λ (w : World). w.includes ≡ []) (world_same (shadowing_first []) 1 at shadowing_world).1 none)
 
-behind_shadowing : (span : OptionalSpan) (message : List ℕ) (k : ℕ) → IsReached (shadowing_first []) k → AreNotStronglyUnique (shadowing_first []) k span message → ⊥
-behind_shadowing span message zero reached c =
-    none_alike (shadowing_first []) 0 (record { place = 0; world = _; is = refl }) (record { imports = refl; exports = refl; written = λ none. (refl, refl) }) span message c
-behind_shadowing span message (suc zero) reached c = refused_lists c.world c.lists c.moves c.have
-behind_shadowing span message (suc (suc k)) reached c =
+behind_shadowing : (k : ℕ) → IsReached (shadowing_first []) k → ClashAt (shadowing_first []) k → ⊥
+behind_shadowing zero reached c = none_alike (shadowing_first []) 0 (record { place = 0; world = _; is = refl }) (record { imports = refl; exports = refl; written = λ none. (refl, refl) }) c
+behind_shadowing (suc zero) reached c = refused_lists c.lists c.have
+behind_shadowing (suc (suc k)) reached c =
     let below : 1 < suc (suc k) = omega arith in
-    ((reached 1 below).includes shadowing_image 0).unshadowed (Some (50, 60)) (codes "import") (codes "f") shadows
+    includes_accepted (shadowing_first []) 1 shadowing_image (reached 1 below) 0 _ shadows
 
 pub later_worlds : ExamplesOfLaterWorlds
 later_worlds = record {
-  second_include = reason.mismatch_8 2 1 _ _ _ (record { has_image = gates_image; worlds = fine_before; includes = include_fine }) mismatch;
-  second_world = reason.not_strongly_unique_17 1 _ _ nothing_before (written_alike (before_alike []) 1 1 refl);
-  first_told = λ span message c. let found = of_alike setter_first span message c in first_told span message found.0 found.1 found.2;
-  unversioned = reason.not_strongly_unique_17 0 _ _ (first_reached alike_unversioned) (written_alike alike_unversioned 0 0 refl);
+  second_include = reason.of_world 2 _ fine_before (world_reason.of_include 1 _ gates_image include_fine mismatch);
+  second_world = reason.of_world 1 _ nothing_before (written_alike (before_alike []) 1 1 refl);
+  first_told = λ span message c. let found = of_alike setter_first span message c in first_told found.0 found.1 found.2;
+  unversioned = reason.of_world 0 _ (first_reached alike_unversioned) (written_alike alike_unversioned 0 0 refl);
   including = λ span message c.
       let found = of_alike including_unversioned span message c in
-      of_first including_unversioned (λ k. refl) (λ (k : ℕ). AreNotStronglyUnique including_unversioned k span message) (λ k x. at_of _ k x.world x.lists x.moves x.have) (λ x. no_lists x.world x.lists x.moves x.have) found.0 found.2;
-  behind_unmade = reason.not_strongly_unique_17 2 _ _ fine_unmade (written_alike unmade 2 2 refl);
-  behind_shadowing = λ span message c. let found = of_alike (shadowing_first []) span message c in behind_shadowing span message found.0 found.1 found.2;
+      of_first including_unversioned (λ k. refl) (ClashAt including_unversioned) (λ k x. list_world _ k x.lists x.have) (λ x. no_lists x.lists x.have) found.0 found.2;
+  behind_unmade = reason.of_world 2 _ fine_unmade (written_alike unmade 2 2 refl);
+  behind_shadowing = λ span message c. let found = of_alike (shadowing_first []) span message c in behind_shadowing found.0 found.1 found.2;
 }

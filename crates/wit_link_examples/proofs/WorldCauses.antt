@@ -15,32 +15,33 @@ use Rattle.wit_data.specs.declared.world.WorldItem.{WorldItem}
 use Rattle.wit_data.specs.declared.world.WorldItem.TheVariants as item
 use Rattle.wit_data.specs.declared.world.WorldKey.TheVariants as key
 use Rattle.wit_elaboration.specs.Imported.{HasConflict, IsEntryInConflict}
+use Rattle.wit_graph_data.specs.declared.cause.Cause.TheVariants as cause
+use Rattle.wit_graph_data.specs.declared.error_kind.ResolveErrorKind.{ResolveErrorKind}
+use Rattle.wit_graph_data.specs.declared.error_kind.ResolveErrorKind.TheVariants.{InvalidTransitiveDependency, ItemShadowing, Semantic, StabilityMismatch}
 use Rattle.wit_graph_data.specs.examples.Samples.{entry_of, no_docs, world_of}
 use Rattle.wit_graph_theory.specs.examples.TestFacts.{feature_of, none_in, one_of_two, only_one}
 use Rattle.wit_labels.specs.examples.Examples.{function_entry, named_as}
 use Rattle.wit_labels.specs.Rename.{renamed_label_by}
 use Rattle.wit_link_spec.specs.Addition.{Addition}
-use Rattle.wit_link_spec.specs.Cause.{IncludeIsReached, IsReached}
+use Rattle.wit_link_spec.specs.Cause.{IsReached}
 use Rattle.wit_link_spec.specs.Cause as reason
 use Rattle.wit_link_spec.specs.Gates.{OptionalSpan}
 use Rattle.wit_link_spec.specs.Gates as asked
 use Rattle.wit_link_spec.specs.Include.{EntryLists, lists_of}
 use Rattle.wit_link_spec.specs.Reasons.{IsResolved, LacksVersion}
-use Rattle.wit_link_spec.specs.WorldReasons.{AreNotStronglyUnique, AtInclude, AtWorld, HasStability, IncludeMismatches, IsRenamed, LacksGetter, RenamesNothing, Shadows}
-use Rattle.wit_link_spec.specs.WorldReasons as world_reason
-use Rattle.wit_link_examples.proofs.AtWorlds.{at_of, fine_without, include_same, no_include, of_first, of_first_include}
+use Rattle.wit_link_spec.specs.IncludeCause.{HasStability, IsRenamed, mismatch_8, rename_unmatched_16, shadowing_7}
+use Rattle.wit_link_spec.specs.WorldReasons.{AtInclude, AtWorld, IsCauseAtFinish, IsCauseAtInclude, of_finish, of_include, written_no_getter_18, written_not_strongly_unique_17}
+use Rattle.wit_link_spec.specs.FinishCause.{conflict_4}
+use Rattle.wit_link_examples.proofs.AtWorlds.{fine_without, include_same, list_world, no_include, of_first, of_first_include}
 use Rattle.wit_link_examples.proofs.HasImage.{image}
-use Rattle.wit_link_examples.proofs.Matching.{of_alike, of_conflict, of_getter, of_mismatch, of_rename, of_shadowing}
+use Rattle.wit_link_examples.proofs.Matching.{ClashAt, LonelySetterAt, apart_of, of_alike, of_conflict, of_getter, of_mismatch, of_rename, of_shadowing, unmatched_of}
 use Rattle.wit_link_examples.proofs.WorldTests.{conflict_of, none_alike, none_lacks, one_list, unshadowed}
 use Rattle.wit_link_examples.specs.Packages.{adding, all_features, exporting_with, gate_f, gate_g, gated_entry, including_package, no_features, since_one, since_package, three, with_world}
 use Rattle.wit_link_examples.specs.WorldCauses.{ExamplesOfWorldCauses, importing}
 
--- the first world, and the first include of it, are reached
+-- the first world is reached
 pub first_reached : (a : Addition) → IsReached a 0
 first_reached a i below = absurd (omega (arith, below))
-
-pub include_reached : (a : Addition) → IsResolved a → IncludeIsReached a 0 0
-include_reached a has = record { has_image = has; worlds = first_reached a; includes = λ i below. absurd (omega (arith, below)) }
 
 pub other_feature : gate_g ≡ gate_f → ⊥
 other_feature same = differ (codes "g") (codes "f") refl (ap feature_of same)
@@ -57,33 +58,39 @@ abbrev the_include : (note : Stability) (label : List ℕ) (names : List Include
 the_include note label names = record { at = record { place = 1; world = _; is = refl }; include = _; is = refl; before = _; before_is = refl; old = _; old_is = refl }
 
 -- what holds of an include holds of this one
-of_include : (note : Stability) (label : List ℕ) (names : List IncludeName) (P : ℕ → ℕ → Type 0) → ((k j : ℕ) → P k j → AtInclude (gates note label names) k j) → (P 0 0 → ⊥) → (k j : ℕ) → P k j → ⊥
-of_include note label names P at not k j p = of_first_include (gates note label names) (λ k. refl) (the_include note label names).at (λ j. refl) P at not k j p
+of_gates : (note : Stability) (label : List ℕ) (names : List IncludeName) (P : ℕ → ℕ → Type 0) → ((k j : ℕ) → P k j → AtInclude (gates note label names) k j) → (P 0 0 → ⊥) → (k j : ℕ) → P k j → ⊥
+of_gates note label names P at not k j p = of_first_include (gates note label names) (λ k. refl) (the_include note label names).at (λ j. refl) P at not k j p
 
-mismatch : (label : List ℕ) (names : List IncludeName) → IncludeMismatches (gates gate_g label names) 0 0 (Some (50, 60)) gate_g gate_f
+mismatch : (label : List ℕ) (names : List IncludeName) → IsCauseAtInclude (gates gate_g label names) 0 0 (StabilityMismatch (Some (50, 60)) gate_g gate_f)
 mismatch label names = record {
   at = the_include gate_g label names;
-  word = codes "import";
-  current = _;
-  brought = _;
-  i = 0;
-  list = (inl (refl, refl), inl (refl, refl));
-  there = (no_docs, None, None, (0, lit< tt, refl));
-  comes = (no_docs, None, None, (0, lit< tt, refl));
-  apart = record { from_known = λ same. cc; into_known = λ same. cc; differ = other_feature };
-  counts = refl;
-  span_is = refl;
+  cause = mismatch_8 gate_g gate_f (record {
+    word = codes "import";
+    current = _;
+    brought = _;
+    i = 0;
+    list = (inl (refl, refl), inl (refl, refl));
+    there = (no_docs, None, None, (0, lit< tt, refl));
+    comes = (no_docs, None, None, (0, lit< tt, refl));
+    apart = record { from_known = λ same. cc; into_known = λ same. cc; differ = other_feature };
+    counts = refl;
+  });
 }
 
-shadows : (note : Stability) → Shadows (gates note (codes "f") []) 0 0 (Some (50, 60)) (codes "import") (codes "f")
+shadows : (note : Stability) → IsCauseAtInclude (gates note (codes "f") []) 0 0 (ItemShadowing (Some (50, 60)) (codes "import") (codes "f"))
 shadows note = record {
   at = the_include note (codes "f") [];
-  current = _;
-  brought = _;
-  list = (inl (refl, refl), inl (refl, refl));
-  shadowed = record { before = key.Interface 0 ∷ []; after = []; are = refl; there = (1, lit< tt, refl) };
-  span_is = refl;
+  cause = shadowing_7 (codes "import") (codes "f") (record {
+    current = _;
+    brought = _;
+    list = (inl (refl, refl), inl (refl, refl));
+    shadowed = record { before = key.Interface 0 ∷ []; after = []; are = refl; there = (1, lit< tt, refl) };
+  });
 }
+
+-- a cause of the first include of the first world is one of the addition
+pub at_first_include : (a : Addition) (error : ResolveErrorKind) → IsResolved a → IsCauseAtInclude a 0 0 error → reason.IsCause a error
+at_first_include a error image is = reason.of_world 0 error (first_reached a) (of_include 0 error image (λ i below. absurd (omega (arith, below))) is)
 
 -- ---- the gate that is there
 
@@ -104,10 +111,11 @@ gate_is note f label i has named (docs, place, external_id, (suc (suc k), below,
 none_has : (i : ℕ) (has : Stability) → HasStability [] i has → ⊥
 none_has i has (docs, place, external_id, inside) = none_in _ inside
 
-same_gate : (span : OptionalSpan) (brings has : Stability) → IncludeMismatches (gates gate_f (codes "f") []) 0 0 span brings has → ⊥
-same_gate span brings has c =
-    let same = include_same (gates gate_f (codes "f") []) 0 0 c.at (the_include gate_f (codes "f") []) in
-    elim (one_list c.word c.at.before.lists (lists_of c.at.old) c.current c.brought c.list.0 c.list.1) [
+same_gate : (span : OptionalSpan) (brings has : Stability) → IsCauseAtInclude (gates gate_f (codes "f") []) 0 0 (StabilityMismatch span brings has) → ⊥
+same_gate span brings has x =
+    let same = include_same (gates gate_f (codes "f") []) 0 0 x.at (the_include gate_f (codes "f") []) in
+    let c = apart_of _ _ _ _ span brings has x.cause in
+    elim (one_list c.word x.at.before.lists (lists_of x.at.old) c.current c.brought c.list.0 c.list.1) [
       | inl both ↦
           let there : HasStability (gated_entry gate_f ∷ function_entry (codes "f") ∷ []) c.i has = subst (λ (es : List Entry). HasStability es c.i has) (both.0 ∙ ap (λ (l : EntryLists). l.imports) same.lists_are) c.there in
           let comes : HasStability (gated_entry gate_f ∷ function_entry (codes "f") ∷ []) c.i brings = subst (λ (es : List Entry). HasStability es c.i brings) (both.1 ∙ ap (λ (w : World). w.imports) same.old_is) c.comes in
@@ -132,12 +140,14 @@ only_name one [] after name split = cc
 only_name one (a ∷ []) after name split = cc
 only_name one (a ∷ b ∷ before) after name split = cc
 
-renames : (span : OptionalSpan) (message : List ℕ) → RenamesNothing (gates gate_g (codes "f") (named_as (codes "f") (codes "y") ∷ [])) 0 0 span message → ⊥
-renames span message c =
-    let same = include_same (gates gate_g (codes "f") (named_as (codes "f") (codes "y") ∷ [])) 0 0 c.at (the_include gate_g (codes "f") (named_as (codes "f") (codes "y") ∷ [])) in
-    let split : named_as (codes "f") (codes "y") ∷ [] ≡ c.before ++ c.name ∷ c.after = sym (ap (λ (i : WorldInclude). i.names) same.include_is) ∙ c.names_are in
-    let name = only_name (named_as (codes "f") (codes "y")) c.before c.after c.name split in
-    c.unmatched (subst (λ (n : IncludeName). IsRenamed c.at.old n) name (subst (λ (w : World). IsRenamed w (named_as (codes "f") (codes "y"))) (sym same.old_is) (codes "f", (1, lit< tt, refl), refl)))
+renames : (span : OptionalSpan) (message : List ℕ) → IsCauseAtInclude (gates gate_g (codes "f") (named_as (codes "f") (codes "y") ∷ [])) 0 0 (Semantic span message cause.RenameUnmatched) → ⊥
+renames span message x =
+    let same = include_same (gates gate_g (codes "f") (named_as (codes "f") (codes "y") ∷ [])) 0 0 x.at (the_include gate_g (codes "f") (named_as (codes "f") (codes "y") ∷ [])) in
+    let found = unmatched_of _ _ _ _ span message x.cause in
+    let c = found.1 in
+    let split : named_as (codes "f") (codes "y") ∷ [] ≡ c.before ++ found.0 ∷ c.after = sym (ap (λ (i : WorldInclude). i.names) same.include_is) ∙ c.are in
+    let name = only_name (named_as (codes "f") (codes "y")) c.before c.after found.0 split in
+    c.unmatched (subst (λ (n : IncludeName). IsRenamed x.at.old n) name (subst (λ (w : World). IsRenamed w (named_as (codes "f") (codes "y"))) (sym same.old_is) (codes "f", (1, lit< tt, refl), refl)))
 
 -- ---- no image
 
@@ -152,10 +162,10 @@ two_labels a b = importing (function_entry a ∷ function_entry b ∷ [])
 abbrev labelled_world : (a b : List ℕ) → AtWorld (two_labels a b) 0
 labelled_world a b = record { place = 0; world = _; is = refl }
 
-not_alike : (span : OptionalSpan) (message : List ℕ) → AreNotStronglyUnique (two_labels (codes "ab") (codes "ac")) 0 span message → ⊥
+not_alike : ClashAt (two_labels (codes "ab") (codes "ac")) 0 → ⊥
 not_alike = none_alike (two_labels (codes "ab") (codes "ac")) 0 (labelled_world (codes "ab") (codes "ac")) (record { imports = refl; exports = refl; written = λ none. (refl, refl) })
 
-has_getter : (span : OptionalSpan) (message : List ℕ) → LacksGetter (two_labels (codes "[get]p") (codes "[set]p")) 0 span message → ⊥
+has_getter : LonelySetterAt (two_labels (codes "[get]p") (codes "[set]p")) 0 → ⊥
 has_getter = none_lacks (two_labels (codes "[get]p") (codes "[set]p")) 0 (labelled_world (codes "[get]p") (codes "[set]p")) (record { imports = refl; exports = refl; written = λ none. (refl, refl) })
 
 -- ---- exports
@@ -192,85 +202,77 @@ closed (j, (x, d, exported, uses, outside, reaches), is_exported) =
           outside (subst (λ (i : ℕ). Contains (0 ∷ 1 ∷ []) i) a (0, lit< tt, refl))
     ]
 
+-- ---- the examples
+
+abbrev one_setter : Addition
+one_setter = importing (function_entry (codes "[set]p") ∷ [])
+
 pub world_causes : ExamplesOfWorldCauses
 world_causes = record {
-  conflict = reason.conflict_4 0 _ _ (first_reached (exporting (codes "c"))) (record {
+  conflict = reason.of_world 0 _ (first_reached (exporting (codes "c"))) (of_finish _ c_image (λ j. fine_without (exporting (codes "c")) 0 j (no_include (exporting (codes "c")) 0 (exporting_world (codes "c")) j refl)) (record {
     at = exporting_world (codes "c");
-    has_image = c_image;
-    includes_are_accepted = λ j. fine_without (exporting (codes "c")) 0 j (no_include (exporting (codes "c")) 0 (exporting_world (codes "c")) j refl);
-    b = _;
-    is = refl;
-    conflict = (0, (2, 1, (1, lit< tt, refl), (0, lit< tt, refl), b_outside, (0 ∷ [], ((0, lit< tt, refl), refl))), (0, lit< tt, refl));
-    name_is = (key.Interface 2, (entry_of 0 ∷ [], entry_of 2, [], refl, a_clear, (2, (0, lit< tt, refl), (1, 1, (0, lit< tt, refl), ([], refl), b_outside, (0, (0 ∷ [], ((0, lit< tt, refl), refl)), (0, lit< tt, refl)))), refl), refl);
-    span_is = refl;
-  });
+    whole = _;
+    whole_is = refl;
+    cause = conflict_4 (codes "foo:bar/c") (record {
+      conflict = (0, (2, 1, (1, lit< tt, refl), (0, lit< tt, refl), b_outside, (0 ∷ [], ((0, lit< tt, refl), refl))), (0, lit< tt, refl));
+      name_is = (key.Interface 2, (entry_of 0 ∷ [], entry_of 2, [], refl, a_clear, (2, (0, lit< tt, refl), (1, 1, (0, lit< tt, refl), ([], refl), b_outside, (0, (0 ∷ [], ((0, lit< tt, refl), refl)), (0, lit< tt, refl)))), refl), refl);
+    });
+  }));
   closed = λ span name c.
       let found = of_conflict (exporting (codes "b")) span name c in
-      of_first (exporting (codes "b")) (λ k. refl) (λ (k : ℕ). world_reason.WorldHasConflict (exporting (codes "b")) k span name) (λ k x. x.at)
+      of_first (exporting (codes "b")) (λ k. refl) (λ (k : ℕ). IsCauseAtFinish (exporting (codes "b")) k (InvalidTransitiveDependency span name)) (λ k x. x.at)
       (λ x. closed (conflict_of (exporting (codes "b")) 0 (exporting_world (codes "b")) span name x)) found.0 found.1;
-  shadows = reason.shadowing_7 0 0 _ _ _ (include_reached _ (gates_image gate_g (codes "f") [])) (shadows gate_g);
+  shadows = at_first_include _ _ (gates_image gate_g (codes "f") []) (shadows gate_g);
   other_label = λ span word name c.
       let found = of_shadowing (gates gate_g (codes "h") []) span word name c in
-      of_include gate_g (codes "h") [] (λ (k j : ℕ). Shadows (gates gate_g (codes "h") []) k j span word name) (λ k j x. x.at)
+      of_gates gate_g (codes "h") [] (λ (k j : ℕ). IsCauseAtInclude (gates gate_g (codes "h") []) k j (ItemShadowing span word name)) (λ k j x. x.at)
       (unshadowed (gates gate_g (codes "h") []) 0 0 (the_include gate_g (codes "h") []) refl refl span word name) found.0 found.1 found.3;
-  other_gate = reason.mismatch_8 0 0 _ _ _ (include_reached _ (gates_image gate_g (codes "h") [])) (mismatch (codes "h") []);
+  other_gate = at_first_include _ _ (gates_image gate_g (codes "h") []) (mismatch (codes "h") []);
   no_shadow = λ span word name c.
       let found = of_shadowing (adding all_features (with_world gate_g (codes "f")) since_package) span word name c in
       found.2.has_image.version None (codes "package [foo:main] contains a feature gate with a version specifier, so it must have a version") lacks_version;
-  mismatch = reason.mismatch_8 0 0 _ _ _ (include_reached _ (gates_image gate_g (codes "f") [])) (mismatch (codes "f") []);
+  mismatch = at_first_include _ _ (gates_image gate_g (codes "f") []) (mismatch (codes "f") []);
   same_gate = λ span brings has c.
       let found = of_mismatch (gates gate_f (codes "f") []) span brings has c in
-      of_include gate_f (codes "f") [] (λ (k j : ℕ). IncludeMismatches (gates gate_f (codes "f") []) k j span brings has) (λ k j x. x.at) (same_gate span brings has) found.0 found.1 found.2;
-  same_label = reason.shadowing_7 0 0 _ _ _ (include_reached _ (gates_image gate_f (codes "f") [])) (shadows gate_f);
-  unmatched = reason.rename_unmatched_16 0 0 _ _ (include_reached _ (gates_image gate_g (codes "f") (named_as (codes "x") (codes "y") ∷ []))) (record {
+      of_gates gate_f (codes "f") [] (λ (k j : ℕ). IsCauseAtInclude (gates gate_f (codes "f") []) k j (StabilityMismatch span brings has)) (λ k j x. x.at) (same_gate span brings has) found.0 found.1 found.3;
+  same_label = at_first_include _ _ (gates_image gate_f (codes "f") []) (shadows gate_f);
+  unmatched = at_first_include _ _ (gates_image gate_g (codes "f") (named_as (codes "x") (codes "y") ∷ [])) (record {
     at = the_include gate_g (codes "f") (named_as (codes "x") (codes "y") ∷ []);
-    before = [];
-    name = named_as (codes "x") (codes "y");
-    after = [];
-    names_are = refl;
-    earlier = λ i x at. cc;
-    unmatched = unmatched;
-    span_is = refl;
-    message_is = refl;
+    cause = rename_unmatched_16 (named_as (codes "x") (codes "y")) (record { before = []; after = []; are = refl; earlier = λ i x at. cc; unmatched = unmatched });
   });
   renames = λ span message c.
       let found = of_rename (gates gate_g (codes "f") (named_as (codes "f") (codes "y") ∷ [])) span message c in
-      of_include gate_g (codes "f") (named_as (codes "f") (codes "y") ∷ []) (λ (k j : ℕ). RenamesNothing (gates gate_g (codes "f") (named_as (codes "f") (codes "y") ∷ [])) k j span message) (λ k j x. x.at)
-      (renames span message) found.0 found.1 found.2;
-  renamed_gate = reason.mismatch_8 0 0 _ _ _ (include_reached _ (gates_image gate_g (codes "f") (named_as (codes "f") (codes "y") ∷ []))) (mismatch (codes "f") (named_as (codes "f") (codes "y") ∷ []));
-  alike = reason.not_strongly_unique_17 0 _ _ (first_reached (two_labels (codes "ab") (codes "AB"))) (record {
-    world = _;
-    lists = _;
-    moves = 0;
-    have = world_reason.written (labelled_world (codes "ab") (codes "AB")) refl;
+      of_gates gate_g (codes "f") (named_as (codes "f") (codes "y") ∷ []) (λ (k j : ℕ). IsCauseAtInclude (gates gate_g (codes "f") (named_as (codes "f") (codes "y") ∷ [])) k j (Semantic span message cause.RenameUnmatched))
+      (λ k j x. x.at) (renames span message) found.0 found.1 found.3;
+  renamed_gate = at_first_include _ _ (gates_image gate_g (codes "f") (named_as (codes "f") (codes "y") ∷ [])) (mismatch (codes "f") (named_as (codes "f") (codes "y") ∷ []));
+  alike = reason.of_world 0 _ (first_reached (two_labels (codes "ab") (codes "AB"))) (written_not_strongly_unique_17 _ (record {
+    at = labelled_world (codes "ab") (codes "AB");
+    no_includes = refl;
     word = codes "import";
-    entries = _;
-    list = inl (refl, refl);
     n = codes "AB";
     m = codes "ab";
-    clash = (0, 1, lit< tt, refl, refl, refl);
-    span_is = refl;
+    clash = record { entries = _; list = inl (refl, refl); clash = (0, 1, lit< tt, refl, refl, refl) };
     message_is = refl;
-  });
+  }));
   not_alike = λ span message c.
       let found = of_alike (two_labels (codes "ab") (codes "ac")) span message c in
-      of_first (two_labels (codes "ab") (codes "ac")) (λ k. refl) (λ (k : ℕ). AreNotStronglyUnique (two_labels (codes "ab") (codes "ac")) k span message) (λ k x. at_of _ k x.world x.lists x.moves x.have) (not_alike span message) found.0 found.2;
-  no_getter = reason.no_getter_18 0 _ _ (first_reached (importing (function_entry (codes "[set]p") ∷ []))) (record {
-    world = _;
-    lists = _;
-    moves = 0;
-    have = world_reason.written (record { place = 0; world = _; is = refl }) refl;
+      of_first (two_labels (codes "ab") (codes "ac")) (λ k. refl) (ClashAt (two_labels (codes "ab") (codes "ac"))) (λ k x. list_world _ k x.lists x.have) not_alike found.0 found.2;
+  no_getter = reason.of_world 0 _ (first_reached one_setter) (written_no_getter_18 _ _ (record {
+    at = record { place = 0; world = _; is = refl };
+    no_includes = refl;
     word = codes "import";
-    entries = _;
-    list = inl (refl, refl);
     label = codes "[set]p";
     f = _;
-    setter = ((0, lit< tt, refl), (refl, refl));
-    no_getter = λ has. differ (codes "[set]p") (codes "[get]p") refl (label_same _ _ (only_one (key.Name (codes "[set]p")) (key.Name (codes "[get]p")) has));
+    setter = record {
+      entries = _;
+      list = inl (refl, refl);
+      setter = ((0, lit< tt, refl), (refl, refl));
+      absent = λ has. differ (codes "[set]p") (codes "[get]p") refl (label_same _ _ (only_one (key.Name (codes "[set]p")) (key.Name (codes "[get]p")) has));
+    };
     span_is = refl;
     message_is = refl;
-  });
+  }));
   has_getter = λ span message c.
       let found = of_getter (two_labels (codes "[get]p") (codes "[set]p")) span message c in
-      of_first (two_labels (codes "[get]p") (codes "[set]p")) (λ k. refl) (λ (k : ℕ). LacksGetter (two_labels (codes "[get]p") (codes "[set]p")) k span message) (λ k x. at_of _ k x.world x.lists x.moves x.have) (has_getter span message) found.0 found.1;
+      of_first (two_labels (codes "[get]p") (codes "[set]p")) (λ k. refl) (LonelySetterAt (two_labels (codes "[get]p") (codes "[set]p"))) (λ k x. list_world _ k x.lists x.have) has_getter found.0 found.1;
 }

@@ -1,5 +1,5 @@
 -- Tests that compute whether something is wrong with a small include, and with the labels of a small list.
-use Rattle.std.proofs.Common.{◌≡◌, ◌∙◌, ◌⊎◌, ℕ, ◌<◌, zero, suc, Bool, true, not, ◌&&◌, List, [], ◌∷◌, ◌++◌, map, Some, slice_get, refl, sym, ap, subst, inl, inr, arith, Contains, append_assoc}
+use Rattle.std.proofs.Common.{◌≡◌, ◌∙◌, ◌⊎◌, ℕ, ◌<◌, zero, suc, Bool, true, not, ◌&&◌, List, [], ◌∷◌, ◌++◌, length, map, Some, slice_get, refl, sym, ap, subst, inl, inr, arith, Contains, append_assoc}
 use Rattle.std.proofs.lemmas.Bool.{and_parts, both_ways, not-true}
 use Rattle.std.proofs.lemmas.List.{append-nil}
 use Rattle.std.proofs.lemmas.Map.Views.{Contains-from_any, list_any-from_Contains}
@@ -27,12 +27,18 @@ use Rattle.wit_elaboration.specs.Imported.{HasConflict, exported_keys}
 use Rattle.wit_labels.specs.Setters.{IsSetter, getter_label, is_setter_label, placed}
 use Rattle.wit_labels.specs.Strong.{strong_key}
 use Rattle.wit_labels.specs.declared.strong.StrongKey.{StrongKey}
+use Rattle.wit_graph_data.specs.declared.error_kind.ResolveErrorKind.{ResolveErrorKind}
+use Rattle.wit_graph_data.specs.declared.error_kind.ResolveErrorKind.TheVariants.{InvalidTransitiveDependency, ItemShadowing}
 use Rattle.wit_link_spec.specs.Addition.{Addition}
 use Rattle.wit_link_spec.specs.Gates.{OptionalSpan}
-use Rattle.wit_link_spec.specs.Include.{EntryLists, PartiallyLinked, lists_of}
-use Rattle.wit_link_spec.specs.WorldReasons.{AreNotStronglyUnique, AtInclude, AtWorld, HasStability, HaveLists, IncludeIsAccepted, IncludeMismatches, IsListCalled, IsShadowed, LacksGetter, RenamesNothing, Shadows, WorldHasConflict, renamed_key}
-use Rattle.wit_link_spec.specs.Pushed.{with_all_includes, with_worlds}
-use Rattle.wit_link_examples.proofs.AtWorlds.{include_same, lists_are, world_same}
+use Rattle.wit_link_spec.specs.Include.{EntryLists, IsListCalled, PartiallyLinked, lists_of}
+use Rattle.wit_link_spec.specs.IncludeCause.{HasStability, IsFirstUnmatched, IsIncludeCause, IsShadowed, LabelIsTaken, StabilitiesAreApart, mismatch_8, rename_unmatched_16, renamed_key, shadowing_7}
+use Rattle.wit_link_spec.specs.WorldReasons.{AtInclude, AtWorld, IncludeIsAccepted, IsCauseAtFinish, IsCauseAtInclude, WorldIsAccepted, of_finish, of_include, written_no_getter_18, written_not_strongly_unique_17}
+use Rattle.wit_link_spec.specs.Pushed.{placed_include, unfinished_world, with_all_includes, with_worlds}
+use Rattle.wit_link_spec.specs.FinishCause.{IsFinishCause, conflict_4, no_getter_18, not_strongly_unique_17}
+use Rattle.wit_link_spec.specs.Reasons.{IsResolved}
+use Rattle.wit_link_examples.proofs.Matching.{ClashAt, LonelySetterAt, clash_at, conflict_in, lonely_at, taken_of}
+use Rattle.wit_link_examples.proofs.AtWorlds.{HaveLists, include_same, lists_are, world_same}
 
 -- ---- labels that come
 
@@ -83,14 +89,14 @@ one_list word l l' es es' (inr a) (inr b) = inr (a.1, b.1)
 -- ---- an include
 
 module _ (a : Addition) (k j : ℕ) (y : AtInclude a k j) where
-  pub unshadowed : labels_come y.include y.before.lists.imports y.old.imports ≡ true → labels_come y.include y.before.lists.exports y.old.exports ≡ true
-      → (span : OptionalSpan) (word name : List ℕ) → Shadows a k j span word name → ⊥
-  unshadowed imports exports span word name c =
-      let same = include_same a k j c.at y in
+  untaken : labels_come y.include y.before.lists.imports y.old.imports ≡ true → labels_come y.include y.before.lists.exports y.old.exports ≡ true
+      → (x : AtInclude a k j) (word name : List ℕ) → LabelIsTaken x.before (placed_include a x.include) x.old word name → ⊥
+  untaken imports exports x word name c =
+      let same = include_same a k j x y in
       let shadowed : IsShadowed c.current (map (λ (e : Entry). renamed_key y.include.names e.0) c.brought) name =
       subst (λ (i : WorldInclude). IsShadowed c.current (map (λ (e : Entry). renamed_key i.names e.0) c.brought) name) same.include_is c.shadowed in
       let new : labels_come y.include c.current c.brought ≡ true =
-      elim (one_list word c.at.before.lists (lists_of c.at.old) c.current c.brought c.list.0 c.list.1) [
+      elim (one_list word x.before.lists (lists_of x.old) c.current c.brought c.list.0 c.list.1) [
         | inl both ↦
             subst (λ (es : List Entry). labels_come y.include es c.brought ≡ true) (sym (both.0 ∙ ap (λ (l : EntryLists). l.imports) same.lists_are))
             (subst (λ (es : List Entry). labels_come y.include y.before.lists.imports es ≡ true) (sym (both.1 ∙ ap (λ (w : World). w.imports) same.old_is)) imports)
@@ -100,12 +106,16 @@ module _ (a : Addition) (k j : ℕ) (y : AtInclude a k j) where
       ] in
       none_shadowed shadowed.before (keys_of c.current) _ shadowed.after name shadowed.are shadowed.there new
 
-  pub agrees : none_common y.before.lists.imports y.old.imports ≡ true → none_common y.before.lists.exports y.old.exports ≡ true
-      → (span : OptionalSpan) (brings has : Stability) → IncludeMismatches a k j span brings has → ⊥
-  agrees imports exports span brings has c =
-      let same = include_same a k j c.at y in
+  pub unshadowed : labels_come y.include y.before.lists.imports y.old.imports ≡ true → labels_come y.include y.before.lists.exports y.old.exports ≡ true
+      → (span : OptionalSpan) (word name : List ℕ) → IsCauseAtInclude a k j (ItemShadowing span word name) → ⊥
+  unshadowed imports exports span word name c = untaken imports exports c.at word name (taken_of _ _ _ _ span word name c.cause)
+
+  agrees : none_common y.before.lists.imports y.old.imports ≡ true → none_common y.before.lists.exports y.old.exports ≡ true
+      → (x : AtInclude a k j) (brings has : Stability) → StabilitiesAreApart (length a.graph.packages) x.before x.old brings has → ⊥
+  agrees imports exports x brings has c =
+      let same = include_same a k j x y in
       let none : none_common c.current c.brought ≡ true =
-      elim (one_list c.word c.at.before.lists (lists_of c.at.old) c.current c.brought c.list.0 c.list.1) [
+      elim (one_list c.word x.before.lists (lists_of x.old) c.current c.brought c.list.0 c.list.1) [
         | inl both ↦
             subst (λ (es : List Entry). none_common es c.brought ≡ true) (sym (both.0 ∙ ap (λ (l : EntryLists). l.imports) same.lists_are))
             (subst (λ (es : List Entry). none_common y.before.lists.imports es ≡ true) (sym (both.1 ∙ ap (λ (w : World). w.imports) same.old_is)) imports)
@@ -115,9 +125,8 @@ module _ (a : Addition) (k j : ℕ) (y : AtInclude a k j) where
       ] in
       apart c.current c.brought c.i has brings c.there c.comes none
 
-  pub without_names : y.include.names ≡ [] → (span : OptionalSpan) (message : List ℕ) → RenamesNothing a k j span message → ⊥
-  without_names none span message c =
-      empty c.before c.name c.after (sym none ∙ (sym (ap (λ (i : WorldInclude). i.names) (include_same a k j c.at y).include_is) ∙ c.names_are))
+  without_names : y.include.names ≡ [] → (x : AtInclude a k j) (name : IncludeName) → IsFirstUnmatched x.old x.include.names name → ⊥
+  without_names none x name c = empty c.before name c.after (sym none ∙ (sym (ap (λ (i : WorldInclude). i.names) (include_same a k j x y).include_is) ∙ c.are))
     where
       empty : (before : List IncludeName) (name : IncludeName) (after : List IncludeName) → [] ≡ before ++ name ∷ after → ⊥
       empty [] name after split = cc
@@ -132,7 +141,12 @@ module _ (a : Addition) (k j : ℕ) (y : AtInclude a k j) where
     pub names : y.include.names ≡ []
 
   pub fine : Passes → IncludeIsAccepted a k j
-  fine p = record { unshadowed = unshadowed p.import_labels p.export_labels; agrees = agrees p.import_keys p.export_keys; renames = without_names p.names }
+  fine p error c = none c.at error c.cause
+    where
+      none : (x : AtInclude a k j) (error : ResolveErrorKind) → IsIncludeCause (length a.graph.packages) x.before (placed_include a x.include) x.old error → ⊥
+      none x _ (shadowing_7 word name is) = untaken p.import_labels p.export_labels x word name is
+      none x _ (mismatch_8 brings has is) = agrees p.import_keys p.export_keys x brings has is
+      none x _ (rename_unmatched_16 name is) = without_names p.names x name is
 
 -- ---- the lists of a world
 
@@ -144,10 +158,9 @@ module _ (a : Addition) (k : ℕ) (y : AtWorld a k) where
     pub written : y.world.includes ≡ [] → (test y.world.imports ≡ true) × (test y.world.exports ≡ true)
 
   -- then each list passes by which its labels are told
-  list_passes : (test : List Entry → Bool) → BothPass test → (world : World) (lists : EntryLists) (moves : ℕ) → HaveLists a k world lists moves
-      → (word : List ℕ) (entries : List Entry) → IsListCalled word lists entries → test entries ≡ true
-  list_passes test both world lists moves have word entries called =
-      elim (lists_are a k y world lists moves have).1 [
+  list_passes : (test : List Entry → Bool) → BothPass test → (lists : EntryLists) → HaveLists a k lists → (word : List ℕ) (entries : List Entry) → IsListCalled word lists entries → test entries ≡ true
+  list_passes test both lists have word entries called =
+      elim (lists_are a k y lists have) [
         | inl made ↦ of made both.imports both.exports called
         | inr plain ↦ let written = both.written plain.0 in of plain.1 written.0 written.1 called
       ]
@@ -213,13 +226,13 @@ getters_there entries = list_all (getter_there (keys_of entries)) entries
 -- ---- a conflict
 
 -- a conflict is one of what is begun
-pub conflict_of : (a : Addition) (k : ℕ) (y : AtWorld a k) (span : OptionalSpan) (name : List ℕ) → WorldHasConflict a k span name
+pub conflict_of : (a : Addition) (k : ℕ) (y : AtWorld a k) (span : OptionalSpan) (name : List ℕ) → IsCauseAtFinish a k (InvalidTransitiveDependency span name)
     → HasConflict (graph_uses (with_all_includes a y.place y.world (with_worlds a k)).graph) (placed (with_all_includes a y.place y.world (with_worlds a k)).lists.exports)
 conflict_of a k y span name c =
     let same = world_same a k c.at y in
-    let is : c.b ≡ with_all_includes a y.place y.world (with_worlds a k) =
-    c.is ∙ (ap (λ (p : ℕ). with_all_includes a p c.at.world (with_worlds a k)) same.0 ∙ ap (λ (w : World). with_all_includes a y.place w (with_worlds a k)) same.1) in
-    subst (λ (b : PartiallyLinked). HasConflict (graph_uses b.graph) (placed b.lists.exports)) is c.conflict
+    let is : c.whole ≡ with_all_includes a y.place y.world (with_worlds a k) =
+    c.whole_is ∙ (ap (λ (p : ℕ). with_all_includes a p c.at.world (with_worlds a k)) same.0 ∙ ap (λ (w : World). with_all_includes a y.place w (with_worlds a k)) same.1) in
+    subst (λ (b : PartiallyLinked). HasConflict (graph_uses b.graph) (placed b.lists.exports)) is (conflict_in _ _ span name c.cause).conflict
 
 -- ---- a world with which nothing is wrong
 
@@ -230,27 +243,39 @@ abbrev pub is_plain : List Entry → Bool
 is_plain entries = labels_differ entries && getters_there entries
 
 module _ (a : Addition) (k : ℕ) (y : AtWorld a k) where
-  pub none_alike : BothPass a k y labels_differ → (span : OptionalSpan) (message : List ℕ) → AreNotStronglyUnique a k span message → ⊥
-  none_alike both span message c =
-      no_clash (keys_of c.entries) c.clash.0 c.clash.1 c.n c.m c.clash.2 c.clash.3 c.clash.4 c.clash.5
-      (list_passes a k y labels_differ both c.world c.lists c.moves c.have c.word c.entries c.list)
+  pub none_alike : BothPass a k y labels_differ → ClashAt a k → ⊥
+  none_alike both c =
+      no_clash (keys_of c.entries) c.clash.0 c.clash.1 c.n c.m c.clash.2 c.clash.3 c.clash.4 c.clash.5 (list_passes a k y labels_differ both c.lists c.have c.word c.entries c.list)
 
-  pub none_lacks : BothPass a k y getters_there → (span : OptionalSpan) (message : List ℕ) → LacksGetter a k span message → ⊥
-  none_lacks both span message c =
-      has_getters c.entries c.label c.f c.setter.0 c.setter.1 c.no_getter (list_passes a k y getters_there both c.world c.lists c.moves c.have c.word c.entries c.list)
+  pub none_lacks : BothPass a k y getters_there → LonelySetterAt a k → ⊥
+  none_lacks both c = has_getters c.entries c.label c.f c.setter.0 c.setter.1 c.absent (list_passes a k y getters_there both c.lists c.have c.word c.entries c.list)
 
   -- both lists are plain, and it exports no interface under its own key
   pub record IsPlain : Type 0 where
     pub lists : BothPass a k y is_plain
     pub no_exports : exported_keys (placed (with_all_includes a y.place y.world (with_worlds a k)).lists.exports) ≡ []
 
-  pub plain_labels : IsPlain → (span : OptionalSpan) (message : List ℕ) → AreNotStronglyUnique a k span message → ⊥
+  plain_labels : IsPlain → ClashAt a k → ⊥
   plain_labels p = none_alike (both_weaker a k y is_plain labels_differ (λ es passes. (and_parts (labels_differ es) (getters_there es) passes).0) p.lists)
 
-  pub plain_getters : IsPlain → (span : OptionalSpan) (message : List ℕ) → LacksGetter a k span message → ⊥
+  plain_getters : IsPlain → LonelySetterAt a k → ⊥
   plain_getters p = none_lacks (both_weaker a k y is_plain getters_there (λ es passes. (and_parts (labels_differ es) (getters_there es) passes).1) p.lists)
 
-  pub plain_exports : IsPlain → (span : OptionalSpan) (name : List ℕ) → WorldHasConflict a k span name → ⊥
+  plain_exports : IsPlain → (span : OptionalSpan) (name : List ℕ) → IsCauseAtFinish a k (InvalidTransitiveDependency span name) → ⊥
   plain_exports p span name c =
       let found = conflict_of a k y span name c in
       none_in found.0 (subst (λ (is : List ℕ). Contains is found.0) p.no_exports found.2)
+
+  -- then no cause holds against it, where its includes are accepted
+  pub plain_accepted : IsPlain → (IsResolved a → (j : ℕ) → IncludeIsAccepted a k j) → WorldIsAccepted a k
+  plain_accepted p includes _ (of_include j error image earlier is) = includes image j error is
+  plain_accepted p includes _ (of_finish error image accepted is) = none error is.cause
+    where
+      none : (error : ResolveErrorKind) → IsFinishCause is.whole.graph (unfinished_world a is.at.place is.at.world is.whole.lists) error → ⊥
+      none _ (conflict_4 name c) = plain_exports p _ name (record { at = is.at; whole = is.whole; whole_is = is.whole_is; cause = conflict_4 name c })
+      none _ (not_strongly_unique_17 word n m c) =
+          plain_labels p (clash_at a k _ _ (of_finish _ image accepted (record { at = is.at; whole = is.whole; whole_is = is.whole_is; cause = not_strongly_unique_17 word n m c })))
+      none _ (no_getter_18 word label f c) =
+          plain_getters p (lonely_at a k _ _ (of_finish _ image accepted (record { at = is.at; whole = is.whole; whole_is = is.whole_is; cause = no_getter_18 word label f c })))
+  plain_accepted p includes _ (written_not_strongly_unique_17 message is) = plain_labels p (clash_at a k _ _ (written_not_strongly_unique_17 message is))
+  plain_accepted p includes _ (written_no_getter_18 span message is) = plain_getters p (lonely_at a k _ _ (written_no_getter_18 span message is))

@@ -3,8 +3,8 @@
 use Rattle.std.specs.Prelude.{◌≡◌, ℕ, List, [], ◌∷◌, Some}
 use Rattle.wit_data.specs.declared.package_name.PackageName.{PackageName}
 use Rattle.wit_data.specs.declared.stability.Stability.TheVariants.{Unknown}
+use Rattle.wit_graph_data.specs.Error.{NoCause}
 use Rattle.wit_graph_data.specs.examples.Samples.{foo_bar}
-use Rattle.wit_graph_data.specs.declared.error_kind.ResolveErrorKind.{ResolveErrorKind}
 use Rattle.wit_link_order.specs.GroupOrder.{AreSorted, HasSpanOverflow, IsDefinedTwice, IsGroupOrder, IsOnPackageCycle, IsSortCause, Unresolved, group_uses}
 use Rattle.wit_link_examples.specs.Packages.{bare, dep_name, main_name, naming}
 
@@ -49,7 +49,7 @@ pub record ExamplesOfGroups : Type 0 where
   pub own_cycle : IsOnPackageCycle itself_alone (Some (20, 25)) main_name
   pub no_cycle : (home : PackageName) → IsOnPackageCycle main_and_dep (Some (20, 25)) home → ⊥
   -- one package can always be sorted
-  pub alone : (error : ResolveErrorKind) → IsSortCause one_alone error → ⊥
+  pub alone : NoCause (IsSortCause one_alone)
 
 -- orders, what isn't one, and places that are told
 pub record ExamplesOfOrders : Type 0 where

@@ -8,15 +8,18 @@ use Rattle.wit_data.specs.declared.world.WorldItem.TheVariants as item
 use Rattle.wit_data.specs.declared.world.WorldKey.TheVariants as key
 use Rattle.wit_elaboration.specs.Elaboration.{IsConflictError, graph_uses}
 use Rattle.wit_elaboration.specs.Imported.{HasConflict}
+use Rattle.wit_graph_data.specs.Error.{NoCause}
 use Rattle.wit_graph_data.specs.declared.cause.Cause.TheVariants as cause
 use Rattle.wit_graph_data.specs.declared.error_kind.ResolveErrorKind.{ResolveErrorKind}
 use Rattle.wit_graph_data.specs.declared.error_kind.ResolveErrorKind.TheVariants.{PackageNotFound, WorldNotFound, InterfaceNotFound, InvalidTransitiveDependency, DuplicatePackage, PackageCycle, ItemShadowing, StabilityMismatch, Semantic, OffsetOverflow, OutOfMemory}
 use Rattle.wit_graph_data.specs.declared.graph.Graph.{Graph}
 use Rattle.wit_graph_theory.specs.facts.ListFacts.{contained_at, same_at}
-use Rattle.wit_labels.specs.Setters.{IsSetter, LacksGetterAt, getter_label, placed}
-use Rattle.wit_labels.specs.Strong.{Clashes}
+use Rattle.wit_labels.specs.Setters.{HaveGetters, IsSetter, LacksGetterAt, getter_label, placed}
+use Rattle.wit_labels.specs.Strong.{AreStronglyUnique, Clashes}
 use Rattle.wit_link_spec.specs.CauseText.{clash_text, getter_text}
-use Rattle.wit_link_include.specs.steps.Finished.{CanFinish, IsFinishCause, conflict_4, no_getter_18, not_strongly_unique_17}
+use Rattle.wit_link_spec.specs.Include.{IsListCalled, lists_of}
+use Rattle.wit_link_spec.specs.Pushed.{with_placed}
+use Rattle.wit_link_spec.specs.FinishCause.{IsFinishCause, conflict_4, no_getter_18, not_strongly_unique_17}
 use Rattle.wit_link_include.specs.steps.Included.{IsLabelError, IsListError, LabelsAreAccepted, ListIsAccepted, alone, clash}
 
 -- ---- labels
@@ -40,9 +43,16 @@ alone_error world word entries place label f lacks at e same =
     (alone label f (contained_at entries place (key.Name label, item.Function f) at, subst (λ (l : List ℕ). IsSetter l (key.Name label, item.Function f)) called is)
     (subst (λ (l : List ℕ). Contains (keys_of entries) (key.Name (getter_label l)) → ⊥) called lacks.absent))
 
+-- a list without either is refused for nothing
+pub list_accepted : (world word : List ℕ) (entries : List Entry) → AreStronglyUnique (keys_of entries) → HaveGetters entries → ListIsAccepted world word entries
+list_accepted world word entries unique getters = record { no_cause = none }
+  where
+    none : NoCause (IsListError world word entries)
+    none _ (clash n m is) = unique n m is
+    none _ (alone label f setter absent) = absent (getters (key.Name label, item.Function f) label setter.0 setter.1)
+
 -- the errors of one list of a world
-list_cause : (g : Graph) (world : World) (word : List ℕ) (entries : List Entry) (kind : ResolveErrorKind)
-    → (((word ≡ codes "import") × (entries ≡ world.imports)) ⊎ ((word ≡ codes "export") × (entries ≡ world.exports))) → IsListError world.name word entries kind → IsFinishCause g world kind
+list_cause : (g : Graph) (world : World) (word : List ℕ) (entries : List Entry) (kind : ResolveErrorKind) → IsListCalled word (lists_of world) entries → IsListError world.name word entries kind → IsFinishCause g world kind
 list_cause g world word entries _ list (clash n m is) = not_strongly_unique_17 word n m (record { entries = entries; list = list; clash = is })
 list_cause g world word entries _ list (alone label f setter absent) = no_getter_18 word label f (record { entries = entries; list = list; setter = setter; absent = absent })
 
@@ -53,7 +63,7 @@ label_cause g world kind (inr (inr error)) = inr (list_cause g world (codes "exp
 
 -- ---- the conflict
 
-pub conflict_cause : (g : Graph) (world : World) (kind : ResolveErrorKind) → IsConflictError g (record world { imports = placed world.imports; exports = placed world.exports }) kind → (kind ≡ OutOfMemory) ⊎ IsFinishCause g world kind
+pub conflict_cause : (g : Graph) (world : World) (kind : ResolveErrorKind) → IsConflictError g (with_placed world) kind → (kind ≡ OutOfMemory) ⊎ IsFinishCause g world kind
 conflict_cause g world (PackageNotFound span requested known) is = absurd is
 conflict_cause g world (WorldNotFound span requested home) is = absurd is
 conflict_cause g world (InterfaceNotFound span requested home) is = absurd is
@@ -67,16 +77,15 @@ conflict_cause g world (Semantic span message why) is = absurd is
 conflict_cause g world OffsetOverflow is = absurd is
 conflict_cause g world OutOfMemory is = inl refl
 
--- ---- a world that can be finished
+-- ---- a world that is refused for nothing
 
-list_is : (world : World) (word : List ℕ) (entries : List Entry) → LabelsAreAccepted world → (((word ≡ codes "import") × (entries ≡ world.imports)) ⊎ ((word ≡ codes "export") × (entries ≡ world.exports))) → ListIsAccepted entries
-list_is world word entries fine (inl is) = subst (λ (l : List Entry). ListIsAccepted l) (sym is.1) fine.imports
-list_is world word entries fine (inr is) = subst (λ (l : List Entry). ListIsAccepted l) (sym is.1) fine.exports
+list_of_both : (world : World) (word : List ℕ) (entries : List Entry) → LabelsAreAccepted world → IsListCalled word (lists_of world) entries → NoCause (IsListError world.name word entries)
+list_of_both world word entries labels (inl is) error found =
+    labels.imports.no_cause error (subst (λ (w : List ℕ). IsListError world.name w world.imports error) is.0 (subst (λ (l : List Entry). IsListError world.name word l error) is.1 found))
+list_of_both world word entries labels (inr is) error found =
+    labels.exports.no_cause error (subst (λ (w : List ℕ). IsListError world.name w world.exports error) is.0 (subst (λ (l : List Entry). IsListError world.name word l error) is.1 found))
 
-none : (g : Graph) (world : World) → LabelsAreAccepted world → (HasConflict (graph_uses g) (placed world.exports) → ⊥) → (kind : ResolveErrorKind) → IsFinishCause g world kind → ⊥
-none g world fine no_conflict _ (conflict_4 name is) = no_conflict is.conflict
-none g world fine no_conflict _ (not_strongly_unique_17 word n m is) = (list_is world word is.entries fine is.list).unique n m is.clash
-none g world fine no_conflict _ (no_getter_18 word label f is) = is.absent ((list_is world word is.entries fine is.list).getters (key.Name label, item.Function f) label is.setter.0 is.setter.1)
-
-pub can_finish : (g : Graph) (world : World) → LabelsAreAccepted world → (HasConflict (graph_uses g) (placed world.exports) → ⊥) → CanFinish g world
-can_finish g world fine no_conflict = record { no_cause = none g world fine no_conflict; no_conflict = no_conflict }
+pub finish_accepted : (g : Graph) (world : World) → LabelsAreAccepted world → (HasConflict (graph_uses g) (placed world.exports) → ⊥) → NoCause (IsFinishCause g world)
+finish_accepted g world labels no_conflict _ (conflict_4 name is) = no_conflict is.conflict
+finish_accepted g world labels no_conflict _ (not_strongly_unique_17 word n m is) = list_of_both world word is.entries labels is.list _ (clash n m is.clash)
+finish_accepted g world labels no_conflict _ (no_getter_18 word label f is) = list_of_both world word is.entries labels is.list _ (alone label f is.setter is.absent)

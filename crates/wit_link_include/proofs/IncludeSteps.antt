@@ -22,6 +22,7 @@ use Rattle.wit_data.specs.declared.world.WorldKey.{WorldKey}
 use Rattle.wit_data.specs.declared.world.WorldKey.TheVariants as key
 use Rattle.wit_digraph.specs.Relation.{IsPath, direct}
 use Rattle.wit_elaboration.specs.Sound.{IsUnderOwnKey}
+use Rattle.wit_graph_data.specs.Error.{NoCause}
 use Rattle.wit_graph_data.specs.declared.cause.Cause.TheVariants as cause
 use Rattle.wit_graph_data.specs.declared.error_kind.ResolveErrorKind.{ResolveErrorKind}
 use Rattle.wit_graph_data.specs.declared.error_kind.ResolveErrorKind.TheVariants.{OutOfMemory, Semantic}
@@ -31,11 +32,12 @@ use Rattle.wit_graph_theory.specs.Image.{Maps, entry_image, item_image, key_imag
 use Rattle.wit_graph_theory.specs.facts.ListFacts.{Contains-map, Contains-map_cases, contained_at, found_at, from_map, place_of, same_at}
 use Rattle.wit_labels.specs.Rename.{renamed_label}
 use Rattle.wit_link_spec.specs.CauseText.{rename_text}
-use Rattle.wit_link_spec.specs.Include.{EntryLists, PartiallyLinked, belongs_to, copy_maps, include_stability, interface_copy, is_other_package, is_owned_within, joined_entries, lists_of, with_copies, with_world_included}
-use Rattle.wit_link_spec.specs.WorldReasons.{Disagree, HasStability, IsListCalled, IsShadowed, renamed_key}
+use Rattle.wit_link_spec.specs.Gates.{OptionalSpan}
+use Rattle.wit_link_spec.specs.Include.{EntryLists, IsListCalled, PartiallyLinked, belongs_to, copy_maps, include_stability, interface_copy, is_other_package, is_owned_within, joined_entries, lists_of, with_copies, with_entry_lists, with_world_included}
+use Rattle.wit_link_spec.specs.IncludeCause.{Disagree, HasStability, IsFirstUnmatched, IsIncludeCause, IsShadowed, mismatch_8, rename_unmatched_16, renamed_key, shadowing_7}
 use Rattle.wit_link_laws.specs.laws.StageFacts.{CanInclude}
 use Rattle.wit_link_include.specs.steps.Copied.{StayApart}
-use Rattle.wit_link_include.specs.steps.Included.{AreRenamed, CanJoin, ComeOnce, HasNoIncludeCause, HaveOwnKeys, IsFirstUnmatched, IsIncludeCause, IsIncluded, IsJoinCause, StandsWith, before_includes, item_shadowing_7, mismatch_8, rename_unmatched_16, shadowing_7, stability_mismatch_8, with_lists, with_one}
+use Rattle.wit_link_include.specs.steps.Included.{AreRenamed, ComeOnce, HaveOwnKeys, IsCauseOfInclude, IsJoinCause, JoinIsAccepted, StandsWith, before_includes, item_shadowing_7, stability_mismatch_8, with_one}
 
 -- ---- a list of a good world
 
@@ -174,26 +176,26 @@ list_cause g include old world home word current brought _ keyed own list_now li
 words_differ : codes "import" ≡ codes "export" → ⊥
 words_differ = differ (codes "import") (codes "export") refl
 
-unshadowed : (g : Graph) (include : WorldInclude) (old : World) (home : ℕ) (other : Bool) (current brought : List Entry) (name : List ℕ) → IsKeyed g.interfaces brought
-    → CanJoin other current (bring g include.id old include.names (length g.worlds) home brought) → IsShadowed current (map (λ (e : Entry). renamed_key include.names e.0) brought) name → ⊥
-unshadowed g include old home other current brought name keyed can is =
-    can.unshadowed name (subst (λ (ks : List WorldKey). IsShadowed current ks name) (sym (brought_keys g include.id old include.names (length g.worlds) home brought keyed)) is)
+unshadowed : (g : Graph) (include : WorldInclude) (old : World) (home : ℕ) (other : Bool) (span : OptionalSpan) (word : List ℕ) (current brought : List Entry) (name : List ℕ) → IsKeyed g.interfaces brought
+    → JoinIsAccepted other span word current (bring g include.id old include.names (length g.worlds) home brought) → IsShadowed current (map (λ (e : Entry). renamed_key include.names e.0) brought) name → ⊥
+unshadowed g include old home other span word current brought name keyed can is =
+    can.no_cause _ (item_shadowing_7 name (subst (λ (ks : List WorldKey). IsShadowed current ks name) (sym (brought_keys g include.id old include.names (length g.worlds) home brought keyed)) is))
 
-agree : (g : Graph) (include : WorldInclude) (old : World) (home : ℕ) (other : Bool) (current brought : List Entry) (brings has : Stability) (i : ℕ) → IsKeyed g.interfaces brought
-    → CanJoin other current (bring g include.id old include.names (length g.worlds) home brought) → HasStability current i has → HasStability brought i brings → Disagree brings has → include_stability other brings has ≡ brings → ⊥
-agree g include old home other current brought brings has i keyed can there comes apart counts =
-    can.agree brings has (record {
+agree : (g : Graph) (include : WorldInclude) (old : World) (home : ℕ) (other : Bool) (span : OptionalSpan) (word : List ℕ) (current brought : List Entry) (brings has : Stability) (i : ℕ) → IsKeyed g.interfaces brought
+    → JoinIsAccepted other span word current (bring g include.id old include.names (length g.worlds) home brought) → HasStability current i has → HasStability brought i brings → Disagree brings has → include_stability other brings has ≡ brings → ⊥
+agree g include old home other span word current brought brings has i keyed can there comes apart counts =
+    can.no_cause _ (stability_mismatch_8 brings has (record {
       i = i;
       there = own_stands current i has there;
       comes = comes_with g include.id old include.names (length g.worlds) home brought keyed i brings comes;
       apart = apart;
       counts = counts;
-    })
+    }))
 
 -- what is told of both lists
 pub record ListsJoin (g : Graph) (include : WorldInclude) (old world : World) (home : ℕ) : Type 0 where
-  pub imports : CanJoin (is_other_package old.package home) world.imports (bring g include.id old include.names (length g.worlds) home old.imports)
-  pub exports : CanJoin (is_other_package old.package home) world.exports (bring g include.id old include.names (length g.worlds) home old.exports)
+  pub imports : JoinIsAccepted (is_other_package old.package home) include.span (codes "import") world.imports (bring g include.id old include.names (length g.worlds) home old.imports)
+  pub exports : JoinIsAccepted (is_other_package old.package home) include.span (codes "export") world.exports (bring g include.id old include.names (length g.worlds) home old.exports)
   pub names : AreRenamed old include.names
 
 -- one of the two lists, whichever the word means
@@ -207,21 +209,21 @@ not_a_cause : (g : Graph) (include : WorldInclude) (old world : World) (home : �
     → (kind : ResolveErrorKind) → IsIncludeCause home (before_includes g world) include old kind → ⊥
 not_a_cause g include old world home good join _ (shadowing_7 word name is) =
     both (λ (current brought : List Entry). IsShadowed current (map (λ (e : Entry). renamed_key include.names e.0) brought) name → ⊥) (lists_of world) (lists_of old) word is.current is.brought is.list.0 is.list.1
-    (unshadowed g include old home (is_other_package old.package home) world.imports old.imports name (imports_keyed g include.id old good) join.imports)
-    (unshadowed g include old home (is_other_package old.package home) world.exports old.exports name (exports_keyed g include.id old good) join.exports) is.shadowed
+    (unshadowed g include old home (is_other_package old.package home) include.span (codes "import") world.imports old.imports name (imports_keyed g include.id old good) join.imports)
+    (unshadowed g include old home (is_other_package old.package home) include.span (codes "export") world.exports old.exports name (exports_keyed g include.id old good) join.exports) is.shadowed
 not_a_cause g include old world home good join _ (mismatch_8 brings has is) =
     both (λ (current brought : List Entry). HasStability current is.i has → HasStability brought is.i brings → Disagree brings has → include_stability (is_other_package old.package home) brings has ≡ brings → ⊥)
     (lists_of world) (lists_of old) is.word is.current is.brought is.list.0 is.list.1
-    (agree g include old home (is_other_package old.package home) world.imports old.imports brings has is.i (imports_keyed g include.id old good) join.imports)
-    (agree g include old home (is_other_package old.package home) world.exports old.exports brings has is.i (exports_keyed g include.id old good) join.exports) is.there is.comes is.apart is.counts
+    (agree g include old home (is_other_package old.package home) include.span (codes "import") world.imports old.imports brings has is.i (imports_keyed g include.id old good) join.imports)
+    (agree g include old home (is_other_package old.package home) include.span (codes "export") world.exports old.exports brings has is.i (exports_keyed g include.id old good) join.exports) is.there is.comes is.apart is.counts
 not_a_cause g include old world home good join _ (rename_unmatched_16 name is) =
     is.unmatched (join.names (length is.before) name (subst (λ (l : List IncludeName). slice_get l (length is.before) ≡ Some name) (sym is.are) (slice_get-behind is.before is.after name)))
 
 -- so no cause holds against it
 pub include_is_accepted : (g : Graph) (include : WorldInclude) (old world : World) (home : ℕ) → slice_get g.worlds include.id ≡ Some old → IsGoodWorld g.types g.interfaces include.id old → ListsJoin g include old world home
-    → HasNoIncludeCause home (before_includes g world) include
-include_is_accepted g include old world home at good join other there kind is =
-    not_a_cause g include old world home good join kind (subst (λ (w : World). IsIncludeCause home (before_includes g world) include w kind) (same_at g.worlds include.id include.id other old refl there at) is)
+    → NoCause (IsCauseOfInclude home (before_includes g world) include)
+include_is_accepted g include old world home at good join kind is =
+    not_a_cause g include old world home good join kind (subst (λ (w : World). IsIncludeCause home (before_includes g world) include w kind) (same_at g.worlds include.id include.id is.0 old refl is.1 at) is.2)
 
 -- ---- what it asks of the graph
 
@@ -273,27 +275,27 @@ module _ (g : Graph) (include : WorldInclude) (home : ℕ) (world : World) (g' :
   step_graph = step.graph ∙ sym (ap (λ (b : PartiallyLinked). b.graph) (one_is g include home world step.old step.at))
 
   pub step_world : (new : World) → new ≡ record world { imports = joined_entries other world.imports imports; exports = joined_entries other world.exports exports }
-      → new ≡ with_lists world (with_one home (before_includes g world) include).lists
+      → new ≡ with_entry_lists world (with_one home (before_includes g world) include).lists
   step_world new is =
       is ∙ ap (λ (l : List Entry). record world { imports = joined_entries other world.imports l; exports = joined_entries other world.exports exports }) step.imports_are
       ∙ ap (λ (l : List Entry). record world { imports = joined_entries other world.imports (bring g include.id step.old include.names (length g.worlds) home step.old.imports); exports = joined_entries other world.exports l }) step.exports_are
       ∙ ap (λ (b : Bool). record world { imports = joined_entries b world.imports (bring g include.id step.old include.names (length g.worlds) home step.old.imports); exports = joined_entries b world.exports (bring g include.id step.old include.names (length g.worlds) home step.old.exports) }) step.other_is
-      ∙ sym (ap (λ (b : PartiallyLinked). with_lists world b.lists) (one_is g include home world step.old step.at))
+      ∙ sym (ap (λ (b : PartiallyLinked). with_entry_lists world b.lists) (one_is g include home world step.old step.at))
 
   told_of : (P : Bool → List Entry → Type 0) (l l' : List Entry) → l ≡ l' → P other l → P (is_other_package step.old.package home) l'
   told_of P l l' same p = subst (λ (b : Bool). P b l') step.other_is (subst (P other) same p)
 
-  pub step_fine : (old : World) → slice_get g.worlds include.id ≡ Some old → AreRenamed old include.names → CanJoin other world.imports imports → CanJoin other world.exports exports → HasNoIncludeCause home (before_includes g world) include
+  pub step_fine : (old : World) → slice_get g.worlds include.id ≡ Some old → AreRenamed old include.names → JoinIsAccepted other include.span (codes "import") world.imports imports → JoinIsAccepted other include.span (codes "export") world.exports exports → NoCause (IsCauseOfInclude home (before_includes g world) include)
   step_fine old at names of_imports of_exports =
       include_is_accepted g include step.old world home step.at step.good (record {
-        imports = told_of (λ (b : Bool) (l : List Entry). CanJoin b world.imports l) imports _ step.imports_are of_imports;
-        exports = told_of (λ (b : Bool) (l : List Entry). CanJoin b world.exports l) exports _ step.exports_are of_exports;
+        imports = told_of (λ (b : Bool) (l : List Entry). JoinIsAccepted b include.span (codes "import") world.imports l) imports _ step.imports_are of_imports;
+        exports = told_of (λ (b : Bool) (l : List Entry). JoinIsAccepted b include.span (codes "export") world.exports l) exports _ step.exports_are of_exports;
         names = subst (λ (w : World). AreRenamed w include.names) (same_at g.worlds include.id include.id old step.old refl at step.at) names;
       })
 
   pub step_cause : HaveOwnKeys (lists_of world) → (kind : ResolveErrorKind)
       → (kind ≡ OutOfMemory) ⊎ (IsJoinCause other include.span (codes "import") world.imports imports kind ⊎ IsJoinCause other include.span (codes "export") world.exports exports kind)
-      → (kind ≡ OutOfMemory) ⊎ ((old : World) × IsIncluded (before_includes g world) include old × IsIncludeCause home (before_includes g world) include old kind)
+      → (kind ≡ OutOfMemory) ⊎ IsCauseOfInclude home (before_includes g world) include kind
   step_cause own kind (inl memory) = inl memory
   step_cause own kind (inr (inl is)) =
       inr (
@@ -350,7 +352,7 @@ module _ (g : Graph) (include : WorldInclude) (home into : ℕ) (old again : Wor
 -- a renaming that is refused
 pub names_cause : (g : Graph) (include : WorldInclude) (home : ℕ) (world old : World) (kind : ResolveErrorKind) → slice_get g.worlds include.id ≡ Some old
     → (kind ≡ OutOfMemory) ⊎ ((name : IncludeName) × IsFirstUnmatched old include.names name × (kind ≡ Semantic include.span (rename_text name.name) cause.RenameUnmatched))
-    → (kind ≡ OutOfMemory) ⊎ ((old : World) × IsIncluded (before_includes g world) include old × IsIncludeCause home (before_includes g world) include old kind)
+    → (kind ≡ OutOfMemory) ⊎ IsCauseOfInclude home (before_includes g world) include kind
 names_cause g include home world old kind at (inl memory) = inl memory
 names_cause g include home world old kind at (inr is) =
     inr (old, at, subst (IsIncludeCause home (before_includes g world) include old) (sym is.2) (rename_unmatched_16 is.0 is.1))

@@ -18,13 +18,14 @@ use Rattle.wit_data.specs.declared.world.WorldItem.TheVariants as item
 use Rattle.wit_data.specs.declared.world.WorldKey.{WorldKey}
 use Rattle.wit_data.specs.declared.world.WorldKey.TheVariants as key
 use Rattle.wit_elaboration.specs.Entries as graph
+use Rattle.wit_graph_data.specs.Error.{NoCause}
 use Rattle.wit_graph_data.specs.declared.error_kind.ResolveErrorKind.{ResolveErrorKind}
 use Rattle.wit_graph_data.specs.declared.error_kind.ResolveErrorKind.TheVariants.{ItemShadowing}
 use Rattle.wit_graph_theory.specs.facts.ListFacts.{Contains-map, contained_at, from_map, old_or_new, place_of}
 use Rattle.wit_link_spec.specs.Gates.{OptionalSpan}
 use Rattle.wit_link_spec.specs.Include.{has_key, include_stability, joined_entries, joined_entry, joined_item, new_item}
-use Rattle.wit_link_spec.specs.WorldReasons.{Disagree, IsShadowed}
-use Rattle.wit_link_include.specs.steps.Included.{CanJoin, ComeOnce, IsItemError, IsJoinCause, ItemsAgree, StabilitiesDiffer, StandsWith, item_shadowing_7, stability_mismatch_8}
+use Rattle.wit_link_spec.specs.IncludeCause.{Disagree, IsShadowed}
+use Rattle.wit_link_include.specs.steps.Included.{ComeOnce, IsItemError, IsJoinCause, ItemsAgree, JoinIsAccepted, StabilitiesDiffer, StandsWith, item_shadowing_7, stability_mismatch_8}
 use Rattle.wit_link_include.proofs.Keys.{Lacks, has_key-has, has_key-lacks, key_there, lacks-head, lacks-tail, lookup-lacks, lookup-last, lookup-other, under_key}
 
 -- ---- what a joined list has
@@ -245,7 +246,16 @@ agree-more other current done k v earlier last brings has is =
 -- so many entries are joined, and no cause holds against them
 pub record IsJoining (other : Bool) (current done entries : List Entry) : Type 0 where
   pub is : entries ≡ joined_entries other current done
-  pub can : CanJoin other current done
+  pub unshadowed : (name : List ℕ) → IsShadowed current (keys_of done) name → ⊥
+  pub agree : (brings has : Stability) → StabilitiesDiffer other current done brings has → ⊥
+
+-- so joining them is refused for nothing
+pub joining_accepted : (other : Bool) (span : OptionalSpan) (word : List ℕ) (current done entries : List Entry) → IsJoining other current done entries → JoinIsAccepted other span word current done
+joining_accepted other span word current done entries joining = record { no_cause = none }
+  where
+    none : NoCause (IsJoinCause other span word current done)
+    none _ (item_shadowing_7 name is) = joining.unshadowed name is
+    none _ (stability_mismatch_8 brings has is) = joining.agree brings has is
 
 joined_entries-none : (other : Bool) (es : List Entry) → map (joined_entry other []) es ≡ es
 joined_entries-none other [] = refl
@@ -257,10 +267,8 @@ no-place x has = absurd (omega (arith, has.1))
 pub joining-none : (other : Bool) (current : List Entry) → IsJoining other current [] current
 joining-none other current = record {
   is = sym (append-nil (map (joined_entry other []) current) ∙ joined_entries-none other current);
-  can = record {
-    unshadowed = λ name is. snoc-empty is.before is.after (key.Name name) is.are;
-    agree = λ brings has is. no-place (key.Interface is.i, item.Interface is.comes.0 brings is.comes.1 is.comes.2 is.comes.3) is.comes.4;
-  };
+  unshadowed = λ name is. snoc-empty is.before is.after (key.Name name) is.are;
+  agree = λ brings has is. no-place (key.Interface is.i, item.Interface is.comes.0 brings is.comes.1 is.comes.2 is.comes.3) is.comes.4;
 }
 
 stands-key : (es : List Entry) (i : ℕ) (stability : Stability) → StandsWith es i stability → Contains (keys_of es) (key.Interface i)
@@ -275,12 +283,10 @@ joining-new other current done entries entries' k v joining lacks is =
     let not_come = lacks-brought other current done k lacked in
     record {
       is = is ∙ ap (λ (es : List Entry). es ++ (k, new_item other k v) ∷ []) joining.is ∙ sym (joined_entries-new other current done k v lacked);
-      can = record {
-        unshadowed = unshadowed-more current done k v joining.can.unshadowed
-            (λ name same has. elim (Contains-append_cases (keys_of current) (keys_of done) k has) [ inl old ↦ not_here old | inr new ↦ not_come new ]);
-        agree = agree-more other current done k v joining.can.agree
-            (λ brings has i stands comes apart counts. not_here (subst (Contains (keys_of current)) (sym (ap (λ (e : Entry). e.0) comes.4)) (stands-key current i has stands)));
-      };
+      unshadowed = unshadowed-more current done k v joining.unshadowed
+          (λ name same has. elim (Contains-append_cases (keys_of current) (keys_of done) k has) [ inl old ↦ not_here old | inr new ↦ not_come new ]);
+      agree = agree-more other current done k v joining.agree
+          (λ brings has i stands comes apart counts. not_here (subst (Contains (keys_of current)) (sym (ap (λ (e : Entry). e.0) comes.4)) (stands-key current i has stands)));
     }
 
 all-front : (P : WorldKey → Type 0) (es fs : List WorldKey) → AllByRecursion P (es ++ fs) → AllByRecursion P es
@@ -309,19 +315,17 @@ joining-there other current done entries entries' k v into n i joining called la
     let front : IsDistinct same_key (keys_of current) = distinct-front (keys_of current) (keys_of (coming other current done)) (subst (IsDistinct same_key) (keys-joined_entries other current done) apart) in
     record {
       is = is ∙ ap (λ (es : List Entry). set_value_at es i (joined_item other v into)) joining.is ∙ sym (joined_entries-there other current done k v into i lacks apart here);
-      can = record {
-        unshadowed = unshadowed-more current done k v joining.can.unshadowed (λ name same has. cc);
-        agree = agree-more other current done k v joining.can.agree
-            (λ brings has j stands comes differ counts.
-            let key_is : k ≡ key.Interface j = ap (λ (e : Entry). e.0) comes.4 in
-            let brought_is : v ≡ item.Interface comes.0 brings comes.1 comes.2 comes.3 = ap (λ (e : Entry). e.1) comes.4 in
-            let has_it : Contains current (k, item.Interface stands.0 has stands.1 stands.2 stands.3) =
-            subst (λ (x : WorldKey). Contains current (x, item.Interface stands.0 has stands.1 stands.2 stands.3)) (sym key_is) stands.4 in
-            let into_is : into ≡ item.Interface stands.0 has stands.1 stands.2 stands.3 = one-item current k into (item.Interface stands.0 has stands.1 stands.2 stands.3) front there has_it in
-            let both : ItemsAgree other (item.Interface comes.0 brings comes.1 comes.2 comes.3) (item.Interface stands.0 has stands.1 stands.2 stands.3) =
-            subst (λ (x : WorldItem). ItemsAgree other x (item.Interface stands.0 has stands.1 stands.2 stands.3)) brought_is (subst (λ (x : WorldItem). ItemsAgree other v x) into_is agree) in
-            both differ counts);
-      };
+      unshadowed = unshadowed-more current done k v joining.unshadowed (λ name same has. cc);
+      agree = agree-more other current done k v joining.agree
+          (λ brings has j stands comes differ counts.
+          let key_is : k ≡ key.Interface j = ap (λ (e : Entry). e.0) comes.4 in
+          let brought_is : v ≡ item.Interface comes.0 brings comes.1 comes.2 comes.3 = ap (λ (e : Entry). e.1) comes.4 in
+          let has_it : Contains current (k, item.Interface stands.0 has stands.1 stands.2 stands.3) =
+          subst (λ (x : WorldKey). Contains current (x, item.Interface stands.0 has stands.1 stands.2 stands.3)) (sym key_is) stands.4 in
+          let into_is : into ≡ item.Interface stands.0 has stands.1 stands.2 stands.3 = one-item current k into (item.Interface stands.0 has stands.1 stands.2 stands.3) front there has_it in
+          let both : ItemsAgree other (item.Interface comes.0 brings comes.1 comes.2 comes.3) (item.Interface stands.0 has stands.1 stands.2 stands.3) =
+          subst (λ (x : WorldItem). ItemsAgree other x (item.Interface stands.0 has stands.1 stands.2 stands.3)) brought_is (subst (λ (x : WorldItem). ItemsAgree other v x) into_is agree) in
+          both differ counts);
     }
 
 -- ---- why it is refused

@@ -9,15 +9,17 @@ use Rattle.wit_digraph.specs.Relation.{IsAcyclic}
 use Rattle.wit_elaboration.specs.Elaboration.{graph_uses}
 use Rattle.wit_elaboration.specs.Sound.{HasSoundEntries}
 use Rattle.wit_labels.specs.Setters.{placed}
+use Rattle.wit_graph_data.specs.Error.{NoCause}
 use Rattle.wit_graph_data.specs.declared.error_kind.ResolveErrorKind.{ResolveErrorKind}
 use Rattle.wit_graph_data.specs.declared.error_kind.ResolveErrorKind.TheVariants.{OutOfMemory}
 use Rattle.wit_graph_data.specs.declared.graph.Graph.{Graph}
 use Rattle.wit_graph_theory.specs.facts.ListFacts.{same_at}
-use Rattle.wit_link_spec.specs.Include.{PartiallyLinked, lists_of}
-use Rattle.wit_link_include.specs.steps.Finished.{CanFinish, IsFinishCause, with_finished}
+use Rattle.wit_link_spec.specs.Include.{PartiallyLinked, lists_of, with_entry_lists}
+use Rattle.wit_link_spec.specs.Pushed.{with_finished}
+use Rattle.wit_link_spec.specs.FinishCause.{IsFinishCause}
 use Rattle.wit_remap.specs.Grown.{Grown}
 use Rattle.wit_remap.specs.facts.GrownFacts.{Begins-more, Begins-same, Grown-same, Grown-then}
-use Rattle.wit_link_include.specs.steps.Included.{CanBeAdded, CanBeIncluded, CanIncludeAll, HasNoIncludeCause, HaveOwnKeys, IsAcceptedAt, IsAcceptedWorld, IsIncludeCause, IsIncluded, IsWorldCause, StopsAtInclude, as_finished, at_include, before_includes, with_including, with_lists, with_one, with_several}
+use Rattle.wit_link_include.specs.steps.Included.{CanBeAdded, CanBeIncluded, CanIncludeAll, HaveOwnKeys, IsAcceptedAt, IsCauseOfInclude, IsWorldCause, StopsAtInclude, as_finished, at_include, before_includes, with_including, with_one, with_several}
 use Rattle.wit_link_include.specs.facts.SeveralFacts.{several_worlds}
 use Rattle.wit_link_include.proofs.OwnKeys.{one_own}
 
@@ -26,7 +28,7 @@ use Rattle.wit_link_include.proofs.OwnKeys.{one_own}
 -- so many includes are made, and no cause holds against them
 pub record IsBeginning (home : ℕ) (g : Graph) (world : World) (includes : List WorldInclude) (n : ℕ) (g' : Graph) (world' : World) : Type 0 where
   pub graph : g' ≡ (with_several home g world (take n includes)).graph
-  pub world_is : world' ≡ with_lists world (with_several home g world (take n includes)).lists
+  pub world_is : world' ≡ with_entry_lists world (with_several home g world (take n includes)).lists
   pub fine : (i : ℕ) → i < n → IsAcceptedAt home g world includes i
   pub own_keys : HaveOwnKeys (with_several home g world (take n includes)).lists
   pub grown : Grown g g'
@@ -67,22 +69,22 @@ module _ (home : ℕ) (g : Graph) (world : World) (includes : List WorldInclude)
     more_is =
         ap (fold (with_one home) (before_includes g world)) (take-next_at includes n include at) ∙ fold-append (with_one home) (before_includes g world) (take n includes) (include ∷ [])
 
-    pub beginning-next : (g'' : Graph) (world'' : World) → g'' ≡ (with_one home (before_includes g' world') include).graph → world'' ≡ with_lists world' (with_one home (before_includes g' world') include).lists
-        → HasNoIncludeCause home (before_includes g' world') include → Grown g' g'' → IsBeginning home g world includes (n + 1) g'' world''
+    pub beginning-next : (g'' : Graph) (world'' : World) → g'' ≡ (with_one home (before_includes g' world') include).graph → world'' ≡ with_entry_lists world' (with_one home (before_includes g' world') include).lists
+        → NoCause (IsCauseOfInclude home (before_includes g' world') include) → Grown g' g'' → IsBeginning home g world includes (n + 1) g'' world''
     beginning-next g'' world'' graph_is new_is fine grown =
         let one : with_one home (before_includes g' world') include ≡ with_several home g world (take (n + 1) includes) = ap (λ (b : PartiallyLinked). with_one home b include) begun_is ∙ sym more_is in
         record {
           graph = graph_is ∙ ap (λ (b : PartiallyLinked). b.graph) one;
-          world_is = new_is ∙ ap (λ (b : PartiallyLinked). with_lists world' b.lists) one ∙ ap (λ (w : World). with_lists w (with_several home g world (take (n + 1) includes)).lists) is.world_is;
+          world_is = new_is ∙ ap (λ (b : PartiallyLinked). with_entry_lists world' b.lists) one ∙ ap (λ (w : World). with_entry_lists w (with_several home g world (take (n + 1) includes)).lists) is.world_is;
           fine = below_more (λ i. IsAcceptedAt home g world includes i) n is.fine
-              (λ other there. subst (λ (x : WorldInclude). HasNoIncludeCause home (with_several home g world (take n includes)) x) (same_at includes n n include other refl at there)
-              (subst (λ (b : PartiallyLinked). HasNoIncludeCause home b include) begun_is fine));
+              (λ other there. subst (λ (x : WorldInclude). NoCause (IsCauseOfInclude home (with_several home g world (take n includes)) x)) (same_at includes n n include other refl at there)
+              (subst (λ (b : PartiallyLinked). NoCause (IsCauseOfInclude home b include)) begun_is fine));
           own_keys = subst (λ (b : PartiallyLinked). HaveOwnKeys b.lists) (sym more_is) (one_own home (with_several home g world (take n includes)) include begun_can is.own_keys);
           grown = Grown-then g g' g'' is.grown grown;
         }
 
     -- a refusal of this one
-    pub stops_here : (kind : ResolveErrorKind) → (kind ≡ OutOfMemory) ⊎ ((old : World) × IsIncluded (before_includes g' world') include old × IsIncludeCause home (before_includes g' world') include old kind)
+    pub stops_here : (kind : ResolveErrorKind) → (kind ≡ OutOfMemory) ⊎ IsCauseOfInclude home (before_includes g' world') include kind
         → (kind ≡ OutOfMemory) ⊎ ((j : ℕ) × StopsAtInclude home g world includes j kind)
     stops_here kind (inl memory) = inl memory
     stops_here kind (inr stop) =
@@ -91,10 +93,8 @@ module _ (home : ℕ) (g : Graph) (world : World) (includes : List WorldInclude)
           record {
             include = include;
             is = at;
-            old = stop.0;
-            there = subst (λ (b : PartiallyLinked). IsIncluded b include stop.0) begun_is stop.1;
             earlier = is.fine;
-            cause = subst (λ (b : PartiallyLinked). IsIncludeCause home b include stop.0 kind) begun_is stop.2;
+            cause = subst (λ (b : PartiallyLinked). IsCauseOfInclude home b include kind) begun_is stop;
           },
         )
 
@@ -111,8 +111,8 @@ module _ (home : ℕ) (g : Graph) (world : World) (includes : List WorldInclude)
   pub all_graph : length includes ≤ n → g' ≡ (with_several home g world includes).graph
   all_graph reached = is.graph ∙ ap (λ (l : List WorldInclude). (with_several home g world l).graph) (take-all reached)
 
-  pub all_world : length includes ≤ n → world' ≡ with_lists world (with_several home g world includes).lists
-  all_world reached = is.world_is ∙ ap (λ (l : List WorldInclude). with_lists world (with_several home g world l).lists) (take-all reached)
+  pub all_world : length includes ≤ n → world' ≡ with_entry_lists world (with_several home g world includes).lists
+  all_world reached = is.world_is ∙ ap (λ (l : List WorldInclude). with_entry_lists world (with_several home g world l).lists) (take-all reached)
 
   pub all_fine : length includes ≤ n → (j : ℕ) → IsAcceptedAt home g world includes j
   all_fine reached j include at =
@@ -122,16 +122,16 @@ module _ (home : ℕ) (g : Graph) (world : World) (includes : List WorldInclude)
 -- ---- the world, finished
 
 pub world_added : (home : ℕ) (g : Graph) (world : World) (includes : List WorldInclude) (g' new : Graph) (world' : World) → g' ≡ (with_several home g world includes).graph
-    → world' ≡ with_lists world (with_several home g world includes).lists → new ≡ with_finished g' world' → new ≡ with_including home g world includes
+    → world' ≡ with_entry_lists world (with_several home g world includes).lists → new ≡ with_finished g' world' → new ≡ with_including home g world includes
 world_added home g world includes g' new world' graph_is world_is is =
     is ∙ ap (λ (h : Graph). with_finished h world') graph_is ∙ ap (with_finished (with_several home g world includes).graph) world_is
 
 pub world_fine : (home : ℕ) (g : Graph) (world : World) (includes : List WorldInclude) (g' : Graph) (world' : World) → g' ≡ (with_several home g world includes).graph
-    → world' ≡ with_lists world (with_several home g world includes).lists → ((j : ℕ) → IsAcceptedAt home g world includes j) → CanFinish g' world' → IsAcceptedWorld home g world includes
-world_fine home g world includes g' world' graph_is world_is fine can = record {
-  includes_are = fine;
-  finished = subst (CanFinish (with_several home g world includes).graph) world_is (subst (λ (h : Graph). CanFinish h world') graph_is can);
-}
+    → world' ≡ with_entry_lists world (with_several home g world includes).lists → ((j : ℕ) → IsAcceptedAt home g world includes j) → NoCause (IsFinishCause g' world') → NoCause (IsWorldCause home g world includes)
+world_fine home g world includes g' world' graph_is world_is fine can kind (at_include j stops) = fine j stops.include stops.is kind stops.cause
+world_fine home g world includes g' world' graph_is world_is fine can kind (as_finished accepted is) =
+    can kind
+    (subst (λ (h : Graph). IsFinishCause h world' kind) (sym graph_is) (subst (λ (w : World). IsFinishCause (with_several home g world includes).graph w kind) (sym world_is) is))
 
 pub include_stops : (home : ℕ) (g : Graph) (world : World) (includes : List WorldInclude) (kind : ResolveErrorKind) → (kind ≡ OutOfMemory) ⊎ ((j : ℕ) × StopsAtInclude home g world includes j kind)
     → (kind ≡ OutOfMemory) ⊎ IsWorldCause home g world includes kind
@@ -139,7 +139,7 @@ include_stops home g world includes kind (inl memory) = inl memory
 include_stops home g world includes kind (inr stop) = inr (at_include stop.0 stop.1)
 
 pub finishing_stops : (home : ℕ) (g : Graph) (world : World) (includes : List WorldInclude) (g' : Graph) (world' : World) (kind : ResolveErrorKind) → g' ≡ (with_several home g world includes).graph
-    → world' ≡ with_lists world (with_several home g world includes).lists → ((j : ℕ) → IsAcceptedAt home g world includes j) → (kind ≡ OutOfMemory) ⊎ IsFinishCause g' world' kind
+    → world' ≡ with_entry_lists world (with_several home g world includes).lists → ((j : ℕ) → IsAcceptedAt home g world includes j) → (kind ≡ OutOfMemory) ⊎ IsFinishCause g' world' kind
     → (kind ≡ OutOfMemory) ⊎ IsWorldCause home g world includes kind
 finishing_stops home g world includes g' world' kind graph_is world_is fine (inl memory) = inl memory
 finishing_stops home g world includes g' world' kind graph_is world_is fine (inr is) =
@@ -161,7 +161,7 @@ pub begun_acyclic : (home : ℕ) (g : Graph) (world : World) (includes : List Wo
 begun_acyclic home g world includes g' can graph_is fine = subst (λ (h : Graph). IsAcyclic (graph_uses h)) (sym graph_is) (can.finishes fine).graph.uses
 
 pub begun_listed : (home : ℕ) (g : Graph) (world : World) (includes : List WorldInclude) (g' : Graph) (world' : World) → CanBeAdded home g world includes → g' ≡ (with_several home g world includes).graph
-    → world' ≡ with_lists world (with_several home g world includes).lists → ((j : ℕ) → IsAcceptedAt home g world includes j) → HasSoundEntries g'.types (length g'.interfaces) (placed world'.imports) (placed world'.exports)
+    → world' ≡ with_entry_lists world (with_several home g world includes).lists → ((j : ℕ) → IsAcceptedAt home g world includes j) → HasSoundEntries g'.types (length g'.interfaces) (placed world'.imports) (placed world'.exports)
 begun_listed home g world includes g' world' can graph_is world_is fine =
     subst (λ (h : Graph). HasSoundEntries h.types (length h.interfaces) (placed world'.imports) (placed world'.exports)) (sym graph_is)
     (subst (λ (w : World). HasSoundEntries (with_several home g world includes).graph.types (length (with_several home g world includes).graph.interfaces) (placed w.imports) (placed w.exports)) (sym world_is) (can.finishes fine).listed)

@@ -1,8 +1,10 @@
 //! A world with its includes is put behind the worlds of a graph.
 ghost use Rattle.std.specs.Prelude.{◌≡◌, ◌⊎◌, ℕ, IfErr, IfOk, OnOk};
 ghost use Rattle.wit_elaboration.specs.Elaboration.{graph_uses};
+ghost use Rattle.wit_graph_data.specs.Error.{NoCause};
 ghost use Rattle.wit_graph_data.specs.declared.error_kind.ResolveErrorKind.TheVariants.{OutOfMemory};
-ghost use Rattle.wit_link_include.specs.steps.Included.{CanBeAdded, CanIncludeAll, IsAcceptedAt, IsAcceptedWorld, IsWorldCause, StopsAtInclude, with_including, with_lists, with_several};
+ghost use Rattle.wit_link_spec.specs.Include.{with_entry_lists};
+ghost use Rattle.wit_link_include.specs.steps.Included.{CanBeAdded, CanIncludeAll, IsAcceptedAt, IsWorldCause, StopsAtInclude, with_including, with_several};
 ghost use Rattle.wit_remap.specs.Grown.{Begins, Grown};
 
 use crate::finishing::finish_world;
@@ -22,7 +24,7 @@ fn include_each(
 ) -> ResolveResult<World>
     requires { CanIncludeAll home graph.old world includes.now }
     ensures graph { OnOk result (graph.new ≡ (with_several home graph.old world includes.now).graph) }
-    ensures world { IfOk result (λ new. new ≡ with_lists world (with_several home graph.old world includes.now).lists) }
+    ensures world { IfOk result (λ new. new ≡ with_entry_lists world (with_several home graph.old world includes.now).lists) }
     ensures fine { OnOk result ((j : ℕ) → IsAcceptedAt home graph.old world includes.now j) }
     ensures cause { IfErr result (λ kind. (kind ≡ OutOfMemory) ⊎ ((j : ℕ) × StopsAtInclude home graph.old world includes.now j kind)) }
     ensures grown { Grown graph.old graph.new }
@@ -59,7 +61,7 @@ pub fn add_world(
     ensures ok { OnOk result (graph.new ≡ with_including home graph.old world includes.now) }
     ensures uses { OnOk result (elaborator.new ≡ graph_uses graph.new) }
     ensures rows { Begins elaborator.old elaborator.new }
-    ensures fine { OnOk result (IsAcceptedWorld home graph.old world includes.now) }
+    ensures fine { OnOk result (NoCause (IsWorldCause home graph.old world includes.now)) }
     ensures cause { IfErr result (λ kind. (kind ≡ OutOfMemory) ⊎ IsWorldCause home graph.old world includes.now kind) }
     ensures grown { Grown graph.old graph.new }
 {

@@ -1,6 +1,8 @@
 //! A world is finished.
 ghost use Rattle.std.specs.Prelude.{◌≡◌, ◌⊎◌, IfErr, IfOk, OnOk, OnErr, length};
-ghost use Rattle.wit_link_include.specs.steps.Finished.{CanFinish, IsFinishCause, with_finished};
+ghost use Rattle.wit_graph_data.specs.Error.{NoCause};
+ghost use Rattle.wit_link_spec.specs.Pushed.{with_finished, with_placed};
+ghost use Rattle.wit_link_spec.specs.FinishCause.{IsFinishCause};
 ghost use Rattle.wit_elaboration.specs.AllWorlds.{elaborated_world};
 ghost use Rattle.wit_elaboration.specs.Elaboration.{IsConflictError, graph_uses};
 ghost use Rattle.wit_elaboration.specs.Imported.{HasConflict};
@@ -33,7 +35,7 @@ pub(crate) fn finish_world(
     requires acyclic { IsAcyclic (graph_uses graph.old) }
     requires listed { HasSoundEntries graph.old.types (length graph.old.interfaces) (placed world.imports) (placed world.exports) }
     ensures ok { OnOk result (graph.new ≡ with_finished graph.old world) }
-    ensures fine { OnOk result (CanFinish graph.old world) }
+    ensures fine { OnOk result (NoCause (IsFinishCause graph.old world)) }
     ensures err { OnErr result (graph.new ≡ graph.old) }
     ensures cause { IfErr result (λ kind. (kind ≡ OutOfMemory) ⊎ IsFinishCause graph.old world kind) }
     ensures same { elaborator.new ≡ elaborator.old }
@@ -74,7 +76,7 @@ fn elaborated(
 
 /// The world with its setters after their getters.
 fn with_placed_setters(alloc: Global, world: World) -> Result<World, AllocError>
-    ensures { IfOk result (λ new. new ≡ record world { imports = placed world.imports; exports = placed world.exports }) }
+    ensures { IfOk result (λ new. new ≡ with_placed world) }
 {
     let mut world = world;
     let imports = mem::replace(&mut world.imports, Table::new(alloc));

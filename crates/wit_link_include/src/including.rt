@@ -1,9 +1,9 @@
 //! A world of a graph is included in one that comes next.
 ghost use Rattle.std.specs.Prelude.{◌≡◌, ◌⊎◌, ◌<◌, IfErr, IfOk, OnOk, codes, length};
-ghost use Rattle.wit_link_spec.specs.Include.{is_other_package, lists_of};
+ghost use Rattle.wit_graph_data.specs.Error.{NoCause};
+ghost use Rattle.wit_link_spec.specs.Include.{is_other_package, lists_of, with_entry_lists};
 ghost use Rattle.wit_graph_data.specs.declared.error_kind.ResolveErrorKind.TheVariants.{OutOfMemory};
-ghost use Rattle.wit_link_include.specs.steps.Included.{CanBeIncluded, CanJoin, ComeOnce, HasNoIncludeCause, HaveOwnKeys, IsIncludeCause, IsIncluded, IsJoinCause, before_includes, copied_entries, with_joined, with_lists, with_one};
-ghost use Rattle.wit_data.specs.declared.world.World.{World};
+ghost use Rattle.wit_link_include.specs.steps.Included.{CanBeIncluded, ComeOnce, HaveOwnKeys, IsCauseOfInclude, IsJoinCause, JoinIsAccepted, before_includes, copied_entries, with_joined, with_one};
 ghost use Rattle.wit_remap.specs.Grown.{Grown};
 
 use crate::copies::Copies;
@@ -38,9 +38,9 @@ pub fn include(
     requires can { CanBeIncluded (before_includes graph.old world) include.now }
     requires own_keys { HaveOwnKeys (lists_of world) }
     ensures graph { OnOk result (graph.new ≡ (with_one home (before_includes graph.old world) include.now).graph) }
-    ensures world { IfOk result (λ new. new ≡ with_lists world (with_one home (before_includes graph.old world) include.now).lists) }
-    ensures fine { OnOk result (HasNoIncludeCause home (before_includes graph.old world) include.now) }
-    ensures cause { IfErr result (λ kind. (kind ≡ OutOfMemory) ⊎ ((old : World) × IsIncluded (before_includes graph.old world) include.now old × IsIncludeCause home (before_includes graph.old world) include.now old kind)) }
+    ensures world { IfOk result (λ new. new ≡ with_entry_lists world (with_one home (before_includes graph.old world) include.now).lists) }
+    ensures fine { OnOk result (NoCause (IsCauseOfInclude home (before_includes graph.old world) include.now)) }
+    ensures cause { IfErr result (λ kind. (kind ≡ OutOfMemory) ⊎ IsCauseOfInclude home (before_includes graph.old world) include.now kind) }
     ensures grown { Grown graph.old graph.new }
 {
     let into = WorldId::from_index(graph.worlds.len());
@@ -63,8 +63,8 @@ fn join_copies(
     requires imports { ComeOnce (copied_entries copies.now included.now.imports) }
     requires exports { ComeOnce (copied_entries copies.now included.now.exports) }
     ensures ok { IfOk result (λ new. new ≡ with_joined (is_other_package included.now.package home) world (copied_entries copies.now included.now.imports) (copied_entries copies.now included.now.exports)) }
-    ensures imports { OnOk result (CanJoin (is_other_package included.now.package home) world.imports (copied_entries copies.now included.now.imports)) }
-    ensures exports { OnOk result (CanJoin (is_other_package included.now.package home) world.exports (copied_entries copies.now included.now.exports)) }
+    ensures imports { OnOk result (JoinIsAccepted (is_other_package included.now.package home) span (codes "import") world.imports (copied_entries copies.now included.now.imports)) }
+    ensures exports { OnOk result (JoinIsAccepted (is_other_package included.now.package home) span (codes "export") world.exports (copied_entries copies.now included.now.exports)) }
     ensures cause { IfErr result (λ kind. (kind ≡ OutOfMemory) ⊎ (IsJoinCause (is_other_package included.now.package home) span (codes "import") world.imports (copied_entries copies.now included.now.imports) kind ⊎ IsJoinCause (is_other_package included.now.package home) span (codes "export") world.exports (copied_entries copies.now included.now.exports) kind)) }
 {
     let imports = copies.entries(alloc, &included.imports)?;
@@ -85,8 +85,8 @@ fn join_lists(
     requires imports { ComeOnce imports }
     requires exports { ComeOnce exports }
     ensures ok { IfOk result (λ new. new ≡ with_joined other world imports exports) }
-    ensures imports { OnOk result (CanJoin other world.imports imports) }
-    ensures exports { OnOk result (CanJoin other world.exports exports) }
+    ensures imports { OnOk result (JoinIsAccepted other span (codes "import") world.imports imports) }
+    ensures exports { OnOk result (JoinIsAccepted other span (codes "export") world.exports exports) }
     ensures cause { IfErr result (λ kind. (kind ≡ OutOfMemory) ⊎ (IsJoinCause other span (codes "import") world.imports imports kind ⊎ IsJoinCause other span (codes "export") world.exports exports kind)) }
 {
     let mut world = world;

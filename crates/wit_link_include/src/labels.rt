@@ -1,7 +1,7 @@
 //! Labels of a world: whether some are not strongly unique, and whether each setter has its getter.
 ghost use Rattle.std.specs.Prelude.{◌≡◌, ◌⊎◌, IfErr, IfOk, OnOk, None};
 ghost use Rattle.wit_link_spec.specs.CauseText.{clash_text};
-ghost use Rattle.wit_link_include.specs.steps.Included.{IsLabelError, LabelsAreAccepted, ListIsAccepted, IsListError};
+ghost use Rattle.wit_link_include.specs.steps.Included.{IsLabelError, IsListError, LabelsAreAccepted, ListIsAccepted};
 ghost use Rattle.wit_graph_data.specs.declared.cause.Cause.TheVariants as cause;
 ghost use Rattle.wit_graph_data.specs.declared.error_kind.ResolveErrorKind.TheVariants.{OutOfMemory, Semantic};
 ghost use Rattle.wit_labels.specs.Setters.{LacksGetterAt};
@@ -27,7 +27,7 @@ fn check_list(
     entries: &Table<WorldKey, WorldItem>,
     world: &Text,
 ) -> ResolveResult<()>
-    ensures fine { OnOk result (ListIsAccepted entries.now) }
+    ensures fine { OnOk result (ListIsAccepted world.now word.now entries.now) }
     ensures cause { IfErr result (λ kind. (kind ≡ OutOfMemory) ⊎ IsListError world.now word.now entries.now kind) }
 {
     if let Some(clash) = find_clash(alloc, entries)? {

@@ -1,16 +1,16 @@
--- The table of reasons: with which errors an addition is refused, in the order of their numbers. An addition
--- with such a reason is refused, and one that is refused, but for want of memory, has the reason that it tells.
--- Those of a world are told of the first world that has one.
+-- The table of causes: with which errors an addition is refused, in the order of their numbers. An addition with such a
+-- cause is refused, and one that is refused, but for want of memory, has the cause that it tells. Those that lie in a
+-- world (4, 7, 8, 16, 17, 18) have a table of their own, `IsCauseAtWorld`; the first world that has one tells it.
 use Rattle.std.specs.Prelude.{◌<◌, ℕ, List}
 use Rattle.wit_data.specs.declared.package_name.PackageName.{PackageName}
-use Rattle.wit_data.specs.declared.stability.Stability.{Stability}
+use Rattle.wit_graph_data.specs.Error.{NoCause}
 use Rattle.wit_graph_data.specs.declared.cause.Cause.TheVariants as cause
 use Rattle.wit_graph_data.specs.declared.error_kind.ResolveErrorKind.{ResolveErrorKind}
-use Rattle.wit_graph_data.specs.declared.error_kind.ResolveErrorKind.TheVariants.{PackageNotFound, WorldNotFound, InterfaceNotFound, InvalidTransitiveDependency, DuplicatePackage, ItemShadowing, StabilityMismatch, Semantic, OffsetOverflow}
+use Rattle.wit_graph_data.specs.declared.error_kind.ResolveErrorKind.TheVariants.{PackageNotFound, WorldNotFound, InterfaceNotFound, DuplicatePackage, Semantic, OffsetOverflow}
 use Rattle.wit_link_spec.specs.Addition.{Addition}
 use Rattle.wit_link_spec.specs.Gates.{OptionalSpan}
 use Rattle.wit_link_spec.specs.Reasons.{AdditionOverflows, ForeignTypeMissing, HasExcludedOwner, IsDuplicate, IsNoResource, IsResolved, IsUnreleased, LacksInterface, LacksPackage, LacksVersion, LacksWorld, RefersToExcluded, ReturnsBorrow}
-use Rattle.wit_link_spec.specs.WorldReasons.{AreNotStronglyUnique, IncludeIsAccepted, IncludeMismatches, LacksGetter, RenamesNothing, Shadows, WorldHasConflict, WorldIsAccepted}
+use Rattle.wit_link_spec.specs.WorldReasons.{IncludeIsAccepted, IsCauseAtWorld, WorldIsAccepted}
 
 -- every world before world k is accepted
 abbrev pub IsReached : Addition → ℕ → Type 0
@@ -26,10 +26,7 @@ pub data IsCause (a : Addition) : ResolveErrorKind → Type 0 where
   package_not_found_1 : (span : OptionalSpan) (requested : PackageName) (known : List PackageName) → LacksPackage a span requested known → IsCause a (PackageNotFound span requested known)
   world_not_found_2 : (span : OptionalSpan) (requested : List ℕ) (home : PackageName) → LacksWorld a span requested home → IsCause a (WorldNotFound span requested home)
   interface_not_found_3 : (span : OptionalSpan) (requested : List ℕ) (home : PackageName) → LacksInterface a span requested home → IsCause a (InterfaceNotFound span requested home)
-  conflict_4 : (k : ℕ) (span : OptionalSpan) (name : List ℕ) → IsReached a k → WorldHasConflict a k span name → IsCause a (InvalidTransitiveDependency span name)
   duplicate_5 : (name : PackageName) (span1 span2 : OptionalSpan) → IsDuplicate a name span1 span2 → IsCause a (DuplicatePackage name span1 span2)
-  shadowing_7 : (k j : ℕ) (span : OptionalSpan) (word name : List ℕ) → IncludeIsReached a k j → Shadows a k j span word name → IsCause a (ItemShadowing span word name)
-  mismatch_8 : (k j : ℕ) (span : OptionalSpan) (from into : Stability) → IncludeIsReached a k j → IncludeMismatches a k j span from into → IsCause a (StabilityMismatch span from into)
   gate_without_version_9 : (span : OptionalSpan) (message : List ℕ) → LacksVersion a span message → IsCause a (Semantic span message cause.GateWithoutVersion)
   gate_unreleased_10 : (span : OptionalSpan) (message : List ℕ) → IsUnreleased a span message → IsCause a (Semantic span message cause.GateUnreleased)
   excluded_11 : (span : OptionalSpan) (message : List ℕ) → RefersToExcluded a span message → IsCause a (Semantic span message cause.Excluded)
@@ -37,11 +34,9 @@ pub data IsCause (a : Addition) : ResolveErrorKind → Type 0 where
   type_not_defined_13 : (span : OptionalSpan) (message : List ℕ) → ForeignTypeMissing a span message → IsCause a (Semantic span message cause.TypeNotDefined)
   not_a_resource_14 : (span : OptionalSpan) (message : List ℕ) → IsNoResource a span message → IsCause a (Semantic span message cause.NotAResource)
   borrow_in_result_15 : (span : OptionalSpan) (message : List ℕ) → ReturnsBorrow a span message → IsCause a (Semantic span message cause.BorrowInResult)
-  rename_unmatched_16 : (k j : ℕ) (span : OptionalSpan) (message : List ℕ) → IncludeIsReached a k j → RenamesNothing a k j span message → IsCause a (Semantic span message cause.RenameUnmatched)
-  not_strongly_unique_17 : (k : ℕ) (span : OptionalSpan) (message : List ℕ) → IsReached a k → AreNotStronglyUnique a k span message → IsCause a (Semantic span message cause.NotStronglyUnique)
-  no_getter_18 : (k : ℕ) (span : OptionalSpan) (message : List ℕ) → IsReached a k → LacksGetter a k span message → IsCause a (Semantic span message cause.NoGetter)
   offset_overflow_27 : AdditionOverflows a → IsCause a OffsetOverflow
+  of_world : (k : ℕ) (error : ResolveErrorKind) → IsReached a k → IsCauseAtWorld a k error → IsCause a error
 
 -- no cause holds against the addition
 abbrev pub AdditionIsAccepted : Addition → Type 0
-AdditionIsAccepted a = (error : ResolveErrorKind) → IsCause a error → ⊥
+AdditionIsAccepted a = NoCause (IsCause a)

@@ -2,7 +2,7 @@
 -- as copies with fresh ids, so that no two worlds have a type or an interface without a name in common.
 -- Source: the WIT page of the component model, "include"; `resolve_include` of wit-parser 0.263.0. What is
 -- copied is a rule of this project.
-use Rattle.std.specs.Prelude.{ℕ, ◌+◌, ◌&&◌, ◌||◌, Bool, not, true, false, List, [], ◌∷◌, ◌++◌, map, filter, length, nat_eq, is_some, slice_get, Option, Some, if◌then◌else◌}
+use Rattle.std.specs.Prelude.{◌≡◌, ◌⊎◌, ℕ, ◌+◌, ◌&&◌, ◌||◌, Bool, not, true, false, List, [], ◌∷◌, ◌++◌, codes, map, filter, length, nat_eq, is_some, slice_get, Option, Some, if◌then◌else◌}
 use Rattle.std.specs.List.{flat_map, list_any}
 use Rattle.std.specs.Map.{lookup}
 use Rattle.std.specs.Option.{option_eq, option_map_or}
@@ -36,6 +36,14 @@ pub record EntryLists : Type 0 where
 
 abbrev pub lists_of : World → EntryLists
 lists_of world = record { imports = world.imports; exports = world.exports }
+
+-- a world with these lists
+abbrev pub with_entry_lists : World → EntryLists → World
+with_entry_lists world lists = record world { imports = lists.imports; exports = lists.exports }
+
+-- `import` and `export`, with the lists that they mean
+abbrev pub IsListCalled : List ℕ → EntryLists → List Entry → Type 0
+IsListCalled word lists entries = ((word ≡ codes "import") × (entries ≡ lists.imports)) ⊎ ((word ≡ codes "export") × (entries ≡ lists.exports))
 
 -- ---- what is copied
 

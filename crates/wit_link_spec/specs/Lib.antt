@@ -1,8 +1,10 @@
 pub mod Addition
 pub mod Cause
 pub mod CauseText
+pub mod FinishCause
 pub mod Gates
 pub mod Include
+pub mod IncludeCause
 pub mod Lookup
 pub mod Pushed
 pub mod Reasons

@@ -4,16 +4,16 @@
 -- Source: `append` of wit-parser 0.263.0.
 use Rattle.std.specs.Prelude.{ℕ, List, [], ◌∷◌, ◌++◌, map, filter_map, fold, take, length}
 use Rattle.std.specs.Option.{option_map}
+use Rattle.wit_sources.specs.Span.{moved_by}
 use Rattle.wit_data.specs.declared.interface.Interface.{Interface}
 use Rattle.wit_data.specs.declared.world.World.{World}
 use Rattle.wit_data.specs.declared.world.WorldInclude.{WorldInclude}
-use Rattle.wit_elaboration.specs.Elaborated.{elaborated_exports, elaborated_imports}
-use Rattle.wit_elaboration.specs.Elaboration.{graph_uses}
+use Rattle.wit_elaboration.specs.AllWorlds.{elaborated_world}
 use Rattle.wit_graph_data.specs.declared.graph.Graph.{Graph}
 use Rattle.wit_graph_data.specs.declared.graph.Package.{Package}
 use Rattle.wit_graph_theory.specs.Image.{interface_image, type_image, world_image}
 use Rattle.wit_link_spec.specs.Addition.{Addition, active_includes, addition_maps, own_interface, own_interfaces, own_types, own_world, own_worlds, owns_of_addition, remapped_interface, remapped_world, selected_with_index}
-use Rattle.wit_link_spec.specs.Include.{PartiallyLinked, lists_of, with_include_of}
+use Rattle.wit_link_spec.specs.Include.{EntryLists, PartiallyLinked, lists_of, with_entry_lists, with_include_of}
 use Rattle.wit_labels.specs.Setters.{placed}
 
 -- ---- the package
@@ -39,6 +39,13 @@ with_parts a = record {
 
 -- ---- its worlds
 
+-- an include of the package with the id and the span that it has in the graph, and the active ones of a world
+abbrev pub placed_include : Addition → WorldInclude → WorldInclude
+placed_include a include = record include { id = remapped_world a include.id; span = moved_by a.offset include.span }
+
+abbrev pub placed_includes : Addition → World → List WorldInclude
+placed_includes a world = map (placed_include a) (active_includes a world)
+
 -- one include more of the world that comes next
 abbrev pub with_include : Addition → ℕ → PartiallyLinked → WorldInclude → PartiallyLinked
 with_include a into b include = with_include_of (length a.graph.packages) into include.names (remapped_world a include.id) b
@@ -55,16 +62,25 @@ with_all_includes a w world g = with_includes a w world (active_includes a world
 abbrev pub with_placed : World → World
 with_placed world = record world { imports = placed world.imports; exports = placed world.exports }
 
--- world w of the package behind its includes, its setters after their getters, elaborated
+-- a world, finished: its setters after their getters, elaborated over the types and interfaces of a graph
+abbrev pub finished_world : Graph → World → World
+finished_world g world = elaborated_world g (with_placed world)
+
+-- the graph with a world behind its worlds, finished
+abbrev pub with_finished : Graph → World → Graph
+with_finished g world = record g { worlds = g.worlds ++ finished_world g world ∷ [] }
+
+-- world w of the package with these lists, before it is finished
+abbrev pub unfinished_world : Addition → ℕ → World → EntryLists → World
+unfinished_world a w world lists = with_entry_lists (world_image (addition_maps a) w world) lists
+
+-- world w of the package behind its includes, finished
 abbrev pub linked_world : Addition → ℕ → World → PartiallyLinked → World
-linked_world a w world b = record (world_image (addition_maps a) w world) {
-  imports = elaborated_imports b.graph.types (graph_uses b.graph) (placed b.lists.imports) (placed b.lists.exports);
-  exports = elaborated_exports b.graph.types (graph_uses b.graph) (placed b.lists.exports);
-}
+linked_world a w world b = finished_world b.graph (unfinished_world a w world b.lists)
 
 -- the graph with one world more
 abbrev pub with_world : Addition → Graph → ℕ × World → Graph
-with_world a g e = let b = with_all_includes a e.0 e.1 g in record b.graph { worlds = b.graph.worlds ++ linked_world a e.0 e.1 b ∷ [] }
+with_world a g e = let b = with_all_includes a e.0 e.1 g in with_finished b.graph (unfinished_world a e.0 e.1 b.lists)
 
 -- the graph with the first so many of the package's worlds
 abbrev pub with_worlds : Addition → ℕ → Graph

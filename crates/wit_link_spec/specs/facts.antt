@@ -9,3 +9,4 @@ pub mod PositionFacts
 pub mod RangeFacts
 pub mod RankFacts
 pub mod Standing
+pub mod WorldCauseFacts

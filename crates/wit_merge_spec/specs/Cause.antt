@@ -13,6 +13,7 @@ use Rattle.wit_data.specs.Reference.{named_option}
 use Rattle.wit_data.specs.declared.function.Function.{Function}
 use Rattle.wit_data.specs.declared.package_name.PackageName.{PackageName}
 use Rattle.wit_data.specs.declared.stability.Stability.{Stability}
+use Rattle.wit_graph_data.specs.Error.{NoCause}
 use Rattle.wit_graph_data.specs.declared.cause.Cause.TheVariants as cause
 use Rattle.wit_graph_data.specs.declared.error_kind.ResolveErrorKind.{ResolveErrorKind}
 use Rattle.wit_graph_data.specs.declared.error_kind.ResolveErrorKind.TheVariants.{InvalidTransitiveDependency, PackageCycle, StabilityMismatch, Semantic, OffsetOverflow}
@@ -24,7 +25,7 @@ use Rattle.wit_link_spec.specs.CauseText.{borrow_text}
 use Rattle.wit_link_spec.specs.Gates.{OptionalSpan}
 use Rattle.wit_link_spec.specs.Reasons.{HoldsBorrow}
 use Rattle.wit_link_spec.specs.Spans.{interface_spans, type_spans, world_spans}
-use Rattle.wit_link_spec.specs.WorldReasons.{Disagree, HasStability}
+use Rattle.wit_link_spec.specs.IncludeCause.{Disagree, HasStability}
 use Rattle.wit_merge_spec.specs.Agreement.{GraphsDiffer}
 use Rattle.wit_merge_spec.specs.Matches.{GraphMerge, Pair, counterpart_interface, counterpart_type, counterpart_world}
 use Rattle.wit_merge_spec.specs.Remapped.{merge_maps, moved_functions}
@@ -86,4 +87,4 @@ pub data IsMergeCause (m : GraphMerge) : ResolveErrorKind → Type 0 where
 
 -- no cause holds against the merge
 abbrev pub MergeIsAccepted : GraphMerge → Type 0
-MergeIsAccepted m = (error : ResolveErrorKind) → IsMergeCause m error → ⊥
+MergeIsAccepted m = NoCause (IsMergeCause m)

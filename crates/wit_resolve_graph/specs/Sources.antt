@@ -7,6 +7,7 @@ use Rattle.wit_sources.specs.SourceMap.{Sources, end_after, with_file, with_sour
 use Rattle.wit_sources.specs.Span.{end_of, moved_by}
 use Rattle.wit_sources.specs.declared.source_map.SourceFile.{SourceFile}
 use Rattle.wit_data.specs.declared.unresolved.UnresolvedPackageGroup.{UnresolvedPackageGroup}
+use Rattle.wit_graph_data.specs.Error.{NoCause}
 use Rattle.wit_graph_data.specs.RenderedText.{rendered_text, text_at}
 use Rattle.wit_graph_data.specs.declared.error_kind.ResolveErrorKind.{ResolveErrorKind}
 use Rattle.wit_graph_data.specs.declared.error_kind.ResolveErrorKind.TheVariants.{OffsetOverflow, OutOfMemory}
@@ -49,7 +50,7 @@ pub record IsNotPlaced (old : State) (files : Sources) (span : Option (ℕ × �
 -- a group is added
 pub record PushesAnswer (old : State) (group : UnresolvedPackageGroup) (id : ℕ) (new : State) : Type 0 where
   pub pushes : PushesGroups old group [] id new
-  pub accepted : (kind : ResolveErrorKind) → IsGroupsCause old.features old.graph old.source_map.end (group ∷ []) kind → ⊥
+  pub accepted : NoCause (IsGroupsCause old.features old.graph old.source_map.end (group ∷ []))
 
 -- a group is refused
 pub record RefusesAnswer (old : State) (group : UnresolvedPackageGroup) (told : SourceFault) (new : State) : Type 0 where

@@ -10,6 +10,7 @@ use Rattle.wit_data.specs.Shape.{IsGroupShaped}
 use Rattle.wit_data.specs.declared.package_name.PackageName.{PackageName}
 use Rattle.wit_data.specs.declared.unresolved.UnresolvedPackageGroup.{UnresolvedPackageGroup}
 use Rattle.wit_data.specs.declared.world.WorldKey.{WorldKey}
+use Rattle.wit_graph_data.specs.Error.{NoCause}
 use Rattle.wit_graph_data.specs.declared.graph.Graph.{Graph}
 use Rattle.wit_elaboration.specs.Entries.{Entry}
 use Rattle.wit_graph_data.specs.IdText.{key_text}
@@ -55,7 +56,7 @@ pub record PushesGroups (old : State) (main : UnresolvedPackageGroup) (deps : Li
   pub sorted : List Unresolved
   pub ids : List ℕ
   pub place : ℕ
-  pub sortable : (error : ResolveErrorKind) → IsSortCause (packages_of old.source_map.end (main ∷ deps)) error → ⊥
+  pub sortable : NoCause (IsSortCause (packages_of old.source_map.end (main ∷ deps)))
   pub fits : files_end old.source_map.end (main ∷ deps) < 2 ^ 32
   pub are_sorted : AreSorted (packages_of old.source_map.end (main ∷ deps)) order sorted
   pub are_pushed : ArePushed old.features old.graph sorted new.graph ids
@@ -86,7 +87,7 @@ IsAbsent state home name = (w : ℕ) → HasWorld state.graph home name w → �
 pub record Transforms (old : State) (home : PackageName) (world : List ℕ) (changed : ℕ → Graph) (IsCauseOf : ℕ → ResolveErrorKind → Type 0) (new : State) : Type 0 where
   pub w : ℕ
   pub there : HasWorld old.graph home world w
-  pub accepted : (error : ResolveErrorKind) → IsCauseOf w error → ⊥
+  pub accepted : NoCause (IsCauseOf w)
   pub is_changed : new ≡ record old { graph = changed w }
 
 -- a change is refused, and nothing has changed

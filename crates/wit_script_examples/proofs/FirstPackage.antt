@@ -30,12 +30,11 @@ use Rattle.wit_link_spec.specs.Cause.{AdditionIsAccepted, IsCause}
 use Rattle.wit_link_spec.specs.Cause as reason
 use Rattle.wit_link_spec.specs.Gates.{IsAsked}
 use Rattle.wit_link_spec.specs.Gates as asked
-use Rattle.wit_link_spec.specs.Include.{EntryLists}
 use Rattle.wit_link_spec.specs.Pushed.{pushed}
 use Rattle.wit_link_spec.specs.Reasons.{IsActiveFunction, IsResolved, RefersTo, Thing}
 use Rattle.wit_link_spec.specs.Reasons as part
-use Rattle.wit_link_spec.specs.WorldReasons.{AtWorld, HaveLists}
-use Rattle.wit_link_spec.specs.WorldReasons as reached
+use Rattle.wit_link_spec.specs.WorldReasons.{AtWorld}
+use Rattle.wit_link_spec.specs.facts.WorldCauseFacts.{cause_world}
 use Rattle.wit_link.specs.Appending.{ArePushed, FilesPassTheEnd, IsGroupsCause, addition, files_end}
 use Rattle.wit_resolve_graph.specs.examples.Examples.{first_package}
 use Rattle.wit_script_examples.specs.SourceExamples.{made_of}
@@ -112,10 +111,6 @@ module _ (features : Features) (g : Graph) (offset : ℕ) where
   no_function f (part.of_interface i interface name _ at active inside on) = nowhere i interface at
   no_function f (part.of_world w world k _ at active inside on) = nowhere w world at
 
-  world_of_lists : (k : ℕ) (world : World) (lists : EntryLists) (moves : ℕ) → HaveLists of_first k world lists moves → ⊥
-  world_of_lists k _ _ _ (reached.made at image fine) = no_world k at
-  world_of_lists k _ _ _ (reached.written at none) = no_world k at
-
   asks_nothing : (note : Stability) (place : OptionalSpan) → IsAsked features first_package note place → ⊥
   asks_nothing _ _ (asked.of_type t def at) = nowhere t def at
   asks_nothing _ _ (asked.of_interface i interface note at inside) = nowhere i interface at
@@ -154,10 +149,7 @@ module _ (features : Features) (g : Graph) (offset : ℕ) where
     accepted _ (reason.package_not_found_1 span requested known c) = has_image.packages span requested known c
     accepted _ (reason.world_not_found_2 span requested home c) = has_image.worlds span requested home c
     accepted _ (reason.interface_not_found_3 span requested home c) = has_image.interfaces span requested home c
-    accepted _ (reason.conflict_4 k span name reached c) = no_world k c.at
     accepted _ (reason.duplicate_5 name span1 span2 c) = not_passed absent c.there
-    accepted _ (reason.shadowing_7 k j span word name reached c) = no_world k c.at.at
-    accepted _ (reason.mismatch_8 k j span from into reached c) = no_world k c.at.at
     accepted _ (reason.gate_without_version_9 span message c) = has_image.version span message c
     accepted _ (reason.gate_unreleased_10 span message c) = has_image.released span message c
     accepted _ (reason.excluded_11 span message c) = has_image.references span message c
@@ -165,10 +157,8 @@ module _ (features : Features) (g : Graph) (offset : ℕ) where
     accepted _ (reason.type_not_defined_13 span message c) = has_image.types span message c
     accepted _ (reason.not_a_resource_14 span message c) = Contains-nil c.required
     accepted _ (reason.borrow_in_result_15 span message c) = no_function c.f c.active
-    accepted _ (reason.rename_unmatched_16 k j span message reached c) = no_world k c.at.at
-    accepted _ (reason.not_strongly_unique_17 k span message reached c) = world_of_lists k c.world c.lists c.moves c.have
-    accepted _ (reason.no_getter_18 k span message reached c) = world_of_lists k c.world c.lists c.moves c.have
     accepted _ (reason.offset_overflow_27 c) = none_some _ (only_one None (Some (c.from, c.to)) c.known)
+    accepted _ (reason.of_world k error reached c) = no_world k (cause_world of_first k error c)
 
     -- so no package of the one is refused
     no_more : (before after : List Unresolved) (p : Unresolved) → [] ≡ before ++ p ∷ after → ⊥

@@ -10,6 +10,7 @@ use Rattle.wit_data.specs.declared.track.TrackRule.TheVariants.{Published, WithP
 use Rattle.wit_data.specs.declared.types.TypeDef.{TypeDef}
 use Rattle.wit_data.specs.declared.types.Type_.{Type_}
 use Rattle.wit_data.specs.declared.types.Type_.TheVariants as type
+use Rattle.wit_graph_data.specs.Error.{NoCause}
 use Rattle.wit_graph_data.specs.examples.Samples.{function_of}
 use Rattle.wit_graph_data.specs.declared.cause.Cause.TheVariants.{InterfaceCycle, TypeCycle, UpgradeMismatch}
 use Rattle.wit_graph_data.specs.declared.error_kind.ResolveErrorKind.{ResolveErrorKind}
@@ -26,7 +27,7 @@ IsCauseOf g error = IsTrackCause Published g 0 error
 
 -- no cause holds against it
 abbrev pub IsFine : Graph → Type 0
-IsFine g = (error : ResolveErrorKind) → IsCauseOf g error → ⊥
+IsFine g = NoCause (IsCauseOf g)
 
 -- ---- 4
 
@@ -135,7 +136,7 @@ pub record ExamplesOfCauses : Type 0 where
   pub not_missing : IsFine of_three
   -- a pre-release and its release are accepted by either rule
   pub accepted_apart : IsFine (first_release (0 ∷ 1 ∷ []))
-  pub accepted_together : (error : ResolveErrorKind) → IsTrackCause WithPrereleases (first_release (0 ∷ 1 ∷ [])) 0 error → ⊥
+  pub accepted_together : NoCause (IsTrackCause WithPrereleases (first_release (0 ∷ 1 ∷ [])) 0)
   -- and then no cycle is a reason
   pub missing_beside_cycle : IsCauseOf without_type_but_cycle (failed (codes "type `u` is missing"))
   pub no_cycle_beside : (message : List ℕ) → IsCauseOf without_type_but_cycle (Semantic None message TypeCycle) → ⊥

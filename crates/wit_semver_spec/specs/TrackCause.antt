@@ -9,6 +9,7 @@ use Rattle.wit_data.specs.declared.package_name.PackageName.{PackageName}
 use Rattle.wit_data.specs.declared.track.TrackRule.{TrackRule}
 use Rattle.wit_data.specs.declared.types.TypeDef.{TypeDef}
 use Rattle.wit_data.specs.declared.world.World.{World}
+use Rattle.wit_graph_data.specs.Error.{NoCause}
 use Rattle.wit_graph_data.specs.IdText.{interface_id_at}
 use Rattle.wit_graph_data.specs.declared.cause.Cause.TheVariants as cause
 use Rattle.wit_graph_data.specs.declared.error_kind.ResolveErrorKind.{ResolveErrorKind}
@@ -89,4 +90,4 @@ IsTrackCause rule g w error = (world : World) × (slice_get g.worlds w ≡ Some 
 
 -- no cause holds against it
 abbrev pub SemverMergeIsAccepted : TrackRule → Graph → ℕ → Type 0
-SemverMergeIsAccepted rule g w = (error : ResolveErrorKind) → IsTrackCause rule g w error → ⊥
+SemverMergeIsAccepted rule g w = NoCause (IsTrackCause rule g w)

@@ -15,6 +15,7 @@ use Rattle.wit_data.specs.declared.world.WorldItem.{WorldItem}
 use Rattle.wit_data.specs.declared.world.WorldItem.TheVariants as item
 use Rattle.wit_data.specs.declared.world.WorldKey.{WorldKey}
 use Rattle.wit_data.specs.declared.world.WorldKey.TheVariants as key
+use Rattle.wit_graph_data.specs.Error.{NoCause}
 use Rattle.wit_graph_data.specs.declared.cause.Cause.TheVariants.{LabelClash, NameTaken, TypeExported}
 use Rattle.wit_graph_data.specs.declared.error_kind.ResolveErrorKind.{ResolveErrorKind}
 use Rattle.wit_graph_data.specs.declared.error_kind.ResolveErrorKind.TheVariants.{InvalidTransitiveDependency, Semantic}
@@ -142,5 +143,5 @@ module _ {F : Type 0} (calls : Shared F (Bor WorldKey × (Bor WorldItem × Unit 
   pub record Exportizes (filter : Option F) (old : Graph) (w : ℕ) (out : Option (List ℕ)) (new : Graph) : Type 0 where
     pub answers : List Bool
     pub given : AreAnswers filter (imports_at old w) answers
-    pub accepted : (error : ResolveErrorKind) → IsExportizeCause old w answers out error → ⊥
+    pub accepted : NoCause (IsExportizeCause old w answers out)
     pub is_transformed : new ≡ transformed old w (exportized answers out)

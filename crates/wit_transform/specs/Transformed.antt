@@ -9,8 +9,7 @@ use Rattle.wit_data.specs.declared.world.WorldItem.{WorldItem}
 use Rattle.wit_data.specs.declared.world.WorldItem.TheVariants as item
 use Rattle.wit_data.specs.declared.world.WorldKey.{WorldKey}
 use Rattle.wit_data.specs.declared.world.WorldKey.TheVariants as key
-use Rattle.wit_elaboration.specs.Elaborated.{elaborated_exports, elaborated_imports}
-use Rattle.wit_elaboration.specs.Elaboration.{graph_uses}
+use Rattle.wit_elaboration.specs.AllWorlds.{elaborated_world}
 use Rattle.wit_elaboration.specs.Entries.{Entry}
 use Rattle.wit_graph_data.specs.declared.graph.Graph.{Graph}
 use Rattle.wit_graph_data.specs.declared.graph.Package.{Package}
@@ -82,11 +81,7 @@ listed_world world lists = record world { name = lists.name; imports = lists.imp
 
 -- the world under its new name, with its new lists elaborated
 abbrev pub transformed_world : Graph → World → WorldLists → World
-transformed_world g world lists = record world {
-  name = lists.name;
-  imports = elaborated_imports g.types (graph_uses g) lists.imports lists.exports;
-  exports = elaborated_exports g.types (graph_uses g) lists.exports;
-}
+transformed_world g world lists = elaborated_world g (listed_world world lists)
 
 -- the graph with world w transformed: the world under its new name, elaborated, and last in the table of its package
 abbrev pub transformed_at : Graph → ℕ → World → WorldLists → Graph

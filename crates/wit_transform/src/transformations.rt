@@ -4,7 +4,7 @@
 //! and the table of its package. All else stays.
 ghost use Rattle.std.specs.Prelude.{◌≡◌, ◌⊎◌, ◌<◌, Bool, IfErr, IfOk, IfSome, IsSome, List, OnErr, OnOk, Some, length, slice_get, string_bytes};
 ghost use Rattle.std.specs.Option.{option_map};
-ghost use Rattle.wit_elaboration.specs.Elaborated.{elaborated_exports, elaborated_imports};
+ghost use Rattle.wit_elaboration.specs.AllWorlds.{elaborated_world};
 ghost use Rattle.wit_elaboration.specs.Elaboration.{IsConflictError, graph_uses};
 ghost use Rattle.wit_elaboration.specs.Imported.{HasConflict};
 ghost use Rattle.wit_elaboration.specs.Sound.{HasSoundEntries};
@@ -84,7 +84,7 @@ fn with_lists(world: &World, name: Text, lists: Lists) -> Result<World, AllocErr
 fn elaborated(alloc: Global, graph: &Graph, world: World) -> ResolveResult<World>
     requires acyclic { IsAcyclic (graph_uses graph.now) }
     requires listed { HasSoundEntries graph.now.types (length graph.now.interfaces) world.imports world.exports }
-    ensures ok { IfOk result (λ new. new ≡ record world { imports = elaborated_imports graph.now.types (graph_uses graph.now) world.imports world.exports; exports = elaborated_exports graph.now.types (graph_uses graph.now) world.exports }) }
+    ensures ok { IfOk result (λ new. new ≡ elaborated_world graph.now world) }
     ensures no_conflict { OnOk result (HasConflict (graph_uses graph.now) world.exports → ⊥) }
     ensures cause { IfErr result (IsConflictError graph.now world) }
 {

@@ -6,7 +6,7 @@ use Rattle.wit_data.specs.declared.world.WorldInclude.{WorldInclude}
 use Rattle.wit_graph_theory.specs.Image.{world_image}
 use Rattle.wit_link_spec.specs.Addition.{Addition, addition_maps, own_worlds}
 use Rattle.wit_link_spec.specs.declared.addition.NewIds.{NewIds}
-use Rattle.wit_link_include.specs.facts.AdditionFacts.{placed_includes}
+use Rattle.wit_link_spec.specs.Pushed.{placed_includes}
 use Rattle.wit_remap.specs.steps.Movers.{goes}
 use Rattle.wit_remap.specs.declared.worlds.PlacedWorld.{PlacedWorld}
 

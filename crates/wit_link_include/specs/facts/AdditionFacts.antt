@@ -1,10 +1,10 @@
--- The includes of an addition's worlds, at its stages: what is told of one world with its includes, as reasons of the
--- addition. For the proofs of the crates above; only `placed_include` and `placed_includes` are words of contracts.
+-- The includes of an addition's worlds, at its stages: what is told of one world with its includes, as causes of the
+-- addition, which are of the world and the includes as the package has them: their ids are remapped and their spans moved.
+-- For the proofs of the crates above.
 use Rattle.std.proofs.Common.{◌≡◌, ◌∙◌, inl, inr, ℕ, zero, suc, ◌+◌, List, [], ◌∷◌, map, filter, fold, take, length, Some, None, slice_get, refl, sym, ap, subst, arith, Contains}
 use Rattle.std.proofs.lemmas.List.Sums.{fold-append}
 use Rattle.std.specs.Map.{keys_of}
 use Rattle.wit_values.specs.facts.Lists.{take-next_at}
-use Rattle.wit_sources.specs.Span.{moved_by}
 use Rattle.wit_data.specs.Entries.{Entry}
 use Rattle.wit_data.specs.declared.function.Function.{Function}
 use Rattle.wit_data.specs.declared.world.World.{World}
@@ -12,39 +12,24 @@ use Rattle.wit_data.specs.declared.world.WorldInclude.{WorldInclude}
 use Rattle.wit_data.specs.declared.world.WorldItem.TheVariants as item
 use Rattle.wit_data.specs.declared.world.WorldKey.{WorldKey}
 use Rattle.wit_data.specs.declared.world.WorldKey.TheVariants as key
-use Rattle.wit_elaboration.specs.Elaboration.{graph_uses}
-use Rattle.wit_elaboration.specs.Imported.{HasConflict}
 use Rattle.wit_graph_data.specs.declared.error_kind.ResolveErrorKind.{ResolveErrorKind}
 use Rattle.wit_graph_data.specs.declared.graph.Graph.{Graph}
 use Rattle.wit_graph_theory.specs.Image.{entry_image, function_image, key_image, world_image}
 use Rattle.wit_graph_theory.specs.facts.ListFacts.{Contains-map, Contains-map_cases, at_map, from_map, same_at}
-use Rattle.wit_labels.specs.Setters.{IsSetter, getter_label, placed}
+use Rattle.wit_labels.specs.Setters.{getter_label}
 use Rattle.wit_labels.specs.Strong.{Clashes}
 use Rattle.wit_link_spec.specs.Addition.{Addition, active_includes, addition_maps, own_worlds, remapped_world}
-use Rattle.wit_link_spec.specs.Cause.{IncludeIsReached, IsCause, IsReached, conflict_4, mismatch_8, no_getter_18, not_strongly_unique_17, rename_unmatched_16, shadowing_7}
-use Rattle.wit_link_spec.specs.Gates.{OptionalSpan, include_is_active}
-use Rattle.wit_link_spec.specs.Include.{EntryLists, PartiallyLinked, lists_of, with_include_of}
-use Rattle.wit_link_spec.specs.Pushed.{with_all_includes, with_include, with_includes, with_parts, with_world, with_worlds}
+use Rattle.wit_link_spec.specs.Cause.{IsCause, IsReached, of_world}
+use Rattle.wit_link_spec.specs.Gates.{include_is_active}
+use Rattle.wit_link_spec.specs.Include.{IsListCalled, PartiallyLinked, lists_of, with_entry_lists, with_include_of}
+use Rattle.wit_link_spec.specs.Pushed.{placed_include, placed_includes, with_all_includes, with_finished, with_include, with_includes, with_parts, with_world, with_worlds}
 use Rattle.wit_link_spec.specs.Reasons.{IsResolved}
-use Rattle.wit_link_spec.specs.WorldReasons.{AtInclude, AtWorld, HaveLists, IncludeIsAccepted, IsListCalled, WorldIsAccepted, made, written}
-use Rattle.wit_link_include.specs.steps.Finished.{IsFinishCause, LabelsClash, SetterIsAlone, with_finished, conflict_4 as finish_conflict_4, no_getter_18 as finish_no_getter_18, not_strongly_unique_17 as finish_not_strongly_unique_17}
+use Rattle.wit_link_spec.specs.FinishCause.{IsFinishCause, LabelsClash, SetterIsAlone, no_getter_18, not_strongly_unique_17}
+use Rattle.wit_link_spec.specs.WorldReasons.{AtWorld, IncludeIsAccepted, IsCauseAtFinish, IsCauseAtInclude, WorldIsAccepted, of_finish, of_include, written_no_getter_18, written_not_strongly_unique_17}
 use Rattle.wit_link_include.specs.steps.Included as local
 use Rattle.wit_link_include.specs.facts.SeveralFacts.{one_worlds}
-
--- ---- what is handed on
-
--- an include with the id and the span that it has in the graph
-abbrev pub placed_include : Addition → WorldInclude → WorldInclude
-placed_include a include = record include { id = remapped_world a include.id; span = moved_by a.offset include.span }
-
--- the includes of a world that are active
-abbrev pub placed_includes : Addition → World → List WorldInclude
-placed_includes a world = map (placed_include a) (active_includes a world)
-
--- a span that is moved by nothing
-moved_nowhere : (span : OptionalSpan) → moved_by 0 span ≡ span
-moved_nowhere None = refl
-moved_nowhere (Some (from, to)) = let first : from + 0 ≡ from = omega arith in let last : to + 0 ≡ to = omega arith in cc
+use Rattle.wit_graph_data.specs.Error.{NoCause}
+use Rattle.wit_link_spec.specs.IncludeCause.{IsIncludeCause}
 
 take_map : {X Y : Type 0} (f : X → Y) (j : ℕ) (xs : List X) → take j (map f xs) ≡ map f (take j xs)
 take_map f zero [] = refl
@@ -77,119 +62,47 @@ module _ (a : Addition) where
 
   -- ---- an include
 
-  module _ (k j : ℕ) (at : AtInclude a k j) where
-    before_same : at.before ≡ local.with_several home (with_worlds a k) (image_at at.at.place at.at.world) (take j (placed_includes a at.at.world))
-    before_same = at.before_is ∙ sym (stage_is (with_worlds a k) at.at.place at.at.world j)
+  -- what is begun before include j of world k
+  abbrev begins_at : (k j : ℕ) → AtWorld a k → PartiallyLinked
+  begins_at k j at = local.with_several home (with_worlds a k) (image_at at.place at.world) (take j (placed_includes a at.world))
 
-    abbrev begins : PartiallyLinked
-    begins = local.with_several home (with_worlds a k) (image_at at.at.place at.at.world) (take j (placed_includes a at.at.world))
+  -- what is told at its stage is a cause at this include
+  pub stage_cause : (k j : ℕ) (at : AtWorld a k) (include : WorldInclude) → slice_get (placed_includes a at.world) j ≡ Some include → (error : ResolveErrorKind)
+      → local.IsCauseOfInclude home (begins_at k j at) include error → IsCauseAtInclude a k j error
+  stage_cause k j at include is error found =
+      let from = from_map (placed_include a) (active_includes a at.world) j include is in
+      record {
+        at = record {
+          at = at;
+          include = from.0;
+          is = from.1;
+          before = begins_at k j at;
+          before_is = stage_is (with_worlds a k) at.place at.world j;
+          old = found.0;
+          old_is = subst (λ (x : WorldInclude). local.IsIncluded (begins_at k j at) x found.0) (sym from.2) found.1;
+        };
+        cause = subst (λ (x : WorldInclude). IsIncludeCause home (begins_at k j at) x found.0 error) (sym from.2) found.2;
+      }
 
-    included_there : local.IsIncluded begins (placed_include a at.include) at.old
-    included_there = subst (λ (b : PartiallyLinked). slice_get b.graph.worlds (remapped_world a at.include.id) ≡ Some at.old) before_same at.old_is
+  -- and a cause at this include is told at its stage
+  module _ (k j : ℕ) (error : ResolveErrorKind) (is : IsCauseAtInclude a k j error) where
+    before_same : is.at.before ≡ begins_at k j is.at.at
+    before_same = is.at.before_is ∙ sym (stage_is (with_worlds a k) is.at.at.place is.at.at.world j)
 
-    placed_there : slice_get (placed_includes a at.at.world) j ≡ Some (placed_include a at.include)
-    placed_there = at_map (placed_include a) (active_includes a at.at.world) j at.include at.is
+    placed_there : slice_get (placed_includes a is.at.at.world) j ≡ Some (placed_include a is.at.include)
+    placed_there = at_map (placed_include a) (active_includes a is.at.at.world) j is.at.include is.at.is
 
-    -- no reason holds against it that its stage doesn't tell
-    refuted : local.IsAcceptedAt home (with_worlds a k) (image_at at.at.place at.at.world) (placed_includes a at.at.world) j → (kind : ResolveErrorKind) → local.IsIncludeCause home begins (placed_include a at.include) at.old kind → ⊥
-    refuted fine kind is = fine (placed_include a at.include) placed_there at.old included_there kind is
-
-    list_now : (word : List ℕ) (entries : List Entry) → IsListCalled word at.before.lists entries → IsListCalled word begins.lists entries
-    list_now word entries is = subst (λ (b : PartiallyLinked). IsListCalled word b.lists entries) before_same is
+    cause_there : local.IsCauseOfInclude home (begins_at k j is.at.at) (placed_include a is.at.include) error
+    cause_there =
+        subst (λ (b : PartiallyLinked). local.IsCauseOfInclude home b (placed_include a is.at.include) error) before_same (is.at.old, is.at.old_is, is.cause)
 
   -- where the stage of an include is accepted, so is the include
   pub include_is_accepted : (k j : ℕ) → ((at : AtWorld a k) → local.IsAcceptedAt home (with_worlds a k) (image_at at.place at.world) (placed_includes a at.world) j) → IncludeIsAccepted a k j
-  include_is_accepted k j fine = record {
-    unshadowed = λ span word name is.
-        refuted k j is.at (fine is.at.at) _ (local.shadowing_7 word name (record {
-          current = is.current;
-          brought = is.brought;
-          list = (list_now k j is.at word is.current is.list.0, is.list.1);
-          shadowed = is.shadowed;
-        }));
-    agrees = λ span brings has is.
-        refuted k j is.at (fine is.at.at) _ (local.mismatch_8 brings has (record {
-          word = is.word;
-          current = is.current;
-          brought = is.brought;
-          i = is.i;
-          list = (list_now k j is.at is.word is.current is.list.0, is.list.1);
-          there = is.there;
-          comes = is.comes;
-          apart = is.apart;
-          counts = is.counts;
-        }));
-    renames = λ span message is.
-        refuted k j is.at (fine is.at.at) _ (local.rename_unmatched_16 is.name (record {
-          before = is.before;
-          after = is.after;
-          are = is.names_are;
-          earlier = is.earlier;
-          unmatched = is.unmatched;
-        }));
-  }
+  include_is_accepted k j fine error is = fine is.at.at (placed_include a is.at.include) (placed_there k j error is) error (cause_there k j error is)
 
-  -- a refusal of an include is one of the addition
-  module _ (k j : ℕ) (at : AtWorld a k) (reached : IncludeIsReached a k j) where
-    cause_at : (include : WorldInclude) → slice_get (active_includes a at.world) j ≡ Some include → (old : World)
-        → local.IsIncluded (local.with_several home (with_worlds a k) (image_at at.place at.world) (take j (placed_includes a at.world))) (placed_include a include) old → (kind : ResolveErrorKind)
-        → local.IsIncludeCause home (local.with_several home (with_worlds a k) (image_at at.place at.world) (take j (placed_includes a at.world))) (placed_include a include) old kind → IsCause a kind
-    cause_at include is old there kind cause = by kind cause
-      where
-        here : AtInclude a k j
-        here = record {
-          at = at;
-          include = include;
-          is = is;
-          before = local.with_several home (with_worlds a k) (image_at at.place at.world) (take j (placed_includes a at.world));
-          before_is = stage_is (with_worlds a k) at.place at.world j;
-          old = old;
-          old_is = there;
-        }
-
-        by : (kind : ResolveErrorKind) → local.IsIncludeCause home (local.with_several home (with_worlds a k) (image_at at.place at.world) (take j (placed_includes a at.world))) (placed_include a include) old kind → IsCause a kind
-        by _ (local.shadowing_7 word name is) =
-            shadowing_7 k j (moved_by a.offset include.span) word name reached (record {
-              at = here;
-              current = is.current;
-              brought = is.brought;
-              list = is.list;
-              shadowed = is.shadowed;
-              span_is = refl;
-            })
-        by _ (local.mismatch_8 brings has is) =
-            mismatch_8 k j (moved_by a.offset include.span) brings has reached (record {
-              at = here;
-              word = is.word;
-              current = is.current;
-              brought = is.brought;
-              i = is.i;
-              list = is.list;
-              there = is.there;
-              comes = is.comes;
-              apart = is.apart;
-              counts = is.counts;
-              span_is = refl;
-            })
-        by _ (local.rename_unmatched_16 name is) =
-            rename_unmatched_16 k j (moved_by a.offset include.span) _ reached (record {
-              at = here;
-              before = is.before;
-              name = name;
-              after = is.after;
-              names_are = is.are;
-              earlier = is.earlier;
-              unmatched = is.unmatched;
-              span_is = refl;
-              message_is = refl;
-            })
-
-    pub include_cause : (kind : ResolveErrorKind) → local.StopsAtInclude home (with_worlds a k) (image_at at.place at.world) (placed_includes a at.world) j kind → IsCause a kind
-    include_cause kind stops =
-        let from = from_map (placed_include a) (active_includes a at.world) j stops.include stops.is in
-        let b = local.with_several home (with_worlds a k) (image_at at.place at.world) (take j (placed_includes a at.world)) in
-        cause_at from.0 from.1 stops.old (subst (λ (x : WorldInclude). local.IsIncluded b x stops.old) (sym from.2) stops.there) kind
-        (subst (λ (x : WorldInclude). local.IsIncludeCause home b x stops.old kind) (sym from.2) stops.cause)
+  -- and the other way
+  stage_accepted : (k j : ℕ) (at : AtWorld a k) → IncludeIsAccepted a k j → local.IsAcceptedAt home (with_worlds a k) (image_at at.place at.world) (placed_includes a at.world) j
+  stage_accepted k j at fine include is error found = fine error (stage_cause k j at include is error found)
 
   -- ---- a world
 
@@ -197,14 +110,23 @@ module _ (a : Addition) where
   pub begun_same : (k : ℕ) (at : AtWorld a k) → local.with_several home (with_worlds a k) (image_at at.place at.world) (placed_includes a at.world) ≡ with_all_includes a at.place at.world (with_worlds a k)
   begun_same k at = several_are (with_worlds a k) at.place at.world (active_includes a at.world)
 
-  -- where it lists none it is its image
+  -- the causes of its stage
+  abbrev IsStageCause : (k : ℕ) → AtWorld a k → ResolveErrorKind → Type 0
+  IsStageCause k at error = local.IsWorldCause home (with_worlds a k) (image_at at.place at.world) (placed_includes a at.world) error
+
+  -- where it lists no include, none is refused, and it is its image
+  none_refused : (k : ℕ) (at : AtWorld a k) → at.world.includes ≡ [] → (j : ℕ) → local.IsAcceptedAt home (with_worlds a k) (image_at at.place at.world) (placed_includes a at.world) j
+  none_refused k at none j include is error found =
+      let nowhere : None ≡ Some include = subst (λ (l : List WorldInclude). slice_get (map (placed_include a) (filter (include_is_active a.features) l)) j ≡ Some include) none is in
+      cc
+
   nothing_begun : (k : ℕ) (at : AtWorld a k) → at.world.includes ≡ [] → local.with_several home (with_worlds a k) (image_at at.place at.world) (placed_includes a at.world) ≡ local.before_includes (with_worlds a k) (image_at at.place at.world)
   nothing_begun k at none =
       ap (λ (l : List WorldInclude). local.with_several home (with_worlds a k) (image_at at.place at.world) (map (placed_include a) (filter (include_is_active a.features) l))) none
 
   -- the world with these lists
   abbrev pub world_at : (k : ℕ) → AtWorld a k → World
-  world_at k at = local.with_lists (image_at at.place at.world) (local.with_several home (with_worlds a k) (image_at at.place at.world) (placed_includes a at.world)).lists
+  world_at k at = with_entry_lists (image_at at.place at.world) (local.with_several home (with_worlds a k) (image_at at.place at.world) (placed_includes a at.world)).lists
 
   -- keys that are labels stay
   label_stays : (w : ℕ) (entries : List Entry) (i : ℕ) (n : List ℕ) → slice_get (keys_of entries) i ≡ Some (key.Name n) → slice_get (keys_of (map (entry_image (addition_maps a) w) entries)) i ≡ Some (key.Name n)
@@ -235,130 +157,44 @@ module _ (a : Addition) where
   list_goes k at none word entries (inr is) =
       subst (λ (b : PartiallyLinked). IsListCalled word b.lists (map (entry_image (addition_maps a) at.place) entries)) (sym (nothing_begun k at none)) (inr (is.0, ap (map (entry_image (addition_maps a) at.place)) is.1))
 
-  -- two labels that are not strongly unique
-  record Alike (k : ℕ) : Type 0 where
-    at : AtWorld a k
-    word : List ℕ
-    n : List ℕ
-    m : List ℕ
-    clash : LabelsClash (world_at k at) word n m
-
-  alike : (k : ℕ) (world : World) (lists : EntryLists) (moves : ℕ) (word : List ℕ) (entries : List Entry) (n m : List ℕ) → HaveLists a k world lists moves → IsListCalled word lists entries → Clashes (keys_of entries) n m → Alike k
-  alike k world lists moves word entries n m (made at image fine) list clash = record {
-    at = at;
-    word = word;
-    n = n;
-    m = m;
-    clash = record { entries = entries; list = subst (λ (b : PartiallyLinked). IsListCalled word b.lists entries) (sym (begun_same k at)) list; clash = clash };
-  }
-  alike k world lists moves word entries n m (written at none) list clash = record {
-    at = at;
-    word = word;
-    n = n;
-    m = m;
-    clash = record {
-      entries = map (entry_image (addition_maps a) at.place) entries;
-      list = list_goes k at none word entries list;
-      clash = clash_stays at.place entries n m clash;
-    };
+  -- labels that clash as the world is written clash in its image
+  clash_goes : (k : ℕ) (at : AtWorld a k) → at.world.includes ≡ [] → (word n m : List ℕ) → LabelsClash at.world word n m → LabelsClash (world_at k at) word n m
+  clash_goes k at none word n m is = record {
+    entries = map (entry_image (addition_maps a) at.place) is.entries;
+    list = list_goes k at none word is.entries is.list;
+    clash = clash_stays at.place is.entries n m is.clash;
   }
 
-  -- a setter without its getter
-  record Alone (k : ℕ) : Type 0 where
-    at : AtWorld a k
-    word : List ℕ
-    label : List ℕ
-    f : Function
-    setter : SetterIsAlone (world_at k at) word label f
-
-  alone : (k : ℕ) (world : World) (lists : EntryLists) (moves : ℕ) (word : List ℕ) (entries : List Entry) (label : List ℕ) (f : Function) → HaveLists a k world lists moves → IsListCalled word lists entries
-      → Contains entries (key.Name label, item.Function f) × IsSetter label (key.Name label, item.Function f) → (Contains (keys_of entries) (key.Name (getter_label label)) → ⊥) → Alone k
-  alone k world lists moves word entries label f (made at image fine) list setter absent = record {
-    at = at;
-    word = word;
-    label = label;
-    f = f;
-    setter = record { entries = entries; list = subst (λ (b : PartiallyLinked). IsListCalled word b.lists entries) (sym (begun_same k at)) list; setter = setter; absent = absent };
-  }
-  alone k world lists moves word entries label f (written at none) list setter absent = record {
-    at = at;
-    word = word;
-    label = label;
-    f = record (function_image (addition_maps a) f) { name = f.name };
-    setter = record {
-      entries = map (entry_image (addition_maps a) at.place) entries;
-      list = list_goes k at none word entries list;
-      setter = (Contains-map (entry_image (addition_maps a) at.place) entries (key.Name label, item.Function f) setter.0, (refl, setter.1.1));
-      absent = λ there. absent (label_was at.place entries (getter_label label) there);
-    };
+  -- and so is a setter without its getter
+  setter_goes : (k : ℕ) (at : AtWorld a k) → at.world.includes ≡ [] → (word label : List ℕ) (f : Function) → SetterIsAlone at.world word label f
+      → SetterIsAlone (world_at k at) word label (record (function_image (addition_maps a) f) { name = f.name })
+  setter_goes k at none word label f is = record {
+    entries = map (entry_image (addition_maps a) at.place) is.entries;
+    list = list_goes k at none word is.entries is.list;
+    setter = (Contains-map (entry_image (addition_maps a) at.place) is.entries (key.Name label, item.Function f) is.setter.0, (refl, is.setter.1.1));
+    absent = λ there. is.absent (label_was at.place is.entries (getter_label label) there);
   }
 
-  -- a conflict of the world is one of its lists
-  conflict_is : (k : ℕ) (at : AtWorld a k) (b : PartiallyLinked) → b ≡ with_all_includes a at.place at.world (with_worlds a k) → HasConflict (graph_uses b.graph) (placed b.lists.exports)
-      → let now = local.with_several home (with_worlds a k) (image_at at.place at.world) (placed_includes a at.world) in HasConflict (graph_uses now.graph) (placed now.lists.exports)
-  conflict_is k at b is conflict = subst (λ (x : PartiallyLinked). HasConflict (graph_uses x.graph) (placed x.lists.exports)) (is ∙ sym (begun_same k at)) conflict
+  -- a cause of the world as it is finished is one of its stage
+  finish_there : (k : ℕ) (error : ResolveErrorKind) (is : IsCauseAtFinish a k error)
+      → let b = local.with_several home (with_worlds a k) (image_at is.at.place is.at.world) (placed_includes a is.at.world) in IsFinishCause b.graph (world_at k is.at) error
+  finish_there k error is =
+      subst (λ (b : PartiallyLinked). IsFinishCause b.graph (with_entry_lists (image_at is.at.place is.at.world) b.lists) error) (is.whole_is ∙ sym (begun_same k is.at)) is.cause
 
-  -- a world of which its stage is accepted is accepted
-  pub world_is_accepted : (k : ℕ) → ((at : AtWorld a k) → local.IsAcceptedWorld home (with_worlds a k) (image_at at.place at.world) (placed_includes a at.world)) → WorldIsAccepted a k
-  world_is_accepted k fine = record {
-    includes = λ image j. include_is_accepted k j (λ at. (fine at).includes_are j);
-    labels = λ span message is.
-        let two = alike k is.world is.lists is.moves is.word is.entries is.n is.m is.have is.list is.clash in
-        (fine two.at).finished.no_cause _ (finish_not_strongly_unique_17 two.word two.n two.m two.clash);
-    setters = λ span message is.
-        let one = alone k is.world is.lists is.moves is.word is.entries is.label is.f is.have is.list is.setter is.no_getter in
-        (fine one.at).finished.no_cause _ (finish_no_getter_18 one.word one.label one.f one.setter);
-    exports = λ span name is. (fine is.at).finished.no_conflict (conflict_is k is.at is.b is.is is.conflict);
-  }
-
-  -- why a world can't be finished is a reason of the addition
-  module _ (k : ℕ) (at : AtWorld a k) (image : IsResolved a) (reached : IsReached a k) (includes : (j : ℕ) → IncludeIsAccepted a k j) where
-    abbrev begins_with : PartiallyLinked
-    begins_with = local.with_several home (with_worlds a k) (image_at at.place at.world) (placed_includes a at.world)
-
-    pub finishing_cause : (kind : ResolveErrorKind) → IsFinishCause begins_with.graph (world_at k at) kind → IsCause a kind
-    finishing_cause _ (finish_conflict_4 name is) =
-        conflict_4 k (moved_by a.offset at.world.span) name reached (record {
-          at = at;
-          has_image = image;
-          includes_are_accepted = includes;
-          b = begins_with;
-          is = begun_same k at;
-          conflict = is.conflict;
-          name_is = is.name_is;
-          span_is = refl;
-        })
-    finishing_cause _ (finish_not_strongly_unique_17 word n m is) =
-        not_strongly_unique_17 k None _ reached (record {
-          world = at.world;
-          lists = begins_with.lists;
-          moves = 0;
-          have = subst (λ (b : PartiallyLinked). HaveLists a k at.world b.lists 0) (sym (begun_same k at)) (made at image includes);
-          word = word;
-          entries = is.entries;
-          list = is.list;
-          n = n;
-          m = m;
-          clash = is.clash;
-          span_is = refl;
-          message_is = refl;
-        })
-    finishing_cause _ (finish_no_getter_18 word label f is) =
-        no_getter_18 k f.span _ reached (record {
-          world = at.world;
-          lists = begins_with.lists;
-          moves = 0;
-          have = subst (λ (b : PartiallyLinked). HaveLists a k at.world b.lists 0) (sym (begun_same k at)) (made at image includes);
-          word = word;
-          entries = is.entries;
-          list = is.list;
-          label = label;
-          f = f;
-          setter = is.setter;
-          no_getter = is.absent;
-          span_is = sym (moved_nowhere f.span);
-          message_is = refl;
-        })
+  -- a world of which the stage is accepted is accepted
+  pub world_is_accepted : (k : ℕ) → ((at : AtWorld a k) → NoCause (IsStageCause k at)) → WorldIsAccepted a k
+  world_is_accepted k fine _ (of_include j error image earlier is) =
+      fine is.at.at error (local.at_include j (record {
+        include = placed_include a is.at.include;
+        is = placed_there k j error is;
+        earlier = λ i before. stage_accepted k i is.at.at (earlier i before);
+        cause = cause_there k j error is;
+      }))
+  world_is_accepted k fine _ (of_finish error image includes is) = fine is.at error (local.as_finished (λ j. stage_accepted k j is.at (includes j)) (finish_there k error is))
+  world_is_accepted k fine _ (written_not_strongly_unique_17 message is) =
+      fine is.at _ (local.as_finished (none_refused k is.at is.no_includes) (not_strongly_unique_17 is.word is.n is.m (clash_goes k is.at is.no_includes is.word is.n is.m is.clash)))
+  world_is_accepted k fine _ (written_no_getter_18 span message is) =
+      fine is.at _ (local.as_finished (none_refused k is.at is.no_includes) (no_getter_18 is.word is.label _ (setter_goes k is.at is.no_includes is.word is.label is.f is.setter)))
 
 -- what is told of a world that is reached holds of each view of it
 one_world : (a : Addition) (k : ℕ) (at at' : AtWorld a k) (P : ℕ → World → Type 0) → P at.place at.world → P at'.place at'.world
@@ -370,26 +206,27 @@ one_world a k at at' P holds =
 pub include_reached : (a : Addition) (k j : ℕ) (at : AtWorld a k) → local.IsAcceptedAt (home a) (with_worlds a k) (image_at a at.place at.world) (placed_includes a at.world) j → IncludeIsAccepted a k j
 include_reached a k j at fine = include_is_accepted a k j (λ at'. one_world a k at at' (λ (w : ℕ) (world : World). local.IsAcceptedAt (home a) (with_worlds a k) (image_at a w world) (placed_includes a world) j) fine)
 
--- why a world is refused is a reason of the addition
+-- why a world is refused at its stage is a cause of the addition
 pub world_cause : (a : Addition) (k : ℕ) (at : AtWorld a k) → IsResolved a → IsReached a k → (kind : ResolveErrorKind)
     → local.IsWorldCause (home a) (with_worlds a k) (image_at a at.place at.world) (placed_includes a at.world) kind → IsCause a kind
 world_cause a k at image reached kind (local.at_include j stops) =
-    include_cause a k j at (record {
-      has_image = image;
-      worlds = reached;
-      includes = λ i before. include_reached a k i at (stops.earlier i before);
-    }) kind stops
+    of_world k kind reached (of_include j kind image (λ i before. include_reached a k i at (stops.earlier i before)) (stage_cause a k j at stops.include stops.is kind stops.cause))
 world_cause a k at image reached kind (local.as_finished fine is) =
-    finishing_cause a k at image reached (λ i. include_reached a k i at (fine i)) kind is
+    of_world k kind reached (of_finish kind image (λ j. include_reached a k j at (fine j)) (record {
+      at = at;
+      whole = local.with_several (home a) (with_worlds a k) (image_at a at.place at.world) (placed_includes a at.world);
+      whole_is = begun_same a k at;
+      cause = is;
+    }))
 
 -- and a world of which one view is accepted is accepted
-pub reached_accepted : (a : Addition) (k : ℕ) (at : AtWorld a k) → local.IsAcceptedWorld (home a) (with_worlds a k) (image_at a at.place at.world) (placed_includes a at.world) → WorldIsAccepted a k
+pub reached_accepted : (a : Addition) (k : ℕ) (at : AtWorld a k) → NoCause (local.IsWorldCause (home a) (with_worlds a k) (image_at a at.place at.world) (placed_includes a at.world)) → WorldIsAccepted a k
 reached_accepted a k at fine =
-    world_is_accepted a k (λ at'. one_world a k at at' (λ (w : ℕ) (world : World). local.IsAcceptedWorld (home a) (with_worlds a k) (image_at a w world) (placed_includes a world)) fine)
+    world_is_accepted a k (λ at'. one_world a k at at' (λ (w : ℕ) (world : World). NoCause (local.IsWorldCause (home a) (with_worlds a k) (image_at a w world) (placed_includes a world))) fine)
 
 -- ---- the next stage
 
 pub next_stage : (a : Addition) (k : ℕ) (at : AtWorld a k) → with_worlds a (k + 1) ≡ local.with_including (home a) (with_worlds a k) (image_at a at.place at.world) (placed_includes a at.world)
 next_stage a k at =
     ap (fold (with_world a) (with_parts a)) (take-next_at (own_worlds a) k (at.place, at.world) at.is) ∙ fold-append (with_world a) (with_parts a) (take k (own_worlds a)) ((at.place, at.world) ∷ [])
-    ∙ ap (λ (b : PartiallyLinked). with_finished b.graph (local.with_lists (image_at a at.place at.world) b.lists)) (sym (begun_same a k at))
+    ∙ ap (λ (b : PartiallyLinked). with_finished b.graph (with_entry_lists (image_at a at.place at.world) b.lists)) (sym (begun_same a k at))

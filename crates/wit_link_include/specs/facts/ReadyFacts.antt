@@ -20,13 +20,13 @@ use Rattle.wit_link_laws.specs.facts.PlacedFacts.{placed_into}
 use Rattle.wit_link_spec.specs.Addition.{Addition, active_includes, remapped_world}
 use Rattle.wit_link_spec.specs.Cause.{IncludeIsReached, IsReached}
 use Rattle.wit_link_spec.specs.Include.{PartiallyLinked}
-use Rattle.wit_link_spec.specs.Pushed.{with_parts, with_worlds}
+use Rattle.wit_link_spec.specs.Pushed.{placed_include, placed_includes, with_parts, with_worlds}
 use Rattle.wit_link_spec.specs.Reasons.{IsResolved}
 use Rattle.wit_link_spec.specs.WorldReasons.{AtWorld}
 use Rattle.wit_link_laws.specs.facts.ListedWorlds.{listed_worlds}
 use Rattle.wit_link_laws.specs.laws.StageFacts.{CanBeLinked, IncludedAreThere, IncludesCanBe, IsPartiallyLinked, WorldsCanBe}
 use Rattle.wit_link_include.specs.steps.Included as local
-use Rattle.wit_link_include.specs.facts.AdditionFacts.{begun_same, home, image_at, include_reached, placed_include, placed_includes, stage_is}
+use Rattle.wit_link_include.specs.facts.AdditionFacts.{begun_same, home, image_at, include_reached, stage_is}
 use Rattle.wit_link_include.specs.facts.SeveralFacts.{several_worlds}
 
 -- where setters stand says nothing of keys of interfaces

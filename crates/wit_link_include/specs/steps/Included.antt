@@ -1,6 +1,6 @@
--- A world of a graph that is included in one that comes next, and why that is refused: its renamings are of no label of
--- it, or its entries can't be joined to a list; then all includes of a world, and the world finished, with what is
--- looked at of its labels. What an include makes is `with_include_of`, what the list becomes is `joined`.
+-- A world of a graph that is included in one that comes next, all includes of a world, and the world finished; why a
+-- list can't be joined to another, and what is looked at of labels. What an include makes is `with_include_of`, what the
+-- list becomes is `joined_entries`; why an include and a finished world are refused is `IsIncludeCause` and `IsFinishCause`.
 -- Source: the WIT page of the component model, "include"; `resolve_include` and `process_world_includes` of
 -- wit-parser 0.263.0.
 use Rattle.std.specs.Prelude.{◌≡◌, ◌<◌, ℕ, Bool, List, fold, length, map, take, slice_get, Some, false, ◌∷◌, ◌++◌, ◌==◌, Option, None, if◌then◌else◌, Contains, ◌⊎◌, codes}
@@ -21,34 +21,28 @@ use Rattle.wit_data.specs.declared.world.WorldItem.TheVariants as item
 use Rattle.wit_data.specs.declared.world.WorldKey.{WorldKey}
 use Rattle.wit_data.specs.declared.world.WorldKey.TheVariants as key
 use Rattle.wit_elaboration.specs.Sound.{IsUnderOwnKey}
+use Rattle.wit_graph_data.specs.Error.{NoCause}
 use Rattle.wit_graph_data.specs.declared.cause.Cause.TheVariants as cause
 use Rattle.wit_graph_data.specs.declared.error_kind.ResolveErrorKind.{ResolveErrorKind}
 use Rattle.wit_graph_data.specs.declared.error_kind.ResolveErrorKind.TheVariants.{ItemShadowing, Semantic, StabilityMismatch}
 use Rattle.wit_graph_data.specs.declared.graph.Graph.{Graph}
 use Rattle.wit_graph_theory.specs.Image.{entry_image}
 use Rattle.wit_labels.specs.Groups.{begins_group, rest_of}
-use Rattle.wit_labels.specs.Setters.{HaveGetters, IsSetter, getter_label}
-use Rattle.wit_labels.specs.Strong.{AreStronglyUnique, Clashes}
-use Rattle.wit_link_spec.specs.CauseText.{clash_text, getter_text, rename_text}
+use Rattle.wit_labels.specs.Setters.{IsSetter, getter_label}
+use Rattle.wit_labels.specs.Strong.{Clashes}
+use Rattle.wit_link_spec.specs.CauseText.{clash_text, getter_text}
 use Rattle.wit_link_spec.specs.Gates.{OptionalSpan}
-use Rattle.wit_link_spec.specs.Include.{EntryLists, PartiallyLinked, include_stability, is_other_package, joined_entries, lists_of, with_include_of}
-use Rattle.wit_link_spec.specs.WorldReasons.{Disagree, HasStability, IsListCalled, IsRenamed, IsShadowed, renamed_key}
+use Rattle.wit_link_spec.specs.Include.{EntryLists, PartiallyLinked, include_stability, joined_entries, lists_of, with_entry_lists, with_include_of}
+use Rattle.wit_link_spec.specs.Pushed.{with_finished}
+use Rattle.wit_link_spec.specs.FinishCause.{IsFinishCause}
+use Rattle.wit_link_spec.specs.IncludeCause.{Disagree, IsIncludeCause, IsRenamed, IsShadowed}
 use Rattle.wit_link_laws.specs.laws.StageFacts.{CanBeLinked, CanInclude, IsPartiallyLinked}
-use Rattle.wit_link_include.specs.steps.Finished.{CanFinish, IsFinishCause, with_finished}
 use Rattle.wit_link_include.specs.steps.Copied.{maps_of}
 use Rattle.wit_link_include.specs.declared.copies.Copies.{Copies}
 
 -- each renaming is of some label of the world
 abbrev pub AreRenamed : World → List IncludeName → Type 0
 AreRenamed world names = Each (IsRenamed world) names
-
--- this renaming is the first that is of no label of the world
-pub record IsFirstUnmatched (world : World) (names : List IncludeName) (name : IncludeName) : Type 0 where
-  pub before : List IncludeName
-  pub after : List IncludeName
-  pub are : names ≡ before ++ name ∷ after
-  pub earlier : AreRenamed world before
-  pub unmatched : IsRenamed world name → ⊥
 
 -- the word of a label that a renaming has to be of: what stands behind its groups, up to the first dot; none where
 -- a bracket that isn't closed stands there
@@ -74,38 +68,13 @@ copied_entries copies entries = map (entry_image (maps_of copies) copies.from) e
 abbrev pub with_joined : Bool → World → List Entry → List Entry → World
 with_joined other world imports exports = record world { imports = joined_entries other world.imports imports; exports = joined_entries other world.exports exports }
 
--- a label that it brings is there
-pub record LabelIsTaken (b : PartiallyLinked) (include : WorldInclude) (old : World) (word name : List ℕ) : Type 0 where
-  pub current : List Entry
-  pub brought : List Entry
-  pub list : IsListCalled word b.lists current × IsListCalled word (lists_of old) brought
-  pub shadowed : IsShadowed current (map (λ (e : Entry). renamed_key include.names e.0) brought) name
-
--- an interface that it brings is there with another stability
-pub record StabilitiesAreApart (home : ℕ) (b : PartiallyLinked) (old : World) (brings has : Stability) : Type 0 where
-  pub word : List ℕ
-  pub current : List Entry
-  pub brought : List Entry
-  pub i : ℕ
-  pub list : IsListCalled word b.lists current × IsListCalled word (lists_of old) brought
-  pub there : HasStability current i has
-  pub comes : HasStability brought i brings
-  pub apart : Disagree brings has
-  pub counts : include_stability (is_other_package old.package home) brings has ≡ brings
-
--- the table of reasons to refuse an include of world `old`, in the order of their numbers
-pub data IsIncludeCause (home : ℕ) (b : PartiallyLinked) (include : WorldInclude) (old : World) : ResolveErrorKind → Type 0 where
-  shadowing_7 : (word name : List ℕ) → LabelIsTaken b include old word name → IsIncludeCause home b include old (ItemShadowing include.span word name)
-  mismatch_8 : (brings has : Stability) → StabilitiesAreApart home b old brings has → IsIncludeCause home b include old (StabilityMismatch include.span brings has)
-  rename_unmatched_16 : (name : IncludeName) → IsFirstUnmatched old include.names name → IsIncludeCause home b include old (Semantic include.span (rename_text name.name) cause.RenameUnmatched)
-
 -- the world that an include names is there
 abbrev pub IsIncluded : PartiallyLinked → WorldInclude → World → Type 0
 IsIncluded b include old = slice_get b.graph.worlds include.id ≡ Some old
 
--- no cause holds against the include
-abbrev pub HasNoIncludeCause : ℕ → PartiallyLinked → WorldInclude → Type 0
-HasNoIncludeCause home b include = (old : World) → IsIncluded b include old → (kind : ResolveErrorKind) → IsIncludeCause home b include old kind → ⊥
+-- a cause of the include, of the world that it names
+abbrev pub IsCauseOfInclude : ℕ → PartiallyLinked → WorldInclude → ResolveErrorKind → Type 0
+IsCauseOfInclude home b include error = (old : World) × IsIncluded b include old × IsIncludeCause home b include old error
 
 -- each entry under the key of an interface is that interface
 pub record HaveOwnKeys (lists : EntryLists) : Type 0 where
@@ -126,22 +95,16 @@ before_includes g world = record { graph = g; lists = lists_of world }
 abbrev pub with_several : ℕ → Graph → World → List WorldInclude → PartiallyLinked
 with_several home g world includes = fold (with_one home) (before_includes g world) includes
 
--- the world with these lists
-abbrev pub with_lists : World → EntryLists → World
-with_lists world lists = record world { imports = lists.imports; exports = lists.exports }
-
 -- include j is accepted, as it is when its turn comes
 abbrev pub IsAcceptedAt : ℕ → Graph → World → List WorldInclude → ℕ → Type 0
-IsAcceptedAt home g world includes j = (include : WorldInclude) → slice_get includes j ≡ Some include → HasNoIncludeCause home (with_several home g world (take j includes)) include
+IsAcceptedAt home g world includes j = (include : WorldInclude) → slice_get includes j ≡ Some include → NoCause (IsCauseOfInclude home (with_several home g world (take j includes)) include)
 
 -- include j is refused for this reason, and none before it is
 pub record StopsAtInclude (home : ℕ) (g : Graph) (world : World) (includes : List WorldInclude) (j : ℕ) (kind : ResolveErrorKind) : Type 0 where
   pub include : WorldInclude
   pub is : slice_get includes j ≡ Some include
-  pub old : World
-  pub there : IsIncluded (with_several home g world (take j includes)) include old
   pub earlier : (i : ℕ) → i < j → IsAcceptedAt home g world includes i
-  pub cause : IsIncludeCause home (with_several home g world (take j includes)) include old kind
+  pub cause : IsCauseOfInclude home (with_several home g world (take j includes)) include kind
 
 -- each of the includes can be made, where those before it are accepted
 pub record CanIncludeAll (home : ℕ) (g : Graph) (world : World) (includes : List WorldInclude) : Type 0 where
@@ -153,7 +116,7 @@ pub record CanIncludeAll (home : ℕ) (g : Graph) (world : World) (includes : Li
 
 -- the graph with a world behind its worlds that has these includes
 abbrev pub with_including : ℕ → Graph → World → List WorldInclude → Graph
-with_including home g world includes = let b = with_several home g world includes in with_finished b.graph (with_lists world b.lists)
+with_including home g world includes = let b = with_several home g world includes in with_finished b.graph (with_entry_lists world b.lists)
 
 -- the world can be begun, and finished where its includes are accepted
 pub record CanBeAdded (home : ℕ) (g : Graph) (world : World) (includes : List WorldInclude) : Type 0 where
@@ -161,15 +124,10 @@ pub record CanBeAdded (home : ℕ) (g : Graph) (world : World) (includes : List 
   pub begins : CanIncludeAll home g world includes
   pub finishes : ((j : ℕ) → IsAcceptedAt home g world includes j) → CanBeLinked (with_several home g world includes)
 
--- no cause holds against it
-pub record IsAcceptedWorld (home : ℕ) (g : Graph) (world : World) (includes : List WorldInclude) : Type 0 where
-  pub includes_are : (j : ℕ) → IsAcceptedAt home g world includes j
-  pub finished : let b = with_several home g world includes in CanFinish b.graph (with_lists world b.lists)
-
 -- why it is refused: for an include, or as it is finished
 pub data IsWorldCause (home : ℕ) (g : Graph) (world : World) (includes : List WorldInclude) (kind : ResolveErrorKind) : Type 0 where
   at_include : (j : ℕ) → StopsAtInclude home g world includes j kind → IsWorldCause home g world includes kind
-  as_finished : ((j : ℕ) → IsAcceptedAt home g world includes j) → IsFinishCause (with_several home g world includes).graph (with_lists world (with_several home g world includes).lists) kind
+  as_finished : ((j : ℕ) → IsAcceptedAt home g world includes j) → IsFinishCause (with_several home g world includes).graph (with_entry_lists world (with_several home g world includes).lists) kind
       → IsWorldCause home g world includes kind
 
 -- no interface comes twice under its own key
@@ -207,14 +165,8 @@ pub data IsJoinCause (other : Bool) (span : OptionalSpan) (word : List ℕ) (cur
   stability_mismatch_8 : (brings has : Stability) → StabilitiesDiffer other current brought brings has → IsJoinCause other span word current brought (StabilityMismatch span brings has)
 
 -- no cause holds against joining them
-pub record CanJoin (other : Bool) (current brought : List Entry) : Type 0 where
-  pub unshadowed : (name : List ℕ) → IsShadowed current (keys_of brought) name → ⊥
-  pub agree : (brings has : Stability) → StabilitiesDiffer other current brought brings has → ⊥
-
--- no two labels of the list clash, and each setter has its getter
-pub record ListIsAccepted (entries : List Entry) : Type 0 where
-  pub unique : AreStronglyUnique (keys_of entries)
-  pub getters : HaveGetters entries
+pub record JoinIsAccepted (other : Bool) (span : OptionalSpan) (word : List ℕ) (current brought : List Entry) : Type 0 where
+  pub no_cause : NoCause (IsJoinCause other span word current brought)
 
 -- the error of two labels that clash, or of a setter without its getter
 pub data IsListError (world word : List ℕ) (entries : List Entry) : ResolveErrorKind → Type 0 where
@@ -222,10 +174,14 @@ pub data IsListError (world word : List ℕ) (entries : List Entry) : ResolveErr
   alone : (label : List ℕ) (f : Function) → Contains entries (key.Name label, item.Function f) × IsSetter label (key.Name label, item.Function f)
       → (Contains (keys_of entries) (key.Name (getter_label label)) → ⊥) → IsListError world word entries (Semantic f.span (getter_text word label world (getter_label label)) cause.NoGetter)
 
+-- no such error is one of the list
+pub record ListIsAccepted (world word : List ℕ) (entries : List Entry) : Type 0 where
+  pub no_cause : NoCause (IsListError world word entries)
+
 -- so of the lists of a world
 pub record LabelsAreAccepted (world : World) : Type 0 where
-  pub imports : ListIsAccepted world.imports
-  pub exports : ListIsAccepted world.exports
+  pub imports : ListIsAccepted world.name (codes "import") world.imports
+  pub exports : ListIsAccepted world.name (codes "export") world.exports
 
 abbrev pub IsLabelError : World → ResolveErrorKind → Type 0
 IsLabelError world kind = IsListError world.name (codes "import") world.imports kind ⊎ IsListError world.name (codes "export") world.exports kind

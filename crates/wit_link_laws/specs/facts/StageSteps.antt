@@ -12,12 +12,11 @@ use Rattle.wit_elaboration.specs.Elaborated.{Elaborated}
 use Rattle.wit_elaboration.specs.Elaboration.{graph_uses}
 use Rattle.wit_elaboration.specs.Imported.{HasConflict}
 use Rattle.wit_graph_data.specs.declared.graph.Graph.{Graph}
-use Rattle.wit_graph_theory.specs.Image.{world_image}
 use Rattle.wit_graph_theory.specs.facts.LawsOfElaboration.{LawsOfElaboration}
-use Rattle.wit_link_spec.specs.Addition.{Addition, addition_maps, remapped_world}
-use Rattle.wit_link_spec.specs.Include.{EntryLists, PartiallyLinked, with_world_included}
-use Rattle.wit_link_spec.specs.Pushed.{linked_world, with_include, with_placed}
-use Rattle.wit_link_spec.specs.WorldReasons.{IsShadowed, renamed_key}
+use Rattle.wit_link_spec.specs.Addition.{Addition, remapped_world}
+use Rattle.wit_link_spec.specs.Include.{PartiallyLinked, with_world_included}
+use Rattle.wit_link_spec.specs.Pushed.{linked_world, unfinished_world, with_include, with_placed}
+use Rattle.wit_link_spec.specs.IncludeCause.{IsShadowed, renamed_key}
 use Rattle.wit_labels.specs.Setters.{placed}
 use Rattle.wit_link_laws.specs.facts.ListedStage.{listed_images}
 use Rattle.wit_link_laws.specs.facts.CopiesCarried.{IsUnshadowed}
@@ -37,13 +36,9 @@ others_stay (z ∷ xs) ys x y (suc w) apart = others_stay xs ys x y w (λ same. 
 
 -- ---- a world that is begun
 
--- a world of the package, with lists that are not elaborated yet
-abbrev pub partly_linked_world : Addition → ℕ × World → EntryLists → World
-partly_linked_world a e lists = record (world_image (addition_maps a) e.0 e.1) { imports = lists.imports; exports = lists.exports }
-
 -- the stage: `before` stand finished, the world is begun, and behind it stand those to come
 abbrev pub staged : Addition → List World → ℕ → ℕ × World → PartiallyLinked → Graph
-staged a before k e b = record b.graph { worlds = before ++ partly_linked_world a e b.lists ∷ drop (suc k) (listed_images a) }
+staged a before k e b = record b.graph { worlds = before ++ unfinished_world a e.0 e.1 b.lists ∷ drop (suc k) (listed_images a) }
 
 -- nothing is shadowed where a world comes into what is begun
 pub record IsFree (b : PartiallyLinked) (include : WorldInclude) (old : World) : Type 0 where
@@ -62,10 +57,10 @@ module _ (a : Addition) (before : List World) (k : ℕ) (e : ℕ × World) (b : 
   including old at = record {
     from = from;
     old = old;
-    old_at = slice_get-append before (partly_linked_world a e b.lists ∷ later) from old at;
+    old_at = slice_get-append before (unfinished_world a e.0 e.1 b.lists ∷ later) from old at;
     into = length before;
-    host = partly_linked_world a e b.lists;
-    host_at = slice_get-behind before later (partly_linked_world a e b.lists);
+    host = unfinished_world a e.0 e.1 b.lists;
+    host_at = slice_get-behind before later (unfinished_world a e.0 e.1 b.lists);
     apart = λ same. let within = slice_get_within before from old at in omega (arith, same, within);
     home = length a.graph.packages;
     host_home = refl;
@@ -79,8 +74,8 @@ module _ (a : Addition) (before : List World) (k : ℕ) (e : ℕ × World) (b : 
       record {
         types_are = refl;
         interfaces_are = refl;
-        joined_at = slice_get-behind before later (partly_linked_world a e b'.lists);
-        others = λ w apart. others_stay before later (partly_linked_world a e b'.lists) (partly_linked_world a e b.lists) w apart;
+        joined_at = slice_get-behind before later (unfinished_world a e.0 e.1 b'.lists);
+        others = λ w apart. others_stay before later (unfinished_world a e.0 e.1 b'.lists) (unfinished_world a e.0 e.1 b.lists) w apart;
       }
 
   -- an include more
@@ -100,7 +95,7 @@ module _ (a : Addition) (before : List World) (k : ℕ) (e : ℕ × World) (b : 
 
 module _ (laws : LawsOfElaboration) (a : Addition) (before : List World) (k : ℕ) (e : ℕ × World) (b : PartiallyLinked) where
   -- it is the elaboration of what is begun
-  pub finished_is : (HasConflict (graph_uses b.graph) (placed b.lists.exports) → ⊥) → Elaborated b.graph.types (graph_uses b.graph) (with_placed (partly_linked_world a e b.lists)) (linked_world a e.0 e.1 b)
+  pub finished_is : (HasConflict (graph_uses b.graph) (placed b.lists.exports) → ⊥) → Elaborated b.graph.types (graph_uses b.graph) (with_placed (unfinished_world a e.0 e.1 b.lists)) (linked_world a e.0 e.1 b)
   finished_is none = record { no_conflict = none; world_is = refl }
 
   -- and the next stage stands
@@ -108,5 +103,5 @@ module _ (laws : LawsOfElaboration) (a : Addition) (before : List World) (k : �
       → IsSoundSoFar (record b.graph { worlds = before ++ linked_world a e.0 e.1 b ∷ drop (suc k) (listed_images a) })
   finish_step stands none =
       let later = drop (suc k) (listed_images a) in
-      finished_stands laws (staged a before k e b) stands (length before) (partly_linked_world a e b.lists) (slice_get-behind before later (partly_linked_world a e b.lists)) (linked_world a e.0 e.1 b) (finished_is none)
-      (before ++ linked_world a e.0 e.1 b ∷ later) (slice_get-behind before later (linked_world a e.0 e.1 b)) (λ w apart. others_stay before later (linked_world a e.0 e.1 b) (partly_linked_world a e b.lists) w apart)
+      finished_stands laws (staged a before k e b) stands (length before) (unfinished_world a e.0 e.1 b.lists) (slice_get-behind before later (unfinished_world a e.0 e.1 b.lists)) (linked_world a e.0 e.1 b) (finished_is none)
+      (before ++ linked_world a e.0 e.1 b ∷ later) (slice_get-behind before later (linked_world a e.0 e.1 b)) (λ w apart. others_stay before later (linked_world a e.0 e.1 b) (unfinished_world a e.0 e.1 b.lists) w apart)

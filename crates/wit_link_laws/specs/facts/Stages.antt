@@ -7,7 +7,6 @@ use Rattle.std.proofs.lemmas.List.{append_assoc, take_all}
 use Rattle.std.proofs.lemmas.List.Sums.{fold-append}
 use Rattle.wit_values.specs.facts.Lists.{push-cases, slice_get-append, slice_get-behind, take-next_at}
 use Rattle.wit_digraph.specs.Relation.{IsAcyclic}
-use Rattle.wit_sources.specs.Span.{moved_by}
 use Rattle.wit_data.specs.Each.{Each}
 use Rattle.wit_data.specs.Entries.{Entry}
 use Rattle.wit_data.specs.Uses.{uses_of}
@@ -24,14 +23,17 @@ use Rattle.wit_graph_theory.specs.Image.{world_image}
 use Rattle.wit_graph_theory.specs.facts.LawsOfElaboration.{LawsOfElaboration}
 use Rattle.wit_graph_theory.specs.facts.ListFacts.{at_map, get_at}
 use Rattle.wit_link_spec.specs.Addition.{Addition, active_includes, addition_maps, own_worlds, remapped_world}
-use Rattle.wit_link_spec.specs.Include.{PartiallyLinked, lists_of}
-use Rattle.wit_link_spec.specs.Pushed.{linked_world, with_all_includes, with_include, with_includes, with_parts, with_placed, with_world, with_worlds}
+use Rattle.wit_link_spec.specs.Include.{IsListCalled, PartiallyLinked, lists_of}
+use Rattle.wit_link_spec.specs.Pushed.{linked_world, unfinished_world, with_all_includes, with_include, with_includes, with_parts, with_placed, with_world, with_worlds}
 use Rattle.wit_link_spec.specs.Reasons.{IsResolved}
-use Rattle.wit_link_spec.specs.WorldReasons.{IncludeIsAccepted, IsListCalled, IsShadowed, WorldIsAccepted, renamed_key}
+use Rattle.wit_link_spec.specs.FinishCause.{conflict_4}
+use Rattle.wit_link_spec.specs.IncludeCause.{IsShadowed, renamed_key, shadowing_7}
+use Rattle.wit_link_spec.specs.WorldReasons.{IncludeIsAccepted, WorldIsAccepted, of_finish}
+use Rattle.wit_link_spec.specs.facts.WorldCauseFacts.{includes_accepted}
 use Rattle.wit_labels.specs.Setters.{placed}
 use Rattle.wit_link_laws.specs.facts.ListedStage.{listed_images}
 use Rattle.wit_link_laws.specs.facts.StageGrows.{HasMore, begun_more}
-use Rattle.wit_link_laws.specs.facts.StageSteps.{IsFree, finish_step, finished_is, include_step, partly_linked_world, staged}
+use Rattle.wit_link_laws.specs.facts.StageSteps.{IsFree, finish_step, finished_is, include_step, staged}
 use Rattle.wit_link_laws.specs.facts.CanonicalStays.{canonical_longer}
 use Rattle.wit_link_laws.specs.facts.PartiallyLinked.{IsSoundSoFar}
 use Rattle.wit_link_laws.specs.facts.PlacedWorlds.{placed_in_order}
@@ -94,13 +96,9 @@ module _ (a : Addition) where
       where
         none_shadowed : (word : List ℕ) (current brought : List Entry) (n : List ℕ) → IsListCalled word (begun_at j).lists current × IsListCalled word (lists_of old) brought
             → IsShadowed current (map (λ (d : Entry). renamed_key include.names d.0) brought) n → ⊥
-        none_shadowed word current brought n list shadowed = fine.unshadowed (moved_by a.offset include.span) word n (record {
+        none_shadowed word current brought n list shadowed = fine _ (record {
           at = record { at = record { place = e.0; world = e.1; is = at }; include = include; is = is; before = begun_at j; before_is = refl; old = old; old_is = there };
-          current = current;
-          brought = brought;
-          list = list;
-          shadowed = shadowed;
-          span_is = refl;
+          cause = shadowing_7 word n (record { current = current; brought = brought; list = list; shadowed = shadowed });
         })
 
     -- before each include what is begun is partially linked
@@ -142,25 +140,24 @@ module _ (a : Addition) where
     -- ---- it is finished
 
     module _ (laws : LawsOfElaboration) (image : IsResolved a) (stands : IsSoundSoFar (stage a k)) (fine : WorldIsAccepted a k) where
+      includes_fine : (j : ℕ) → IncludeIsAccepted a k j
+      includes_fine = includes_accepted a k image fine
+
       no_conflict : HasConflict (graph_uses whole.graph) (placed whole.lists.exports) → ⊥
       no_conflict conflict =
-          let so_far = whole_stands stands (fine.includes image) in
-          let there = slice_get-behind before (drop (suc k) (listed_images a)) (partly_linked_world a e whole.lists) in
+          let so_far = whole_stands stands includes_fine in
+          let there = slice_get-behind before (drop (suc k) (listed_images a)) (unfinished_world a e.0 e.1 whole.lists) in
           let refused = (laws.refused whole.graph.types (graph_uses whole.graph) (placed whole.lists.imports) (placed whole.lists.exports) so_far.uses
-          (placed_in_order (staged a before k e whole) so_far (length before) (partly_linked_world a e whole.lists) there)).0 conflict in
-          fine.exports (moved_by a.offset e.1.span) (key_text whole.graph.packages whole.graph.interfaces refused.0) (record {
+          (placed_in_order (staged a before k e whole) so_far (length before) (unfinished_world a e.0 e.1 whole.lists) there)).0 conflict in
+          fine _ (of_finish _ image includes_fine (record {
             at = record { place = e.0; world = e.1; is = at };
-            has_image = image;
-            includes_are_accepted = fine.includes image;
-            b = whole;
-            is = refl;
-            conflict = conflict;
-            name_is = (refused.0, refused.1, refl);
-            span_is = refl;
-          })
+            whole = whole;
+            whole_is = refl;
+            cause = conflict_4 (key_text whole.graph.packages whole.graph.interfaces refused.0) (record { conflict = conflict; name_is = (refused.0, refused.1, refl) });
+          }))
 
       pub next_stands : IsSoundSoFar (stage a (suc k))
-      next_stands = subst IsSoundSoFar (sym stage_next) (finish_step laws a before k e whole (whole_stands stands (fine.includes image)) no_conflict)
+      next_stands = subst IsSoundSoFar (sym stage_next) (finish_step laws a before k e whole (whole_stands stands includes_fine) no_conflict)
 
       -- worlds stay canonical, and the new one is
       pub next_canonical : Each (λ (world : World). Elaborated (with_worlds a k).types (graph_uses (with_worlds a k)) world world) before
@@ -170,7 +167,7 @@ module _ (a : Addition) where
           (subst (λ (ws : List World). Each (λ (world : World). Elaborated whole.graph.types (graph_uses whole.graph) world world) (ws ++ linked_world a e.0 e.1 whole ∷ [])) (sym whole_more.worlds_are) all)
         where
           so_far : IsSoundSoFar (staged a before k e whole)
-          so_far = whole_stands stands (fine.includes image)
+          so_far = whole_stands stands includes_fine
 
           old_one : (w : ℕ) (world : World) → slice_get before w ≡ Some world → Elaborated whole.graph.types (graph_uses whole.graph) world world
           old_one w world there =
@@ -183,9 +180,9 @@ module _ (a : Addition) where
 
           new_one : Elaborated whole.graph.types (graph_uses whole.graph) (linked_world a e.0 e.1 whole) (linked_world a e.0 e.1 whole)
           new_one =
-              let there = slice_get-behind before (drop (suc k) (listed_images a)) (partly_linked_world a e whole.lists) in
-              laws.once whole.graph.types (graph_uses whole.graph) (with_placed (partly_linked_world a e whole.lists)) (linked_world a e.0 e.1 whole) so_far.uses
-              (placed_in_order (staged a before k e whole) so_far (length before) (partly_linked_world a e whole.lists) there) (finished_is laws a before k e whole no_conflict)
+              let there = slice_get-behind before (drop (suc k) (listed_images a)) (unfinished_world a e.0 e.1 whole.lists) in
+              laws.once whole.graph.types (graph_uses whole.graph) (with_placed (unfinished_world a e.0 e.1 whole.lists)) (linked_world a e.0 e.1 whole) so_far.uses
+              (placed_in_order (staged a before k e whole) so_far (length before) (unfinished_world a e.0 e.1 whole.lists) there) (finished_is laws a before k e whole no_conflict)
 
           all : Each (λ (world : World). Elaborated whole.graph.types (graph_uses whole.graph) world world) (before ++ linked_world a e.0 e.1 whole ∷ [])
           all w world there = elim (push-cases before (linked_world a e.0 e.1 whole) w world there) [

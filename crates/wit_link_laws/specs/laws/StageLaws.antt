@@ -6,11 +6,11 @@ use Rattle.wit_data.specs.declared.world.World.{World}
 use Rattle.wit_graph_theory.specs.facts.LawsOfElaboration.{LawsOfElaboration}
 use Rattle.wit_link_spec.specs.Addition.{Addition, active_includes, own_worlds, remapped_world}
 use Rattle.wit_link_spec.specs.Include.{PartiallyLinked}
-use Rattle.wit_link_spec.specs.Pushed.{with_all_includes, with_includes, with_worlds}
+use Rattle.wit_link_spec.specs.Pushed.{unfinished_world, with_all_includes, with_includes, with_worlds}
 use Rattle.wit_link_laws.specs.facts.ListedStage.{listed_images}
 use Rattle.wit_link_laws.specs.laws.StageFacts.{CanBeLinked, CanInclude, IncludesCanBe, IsPartiallyLinked, WorldsCanBe}
 use Rattle.wit_link_laws.specs.facts.StageGrows.{begun_more}
-use Rattle.wit_link_laws.specs.facts.StageSteps.{partly_linked_world, staged}
+use Rattle.wit_link_laws.specs.facts.StageSteps.{staged}
 use Rattle.wit_link_laws.specs.facts.Stages.{begun_stands, whole_stands}
 use Rattle.wit_link_laws.specs.facts.ValidFacts.{stage_stands}
 use Rattle.wit_link_laws.specs.facts.Mentioned.{apart}
@@ -25,7 +25,7 @@ module _ (a : Addition) (before : List World) (k : ℕ) (e : ℕ × World) (b : 
   can_finish : CanBeLinked b
   can_finish = record {
     graph = on_its_way;
-    listed = placed_listed (staged a before k e b) stands (length before) (partly_linked_world a e b.lists) (slice_get-behind before (drop (suc k) (listed_images a)) (partly_linked_world a e b.lists));
+    listed = placed_listed (staged a before k e b) stands (length before) (unfinished_world a e.0 e.1 b.lists) (slice_get-behind before (drop (suc k) (listed_images a)) (unfinished_world a e.0 e.1 b.lists));
   }
 
   -- a finished world of it can be included

@@ -1,7 +1,7 @@
 -- What the steps of adding groups hand on.
 use Rattle.std.specs.Prelude.{◌≡◌, ℕ, List, Some, slice_get}
 use Rattle.wit_data.specs.declared.package_name.PackageName.{PackageName}
-use Rattle.wit_graph_data.specs.declared.error_kind.ResolveErrorKind.{ResolveErrorKind}
+use Rattle.wit_graph_data.specs.Error.{NoCause}
 use Rattle.wit_graph_data.specs.declared.features.Features.{Features}
 use Rattle.wit_graph_data.specs.declared.graph.Graph.{Graph}
 use Rattle.wit_link.specs.Appending.{ArePushed}
@@ -13,7 +13,7 @@ pub record AreAdded (features : Features) (g : Graph) (unresolved : List Unresol
   pub sorted : List Unresolved
   pub ids : List ℕ
   pub place : ℕ
-  pub sortable : (error : ResolveErrorKind) → IsSortCause unresolved error → ⊥
+  pub sortable : NoCause (IsSortCause unresolved)
   pub are_sorted : AreSorted unresolved order sorted
   pub are_pushed : ArePushed features g sorted new ids
   pub name_is : slice_get (names_of sorted) place ≡ Some name

@@ -5,8 +5,8 @@ use Rattle.wit_data.specs.declared.types.TypeOwner.TheVariants as owner
 use Rattle.wit_data.specs.declared.types.Type_.TheVariants as type
 use Rattle.wit_data.specs.declared.world.WorldItem.TheVariants as item
 use Rattle.wit_data.specs.declared.world.WorldKey.TheVariants as key
+use Rattle.wit_graph_data.specs.Error.{NoCause}
 use Rattle.wit_graph_data.specs.declared.cause.Cause.TheVariants.{LabelClash, NameTaken, TypeExported}
-use Rattle.wit_graph_data.specs.declared.error_kind.ResolveErrorKind.{ResolveErrorKind}
 use Rattle.wit_graph_data.specs.declared.error_kind.ResolveErrorKind.TheVariants.{InvalidTransitiveDependency, Semantic}
 use Rattle.wit_graph_data.specs.declared.graph.Graph.{Graph}
 use Rattle.wit_elaboration.specs.Entries.{Entry}
@@ -96,13 +96,13 @@ pub record ExamplesOfTransformations : Type 0 where
 pub record ExamplesOfRefusedTransformations : Type 0 where
   pub clash : IsImportizeCause (clashing (function_t ∷ [])) 0 None (Semantic None (codes "world export `t` conflicts with import of same name") LabelClash)
   -- without the export there is no reason
-  pub no_clash : (error : ResolveErrorKind) → IsImportizeCause (clashing []) 0 None error → ⊥
+  pub no_clash : NoCause (IsImportizeCause (clashing []) 0 None)
   pub taken : IsImportizeCause (two []) 0 (Some (codes "v")) (Semantic None (codes "world `v` is already defined in package `foo:bar`") NameTaken)
   -- the own name is free
-  pub own_name : (error : ResolveErrorKind) → IsImportizeCause (two []) 0 (Some (codes "w")) error → ⊥
+  pub own_name : NoCause (IsImportizeCause (two []) 0 (Some (codes "w")))
   pub type_exported : IsExportizeCause (clashing []) 0 (true ∷ []) None (Semantic None (codes "type import `t` cannot be exported") TypeExported)
   -- a type that stays is no reason
-  pub type_stays : (error : ResolveErrorKind) → IsExportizeCause (clashing []) 0 (false ∷ []) None error → ⊥
+  pub type_stays : NoCause (IsExportizeCause (clashing []) 0 (false ∷ []) None)
   -- c would need b from outside, which needs a, which is exported
   pub conflict : IsExportizeCause chain 0 first_and_last (Some (codes "x")) (InvalidTransitiveDependency None (codes "foo:bar/c"))
   -- where the name is taken this is no reason

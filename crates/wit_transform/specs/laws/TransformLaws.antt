@@ -11,19 +11,19 @@ use Rattle.wit_elaboration.specs.Entries.{Entry}
 use Rattle.wit_elaboration.specs.Imported.{exported_interfaces}
 use Rattle.wit_elaboration.specs.laws.KeptByElaboration.{IsListedWithoutSpan, is_label}
 use Rattle.wit_elaboration.specs.Valid.{IsValid}
-use Rattle.wit_graph_data.specs.declared.error_kind.ResolveErrorKind.{ResolveErrorKind}
+use Rattle.wit_graph_data.specs.Error.{NoCause}
 use Rattle.wit_graph_data.specs.declared.graph.Graph.{Graph}
 use Rattle.wit_transform.specs.TransformCause.{IsExportizeCause, IsImportizeCause, imports_at}
 use Rattle.wit_transform.specs.Transformed.{exportized, importized, transformed, type_entries}
 
 -- a valid graph stays valid where a world's exports become its imports and no cause holds against it
 abbrev pub ImportizedStayValid : Type 0
-ImportizedStayValid = (g : Graph) (w : ℕ) (out : Option (List ℕ)) → IsValid g → ((error : ResolveErrorKind) → IsImportizeCause g w out error → ⊥) → IsValid (transformed g w (importized out))
+ImportizedStayValid = (g : Graph) (w : ℕ) (out : Option (List ℕ)) → IsValid g → NoCause (IsImportizeCause g w out) → IsValid (transformed g w (importized out))
 
 -- and where its imports become exports, by one answer for each
 abbrev pub ExportizedStayValid : Type 0
 ExportizedStayValid = (g : Graph) (w : ℕ) (answers : List Bool) (out : Option (List ℕ)) → IsValid g → length answers ≡ length (imports_at g w)
-    → ((error : ResolveErrorKind) → IsExportizeCause g w answers out error → ⊥) → IsValid (transformed g w (exportized answers out))
+    → NoCause (IsExportizeCause g w answers out) → IsValid (transformed g w (exportized answers out))
 
 -- where its exports became its imports, a world exports nothing
 abbrev pub ImportizedExportsNothing : Type 0
@@ -32,7 +32,7 @@ ImportizedExportsNothing = (g : Graph) (w : ℕ) (out : Option (List ℕ)) (new 
 -- where all imports of a world of a valid graph became its exports, it imports nothing
 abbrev pub ExportizedImportsNothing : Type 0
 ExportizedImportsNothing = (g : Graph) (w : ℕ) (answers : List Bool) (out : Option (List ℕ)) (new : World) → IsValid g → length answers ≡ length (imports_at g w) → Each (λ answer. answer ≡ true) answers
-    → ((error : ResolveErrorKind) → IsExportizeCause g w answers out error → ⊥) → slice_get (transformed g w (exportized answers out)).worlds w ≡ Some new → new.imports ≡ []
+    → NoCause (IsExportizeCause g w answers out) → slice_get (transformed g w (exportized answers out)).worlds w ≡ Some new → new.imports ≡ []
 
 -- an exported interface uses another that reaches j
 abbrev pub IsBehind : List (List ℕ) → List Entry → ℕ → Type 0
@@ -48,8 +48,8 @@ pub record AreFormerExports (uses : List (List ℕ)) (former exports : List Entr
 -- former ones and what is behind them
 abbrev pub ImportizedThenExportized : Type 0
 ImportizedThenExportized = (g : Graph) (w : ℕ) (old new : World) (out again : Option (List ℕ)) (answers : List Bool) → IsValid g → slice_get g.worlds w ≡ Some old → type_entries old.imports ≡ []
-    → ((error : ResolveErrorKind) → IsImportizeCause g w out error → ⊥)
+    → NoCause (IsImportizeCause g w out)
     → length answers ≡ length (imports_at (transformed g w (importized out)) w) → Each (λ answer. answer ≡ true) answers
-    → ((error : ResolveErrorKind) → IsExportizeCause (transformed g w (importized out)) w answers again error → ⊥)
+    → NoCause (IsExportizeCause (transformed g w (importized out)) w answers again)
     → slice_get (transformed (transformed g w (importized out)) w (exportized answers again)).worlds w ≡ Some new
     → AreFormerExports (graph_uses g) old.exports new.exports

@@ -57,7 +57,7 @@ loop-placed-preserved c =
       adding =
           adding-next a c.loop-placed.yielded (into_iter_items c.next.new.self) c.in-Some.placed c.loop-placed.graph c.loop-placed.invariant.adding are c.add_world.new.graph
           (c.in_ok-add_world.ensures.ok ∙ ap (λ (home : ℕ). local.with_including home c.loop-placed.graph c.in-Some.placed.world c.in-Some.placed.includes) id)
-          (subst (λ (home : ℕ). local.IsAcceptedWorld home c.loop-placed.graph c.in-Some.placed.world c.in-Some.placed.includes) id c.in_ok-add_world.ensures.fine);
+          (subst (λ (home : ℕ). NoCause (local.IsWorldCause home c.loop-placed.graph c.in-Some.placed.world c.in-Some.placed.includes)) id c.in_ok-add_world.ensures.fine);
       uses = c.in_ok-add_world.ensures.uses;
       grown = Grown-then c.args.graph.now c.loop-placed.graph c.add_world.new.graph c.loop-placed.invariant.grown c.add_world.ensures.grown;
       rows = Begins-then c.args.elaborator.now c.loop-placed.elaborator c.add_world.new.elaborator c.loop-placed.invariant.rows c.add_world.ensures.rows;

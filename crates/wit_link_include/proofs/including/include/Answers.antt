@@ -6,7 +6,7 @@ use Rattle.wit_data.specs.declared.world.World.{World}
 use Rattle.wit_link_spec.specs.Include.{is_other_package}
 use Rattle.wit_link_include.specs.steps.Copied.{maps_of}
 use Rattle.wit_remap.specs.facts.GrownFacts.{Grown-same}
-use Rattle.wit_link_include.specs.steps.Included.{IsIncludeCause, IsIncluded, before_includes, copied_entries}
+use Rattle.wit_link_include.specs.steps.Included.{IsCauseOfInclude, before_includes, copied_entries}
 use Rattle.wit_link_include.proofs.IncludeSteps.{entries_by_answer, names_cause, stay_apart, step_cause, step_exports_once, step_fine, step_graph, step_imports_once, step_world}
 use Rattle.wit_link_include.proofs.NamesThere.{names_there}
 use Rattle.wit_link_include.proofs.including.include.Goals as goal
@@ -33,7 +33,7 @@ returns-in_err-check_names-clause-cause c =
     residual_error c.from_residual.result c.from_residual.ensures.1
     (λ e is.
     let same : e ≡ c.in_err-check_names.field-0.0 = is in
-    subst (λ (x : ResolveErrorKind). (x ≡ OutOfMemory) ⊎ ((old : World) × IsIncluded (before_includes c.args.graph.now c.args.world) c.args.include.now old × IsIncludeCause c.args.home (before_includes c.args.graph.now c.args.world) c.args.include.now old x)) (sym same)
+    subst (λ (x : ResolveErrorKind). (x ≡ OutOfMemory) ⊎ IsCauseOfInclude c.args.home (before_includes c.args.graph.now c.args.world) c.args.include.now x) (sym same)
     (names_cause c.args.graph.now c.args.include.now c.args.home c.args.world c.at-included.result.now c.in_err-check_names.field-0.0 at c.in_err-check_names.ensures.cause))
 
 pub add_copies-requires-clause-named : goal.add_copies-requires-clause-named

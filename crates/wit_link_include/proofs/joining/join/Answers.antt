@@ -1,14 +1,15 @@
-use Rattle.std.proofs.Common.{rules, ◌≡◌, ◌∙◌, inr, ◌++◌, ◌∷◌, [], sym, subst, None, Some, slice_get, position, Contains}
+use Rattle.std.proofs.Common.{rules, ◌≡◌, ◌∙◌, inr, ◌++◌, ◌∷◌, [], sym, subst, None, Some, List, slice_get, position, Contains}
 use Rattle.std.proofs.lemmas.List.{append_assoc}
 use Rattle.std.specs.Map.{keys_of, lookup}
 use Rattle.std.specs.Vec.Iter.{into_iter_items}
+use Rattle.wit_data.specs.Entries.{Entry}
 use Rattle.wit_graph_data.specs.facts.ResultFacts.{residual_error}
 use Rattle.wit_graph_data.specs.declared.error_kind.ResolveErrorKind.TheVariants.{ItemShadowing}
 use Rattle.wit_data.specs.facts.WorldKeyFacts.{same_key}
 use Rattle.wit_data.specs.declared.world.WorldKey.{WorldKey}
 use Rattle.wit_data.specs.declared.world.WorldKey.TheVariants as key
-use Rattle.wit_link_include.specs.steps.Included.{IsJoinCause}
-use Rattle.wit_link_include.proofs.JoinSteps.{IsJoining, differ-cause, joining-new, joining-none, joining-there, not-done, shadow-cause}
+use Rattle.wit_link_include.specs.steps.Included.{IsJoinCause, JoinIsAccepted}
+use Rattle.wit_link_include.proofs.JoinSteps.{IsJoining, differ-cause, joining-new, joining-none, joining-there, joining_accepted, not-done, shadow-cause}
 use Rattle.wit_link_include.proofs.Keys.{found_key, lacks_from}
 use Rattle.wit_link_include.proofs.joining.join.Goals as goal
 
@@ -73,3 +74,9 @@ returns-in_err-join_at-in-Interface-clause-cause c =
     (subst (λ (k : WorldKey). c.loop-key.yielded ++ (k, c.in-Some.item) ∷ into_iter_items c.next.new.self ≡ c.args.brought) called are)
     (subst (λ (k : WorldKey). slice_get c.loop-key.entries.entries c.in-Some-get_index_of.place ≡ Some (k, found.0)) called found.1)
     (c.in_err-join_at-in-Interface.ensures.cause c.in-Some.key found.0 found.1))))
+
+pub returns-clause-fine : goal.returns-clause-fine
+returns-clause-fine c =
+    let all : c.loop-key.yielded ≡ c.args.brought = search rules in
+    subst (λ (l : List Entry). JoinIsAccepted c.args.other c.args.span c.args.word.now c.args.current l) all
+    (joining_accepted c.args.other c.args.span c.args.word.now c.args.current c.loop-key.yielded c.loop-key.entries.entries c.loop-key.invariant.joining)

@@ -1,14 +1,13 @@
--- The last step of a world: its setters go after their getters, and it is elaborated; and why that is refused.
--- Source: `process_world_includes`, `validate_world_strongly_unique_names` and `elaborate_world` of wit-parser
--- 0.263.0.
-use Rattle.std.specs.Prelude.{ℕ, List, [], ◌∷◌, ◌++◌, Contains, None}
+-- Why a world is refused as it is finished: 4, 17 and 18, over the graph and the world with its includes (`finished_world`
+-- is what is made of it). The table at the end has each cause with its number, its span and what it tells.
+-- Source: `process_world_includes`, `validate_world_strongly_unique_names` and `elaborate_world` of wit-parser 0.263.0.
+use Rattle.std.specs.Prelude.{ℕ, List, Contains, None}
 use Rattle.std.specs.Map.{keys_of}
 use Rattle.wit_data.specs.Entries.{Entry}
 use Rattle.wit_data.specs.declared.function.Function.{Function}
 use Rattle.wit_data.specs.declared.world.World.{World}
 use Rattle.wit_data.specs.declared.world.WorldItem.TheVariants as item
 use Rattle.wit_data.specs.declared.world.WorldKey.TheVariants as key
-use Rattle.wit_elaboration.specs.Elaborated.{elaborated_exports, elaborated_imports}
 use Rattle.wit_elaboration.specs.Elaboration.{graph_uses}
 use Rattle.wit_elaboration.specs.Imported.{HasConflict, IsRefusedName}
 use Rattle.wit_graph_data.specs.declared.cause.Cause.TheVariants as cause
@@ -18,21 +17,9 @@ use Rattle.wit_graph_data.specs.declared.graph.Graph.{Graph}
 use Rattle.wit_labels.specs.Setters.{IsSetter, getter_label, placed}
 use Rattle.wit_labels.specs.Strong.{Clashes}
 use Rattle.wit_link_spec.specs.CauseText.{clash_text, getter_text}
-use Rattle.wit_link_spec.specs.Include.{lists_of}
-use Rattle.wit_link_spec.specs.WorldReasons.{IsListCalled}
+use Rattle.wit_link_spec.specs.Include.{IsListCalled, lists_of}
 
--- the world over the types and interfaces of a graph, its setters after their getters, elaborated
-abbrev pub finished_world : Graph → World → World
-finished_world g world = record world {
-  imports = elaborated_imports g.types (graph_uses g) (placed world.imports) (placed world.exports);
-  exports = elaborated_exports g.types (graph_uses g) (placed world.exports);
-}
-
--- the graph with the finished world behind its worlds
-abbrev pub with_finished : Graph → World → Graph
-with_finished g world = record g { worlds = g.worlds ++ finished_world g world ∷ [] }
-
--- 4: what its exports need from outside is exported
+-- 4: what its exports need from outside is exported; by the name of the first export that leads there
 pub record WorldIsInConflict (g : Graph) (world : World) (name : List ℕ) : Type 0 where
   pub conflict : HasConflict (graph_uses g) (placed world.exports)
   pub name_is : IsRefusedName g.packages g.interfaces (graph_uses g) (placed world.exports) name
@@ -50,14 +37,9 @@ pub record SetterIsAlone (world : World) (word label : List ℕ) (f : Function) 
   pub setter : Contains entries (key.Name label, item.Function f) × IsSetter label (key.Name label, item.Function f)
   pub absent : Contains (keys_of entries) (key.Name (getter_label label)) → ⊥
 
--- the table of these reasons, in the order of their numbers
+-- the causes of a world that is finished, in the order of their numbers
 pub data IsFinishCause (g : Graph) (world : World) : ResolveErrorKind → Type 0 where
   conflict_4 : (name : List ℕ) → WorldIsInConflict g world name → IsFinishCause g world (InvalidTransitiveDependency world.span name)
   not_strongly_unique_17 : (word n m : List ℕ) → LabelsClash world word n m → IsFinishCause g world (Semantic None (clash_text word n world.name m) cause.NotStronglyUnique)
   no_getter_18 : (word label : List ℕ) (f : Function) → SetterIsAlone world word label f
       → IsFinishCause g world (Semantic f.span (getter_text word label world.name (getter_label label)) cause.NoGetter)
-
--- no cause holds against finishing the world
-pub record CanFinish (g : Graph) (world : World) : Type 0 where
-  pub no_cause : (kind : ResolveErrorKind) → IsFinishCause g world kind → ⊥
-  pub no_conflict : HasConflict (graph_uses g) (placed world.exports) → ⊥
