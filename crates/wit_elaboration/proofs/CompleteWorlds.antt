@@ -19,7 +19,7 @@ use Rattle.wit_digraph.specs.Relation.{IsAcyclic}
 use Rattle.wit_elaboration.specs.Elaborated.{dependency_of, elaborated_exports, elaborated_imports, export_imports, export_with_needs, import_steps, import_with_needs, inherited_by_export, inherited_by_import, without_span}
 use Rattle.wit_elaboration.specs.laws.ElaborationLaws.{DependenciesFirst, stands_on}
 use Rattle.wit_elaboration.specs.Entries.{Entry, Instance, by_class, fresh_entries, is_interface, item_interface, key_interface, role_of, same_key}
-use Rattle.wit_elaboration.specs.Imported.{HasConflict, exported_interfaces, is_exported}
+use Rattle.wit_elaboration.specs.Imported.{HasTransitiveConflict, exported_interfaces, is_exported}
 use Rattle.wit_elaboration.specs.Sound.{AreSound, IsRoleInRange, IsUnderOwnKey}
 use Rattle.wit_elaboration.proofs.Absorbed.{absorbed}
 use Rattle.wit_elaboration.proofs.Filters.{filter-all, filter-none}
@@ -62,8 +62,8 @@ module _ (types : List TypeDef) (uses : List (List ℕ)) (exports : List Entry) 
       of [] each = refl
       of (e ∷ es) each = let here : item_interface e.1 ≡ [] = each 0 e refl in ap (λ (ids : List ℕ). ids ++ exported_interfaces es) here ∙ of es (λ i x at. each (suc i) x at)
 
-  pub no_conflict : HasConflict uses exports → ⊥
-  no_conflict conflict = Contains-nil (subst (λ (ids : List ℕ). Contains ids conflict.1.0) nothing_exported conflict.1.2)
+  pub no_conflict : HasTransitiveConflict uses exports → ⊥
+  no_conflict conflict = Contains-nil (subst (λ (ids : List ℕ). Contains ids conflict.0) nothing_exported conflict.2)
 
   pub exports_stay : elaborated_exports types uses exports ≡ exports
   exports_stay =

@@ -11,7 +11,7 @@ use Rattle.wit_digraph.specs.PostOrder.{UsesFirst, post_order, first_of_each}
 use Rattle.wit_elaboration.specs.Elaborated.{dependencies_before}
 use Rattle.wit_elaboration.specs.steps.Elaborating.{AreMarked, AreOutside, HasMarkedUse, IsExportedList}
 use Rattle.wit_elaboration.specs.Entries.{Entry, Instance, item_interface}
-use Rattle.wit_elaboration.specs.Imported.{HasConflict, LeadsToConflict, IsEntryInConflict, exported_keys, exported_interfaces}
+use Rattle.wit_elaboration.specs.Imported.{HasTransitiveConflict, IsBetween, LeadsToConflict, IsEntryInConflict, exported_keys, exported_interfaces}
 use Rattle.wit_elaboration.proofs.ExportSteps.{all_needs}
 
 -- what was listed of some keys tells them
@@ -40,22 +40,22 @@ marks_tell uses acyclic exports walked exported reaching outside leading walked_
       let to = are_leading.sound found.0 found.2 in
       let off = are_outside.sound to.0 to.2 in
       let on = are_reaching.sound to.0 off.1 in
-      (found.0, to.0, found.1, to.1, λ key. off.2 ((tells to.0).1 key), (on.0, on.1, (tells on.0).0 on.2)),
+      (found.0, to.0, found.1, to.1, (λ key. off.2 ((tells to.0).1 key), on.0, on.1, (tells on.0).0 on.2)),
   λ leads.
       let start = use_walked uses acyclic exports walked walked_is e i leads.0 has here leads.2 in
       let off = UsesFirst-IsPath uses walked leads.0 leads.3.0 leads.1 first start leads.3.1 in
-      let reach = are_reaching.complete leads.1 off (leads.5.0, leads.5.1, (tells leads.5.0).1 leads.5.2) in
-      let out = are_outside.complete leads.1 off reach (λ key. leads.4 ((tells leads.1).0 key)) in
+      let between = leads.4 in
+      let reach = are_reaching.complete leads.1 off (between.1, between.2, (tells between.1).1 between.3) in
+      let out = are_outside.complete leads.1 off reach (λ key. between.0 ((tells leads.1).0 key)) in
       (leads.0, leads.2, are_leading.complete leads.0 start (leads.1, leads.3, out)),
 )
 
 -- ---- a conflict is where some export leads to one
 
-pub conflict_found : (uses : List (List ℕ)) (exports : List Entry) → HasConflict uses exports → (e : Entry) × Contains exports e × IsEntryInConflict uses exports e
+pub conflict_found : (uses : List (List ℕ)) (exports : List Entry) → HasTransitiveConflict uses exports → (e : Entry) × Contains exports e × IsEntryInConflict uses exports e
 conflict_found uses exports conflict =
-    let need = conflict.1 in
-    let part = Contains-flat_map_cases (λ (f : Entry). item_interface f.1) exports need.0 need.2 in
-    (part.0, part.1.0, (need.0, part.1.1, (need.1, need.1, need.3, ([], refl), need.4, (conflict.0, need.5, conflict.2))))
+    let part = Contains-flat_map_cases (λ (f : Entry). item_interface f.1) exports conflict.0 conflict.2 in
+    (part.0, part.1.0, (conflict.0, part.1.1, (conflict.1, conflict.1, conflict.3, ([], refl), conflict.4)))
 
 path_on : (uses : List (List ℕ)) (i j : ℕ) (path : List ℕ) (m : ℕ) → IsPath uses i path j → Reaches uses j m → Reaches uses i m
 path_on uses i j [] m same reached = (reached.0, subst (λ k. IsPath uses k reached.0 m) (sym same) reached.1)
@@ -63,16 +63,15 @@ path_on uses i j (k ∷ path) m leads reached = let more = path_on uses k j path
 
 module _ (uses : List (List ℕ)) (exports : List Entry) (own : (j : ℕ) → Contains (exported_keys exports) j → Contains (exported_interfaces exports) j) where
   -- along a path that leaves the exports there is a use that leaves them
-  leaves : (x j : ℕ) (path : List ℕ) (d m : ℕ) → Contains (exported_interfaces exports) x → Contains (direct uses x) j → IsPath uses j path d → (Contains (exported_keys exports) d → ⊥) → Reaches uses d m → Contains (exported_keys exports) m → HasConflict uses exports
-  leaves x j [] d m exported among same off reached on =
-      (m, (x, j, exported, among, λ has. off (subst (λ k. Contains (exported_keys exports) k) same has), path_on uses j d [] m same reached), on)
-  leaves x j (k ∷ path) d m exported among leads off reached on =
+  leaves : (x j : ℕ) (path : List ℕ) (d : ℕ) → Contains (exported_interfaces exports) x → Contains (direct uses x) j → IsPath uses j path d → IsBetween uses exports d → HasTransitiveConflict uses exports
+  leaves x j [] d exported among same between = (x, j, exported, among, subst (IsBetween uses exports) (sym same) between)
+  leaves x j (k ∷ path) d exported among leads between =
       elim (cases_Bool (list_any (nat_eq j) (exported_keys exports))) [
-        | inl key ↦ leaves j k path d m (own j (contains_from_any j (exported_keys exports) key)) leads.0 leads.1 off reached on
-        | inr no_key ↦ (m, (x, j, exported, among, λ has. false≢true (sym no_key ∙ any_from_contains j (exported_keys exports) has), path_on uses j d (k ∷ path) m leads reached), on)
+        | inl key ↦ leaves j k path d (own j (contains_from_any j (exported_keys exports) key)) leads.0 leads.1 between
+        | inr no_key ↦ (x, j, exported, among, (λ has. false≢true (sym no_key ∙ any_from_contains j (exported_keys exports) has), between.1, path_on uses j d (k ∷ path) between.1 leads between.2, between.3))
       ]
 
-  pub conflict_from : (e : Entry) → Contains exports e → IsEntryInConflict uses exports e → HasConflict uses exports
+  pub conflict_from : (e : Entry) → Contains exports e → IsEntryInConflict uses exports e → HasTransitiveConflict uses exports
   conflict_from e has conflict =
       let leads = conflict.2 in
-      leaves conflict.0 leads.0 leads.3.0 leads.1 leads.5.0 (Contains-flat_map (λ (f : Entry). item_interface f.1) exports e conflict.0 has conflict.1) leads.2 leads.3.1 leads.4 leads.5.1 leads.5.2
+      leaves conflict.0 leads.0 leads.3.0 leads.1 (Contains-flat_map (λ (f : Entry). item_interface f.1) exports e conflict.0 has conflict.1) leads.2 leads.3.1 leads.4

@@ -18,7 +18,7 @@ use Rattle.wit_digraph.specs.PostOrder.{Listed}
 use Rattle.wit_elaboration.specs.Elaborated.{dependency_of, dependencies_before, inherited_by_export, import_with_needs, import_steps, export_imports, export_with_needs, elaborated_imports, elaborated_exports}
 use Rattle.wit_elaboration.specs.steps.Elaborating.{IsExportedList, is_listed, walked_exports, walked_imports}
 use Rattle.wit_elaboration.specs.Entries.{Entry, Instance, role_of, item_interface, key_interface, is_instance, is_interface, same_key, by_class, fresh_entries}
-use Rattle.wit_elaboration.specs.Imported.{HasConflict, exported_keys, exported_interfaces, is_exported}
+use Rattle.wit_elaboration.specs.Imported.{HasTransitiveConflict, exported_keys, exported_interfaces, is_exported}
 use Rattle.wit_elaboration.specs.Sound.{IsRoleInRange}
 use Rattle.wit_elaboration.proofs.ExportedUses.{key_here}
 use Rattle.wit_elaboration.proofs.Filters.{Contains-filter, not_true}
@@ -80,7 +80,7 @@ module _ (types : List TypeDef) (uses : List (List ℕ)) (acyclic : IsAcyclic us
   pub keys_below : All (λ i. i < length uses) (exported_keys exports)
   keys_below = λ k d below. interface_below _ (own_keys _ (Contains-get_or (exported_keys exports) k d below))
 
-module _ (types : List TypeDef) (uses : List (List ℕ)) (acyclic : IsAcyclic uses) (imports exports : List Entry) (listed : InOrder types (length uses) imports exports) (no_conflict : HasConflict uses exports → ⊥) where
+module _ (types : List TypeDef) (uses : List (List ℕ)) (acyclic : IsAcyclic uses) (imports exports : List Entry) (listed : InOrder types (length uses) imports exports) (no_conflict : HasTransitiveConflict uses exports → ⊥) where
   abbrev E : ℕ → Bool
   E = is_exported exports
 

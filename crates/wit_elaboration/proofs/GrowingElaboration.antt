@@ -10,7 +10,7 @@ use Rattle.wit_digraph.specs.facts.MemberFacts.{Contains-nil, Contains-cons_case
 use Rattle.wit_digraph.specs.Relation.{direct, IsAcyclic}
 use Rattle.wit_elaboration.specs.Entries.{Entry, role_of, item_interface, is_instance, is_interface, elaboration_class, of_class, by_class, fresh_entries}
 use Rattle.wit_elaboration.specs.Elaborated.{InheritedData, dependency_of, dependencies_before, inherited_by_import, inherited_by_export, without_span, import_with_needs, export_imports, export_with_needs, import_steps, exported_uses, elaborated_imports, elaborated_exports}
-use Rattle.wit_elaboration.specs.Imported.{Needed, HasConflict, is_exported}
+use Rattle.wit_elaboration.specs.Imported.{HasTransitiveConflict, is_exported}
 use Rattle.wit_elaboration.specs.laws.KeptByElaboration.{ElaborationIsLocal, SameRoles, SameInheritedData}
 use Rattle.wit_elaboration.proofs.Classes.{by_class_in}
 use Rattle.wit_elaboration.proofs.Exact.{instance_below}
@@ -44,13 +44,12 @@ module _ (types wider : List TypeDef) where
         let part = Contains-flat_map_cases (λ (e : Entry). item_interface e.1) exports x has in
         instance_below types (length uses) part.0 x part.1.1 (listed.exports_in_range part.0 part.1.0)
 
-    pub Needed-left : (j : ℕ) → Needed (uses ++ rows) exports j → Needed uses exports j
-    Needed-left j need =
-        let among : Contains (direct uses need.0) need.1 = subst (λ ks. Contains ks need.1) (direct-left uses rows need.0 (exported_below need.0 need.2)) need.3 in
-        (need.0, need.1, need.2, among, need.4, (need.5.0, IsPath-left uses acyclic rows need.1 need.5.0 j (used_below uses acyclic need.0 need.1 among) need.5.1))
-
-    pub HasConflict-left : HasConflict (uses ++ rows) exports → HasConflict uses exports
-    HasConflict-left conflict = (conflict.0, Needed-left conflict.0 conflict.1, conflict.2)
+    pub HasTransitiveConflict-left : HasTransitiveConflict (uses ++ rows) exports → HasTransitiveConflict uses exports
+    HasTransitiveConflict-left conflict =
+        let among : Contains (direct uses conflict.0) conflict.1 = subst (λ ks. Contains ks conflict.1) (direct-left uses rows conflict.0 (exported_below conflict.0 conflict.2)) conflict.3 in
+        let between = conflict.4 in
+        let path = IsPath-left uses acyclic rows conflict.1 between.2.0 between.1 (used_below uses acyclic conflict.0 conflict.1 among) between.2.1 in
+        (conflict.0, conflict.1, conflict.2, among, (between.0, between.1, (between.2.0, path), between.3))
 
     -- ---- imports
 
@@ -133,6 +132,6 @@ pub elaboration_is_local : ElaborationIsLocal
 elaboration_is_local types wider uses rows old new acyclic grown listed roles carried is =
     let order = in_order types (length uses) old.imports old.exports listed in
     record {
-      no_conflict = λ conflict. is.no_conflict (HasConflict-left types wider uses rows acyclic grown old.imports old.exports order conflict);
+      no_conflict = λ conflict. is.no_conflict (HasTransitiveConflict-left types wider uses rows acyclic grown old.imports old.exports order conflict);
       world_is = is.world_is ∙ lists_same old (imports_local types wider uses rows acyclic grown old.imports old.exports order roles carried) (exports_local types wider uses rows acyclic grown old.imports old.exports order);
     }

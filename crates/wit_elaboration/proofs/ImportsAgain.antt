@@ -13,7 +13,7 @@ use Rattle.wit_digraph.specs.PostOrder.{UsesFirst}
 use Rattle.wit_elaboration.specs.Entries.{Entry, Instance, role_of, item_interface, is_interface, keyed_interfaces, same_key, by_class, fresh_entries}
 use Rattle.wit_elaboration.specs.Elaborated.{InheritedData, dependency_of, dependencies_before, inherited_by_import, inherited_by_export, without_span, import_with_needs, import_steps, export_imports, elaborated_imports, elaborated_exports}
 use Rattle.wit_elaboration.specs.laws.ElaborationLaws.{DependenciesFirst}
-use Rattle.wit_elaboration.specs.Imported.{HasConflict, exported_keys, is_exported}
+use Rattle.wit_elaboration.specs.Imported.{HasTransitiveConflict, exported_keys, is_exported}
 use Rattle.wit_elaboration.specs.Sound.{IsRoleInRange}
 use Rattle.wit_elaboration.proofs.Absorbed.{absorbed}
 use Rattle.wit_elaboration.proofs.Classes.{by_class-new, by_class-by_class, by_class_in, in_by_class, DependenciesFirst-by_class}
@@ -165,14 +165,16 @@ module _ (types : List TypeDef) where
     key_before : (j : ℕ) → Contains (exported_keys (elaborated_exports types uses exports)) j → Contains (exported_keys exports) j
     key_before j has = contains_from_any j _ (sym (ap (λ (t : ℕ → Bool). t j) (test_same types uses acyclic imports exports listed)) ∙ any_from_contains j _ has)
 
-    pub no_conflict_again : HasConflict uses (elaborated_exports types uses exports) → HasConflict uses exports
+    pub no_conflict_again : HasTransitiveConflict uses (elaborated_exports types uses exports) → HasTransitiveConflict uses exports
     no_conflict_again conflict =
-        let need = conflict.1 in
-        let at = Contains-flat_map_cases (λ (e : Entry). item_interface e.1) (elaborated_exports types uses exports) need.0 need.2 in
-        let old = exported_before at.0 need.0 at.1.0 at.1.1 in (
+        let at = Contains-flat_map_cases (λ (e : Entry). item_interface e.1) (elaborated_exports types uses exports) conflict.0 conflict.2 in
+        let old = exported_before at.0 conflict.0 at.1.0 at.1.1 in
+        let between = conflict.4 in (
           conflict.0,
-          (need.0, need.1, Contains-flat_map (λ (e : Entry). item_interface e.1) exports old.0 need.0 old.1.0 old.1.1, need.3, λ has. need.4 (key_kept need.1 has), need.5),
-          key_before conflict.0 conflict.2,
+          conflict.1,
+          Contains-flat_map (λ (e : Entry). item_interface e.1) exports old.0 conflict.0 old.1.0 old.1.1,
+          conflict.3,
+          (λ has. between.0 (key_kept conflict.1 has), between.1, between.2, key_before between.1 between.3),
         )
 
     pub imports_first : DependenciesFirst types uses [] (by_class types all_imports)

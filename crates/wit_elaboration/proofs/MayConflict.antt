@@ -6,7 +6,7 @@ use Rattle.wit_digraph.specs.Relation.{direct, IsAcyclic}
 use Rattle.wit_elaboration.specs.steps.Closures.{AreRowsOfAll, HasColumnsOf, MayNeed, column}
 use Rattle.wit_elaboration.specs.steps.Elaborating.{IsExportedList}
 use Rattle.wit_elaboration.specs.Entries.{Entry, item_interface}
-use Rattle.wit_elaboration.specs.Imported.{HasConflict}
+use Rattle.wit_elaboration.specs.Imported.{HasTransitiveConflict}
 
 -- the interface of this entry may need what is exported
 abbrev pub EntryMayNeed : List (List ℕ) → List (List ℕ) → List ℕ → List ℕ → Entry → Type 0
@@ -25,25 +25,25 @@ module _ (uses rows : List (List ℕ)) (exported columns : List ℕ) (e : Entry)
 
 -- where no entry may need any, there is no conflict
 pub none_needed : (uses rows : List (List ℕ)) → IsAcyclic uses → (exports : List Entry) (exported columns : List ℕ) → AreRowsOfAll uses rows → IsExportedList exported exports → HasColumnsOf exported columns →
-    ((e : Entry) → Contains exports e → EntryMayNeed uses rows exported columns e → ⊥) → HasConflict uses exports → ⊥
+    ((e : Entry) → Contains exports e → EntryMayNeed uses rows exported columns e → ⊥) → HasTransitiveConflict uses exports → ⊥
 none_needed uses rows acyclic exports exported columns told tells has none conflict =
-    let need = conflict.1 in
-    let part = Contains-flat_map_cases (λ (f : Entry). item_interface f.1) exports need.0 need.2 in
-    let d = need.1 in
-    let below : d < length uses = All-contains (λ z. z < length uses) (direct uses need.0) d (acyclic.in_range need.0) need.3 in
-    let c = column conflict.0 in
+    let part = Contains-flat_map_cases (λ (f : Entry). item_interface f.1) exports conflict.0 conflict.2 in
+    let d = conflict.1 in
+    let between = conflict.4 in
+    let below : d < length uses = All-contains (λ z. z < length uses) (direct uses conflict.0) d (acyclic.in_range conflict.0) conflict.3 in
+    let c = column between.1 in
     none part.0 part.1.0 (
-      need.0,
+      conflict.0,
       part.1.1,
       (
         d,
-        need.3,
+        conflict.3,
         (
-          (λ key. need.4 ((tells d).0 key)),
+          (λ key. between.0 ((tells d).0 key)),
           (
             c,
-            ((told.each d below).exact c).1 (conflict.0, need.5, refl),
-            (has c).1 (conflict.0, (tells conflict.0).1 conflict.2, refl),
+            ((told.each d below).exact c).1 (between.1, between.2, refl),
+            (has c).1 (between.1, (tells between.1).1 between.3, refl),
           ),
         ),
       ),

@@ -11,12 +11,12 @@ use Rattle.wit_digraph.specs.Relation.{direct, IsAcyclic}
 use Rattle.wit_digraph.specs.PostOrder.{post_order}
 use Rattle.wit_elaboration.specs.Elaborated.{dependencies_before, import_steps, exported_uses}
 use Rattle.wit_elaboration.specs.Entries.{Entry, Instance}
-use Rattle.wit_elaboration.specs.Imported.{HasConflict, is_exported, exported_keys, exported_interfaces}
+use Rattle.wit_elaboration.specs.Imported.{HasTransitiveConflict, is_exported, exported_keys, exported_interfaces}
 use Rattle.wit_elaboration.proofs.ExportedUses.{among-acyclic, direct-among}
 use Rattle.wit_elaboration.proofs.Filters.{filter-all, filter-none, filter-pass, filter-fail, filter-flat_map, flat_map-filter}
 use Rattle.wit_elaboration.proofs.Steps.{steps_are}
 
-module _ (uses : List (List ℕ)) (acyclic : IsAcyclic uses) (exports : List Entry) (own : (j : ℕ) → Contains (exported_keys exports) j → Contains (exported_interfaces exports) j) (no_conflict : HasConflict uses exports → ⊥) where
+module _ (uses : List (List ℕ)) (acyclic : IsAcyclic uses) (exports : List Entry) (own : (j : ℕ) → Contains (exported_keys exports) j → Contains (exported_interfaces exports) j) (no_conflict : HasTransitiveConflict uses exports → ⊥) where
   abbrev E : ℕ → Bool
   E = is_exported exports
 
@@ -28,7 +28,7 @@ module _ (uses : List (List ℕ)) (acyclic : IsAcyclic uses) (exports : List Ent
   beyond : (i j m : ℕ) → Contains (exported_interfaces exports) i → Contains (direct uses i) j → E j ≡ false → Contains (post_order uses j) m → E m ≡ false
   beyond i j m exported among off has =
       let inside = All-contains (λ x. x < length uses) (direct uses i) j (acyclic.in_range i) among in
-      false_from_ne_true (E m) (λ on. no_conflict (m, (i, j, exported, among, λ key. false≢true (sym off ∙ any_from_contains j (exported_keys exports) key), Reaches-from_post_order uses acyclic j inside m has), contains_from_any m (exported_keys exports) on))
+      false_from_ne_true (E m) (λ on. no_conflict (i, j, exported, among, (λ key. false≢true (sym off ∙ any_from_contains j (exported_keys exports) key), m, Reaches-from_post_order uses acyclic j inside m has, contains_from_any m (exported_keys exports) on)))
 
   pub imports_of_walk : (i : ℕ) → i < length uses → Contains (exported_interfaces exports) i → import_steps uses E i ≡ filter (λ j. not (E j)) (dependencies_before uses (Instance i))
   imports_of_walk =

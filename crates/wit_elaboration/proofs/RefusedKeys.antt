@@ -86,18 +86,19 @@ module _ (uses : List (List ℕ)) (acyclic : IsAcyclic uses) (exports : List Ent
       let parts = and_parts (not (is_exported exports d.0)) (list_any (is_exported exports) (post_order uses d.0)) d.1.1 in
       let m = passing (is_exported exports) (post_order uses d.0) parts.1 in
       let on = Reaches-from_post_order uses acyclic d.0 (path_below uses acyclic j.0 to.0 d.0 below to.1) m.0 m.1.0 in
-      (i.0, i.1.0, (j.0, d.0, j.1.0, to, λ key. false≢true (sym (not_true (is_exported exports d.0) parts.0) ∙ any_from_contains d.0 (exported_keys exports) key), (m.0, on, contains_from_any m.0 (exported_keys exports) m.1.1)))
+      (i.0, i.1.0, (j.0, d.0, j.1.0, to, (λ key. false≢true (sym (not_true (is_exported exports d.0) parts.0) ∙ any_from_contains d.0 (exported_keys exports) key), m.0, on, contains_from_any m.0 (exported_keys exports) m.1.1)))
 
   is_conflicts : (e : Entry) → IsEntryInConflict uses exports e → conflicts e ≡ true
   is_conflicts e conflict =
       let leads' = conflict.2 in
+      let between = leads'.4 in
       let below = used_below conflict.0 leads'.0 leads'.2 in
       let below' = path_below uses acyclic leads'.0 leads'.3.0 leads'.1 below leads'.3.1 in
       passes leads (item_interface e.1) conflict.0 conflict.1
       (passes (λ k. list_any is_outside (post_order uses k)) (direct uses conflict.0) leads'.0 leads'.2
       (passes is_outside (post_order uses leads'.0) leads'.1 (post_order-from_IsPath uses acyclic leads'.0 leads'.3.0 leads'.1 below leads'.3.1)
-      (both (not (is_exported exports leads'.1)) (list_any (is_exported exports) (post_order uses leads'.1)) (ap not (no_any_from leads'.1 (exported_keys exports) leads'.4))
-      (passes (is_exported exports) (post_order uses leads'.1) leads'.5.0 (post_order-from_IsPath uses acyclic leads'.1 leads'.5.1.0 leads'.5.0 below' leads'.5.1.1) (any_from_contains leads'.5.0 (exported_keys exports) leads'.5.2)))))
+      (both (not (is_exported exports leads'.1)) (list_any (is_exported exports) (post_order uses leads'.1)) (ap not (no_any_from leads'.1 (exported_keys exports) between.0))
+      (passes (is_exported exports) (post_order uses leads'.1) between.1 (post_order-from_IsPath uses acyclic leads'.1 between.2.0 between.1 below' between.2.1) (any_from_contains between.1 (exported_keys exports) between.3)))))
 
   -- where some export is in conflict there is a first
   pub refused_key : (e : Entry) → Contains exports e → IsEntryInConflict uses exports e → (k : WorldKey) × IsRefusedKey uses exports k

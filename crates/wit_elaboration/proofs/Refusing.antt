@@ -13,7 +13,7 @@ use Rattle.wit_elaboration.specs.steps.Elaborating.{IsFirstConflict}
 use Rattle.wit_elaboration.specs.Elaboration.{AreElaborated, graph_uses, HasConflictAt, IsConflictError, IsErrorAt}
 use Rattle.wit_elaboration.specs.Entries.{Entry}
 use Rattle.wit_graph_data.specs.IdText.{key_text}
-use Rattle.wit_elaboration.specs.Imported.{HasConflict, IsRefusedKey, IsRefusedName, exported_keys, exported_interfaces}
+use Rattle.wit_elaboration.specs.Imported.{HasTransitiveConflict, IsRefusedKey, IsRefusedName, exported_keys, exported_interfaces}
 use Rattle.wit_elaboration.specs.Sound.{HasSoundEntries}
 use Rattle.wit_elaboration.proofs.ConflictIs.{conflict_found, conflict_from}
 use Rattle.wit_elaboration.proofs.ElaboratedIs.{interfaces_below, keys_below, own_keys}
@@ -56,18 +56,18 @@ module _ (g : Graph) (uses : List (List ℕ)) (w : World) (acyclic : IsAcyclic u
       let conflict = conflict_from uses w.exports own found.0 (contains_at w.exports at found.0 found.1) found.2 in
       let refused : IsRefusedKey uses w.exports error.0.0 = (take at w.exports, found.0, drop (suc at) w.exports, split_at w.exports at found.0 found.1, found.3, found.2, ap (λ (f : Entry). f.0) (sym same)) in
       subst (λ (kind : ResolveErrorKind). IsConflictError g w kind) (sym error.2)
-      (subst (λ us. HasConflict us w.exports) uses_are conflict, refl, subst (λ us. IsRefusedName g.packages g.interfaces us w.exports (key_text g.packages g.interfaces error.0.0)) uses_are (error.0.0, refused, refl))
+      (subst (λ us. HasTransitiveConflict us w.exports) uses_are conflict, refl, subst (λ us. IsRefusedName g.packages g.interfaces us w.exports (key_text g.packages g.interfaces error.0.0)) uses_are (error.0.0, refused, refl))
     where
       one_at : (es : List Entry) (i : ℕ) (a b : Entry) → slice_get es i ≡ Some a → slice_get es i ≡ Some b → a ≡ b
       one_at es i a b first second = cc
 
 -- where no export is in conflict there is none
-pub none_found : (uses : List (List ℕ)) (exports : List Entry) → IsFirstConflict uses exports None → HasConflict uses exports → ⊥
+pub none_found : (uses : List (List ℕ)) (exports : List Entry) → IsFirstConflict uses exports None → HasTransitiveConflict uses exports → ⊥
 none_found uses exports none conflict = let found = conflict_found uses exports conflict in none found.0 found.1 found.2
 
 -- a world whose lists were made has no conflict
 pub no_conflict_at : (g : Graph) (id : ℕ) (lists : Lists) → AreElaborated g id lists → HasConflictAt g id → ⊥
-no_conflict_at g id lists are conflict = are.2 (subst (λ (w : World). HasConflict (graph_uses g) w.exports) (one_world g.worlds id conflict.0 are.0 conflict.1 are.1) conflict.2)
+no_conflict_at g id lists are conflict = are.2 (subst (λ (w : World). HasTransitiveConflict (graph_uses g) w.exports) (one_world g.worlds id conflict.0 are.0 conflict.1 are.1) conflict.2)
   where
     one_world : (ws : List World) (i : ℕ) (a b : World) → slice_get ws i ≡ Some a → slice_get ws i ≡ Some b → a ≡ b
     one_world ws i a b first second = cc

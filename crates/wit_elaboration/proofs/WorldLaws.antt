@@ -7,7 +7,7 @@ use Rattle.wit_digraph.specs.facts.MemberFacts.{Contains-flat_map, Contains-flat
 use Rattle.wit_elaboration.specs.Entries.{Entry, role_of, item_interface, key_interface, keyed_interfaces}
 use Rattle.wit_elaboration.specs.Elaborated.{Elaborated, elaborated_imports, elaborated_exports}
 use Rattle.wit_elaboration.specs.laws.ElaborationLaws.{ElaboratesOnce, ImportsAreExact, ImportsKeepOrder, OrderIsFree, SameEntries, DependenciesFirst}
-use Rattle.wit_elaboration.specs.Imported.{Needed, HasConflict, IsImported, roots_of}
+use Rattle.wit_elaboration.specs.Imported.{Needed, HasTransitiveConflict, IsImported, roots_of}
 use Rattle.wit_elaboration.proofs.Exact.{exact_to, exact_from}
 use Rattle.wit_elaboration.proofs.ExportsAgain.{exports_again}
 use Rattle.wit_elaboration.proofs.ImportsAgain.{imports_again, imports_first, no_conflict_again}
@@ -59,9 +59,20 @@ needed_either uses xs ys same j need = (
   need.5,
 )
 
-conflict_either : (uses : List (List ℕ)) (xs ys : List Entry) → SameEntries xs ys → HasConflict uses xs → HasConflict uses ys
+conflict_either : (uses : List (List ℕ)) (xs ys : List Entry) → SameEntries xs ys → HasTransitiveConflict uses xs → HasTransitiveConflict uses ys
 conflict_either uses xs ys same conflict =
-    (conflict.0, needed_either uses xs ys same conflict.0 conflict.1, same_flat (λ (e : Entry). key_interface e.0) xs ys same conflict.0 conflict.2)
+    let between = conflict.4 in (
+      conflict.0,
+      conflict.1,
+      same_flat (λ (e : Entry). item_interface e.1) xs ys same conflict.0 conflict.2,
+      conflict.3,
+      (
+        λ has. between.0 (same_flat (λ (e : Entry). key_interface e.0) ys xs (other_way xs ys same) conflict.1 has),
+        between.1,
+        between.2,
+        same_flat (λ (e : Entry). key_interface e.0) xs ys same between.1 between.3,
+      ),
+    )
 
 imported_either : (types : List TypeDef) (uses : List (List ℕ)) (imports imports' exports exports' : List Entry) → SameEntries imports imports' → SameEntries exports exports' → (j : ℕ) →
     IsImported types uses imports exports j → IsImported types uses imports' exports' j

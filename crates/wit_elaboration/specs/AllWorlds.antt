@@ -4,7 +4,7 @@ use Rattle.std.specs.List.{AllZip}
 use Rattle.wit_data.specs.declared.world.World.{World}
 use Rattle.wit_elaboration.specs.Elaborated.{with_elaborated_lists}
 use Rattle.wit_elaboration.specs.Elaboration.{graph_uses}
-use Rattle.wit_elaboration.specs.Imported.{HasConflict, IsRefusedName}
+use Rattle.wit_elaboration.specs.Imported.{HasTransitiveConflict, IsRefusedName}
 use Rattle.wit_elaboration.specs.declared.entries.Lists.{Lists}
 use Rattle.wit_graph_data.specs.declared.error_kind.ResolveErrorKind.{ResolveErrorKind}
 use Rattle.wit_graph_data.specs.declared.error_kind.ResolveErrorKind.TheVariants.{InvalidTransitiveDependency}
@@ -31,7 +31,7 @@ AreListsOf g worlds lists = AllZip (λ (world : World) (new : Option Lists). wit
 pub record IsRefusedWorld (g : Graph) (error : ResolveErrorKind) : Type 0 where
   pub world : World
   pub there : Contains g.worlds world
-  pub conflict : HasConflict (graph_uses g) world.exports
+  pub conflict : HasTransitiveConflict (graph_uses g) world.exports
   pub name : List ℕ
   pub name_is : IsRefusedName g.packages g.interfaces (graph_uses g) world.exports name
   pub error_is : error ≡ InvalidTransitiveDependency world.span name

@@ -14,7 +14,7 @@ pub use Rattle.wit_elaboration.specs.declared.entries.InheritedData.{InheritedDa
 use Rattle.wit_digraph.specs.Relation.{direct}
 use Rattle.wit_digraph.specs.PostOrder.{post_order}
 use Rattle.wit_elaboration.specs.Entries.{Entry, Role, Instance, TypeUse, TypeDefinition, FreeFunction, ResourceFunction, role_of, item_interface, is_interface, fresh_entries, by_class}
-use Rattle.wit_elaboration.specs.Imported.{HasConflict, is_exported}
+use Rattle.wit_elaboration.specs.Imported.{HasTransitiveConflict, is_exported}
 
 -- ---- what a dependency carries
 
@@ -103,5 +103,5 @@ with_elaborated_lists types uses world = record world {
 
 -- from a world's lists to its elaboration, which there is where there is no conflict
 pub record Elaborated (types : List TypeDef) (uses : List (List ℕ)) (old new : World) : Type 0 where
-  pub no_conflict : HasConflict uses old.exports → ⊥
+  pub no_conflict : HasTransitiveConflict uses old.exports → ⊥
   pub world_is : new ≡ with_elaborated_lists types uses old

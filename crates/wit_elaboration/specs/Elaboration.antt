@@ -11,7 +11,7 @@ use Rattle.wit_graph_data.specs.declared.graph.Graph.{Graph}
 use Rattle.wit_elaboration.specs.Elaborated.{Elaborated, elaborated_imports, elaborated_exports}
 use Rattle.wit_elaboration.specs.Entries.{Entry}
 use Rattle.wit_graph_data.specs.IdText.{key_text}
-use Rattle.wit_elaboration.specs.Imported.{HasConflict, IsRefusedName}
+use Rattle.wit_elaboration.specs.Imported.{HasTransitiveConflict, IsRefusedName}
 use Rattle.wit_elaboration.specs.Sound.{HasSoundEntries}
 
 -- which interfaces of a graph use which
@@ -24,7 +24,7 @@ HasSoundEntriesAt g id = ForSome (slice_get g.worlds id) (λ (world : World). Ha
 
 -- the exports of the world at a place are in conflict
 abbrev pub HasConflictAt : Graph → ℕ → Type 0
-HasConflictAt g id = (world : World) × (slice_get g.worlds id ≡ Some world) × HasConflict (graph_uses g) world.exports
+HasConflictAt g id = (world : World) × (slice_get g.worlds id ≡ Some world) × HasTransitiveConflict (graph_uses g) world.exports
 
 -- the world at a place is elaborated, and all else is as it was
 abbrev pub ElaboratesWorld : Graph → ℕ → Graph → Type 0
@@ -35,7 +35,7 @@ ElaboratesWorld old id new =
 -- the elaborated lists of the world at a place, which has no conflict
 abbrev pub AreElaborated : Graph → ℕ → Lists → Type 0
 AreElaborated g id lists =
-    (world : World) × (slice_get g.worlds id ≡ Some world) × (HasConflict (graph_uses g) world.exports → ⊥)
+    (world : World) × (slice_get g.worlds id ≡ Some world) × (HasTransitiveConflict (graph_uses g) world.exports → ⊥)
     × (lists.imports ≡ elaborated_imports g.types (graph_uses g) world.imports world.exports)
     × (lists.exports ≡ elaborated_exports g.types (graph_uses g) world.exports)
 
@@ -43,7 +43,7 @@ AreElaborated g id lists =
 -- that leads to it
 abbrev pub IsConflictError : Graph → World → ResolveErrorKind → Type 0
 IsConflictError g world (InvalidTransitiveDependency span name) =
-    HasConflict (graph_uses g) world.exports × (span ≡ world.span) × IsRefusedName g.packages g.interfaces (graph_uses g) world.exports name
+    HasTransitiveConflict (graph_uses g) world.exports × (span ≡ world.span) × IsRefusedName g.packages g.interfaces (graph_uses g) world.exports name
 IsConflictError g world OutOfMemory = Unit {0}
 IsConflictError g world _ = ⊥
 

@@ -48,19 +48,24 @@ IsImported types uses imports exports j =
     Needed uses exports j ⊎ ((r : ℕ) × Contains (flat_map (λ (e : Entry). roots_of uses e.0 (role_of types e.1)) imports) r × Reaches uses r j)
 
 -- ---- conflict
+--
+--        exported          no exported key       exported key
+--           C  -----uses----->  B  -----reaches---->  A
+--
+-- C needs B from outside, so the world imports B; B needs A from outside too, but A is what the world itself exports.
+-- It is no conflict if B is an exported key as well, if A is exported under a label alone, or if A or C isn't exported.
 
--- what the exports need from outside is itself an exported key
-abbrev pub HasConflict : List (List ℕ) → List Entry → Type 0
-HasConflict uses exports = (j : ℕ) × Needed uses exports j × Contains (exported_keys exports) j
+-- as B: d is no exported key, and reaches one
+abbrev pub IsBetween : List (List ℕ) → List Entry → ℕ → Type 0
+IsBetween uses exports d = (Contains (exported_keys exports) d → ⊥) × (a : ℕ) × Reaches uses d a × Contains (exported_keys exports) a
 
--- some exported key is reached from d, which may be that key itself
-abbrev pub ReachesExportedKey : List (List ℕ) → List Entry → ℕ → Type 0
-ReachesExportedKey uses exports d = (j : ℕ) × Reaches uses d j × Contains (exported_keys exports) j
+-- some exported interface uses directly one that is between
+abbrev pub HasTransitiveConflict : List (List ℕ) → List Entry → Type 0
+HasTransitiveConflict uses exports = (c : ℕ) × (b : ℕ) × Contains (exported_interfaces exports) c × Contains (direct uses c) b × IsBetween uses exports b
 
--- in one step or more, i reaches an interface that is no exported key and that reaches one
+-- in one step or more, i reaches one that is between
 abbrev pub LeadsToConflict : List (List ℕ) → List Entry → ℕ → Type 0
-LeadsToConflict uses exports i =
-    (j : ℕ) × (d : ℕ) × Contains (direct uses i) j × Reaches uses j d × (Contains (exported_keys exports) d → ⊥) × ReachesExportedKey uses exports d
+LeadsToConflict uses exports i = (j : ℕ) × (b : ℕ) × Contains (direct uses i) j × Reaches uses j b × IsBetween uses exports b
 
 -- the interface of this entry leads to a conflict
 abbrev pub IsEntryInConflict : List (List ℕ) → List Entry → Entry → Type 0

@@ -1,7 +1,7 @@
 //! All worlds of a graph are elaborated, or none.
 ghost use Rattle.std.specs.Prelude.{◌≡◌, ◌⊎◌, IfErr, IfOk, OnErr, OnOk, length};
 ghost use Rattle.wit_elaboration.specs.Elaboration.{IsConflictError, graph_uses};
-ghost use Rattle.wit_elaboration.specs.Imported.{HasConflict};
+ghost use Rattle.wit_elaboration.specs.Imported.{HasTransitiveConflict};
 ghost use Rattle.wit_elaboration.specs.Sound.{HasSoundEntries};
 ghost use Rattle.wit_graph_data.specs.declared.error_kind.ResolveErrorKind.TheVariants.{OutOfMemory};
 ghost use Rattle.wit_data.specs.Each.{Each};
@@ -30,7 +30,7 @@ pub fn elaborate_all(alloc: Global, graph: &mut Graph) -> ResolveResult<()>
     requires acyclic { IsAcyclic (graph_uses graph.old) }
     requires listed { Each (λ (world : World). HasSoundEntries graph.old.types (length graph.old.interfaces) world.imports world.exports) graph.old.worlds }
     ensures ok { OnOk result (graph.new ≡ all_elaborated graph.old) }
-    ensures no_conflict { OnOk result (Each (λ (world : World). HasConflict (graph_uses graph.old) world.exports → ⊥) graph.old.worlds) }
+    ensures no_conflict { OnOk result (Each (λ (world : World). HasTransitiveConflict (graph_uses graph.old) world.exports → ⊥) graph.old.worlds) }
     ensures err { OnErr result (graph.new ≡ graph.old) }
     ensures cause { IfErr result (λ e. (e ≡ OutOfMemory) ⊎ IsRefusedWorld graph.old e) }
 {
@@ -44,7 +44,7 @@ fn all_lists(alloc: Global, graph: &Graph) -> ResolveResult<Items<Option<Lists>>
     requires acyclic { IsAcyclic (graph_uses graph.now) }
     requires listed { Each (λ (world : World). HasSoundEntries graph.now.types (length graph.now.interfaces) world.imports world.exports) graph.now.worlds }
     ensures lists { IfOk result (AreListsOf graph.now graph.now.worlds) }
-    ensures no_conflict { OnOk result (Each (λ (world : World). HasConflict (graph_uses graph.now) world.exports → ⊥) graph.now.worlds) }
+    ensures no_conflict { OnOk result (Each (λ (world : World). HasTransitiveConflict (graph_uses graph.now) world.exports → ⊥) graph.now.worlds) }
     ensures cause { IfErr result (λ e. (e ≡ OutOfMemory) ⊎ IsRefusedWorld graph.now e) }
 {
     let closure = Closure::of(alloc, graph)?;
@@ -69,7 +69,7 @@ fn new_lists(
     requires acyclic { IsAcyclic (graph_uses graph.now) }
     requires listed { HasSoundEntries graph.now.types (length graph.now.interfaces) world.now.imports world.now.exports }
     ensures lists { IfOk result (λ lists. with_lists world.now lists ≡ elaborated_world graph.now world.now) }
-    ensures no_conflict { OnOk result (HasConflict (graph_uses graph.now) world.now.exports → ⊥) }
+    ensures no_conflict { OnOk result (HasTransitiveConflict (graph_uses graph.now) world.now.exports → ⊥) }
     ensures cause { IfErr result (IsConflictError graph.now world.now) }
     ensures same { elaborator.new ≡ elaborator.old }
 {

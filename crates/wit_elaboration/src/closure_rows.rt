@@ -8,7 +8,7 @@ ghost use Rattle.std.specs.List.{IsDistinct, sum_by};
 ghost use Rattle.wit_digraph.specs.Relation.{IsAcyclic, Reaches, direct};
 ghost use Rattle.wit_elaboration.specs.steps.Closures.{AreRowsOf, AreRowsOfAll, HasColumnsOf, HaveCommonBit, IsOrder, IsRowOf, MayNeed, column};
 ghost use Rattle.wit_elaboration.specs.steps.Elaborating.{IsExportedList};
-ghost use Rattle.wit_elaboration.specs.Imported.{HasConflict, exported_interfaces};
+ghost use Rattle.wit_elaboration.specs.Imported.{HasTransitiveConflict, exported_interfaces};
 
 use crate::passes::mark_leading;
 use crate::role::item_interface;
@@ -187,7 +187,7 @@ impl ClosureRows {
         requires interfaces { All (λ i. i < length uses.now) (exported_interfaces exports.now) }
         requires nodes { exported.now.nodes ≡ length uses.now }
         requires tells { IsExportedList exported.now.order exports.now }
-        ensures { IfOk result (λ may. HasConflict uses.now exports.now → IsTrue may) }
+        ensures { IfOk result (λ may. HasTransitiveConflict uses.now exports.now → IsTrue may) }
     {
         let columns = columns_of(alloc, exported.order())?;
         for index in 0..exports.len() {

@@ -10,7 +10,7 @@ ghost use Rattle.wit_elaboration.specs.steps.Closures.{IsClosureOf};
 ghost use Rattle.wit_elaboration.specs.Elaborated.{dependencies_before};
 ghost use Rattle.wit_elaboration.specs.steps.Elaborating.{AreMarked, AreOutside, HasMarkedUse, HaveNodes, IsExportedList, IsFirstConflict, IsPostOrder};
 ghost use Rattle.wit_elaboration.specs.Entries.{Entry, item_interface};
-ghost use Rattle.wit_elaboration.specs.Imported.{HasConflict, LeadsToConflict, exported_interfaces, exported_keys};
+ghost use Rattle.wit_elaboration.specs.Imported.{HasTransitiveConflict, LeadsToConflict, exported_interfaces, exported_keys};
 ghost use Rattle.wit_digraph.specs.Relation.{IsAcyclic, direct};
 ghost use Rattle.wit_digraph.specs.PostOrder.{UsesFirst, first_of_each, fresh};
 
@@ -231,7 +231,7 @@ fn may_conflict(
     requires nodes { exported.now.nodes ≡ length uses.now }
     requires tells { IsExportedList exported.now.order exports.now }
     requires rows { IfSome rows.now (λ r. IsClosureOf uses.now r) }
-    ensures { IfOk result (λ may. HasConflict uses.now exports.now → IsTrue may) }
+    ensures { IfOk result (λ may. HasTransitiveConflict uses.now exports.now → IsTrue may) }
 {
     match rows {
         Some(rows) => {

@@ -7,7 +7,7 @@ ghost use Rattle.wit_elaboration.specs.AllWorlds.{elaborated_world};
 ghost use Rattle.wit_elaboration.specs.Elaborated.{elaborated_exports, elaborated_imports};
 ghost use Rattle.wit_elaboration.specs.steps.Elaborating.{HaveNodes, IsExportedList};
 ghost use Rattle.wit_elaboration.specs.Elaboration.{AreElaborated, ElaboratesWorld, HasConflictAt, IsConflictError, IsElaborationError, IsErrorAt, HasSoundEntriesAt, graph_uses};
-ghost use Rattle.wit_elaboration.specs.Imported.{HasConflict};
+ghost use Rattle.wit_elaboration.specs.Imported.{HasTransitiveConflict};
 ghost use Rattle.wit_elaboration.specs.Sound.{HasSoundEntries};
 ghost use Rattle.wit_graph_data.specs.declared.error_kind.ResolveErrorKind.TheVariants.{OutOfMemory};
 ghost use Rattle.wit_data.specs.Uses.{uses_of};
@@ -195,7 +195,7 @@ impl Elaborator {
         requires uses { self.old ≡ graph_uses graph.now }
         requires acyclic { IsAcyclic (graph_uses graph.now) }
         requires listed { HasSoundEntries graph.now.types (length graph.now.interfaces) world.now.imports world.now.exports }
-        ensures no_conflict { OnOk result (HasConflict (graph_uses graph.now) world.now.exports → ⊥) }
+        ensures no_conflict { OnOk result (HasTransitiveConflict (graph_uses graph.now) world.now.exports → ⊥) }
         ensures imports { IfOk result (λ lists. lists.imports ≡ elaborated_imports graph.now.types (graph_uses graph.now) world.now.imports world.now.exports) }
         ensures exports { IfOk result (λ lists. lists.exports ≡ elaborated_exports graph.now.types (graph_uses graph.now) world.now.exports) }
         ensures cause { IfErr result (IsConflictError graph.now world.now) }
@@ -222,7 +222,7 @@ impl Elaborator {
         requires uses { self.old ≡ graph_uses graph.now }
         requires acyclic { IsAcyclic (graph_uses graph.now) }
         requires listed { HasSoundEntries graph.now.types (length graph.now.interfaces) world.now.imports world.now.exports }
-        ensures no_conflict { IfOk result (λ complete. IsTrue complete → HasConflict (graph_uses graph.now) world.now.exports → ⊥) }
+        ensures no_conflict { IfOk result (λ complete. IsTrue complete → HasTransitiveConflict (graph_uses graph.now) world.now.exports → ⊥) }
         ensures own { IfOk result (λ complete. IsTrue complete → elaborated_world graph.now world.now ≡ world.now) }
         ensures same { self.new ≡ self.old }
     {
@@ -278,7 +278,7 @@ fn lists_of(
 ) -> Result<Lists, AllocError>
     requires acyclic { IsAcyclic uses.now }
     requires listed { HasSoundEntries types.now (length uses.now) world.now.imports world.now.exports }
-    requires no_conflict { HasConflict uses.now world.now.exports → ⊥ }
+    requires no_conflict { HasTransitiveConflict uses.now world.now.exports → ⊥ }
     requires nodes { HaveNodes marks.old (length uses.now) }
     requires exported { IsExportedList marks.old.exported.order world.now.exports }
     ensures imports { IfOk result (λ lists. lists.imports ≡ elaborated_imports types.now uses.now world.now.imports world.now.exports) }

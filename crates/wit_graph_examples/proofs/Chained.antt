@@ -7,7 +7,7 @@ use Rattle.wit_data.specs.declared.world.World.{World}
 use Rattle.wit_data.specs.declared.world.WorldKey.TheVariants as key
 use Rattle.wit_elaboration.specs.Elaboration.{graph_uses}
 use Rattle.wit_elaboration.specs.Entries.{Entry}
-use Rattle.wit_elaboration.specs.Imported.{HasConflict, IsEntryInConflict, IsRefusedName, exported_keys}
+use Rattle.wit_elaboration.specs.Imported.{HasTransitiveConflict, IsEntryInConflict, IsRefusedName, exported_keys}
 use Rattle.wit_graph_data.specs.examples.Samples.{entry_of, world_of}
 use Rattle.wit_graph_data.specs.declared.cause.Cause.TheVariants.{TypeExported}
 use Rattle.wit_graph_data.specs.declared.error_kind.ResolveErrorKind.TheVariants.{InvalidTransitiveDependency, Semantic}
@@ -31,11 +31,11 @@ world_w = world_of (codes "w") (a ∷ b ∷ c ∷ k ∷ []) []
 b_outside : Contains (exported_keys (a ∷ c ∷ [])) 1 → ⊥
 b_outside has = elim (one_of_two 0 2 1 has) [ inl same ↦ absurd (omega (arith, same)) | inr same ↦ absurd (omega (arith, same)) ]
 
-ends_conflict : HasConflict (graph_uses chain_with_k) (a ∷ c ∷ [])
-ends_conflict = (0, (2, 1, Contains-there 0 2 (2 ∷ []) (Contains-here 2 []), Contains-here 1 [], b_outside, (0 ∷ [], (Contains-here 0 [], refl))), Contains-here 0 (2 ∷ []))
+ends_conflict : HasTransitiveConflict (graph_uses chain_with_k) (a ∷ c ∷ [])
+ends_conflict = (2, 1, Contains-there 0 2 (2 ∷ []) (Contains-here 2 []), Contains-here 1 [], (b_outside, 0, (0 ∷ [], (Contains-here 0 [], refl)), Contains-here 0 (2 ∷ [])))
 
 c_leads : IsEntryInConflict (graph_uses chain_with_k) (a ∷ c ∷ []) c
-c_leads = (2, Contains-here 2 [], (1, 1, Contains-here 1 [], ([], refl), b_outside, (0, (0 ∷ [], (Contains-here 0 [], refl)), Contains-here 0 (2 ∷ []))))
+c_leads = (2, Contains-here 2 [], (1, 1, Contains-here 1 [], ([], refl), (b_outside, 0, (0 ∷ [], (Contains-here 0 [], refl)), Contains-here 0 (2 ∷ []))))
 
 from_a : IsEntryInConflict (graph_uses chain_with_k) (a ∷ c ∷ []) a → ⊥
 from_a leads = Contains-nil (subst (λ (i : ℕ). Contains (direct (graph_uses chain_with_k) i) leads.2.0) (sym (only_one 0 leads.0 leads.1)) leads.2.2)

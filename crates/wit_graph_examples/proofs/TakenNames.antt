@@ -13,7 +13,7 @@ use Rattle.wit_data.specs.declared.world.World.{World}
 use Rattle.wit_elaboration.specs.Elaborated.{import_steps, import_steps_within}
 use Rattle.wit_elaboration.specs.Elaboration.{graph_uses}
 use Rattle.wit_elaboration.specs.Entries.{Entry}
-use Rattle.wit_elaboration.specs.Imported.{HasConflict}
+use Rattle.wit_elaboration.specs.Imported.{HasTransitiveConflict}
 use Rattle.wit_graph_data.specs.examples.Samples.{foo_bar_of, world_of}
 use Rattle.wit_graph_data.specs.declared.cause.Cause.TheVariants.{NameTaken}
 use Rattle.wit_graph_data.specs.declared.error_kind.ResolveErrorKind.{ResolveErrorKind}
@@ -76,10 +76,8 @@ second_importizes world error same cause =
     ]
 
 -- a alone is in no conflict, and no type
-no_conflict : HasConflict (graph_uses of_w) (a ∷ []) → ⊥
-no_conflict conflict =
-    let needed = conflict.1 in
-    Contains-nil (subst (λ (i : ℕ). Contains (direct (graph_uses of_w) i) needed.1) (sym (only_one 0 needed.0 needed.2)) needed.3)
+no_conflict : HasTransitiveConflict (graph_uses of_w) (a ∷ []) → ⊥
+no_conflict conflict = Contains-nil (subst (λ (i : ℕ). Contains (direct (graph_uses of_w) i) conflict.1) (sym (only_one 0 conflict.0 conflict.2)) conflict.3)
 
 no_type : (label : List ℕ) → HasTypeAt (a ∷ []) label → ⊥
 no_type label has = let keys = ap (λ (e : Entry). e.0) (only_one a _ has.2) in cc

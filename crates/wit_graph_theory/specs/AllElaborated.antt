@@ -11,7 +11,7 @@ use Rattle.wit_data.specs.declared.world.World.{World}
 pub use Rattle.wit_elaboration.specs.AllWorlds.{all_elaborated, elaborated_world}
 use Rattle.wit_elaboration.specs.Elaboration.{graph_uses}
 use Rattle.wit_graph_data.specs.IdText.{interface_id_at}
-use Rattle.wit_elaboration.specs.Imported.{HasConflict, IsRefusedName}
+use Rattle.wit_elaboration.specs.Imported.{HasTransitiveConflict, IsRefusedName}
 use Rattle.wit_graph_data.specs.Relations.{package_uses}
 use Rattle.wit_graph_data.specs.declared.graph.Graph.{Graph}
 use Rattle.wit_graph_data.specs.declared.graph.Package.{Package}
@@ -64,6 +64,6 @@ pub record HasWorldInConflict (g : Graph) (span : Option (ℕ × ℕ)) (name : L
   pub types : (message : List ℕ) → RefersToItself g message → ⊥
   pub world : World
   pub there : Contains g.worlds world
-  pub conflict : HasConflict (graph_uses g) world.exports
+  pub conflict : HasTransitiveConflict (graph_uses g) world.exports
   pub name_is : IsRefusedName g.packages g.interfaces (graph_uses g) world.exports name
   pub span_is : span ≡ world.span

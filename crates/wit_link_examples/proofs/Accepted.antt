@@ -28,6 +28,7 @@ use Rattle.wit_link_examples.proofs.HasImage.{image}
 use Rattle.wit_link_examples.proofs.WorldTests.{IsPlain, fine, plain_accepted}
 use Rattle.wit_link_examples.specs.IncludedWorlds.{including}
 use Rattle.wit_link_examples.specs.Packages.{adding, first_package, include_with, no_features}
+use Rattle.wit_link_examples.specs.Pushes.{add_using}
 
 -- ---- tests
 
@@ -101,6 +102,25 @@ accepted = is_accepted the_first first_world (record {
   has_image = image the_first (record { packages = refl; items = refl; types = refl; interfaces = refl; worlds = refl });
   absent = refl;
   includes = λ j. fine_without the_first 0 j (no_include the_first 0 first_world j refl);
+  plain = record { lists = record { imports = refl; exports = refl; written = λ none. (refl, refl) }; no_exports = refl };
+  required = refl;
+  interfaces = refl;
+  worlds = refl;
+  spans = refl;
+})
+
+-- ---- a package that uses another
+
+abbrev using_world : AtWorld add_using 0
+using_world = record { place = 0; world = _; is = refl }
+
+pub using_accepted : AdditionIsAccepted add_using
+unfolding post_order post_order_within
+using_accepted = is_accepted add_using using_world (record {
+  later = λ k. refl;
+  has_image = image add_using (record { packages = refl; items = refl; types = refl; interfaces = refl; worlds = refl });
+  absent = refl;
+  includes = λ j. fine_without add_using 0 j (no_include add_using 0 using_world j refl);
   plain = record { lists = record { imports = refl; exports = refl; written = λ none. (refl, refl) }; no_exports = refl };
   required = refl;
   interfaces = refl;

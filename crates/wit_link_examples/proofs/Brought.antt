@@ -10,7 +10,7 @@ use Rattle.wit_data.specs.declared.stability.Stability.TheVariants.{Unknown}
 use Rattle.wit_data.specs.declared.world.World.{World}
 use Rattle.wit_data.specs.declared.world.WorldItem.TheVariants as item
 use Rattle.wit_data.specs.declared.world.WorldKey.TheVariants as key
-use Rattle.wit_elaboration.specs.Imported.{HasConflict}
+use Rattle.wit_elaboration.specs.Imported.{HasTransitiveConflict}
 use Rattle.wit_graph_data.specs.declared.error_kind.ResolveErrorKind.TheVariants.{InvalidTransitiveDependency, ItemShadowing, StabilityMismatch}
 use Rattle.wit_graph_data.specs.examples.Samples.{entry_of, no_docs, sample}
 use Rattle.wit_graph_theory.specs.examples.TestFacts.{none_in, one_of_two, only_one}
@@ -119,8 +119,8 @@ only_a d j [] from same = from ∙ same
 only_a d j (k ∷ path) from leads = absurd (none_in k (subst (λ (i : ℕ). Contains (direct uses i) k) (sym from) leads.0))
 
 -- what c and b use is exported but for a, and that uses nothing
-closed : HasConflict uses (entry_of 2 ∷ entry_of 1 ∷ []) → ⊥
-closed (j, (x, d, exported, used, outside, reaches), is_exported) =
+closed : HasTransitiveConflict uses (entry_of 2 ∷ entry_of 1 ∷ []) → ⊥
+closed (x, d, exported, used, (outside, j, reaches, is_exported)) =
     elim (one_of_two 2 1 x exported) [
       | inl of_c ↦
           let b : 1 ≡ d = only_one 1 d (subst (λ (i : ℕ). Contains (direct uses i) d) (sym of_c) used) in
@@ -160,7 +160,7 @@ included_causes = record {
     whole = _;
     whole_is = refl;
     cause = conflict_4 (codes "foo:bar/c") (record {
-      conflict = (0, (2, 1, (0, lit< tt, refl), (0, lit< tt, refl), b_outside, (0 ∷ [], ((0, lit< tt, refl), refl))), (1, lit< tt, refl));
+      conflict = (2, 1, (0, lit< tt, refl), (0, lit< tt, refl), (b_outside, 0, (0 ∷ [], ((0, lit< tt, refl), refl)), (1, lit< tt, refl)));
       name_is = (
         key.Interface 2,
         (
@@ -169,7 +169,7 @@ included_causes = record {
           entry_of 0 ∷ [],
           refl,
           λ e inside. absurd (none_in e inside),
-          (2, (0, lit< tt, refl), (1, 1, (0, lit< tt, refl), ([], refl), b_outside, (0, (0 ∷ [], ((0, lit< tt, refl), refl)), (1, lit< tt, refl)))),
+          (2, (0, lit< tt, refl), (1, 1, (0, lit< tt, refl), ([], refl), (b_outside, 0, (0 ∷ [], ((0, lit< tt, refl), refl)), (1, lit< tt, refl)))),
           refl,
         ),
         refl,

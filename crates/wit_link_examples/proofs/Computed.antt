@@ -16,7 +16,7 @@ use Rattle.wit_graph_data.specs.declared.graph.Graph.{Graph}
 use Rattle.wit_graph_theory.specs.examples.TestFacts.{only_one}
 use Rattle.wit_link_spec.specs.Addition.{function_positions}
 use Rattle.wit_link_spec.specs.Include.{EntryLists}
-use Rattle.wit_link_examples.proofs.Accepted.{accepted, including_accepted}
+use Rattle.wit_link_examples.proofs.Accepted.{accepted, including_accepted, using_accepted}
 use Rattle.wit_link_examples.proofs.WorldCauses.{label_same, other_feature}
 use Rattle.wit_link_examples.specs.Gates.{ExamplesOfGates}
 use Rattle.wit_link_examples.specs.IncludedWorlds.{ExamplesOfIncludedWorlds}
@@ -49,6 +49,10 @@ unfolding post_order post_order_within import_steps import_steps_within
 pushes = record {
   first = refl;
   accepted = accepted;
+  whole = refl;
+  whole_accepted = using_accepted;
+  not_the_alias = λ same. let count : 5 ≡ 4 = ap (λ (g : Graph). length g.types) same in absurd (omega (arith, count));
+  not_alone = λ same. let count : 2 ≡ 1 = ap (λ (g : Graph). length (flat_map (λ (w : World). w.imports) g.worlds)) same in absurd (omega (arith, count));
   not_elaborated = λ same. let count : 2 ≡ 1 = ap (λ (g : Graph). length (flat_map (λ (w : World). w.imports) g.worlds)) same in absurd (omega (arith, count));
   other_id = λ same. let ids : 0 ∷ [] ≡ 1 ∷ [] = ap (map (λ (e : PackageName × ℕ). e.1)) same in let id : 0 ≡ 1 = first_of 0 1 [] [] ids in absurd (omega (arith, id));
   nothing_added = λ same. let count : 1 ≡ 0 = ap (λ (g : Graph). length g.packages) same in absurd (omega (arith, count));

@@ -14,7 +14,7 @@ use Rattle.wit_data.specs.declared.world.WorldInclude.{WorldInclude}
 use Rattle.wit_data.specs.declared.world.WorldItem.{WorldItem}
 use Rattle.wit_data.specs.declared.world.WorldItem.TheVariants as item
 use Rattle.wit_data.specs.declared.world.WorldKey.TheVariants as key
-use Rattle.wit_elaboration.specs.Imported.{HasConflict, IsEntryInConflict}
+use Rattle.wit_elaboration.specs.Imported.{HasTransitiveConflict, IsEntryInConflict}
 use Rattle.wit_graph_data.specs.declared.cause.Cause.TheVariants as cause
 use Rattle.wit_graph_data.specs.declared.error_kind.ResolveErrorKind.{ResolveErrorKind}
 use Rattle.wit_graph_data.specs.declared.error_kind.ResolveErrorKind.TheVariants.{InvalidTransitiveDependency, ItemShadowing, Semantic, StabilityMismatch}
@@ -193,8 +193,8 @@ a_clear e inside conflict =
     none_in there.2.0 (subst (λ (i : ℕ). Contains (direct (uses_of three.types three.interfaces) i) there.2.0) (sym (only_one 0 there.0 there.1)) there.2.2)
 
 -- a and b use nothing but a
-closed : HasConflict (uses_of three.types three.interfaces) (entry_of 0 ∷ entry_of 1 ∷ []) → ⊥
-closed (j, (x, d, exported, uses, outside, reaches), is_exported) =
+closed : HasTransitiveConflict (uses_of three.types three.interfaces) (entry_of 0 ∷ entry_of 1 ∷ []) → ⊥
+closed (x, d, exported, uses, (outside, j, reaches, is_exported)) =
     elim (one_of_two 0 1 x exported) [
       | inl of_a ↦ none_in d (subst (λ (i : ℕ). Contains (direct (uses_of three.types three.interfaces) i) d) (sym of_a) uses)
       | inr of_b ↦
@@ -214,8 +214,8 @@ world_causes = record {
     whole = _;
     whole_is = refl;
     cause = conflict_4 (codes "foo:bar/c") (record {
-      conflict = (0, (2, 1, (1, lit< tt, refl), (0, lit< tt, refl), b_outside, (0 ∷ [], ((0, lit< tt, refl), refl))), (0, lit< tt, refl));
-      name_is = (key.Interface 2, (entry_of 0 ∷ [], entry_of 2, [], refl, a_clear, (2, (0, lit< tt, refl), (1, 1, (0, lit< tt, refl), ([], refl), b_outside, (0, (0 ∷ [], ((0, lit< tt, refl), refl)), (0, lit< tt, refl)))), refl), refl);
+      conflict = (2, 1, (1, lit< tt, refl), (0, lit< tt, refl), (b_outside, 0, (0 ∷ [], ((0, lit< tt, refl), refl)), (0, lit< tt, refl)));
+      name_is = (key.Interface 2, (entry_of 0 ∷ [], entry_of 2, [], refl, a_clear, (2, (0, lit< tt, refl), (1, 1, (0, lit< tt, refl), ([], refl), (b_outside, 0, (0 ∷ [], ((0, lit< tt, refl), refl)), (0, lit< tt, refl)))), refl), refl);
     });
   }));
   closed = λ span name c.

@@ -23,7 +23,7 @@ use Rattle.wit_graph_theory.specs.facts.ListFacts.{Contains-map, contained_at}
 use Rattle.wit_graph_theory.specs.facts.OptionFacts.{some_same}
 use Rattle.wit_graph_theory.specs.examples.TestFacts.{all_are, implied, implies, none_in}
 use Rattle.wit_elaboration.specs.Elaboration.{graph_uses}
-use Rattle.wit_elaboration.specs.Imported.{HasConflict, exported_keys}
+use Rattle.wit_elaboration.specs.Imported.{HasTransitiveConflict, exported_keys}
 use Rattle.wit_labels.specs.Setters.{IsSetter, getter_label, is_setter_label, placed}
 use Rattle.wit_labels.specs.Strong.{strong_key}
 use Rattle.wit_labels.specs.declared.strong.StrongKey.{StrongKey}
@@ -227,12 +227,12 @@ getters_there entries = list_all (getter_there (keys_of entries)) entries
 
 -- a conflict is one of what is begun
 pub conflict_of : (a : Addition) (k : ℕ) (y : AtWorld a k) (span : OptionalSpan) (name : List ℕ) → IsCauseAtFinish a k (InvalidTransitiveDependency span name)
-    → HasConflict (graph_uses (with_all_includes a y.place y.world (with_worlds a k)).graph) (placed (with_all_includes a y.place y.world (with_worlds a k)).lists.exports)
+    → HasTransitiveConflict (graph_uses (with_all_includes a y.place y.world (with_worlds a k)).graph) (placed (with_all_includes a y.place y.world (with_worlds a k)).lists.exports)
 conflict_of a k y span name c =
     let same = world_same a k c.at y in
     let is : c.whole ≡ with_all_includes a y.place y.world (with_worlds a k) =
     c.whole_is ∙ (ap (λ (p : ℕ). with_all_includes a p c.at.world (with_worlds a k)) same.0 ∙ ap (λ (w : World). with_all_includes a y.place w (with_worlds a k)) same.1) in
-    subst (λ (b : PartiallyLinked). HasConflict (graph_uses b.graph) (placed b.lists.exports)) is (conflict_in _ _ span name c.cause).conflict
+    subst (λ (b : PartiallyLinked). HasTransitiveConflict (graph_uses b.graph) (placed b.lists.exports)) is (conflict_in _ _ span name c.cause).conflict
 
 -- ---- a world with which nothing is wrong
 
@@ -264,7 +264,7 @@ module _ (a : Addition) (k : ℕ) (y : AtWorld a k) where
   plain_exports : IsPlain → (span : OptionalSpan) (name : List ℕ) → IsCauseAtFinish a k (InvalidTransitiveDependency span name) → ⊥
   plain_exports p span name c =
       let found = conflict_of a k y span name c in
-      none_in found.0 (subst (λ (is : List ℕ). Contains is found.0) p.no_exports found.2)
+      none_in found.4.1 (subst (λ (is : List ℕ). Contains is found.4.1) p.no_exports found.4.3)
 
   -- then no cause holds against it, where its includes are accepted
   pub plain_accepted : IsPlain → (IsResolved a → (j : ℕ) → IncludeIsAccepted a k j) → WorldIsAccepted a k

@@ -7,7 +7,7 @@ use Rattle.wit_data.specs.declared.world.World.{World}
 use Rattle.wit_data.specs.declared.world.WorldItem.TheVariants as item
 use Rattle.wit_data.specs.declared.world.WorldKey.TheVariants as key
 use Rattle.wit_elaboration.specs.Elaboration.{IsConflictError, graph_uses}
-use Rattle.wit_elaboration.specs.Imported.{HasConflict}
+use Rattle.wit_elaboration.specs.Imported.{HasTransitiveConflict}
 use Rattle.wit_graph_data.specs.Error.{NoCause}
 use Rattle.wit_graph_data.specs.declared.cause.Cause.TheVariants as cause
 use Rattle.wit_graph_data.specs.declared.error_kind.ResolveErrorKind.{ResolveErrorKind}
@@ -85,7 +85,7 @@ list_of_both world word entries labels (inl is) error found =
 list_of_both world word entries labels (inr is) error found =
     labels.exports.no_cause error (subst (λ (w : List ℕ). IsListError world.name w world.exports error) is.0 (subst (λ (l : List Entry). IsListError world.name word l error) is.1 found))
 
-pub finish_accepted : (g : Graph) (world : World) → LabelsAreAccepted world → (HasConflict (graph_uses g) (placed world.exports) → ⊥) → NoCause (IsFinishCause g world)
+pub finish_accepted : (g : Graph) (world : World) → LabelsAreAccepted world → (HasTransitiveConflict (graph_uses g) (placed world.exports) → ⊥) → NoCause (IsFinishCause g world)
 finish_accepted g world labels no_conflict _ (conflict_4 name is) = no_conflict is.conflict
 finish_accepted g world labels no_conflict _ (not_strongly_unique_17 word n m is) = list_of_both world word is.entries labels is.list _ (clash n m is.clash)
 finish_accepted g world labels no_conflict _ (no_getter_18 word label f is) = list_of_both world word is.entries labels is.list _ (alone label f is.setter is.absent)

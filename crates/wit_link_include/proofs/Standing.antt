@@ -5,15 +5,13 @@ use Rattle.std.specs.Map.{keys_of}
 use Rattle.std.specs.Option.{option_map_or}
 use Rattle.std.proofs.lemmas.Bool.{false≢true}
 use Rattle.std.proofs.lemmas.Option.{slice_get_within}
-use Rattle.wit_digraph.specs.PostOrder.{post_order}
 use Rattle.wit_data.specs.Entries.{interfaces_in_worlds, is_unnamed}
-use Rattle.wit_data.specs.Reference.{type_references}
 use Rattle.wit_data.specs.declared.interface.Interface.{Interface}
 use Rattle.wit_data.specs.declared.types.TypeDef.{TypeDef}
 use Rattle.wit_data.specs.declared.world.World.{World}
 use Rattle.wit_graph_data.specs.declared.graph.Graph.{Graph}
 use Rattle.wit_graph_theory.specs.facts.ListFacts.{place_of}
-use Rattle.wit_link_spec.specs.Include.{belongs_to, is_copied, is_owned_within, is_unnamed_type, named_types, owner_belongs_to}
+use Rattle.wit_link_spec.specs.Include.{belongs_to, is_copied, is_on_way, owner_belongs_to}
 use Rattle.wit_link_include.specs.steps.Copied.{numbered, places}
 use Rattle.wit_link_include.proofs.Members.{and_both}
 use Rattle.wit_link_include.proofs.RisingIds.{numbered-keys}
@@ -34,13 +32,10 @@ goes_there g world i is = by (slice_get g.interfaces i) refl
 pub copied_there : (g : Graph) (w : ℕ) (world : World) (t : ℕ) → is_copied g w world t ≡ true → (def : TypeDef) × (slice_get g.types t ≡ Some def)
 copied_there g w world t is = by (slice_get g.types t) refl
   where
-    parts : (list_any (nat_eq t) (named_types g world) ≡ true) × ((is_owned_within g w world t || (is_unnamed_type g t && list_any (is_owned_within g w world) (post_order (type_references g.types) t))) ≡ true)
-    parts = and_both (list_any (nat_eq t) (named_types g world)) (is_owned_within g w world t || (is_unnamed_type g t && list_any (is_owned_within g w world) (post_order (type_references g.types) t))) is
-
     by : (o : Option TypeDef) → slice_get g.types t ≡ o → (def : TypeDef) × (slice_get g.types t ≡ Some def)
     by (Some def) at = (def, at)
     by None at = absurd (false≢true (sym (ap (λ (o : Option TypeDef). option_map_or (λ (d : TypeDef). owner_belongs_to g w world d.owner) o false
-        || (option_map_or (λ (d : TypeDef). not (is_some d.name)) o false && list_any (is_owned_within g w world) (post_order (type_references g.types) t))) at) ∙ parts.1))
+        || (option_map_or (λ (d : TypeDef). not (is_some d.name)) o false && is_on_way g w world t)) at) ∙ is))
 
 -- the keys of a table of places are there
 pub keys_there : {X : Type 0} (kept : ℕ → Bool) (xs : List X) (n : ℕ) (table : List (ℕ × ℕ)) → table ≡ numbered n (places kept xs) → (t : ℕ) → Contains (keys_of table) t → t < length xs

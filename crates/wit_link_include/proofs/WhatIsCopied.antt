@@ -1,5 +1,5 @@
 -- What is known to lead to what goes with a world is what an include copies.
-use Rattle.std.proofs.Common.{◌≡◌, ◌∙◌, ℕ, ◌<◌, ◌||◌, ◌&&◌, inl, inr, Bool, true, false, List, [], ◌∷◌, length, Option, None, Some, Contains, is_some, not, nat_eq, slice_get, unwrap_or, refl, sym, ap, subst, arith, if◌then◌else◌}
+use Rattle.std.proofs.Common.{◌≡◌, ◌∙◌, ℕ, ◌<◌, ◌&&◌, inl, inr, Bool, true, false, List, [], ◌∷◌, length, Option, None, Some, Contains, is_some, not, nat_eq, slice_get, unwrap_or, refl, sym, ap, subst, arith, if◌then◌else◌}
 use Rattle.std.specs.List.{flat_map, list_any}
 use Rattle.std.specs.Map.{lookup}
 use Rattle.std.proofs.lemmas.Bool.{false≢true}
@@ -11,15 +11,22 @@ use Rattle.wit_digraph.specs.facts.PostOrderFacts.{Reaches-from_post_order, post
 use Rattle.wit_digraph.specs.PostOrder.{post_order}
 use Rattle.wit_data.specs.declared.types.TypeDef.{TypeDef}
 use Rattle.wit_graph_theory.specs.facts.RowFacts.{Reaches-join, Reaches-self}
-use Rattle.wit_link_spec.specs.Include.{is_copied, is_owned_within, is_unnamed_type, named_types, owner_belongs_to}
-use Rattle.wit_link_include.specs.steps.Copied.{StayApart, is_open_in, known_of, leads, open_rows, roots_of, said}
+use Rattle.wit_link_spec.specs.Include.{is_copied, is_on_way, is_owned_within, is_unnamed_type, named_types, owner_belongs_to}
+use Rattle.wit_link_include.specs.steps.Copied.{NamesBelonging, StayApart, is_open_in, known_of, leads, open_rows, roots_of, said}
 use Rattle.wit_link_include.specs.declared.origin.Origin.{Origin}
 use Rattle.wit_link_include.proofs.Members.{and_both, and_of, or_cases, or_left, or_right, same_truth}
 use Rattle.wit_link_include.proofs.OpenRows.{closed_leads, leads_from, leads_to, open_acyclic, open_edge, open_long, open_reaches, owned_at, rows, rows_long, there_at, unnamed_at}
 
-module _ (o : Origin) (acyclic : IsAcyclic (rows o)) (apart : StayApart o.graph.now o.id o.world.now) (there : (t : ℕ) → Contains (roots_of o) t → t < length o.graph.now.types) where
+module _ (o : Origin) (acyclic : IsAcyclic (rows o)) (apart : StayApart o.graph.now o.id o.world.now) (there : (t : ℕ) → Contains (roots_of o) t → t < length o.graph.now.types)
+    (belonging : NamesBelonging o.graph.now o.id o.world.now) where
   abbrev owns : ℕ → Bool
   owns = is_owned_within o.graph.now o.id o.world.now
+
+  abbrev on_way : ℕ → Bool
+  on_way = is_on_way o.graph.now o.id o.world.now
+
+  way_parts : (t : ℕ) → on_way t ≡ true → (list_any (nat_eq t) (named_types o.graph.now o.world.now) ≡ true) × (leads o t ≡ true)
+  way_parts t is = and_both (list_any (nat_eq t) (named_types o.graph.now o.world.now)) (leads o t) is
 
   in_rows : (t : ℕ) → t < length o.graph.now.types → t < length (rows o)
   in_rows t within = let long = rows_long o in omega arith
@@ -58,22 +65,27 @@ module _ (o : Origin) (acyclic : IsAcyclic (rows o)) (apart : StayApart o.graph.
       any_from_contains t (named_types o.graph.now o.world.now) (Contains-flat_map (post_order (rows o)) (roots_of o) part.0 t part.1.0 (post_order-from_IsPath (rows o) acyclic part.0 on.0 t begin on.1)) in
       let def = there_at o t (in_open t (path_within part.0 on.0 t begin on.1)) in
       let kind = or_cases (owner_belongs_to o.graph.now o.id o.world.now def.0.owner) (not (is_some def.0.name)) (leads_open t def.0 def.1 is) in
-      and_of (list_any (nat_eq t) (named_types o.graph.now o.world.now)) (owns t || (is_unnamed_type o.graph.now t && leads o t)) named
-      (elim kind [
-        | inl own ↦ or_left (owns t) (is_unnamed_type o.graph.now t && leads o t) (owned_at o acyclic t def.0 def.1 ∙ own)
-        | inr free ↦ or_right (owns t) (is_unnamed_type o.graph.now t && leads o t) (and_of (is_unnamed_type o.graph.now t) (leads o t) (unnamed_at o acyclic t def.0 def.1 ∙ free) is)
-      ])
+      elim kind [
+        | inl own ↦ or_left (owns t) (is_unnamed_type o.graph.now t && on_way t) (owned_at o acyclic t def.0 def.1 ∙ own)
+        | inr free ↦
+            or_right (owns t) (is_unnamed_type o.graph.now t && on_way t)
+            (and_of (is_unnamed_type o.graph.now t) (on_way t) (unnamed_at o acyclic t def.0 def.1 ∙ free) (and_of (list_any (nat_eq t) (named_types o.graph.now o.world.now)) (leads o t) named is))
+      ]
 
   copied_to : (t : ℕ) → is_copied o.graph.now o.id o.world.now t ≡ true → Contains (flat_map (post_order (open_rows o)) (roots_of o)) t × (leads o t ≡ true)
   copied_to t is =
-      let parts = and_both (list_any (nat_eq t) (named_types o.graph.now o.world.now)) (owns t || (is_unnamed_type o.graph.now t && leads o t)) is in
-      let part = Contains-flat_map_cases (post_order (rows o)) (roots_of o) t (contains_from_any t (named_types o.graph.now o.world.now) parts.0) in
+      let parts = or_cases (owns t) (is_unnamed_type o.graph.now t && on_way t) is in
+      let named : Contains (named_types o.graph.now o.world.now) t = elim parts [
+        | inl own ↦ belonging t own
+        | inr free ↦ contains_from_any t (named_types o.graph.now o.world.now) (way_parts t (and_both (is_unnamed_type o.graph.now t) (on_way t) free).1).0
+      ] in
+      let part = Contains-flat_map_cases (post_order (rows o)) (roots_of o) t named in
       let begin : part.0 < length (rows o) = in_rows part.0 (there part.0 part.1.0) in
       let on : Reaches (rows o) part.0 t = Reaches-from_post_order (rows o) acyclic part.0 begin t part.1.1 in
       let within : t < length (rows o) = path_within part.0 on.0 t begin on.1 in
-      let lead : leads o t ≡ true = elim (or_cases (owns t) (is_unnamed_type o.graph.now t && leads o t) parts.1) [
+      let lead : leads o t ≡ true = elim parts [
         | inl own ↦ leads_from o acyclic t t within (Reaches-self (rows o) t) own
-        | inr free ↦ (and_both (is_unnamed_type o.graph.now t) (leads o t) free).1
+        | inr free ↦ (way_parts t (and_both (is_unnamed_type o.graph.now t) (on_way t) free).1).1
       ] in (
         Contains-flat_map (post_order (open_rows o)) (roots_of o) part.0 t part.1.0
             (post_order-from_IsPath (open_rows o) (open_acyclic o acyclic) part.0 on.0 t (in_open part.0 begin) (path_open part.0 on.0 t begin within lead on.1)),

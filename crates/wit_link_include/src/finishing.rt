@@ -5,7 +5,7 @@ ghost use Rattle.wit_link_spec.specs.Pushed.{with_finished, with_placed};
 ghost use Rattle.wit_link_spec.specs.FinishCause.{IsFinishCause};
 ghost use Rattle.wit_elaboration.specs.AllWorlds.{elaborated_world};
 ghost use Rattle.wit_elaboration.specs.Elaboration.{IsConflictError, graph_uses};
-ghost use Rattle.wit_elaboration.specs.Imported.{HasConflict};
+ghost use Rattle.wit_elaboration.specs.Imported.{HasTransitiveConflict};
 ghost use Rattle.wit_elaboration.specs.Sound.{HasSoundEntries};
 ghost use Rattle.wit_graph_data.specs.declared.error_kind.ResolveErrorKind.TheVariants.{OutOfMemory};
 ghost use Rattle.wit_labels.specs.Setters.{placed};
@@ -57,7 +57,7 @@ fn elaborated(
     requires acyclic { IsAcyclic (graph_uses graph.now) }
     requires listed { HasSoundEntries graph.now.types (length graph.now.interfaces) world.imports world.exports }
     ensures ok { IfOk result (λ new. new ≡ elaborated_world graph.now world) }
-    ensures no_conflict { OnOk result (HasConflict (graph_uses graph.now) world.exports → ⊥) }
+    ensures no_conflict { OnOk result (HasTransitiveConflict (graph_uses graph.now) world.exports → ⊥) }
     ensures cause { IfErr result (IsConflictError graph.now world) }
     ensures same { elaborator.new ≡ elaborator.old }
 {

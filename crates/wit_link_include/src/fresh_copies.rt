@@ -10,7 +10,7 @@ ghost use Rattle.wit_link_spec.specs.Include.{belongs_to, copy_maps, is_copied, 
 ghost use Rattle.wit_link_spec.specs.Addition.{selected};
 ghost use Rattle.wit_graph_theory.specs.Image.{interface_image, type_image};
 ghost use Rattle.wit_remap.specs.Grown.{Grown};
-ghost use Rattle.wit_link_include.specs.steps.Copied.{IsOrigin, NamesThere, StayApart, maps_of, numbered, places, with_images};
+ghost use Rattle.wit_link_include.specs.steps.Copied.{IsOrigin, NamesBelonging, NamesThere, StayApart, maps_of, numbered, places, with_images};
 
 use crate::belonging::belonging_interfaces;
 use crate::copies::Copies;
@@ -29,7 +29,8 @@ use wit_labels::Renamings;
 /// world `into` of package `home` under some renamings, and answers where things went.
 ///
 /// World `from` is of the graph, in which no type refers to itself. The types that the entries of the world name are
-/// there, and no type with a name that doesn't go with the world refers to one that does, through whatever others.
+/// there, and what belongs to the world is among what these refer to; no type with a name that doesn't belong to the
+/// world refers to one that does, through whatever others.
 ///
 /// The only error is want of memory. Some copies may be there then: the graph begins as it was, and a mark cuts it
 /// back.
@@ -51,6 +52,7 @@ pub fn add_copies<'a>(
     requires acyclic { IsAcyclic (type_references graph.old.types) }
     requires apart { (world : World) → slice_get graph.old.worlds from ≡ Some world → StayApart graph.old from world }
     requires named { (world : World) → slice_get graph.old.worlds from ≡ Some world → NamesThere graph.old world }
+    requires belonging { (world : World) → slice_get graph.old.worlds from ≡ Some world → NamesBelonging graph.old from world }
     ensures ok { (world : World) → slice_get graph.old.worlds from ≡ Some world → OnOk result (graph.new ≡ with_copies graph.old from world (copy_maps graph.old from world names.now into home)) }
     ensures maps { (world : World) → slice_get graph.old.worlds from ≡ Some world → IfOk result (λ copies. maps_of copies ≡ copy_maps graph.old from world names.now into home) }
     ensures from { IfOk result (λ copies. copies.from ≡ from) }
@@ -98,6 +100,7 @@ fn copied_types(
     requires acyclic { IsAcyclic (type_references graph.old.types) }
     requires apart { (world : World) → slice_get graph.old.worlds from ≡ Some world → StayApart graph.old from world }
     requires named { (world : World) → slice_get graph.old.worlds from ≡ Some world → NamesThere graph.old world }
+    requires belonging { (world : World) → slice_get graph.old.worlds from ≡ Some world → NamesBelonging graph.old from world }
     ensures table { (world : World) → slice_get graph.old.worlds from ≡ Some world → IfOk result (λ table. table ≡ numbered (length graph.old.types) (places (is_copied graph.old from world) graph.old.types)) }
     ensures same { graph.new ≡ graph.old }
 {
@@ -118,6 +121,7 @@ fn copied_ids(alloc: Global, origin: &Origin<'_>) -> Result<Items<TypeId>, Alloc
     requires acyclic { IsAcyclic (type_references origin.now.graph.now.types) }
     requires apart { StayApart origin.now.graph.now origin.now.id origin.now.world.now }
     requires named { NamesThere origin.now.graph.now origin.now.world.now }
+    requires belonging { NamesBelonging origin.now.graph.now origin.now.id origin.now.world.now }
     ensures rising { IfOk result (λ ids. IsStrictlySortedBy nat_cmp ids) }
     ensures places { IfOk result (λ ids. ids ≡ places (is_copied origin.now.graph.now origin.now.id origin.now.world.now) origin.now.graph.now.types) }
 {

@@ -4,6 +4,7 @@ pub mod CanonicalStays
 pub mod CopiedPart
 pub mod Copies
 pub mod CopiesCarried
+pub mod CopiesExact
 pub mod FinishedStands
 pub mod Grown
 pub mod IncludedAcyclic

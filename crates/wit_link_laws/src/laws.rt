@@ -1,5 +1,5 @@
 //! Laws of adding: the contract of each function is what is proved.
-ghost use Rattle.wit_link_laws.specs.laws.IncludingLaws.{IncludesStand};
+ghost use Rattle.wit_link_laws.specs.laws.IncludingLaws.{CopiesAreExact, IncludesStand};
 ghost use Rattle.wit_link_laws.specs.laws.StageFacts.{IncludedAreThere, IncludesCanBe, PushesStayValid, WorldsCanBe};
 
 use wit_graph_theory::laws::laws_of_elaboration;
@@ -14,6 +14,12 @@ pub fn pushes_stay_valid()
 /// A partially linked graph into which a world is included stays partially linked.
 pub fn includes_stand()
     ensures { IncludesStand }
+{}
+
+/// What an include copies are the types that belong to the included world, and those without a name on a way from what
+/// one of its entries names to what belongs to it.
+pub fn copies_are_exact()
+    ensures { CopiesAreExact }
 {}
 
 /// Before each include that is reached the graph is partially linked, and the world that is included is good.

@@ -9,7 +9,7 @@ use Rattle.wit_data.specs.declared.world.World.{World}
 use Rattle.wit_data.specs.declared.world.WorldItem.TheVariants as item
 use Rattle.wit_data.specs.declared.world.WorldKey.TheVariants as key
 use Rattle.wit_elaboration.specs.Elaboration.{graph_uses}
-use Rattle.wit_elaboration.specs.Imported.{HasConflict, IsRefusedName}
+use Rattle.wit_elaboration.specs.Imported.{HasTransitiveConflict, IsRefusedName}
 use Rattle.wit_graph_data.specs.declared.cause.Cause.TheVariants as cause
 use Rattle.wit_graph_data.specs.declared.error_kind.ResolveErrorKind.{ResolveErrorKind}
 use Rattle.wit_graph_data.specs.declared.error_kind.ResolveErrorKind.TheVariants.{InvalidTransitiveDependency, Semantic}
@@ -21,7 +21,7 @@ use Rattle.wit_link_spec.specs.Include.{IsListCalled, lists_of}
 
 -- 4: what its exports need from outside is exported; by the name of the first export that leads there
 pub record WorldIsInConflict (g : Graph) (world : World) (name : List ℕ) : Type 0 where
-  pub conflict : HasConflict (graph_uses g) (placed world.exports)
+  pub conflict : HasTransitiveConflict (graph_uses g) (placed world.exports)
   pub name_is : IsRefusedName g.packages g.interfaces (graph_uses g) (placed world.exports) name
 
 -- 17: labels n and m of one of its lists are not strongly unique

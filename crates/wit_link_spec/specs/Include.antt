@@ -46,18 +46,29 @@ abbrev pub IsListCalled : List ℕ → EntryLists → List Entry → Type 0
 IsListCalled word lists entries = ((word ≡ codes "import") × (entries ≡ lists.imports)) ⊎ ((word ≡ codes "export") × (entries ≡ lists.exports))
 
 -- ---- what is copied
+--
+--     world base { import x: interface { type u = u8 }; type t = u32; import f: func(p: list<t>) -> list<u8> }
+--
+--     types       0 t         world 0        copied: it is of base
+--                 1 list<0>   no owner       copied: it has no name, and is on the way from f to t
+--                 2 u         interface 0    copied: it is of an interface without a name that stands in base
+--                 3 list<u8>  no owner       stays: f names it, but nothing of base is reached from it
+--     interfaces  0 no name   (x)            copied
+--
+-- An interface with a name, and its types, are never copied.
+-- (`once` of `ExamplesOfIncludedWorlds` in wit_link_examples proves the whole graph)
 
--- the interfaces without a name that stand in a world: they go with it
+-- does interface i belong to the world? It has no name and stands in it
 abbrev pub belongs_to : Graph → World → ℕ → Bool
 belongs_to g world i = is_unnamed g.interfaces i && list_any (nat_eq i) (interfaces_in_worlds (world ∷ []))
 
--- does an owner go with world w?
+-- an owner belongs to world w: it is that world, or an interface that belongs to it
 abbrev pub owner_belongs_to : Graph → ℕ → World → TypeOwner → Bool
 owner_belongs_to g w world (owner.World v) = nat_eq v w
 owner_belongs_to g w world (owner.Interface i) = belongs_to g world i
 owner_belongs_to g w world owner.None = false
 
--- is type t owned by such an owner?
+-- does type t belong to world w? Its owner does
 abbrev pub is_owned_within : Graph → ℕ → World → ℕ → Bool
 is_owned_within g w world t = option_map_or (λ (def : TypeDef). owner_belongs_to g w world def.owner) (slice_get g.types t) false
 
@@ -66,13 +77,13 @@ abbrev pub interface_mentions : Interface → List ℕ
 interface_mentions interface = map (λ (e : List ℕ × ℕ). e.1) interface.types ++ flat_map (λ (e : List ℕ × Function). function_references e.1) interface.functions
 
 -- the types that an entry names: itself where it is a type, those that its function refers to, those of an
--- interface that goes with the world
+-- interface that belongs to the world
 abbrev pub entry_mentions : Graph → World → Entry → List ℕ
 entry_mentions g world (k, item.Interface i stability docs span external_id) = if belongs_to g world i then option_map_or interface_mentions (slice_get g.interfaces i) [] else []
 entry_mentions g world (k, item.Function f) = function_references f
 entry_mentions g world (k, item.Type_ t span) = t ∷ []
 
--- the types that a world's entries name, and all that these refer to, through whatever others
+-- what is reached from the types that the world's entries name
 abbrev pub named_types : Graph → World → List ℕ
 named_types g world = flat_map (post_order (type_references g.types)) (flat_map (entry_mentions g world) (world.imports ++ world.exports))
 
@@ -80,12 +91,14 @@ named_types g world = flat_map (post_order (type_references g.types)) (flat_map 
 abbrev pub is_unnamed_type : Graph → ℕ → Bool
 is_unnamed_type g t = option_map_or (λ (def : TypeDef). not (is_some def.name)) (slice_get g.types t) false
 
--- does an include of world w copy type t? It does where the world's entries name it and it goes with the
--- world, or has no name and refers to one that does
+-- is type t on a way from what an entry of world w names to a type that belongs to the world? It is reached from the
+-- one, and the other from it
+abbrev pub is_on_way : Graph → ℕ → World → ℕ → Bool
+is_on_way g w world t = list_any (nat_eq t) (named_types g world) && list_any (is_owned_within g w world) (post_order (type_references g.types) t)
+
+-- does an include of world w copy type t? It belongs to the world, or has no name and is on such a way
 abbrev pub is_copied : Graph → ℕ → World → ℕ → Bool
-is_copied g w world t =
-    list_any (nat_eq t) (named_types g world)
-    && (is_owned_within g w world t || (is_unnamed_type g t && list_any (is_owned_within g w world) (post_order (type_references g.types) t)))
+is_copied g w world t = is_owned_within g w world t || (is_unnamed_type g t && is_on_way g w world t)
 
 -- what things are remapped to: what is copied to its copy, behind what is there in the order of the ids; all else stays
 abbrev pub type_copy : Graph → ℕ → World → ℕ → ℕ

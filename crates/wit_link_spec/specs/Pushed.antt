@@ -87,5 +87,19 @@ abbrev pub with_worlds : Addition → ℕ → Graph
 with_worlds a count = fold (with_world a) (with_parts a) (take count (own_worlds a))
 
 -- the graph with the package
+--
+--     the graph      types       0 t  resource (a)       1 t  = type 0 (b)
+--                    interfaces  0 a { t -> 0 }          1 b { t -> 1 }
+--                    worlds      0 w
+--                    packages    0 foo:bar { a -> 0, b -> 1 } { w -> 0 }
+--
+--     is added       foo:main:   interface i { use foo:bar/a.{t as s}; record p { x: s } }   world v { import i }
+--
+--     the graph      types       0 1 | 2 s  = type 0 (i)   3 p  record { x: type 4 } (i) | 4 own<type 2>
+--     afterwards     interfaces  0 1 | 2 i { s -> 2, p -> 3 }
+--                    worlds      0   | 1 v, imports 0 and 2, since i uses a
+--                    packages    0   | 1 foo:main { i -> 2 } { v -> 1 }
+--
+-- (`whole` of `ExamplesOfPushes` in wit_link_examples; with an include `once` of `ExamplesOfIncludedWorlds`)
 abbrev pub pushed : Addition → Graph
 pushed a = fold (with_world a) (with_parts a) (own_worlds a)

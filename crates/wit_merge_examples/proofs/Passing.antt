@@ -154,9 +154,8 @@ no_needs m = list_all (exports_fine (graph_uses (joined_graph m))) (joined_graph
 pub in_no_conflict : (m : GraphMerge) → no_needs m ≡ true → (span : OptionalSpan) (name : List ℕ) → HasWorldInConflict (joined_graph m) span name → ⊥
 in_no_conflict m all span name c =
     let world = all_are (exports_fine (graph_uses (joined_graph m))) (joined_graph m).worlds all c.world c.there in
-    let need = c.conflict.1 in
-    nothing_in (direct (graph_uses (joined_graph m)) need.0) need.1
-    (all_are (λ x. is_empty (direct (graph_uses (joined_graph m)) x)) (exported_interfaces c.world.exports) world need.0 need.2) need.3
+    nothing_in (direct (graph_uses (joined_graph m)) c.conflict.0) c.conflict.1
+    (all_are (λ x. is_empty (direct (graph_uses (joined_graph m)) x)) (exported_interfaces c.world.exports) world c.conflict.0 c.conflict.2) c.conflict.3
 
 -- ---- stabilities
 

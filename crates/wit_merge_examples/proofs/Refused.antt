@@ -67,10 +67,10 @@ conflict = merging.conflict_4 _ _ (are_one (merge_of_graphs exports_two c_uses_b
   types = λ message c. no_cycle (λ t. t) (type_references (joined_graph (merge_of_graphs exports_two c_uses_b)).types) refl c.t c.u c.on_cycle;
   world = _;
   there = (0, lit< tt, refl);
-  conflict = (0, (2, 1, (1, lit< tt, refl), (0, lit< tt, refl), not_b, (0 ∷ [], ((0, lit< tt, refl), refl))), (0, lit< tt, refl));
+  conflict = (2, 1, (1, lit< tt, refl), (0, lit< tt, refl), (not_b, 0, (0 ∷ [], ((0, lit< tt, refl), refl)), (0, lit< tt, refl)));
   name_is = (
     key.Interface 2,
-    (entry_of 0 ∷ [], entry_of 2, [], refl, not_first, (2, (0, lit< tt, refl), (1, 1, (0, lit< tt, refl), ([], refl), not_b, (0, (0 ∷ [], ((0, lit< tt, refl), refl)), (0, lit< tt, refl)))), refl),
+    (entry_of 0 ∷ [], entry_of 2, [], refl, not_first, (2, (0, lit< tt, refl), (1, 1, (0, lit< tt, refl), ([], refl), (not_b, 0, (0 ∷ [], ((0, lit< tt, refl), refl)), (0, lit< tt, refl)))), refl),
     refl,
   );
   span_is = refl;

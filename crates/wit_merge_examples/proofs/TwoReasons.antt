@@ -9,7 +9,7 @@ use Rattle.wit_data.specs.declared.package_name.PackageName.{PackageName}
 use Rattle.wit_data.specs.declared.world.WorldKey.TheVariants as key
 use Rattle.wit_elaboration.specs.Elaboration.{graph_uses}
 use Rattle.wit_elaboration.specs.Entries.{Entry}
-use Rattle.wit_elaboration.specs.Imported.{HasConflict, IsEntryInConflict}
+use Rattle.wit_elaboration.specs.Imported.{HasTransitiveConflict, IsEntryInConflict}
 use Rattle.wit_graph_data.specs.examples.Samples.{entry_of}
 use Rattle.wit_graph_data.specs.declared.cause.Cause.TheVariants as cause
 use Rattle.wit_graph_data.specs.declared.error_kind.ResolveErrorKind.TheVariants.{InvalidTransitiveDependency, PackageCycle, Semantic}
@@ -95,18 +95,18 @@ l_conflict = record {
   types = λ message c. no_cycle (λ t. t) (type_references (joined_graph l_agrees).types) refl c.t c.u c.on_cycle;
   world = _;
   there = (0, lit< tt, refl);
-  conflict = (0, (2, 1, (1, lit< tt, refl), (0, lit< tt, refl), one_not_there, (0 ∷ [], ((0, lit< tt, refl), refl))), (0, lit< tt, refl));
+  conflict = (2, 1, (1, lit< tt, refl), (0, lit< tt, refl), (one_not_there, 0, (0 ∷ [], ((0, lit< tt, refl), refl)), (0, lit< tt, refl)));
   name_is = (
     key.Interface 2,
-    (entry_of 0 ∷ [], entry_of 2, [], refl, not_first, (2, (0, lit< tt, refl), (1, 1, (0, lit< tt, refl), ([], refl), one_not_there, (0, (0 ∷ [], ((0, lit< tt, refl), refl)), (0, lit< tt, refl)))), refl),
+    (entry_of 0 ∷ [], entry_of 2, [], refl, not_first, (2, (0, lit< tt, refl), (1, 1, (0, lit< tt, refl), ([], refl), (one_not_there, 0, (0 ∷ [], ((0, lit< tt, refl), refl)), (0, lit< tt, refl)))), refl),
     refl,
   );
   span_is = refl;
 }
 
-would_conflict : HasConflict (graph_uses (joined_graph l_differs)) (entry_of 0 ∷ entry_of 2 ∷ [])
+would_conflict : HasTransitiveConflict (graph_uses (joined_graph l_differs)) (entry_of 0 ∷ entry_of 2 ∷ [])
 unfolding post_order post_order_within
-would_conflict = (0, (2, 1, (1, lit< tt, refl), (0, lit< tt, refl), one_not_there, (0 ∷ [], ((0, lit< tt, refl), refl))), (0, lit< tt, refl))
+would_conflict = (2, 1, (1, lit< tt, refl), (0, lit< tt, refl), (one_not_there, 0, (0 ∷ [], ((0, lit< tt, refl), refl)), (0, lit< tt, refl)))
 
 -- ---- 22 and 4
 
@@ -117,9 +117,9 @@ x_circle = record { i = 1; j = 0; on_cycle = record { is_used = (0, lit< tt, ref
 zero_not_one : Contains {X = ℕ} (1 ∷ []) 0 → ⊥
 zero_not_one has = let one : 1 ≡ 0 = only_one 1 0 has in absurd (omega (arith, one))
 
-would_conflict_too : HasConflict (graph_uses (joined_graph x_agrees)) (entry_of 1 ∷ [])
+would_conflict_too : HasTransitiveConflict (graph_uses (joined_graph x_agrees)) (entry_of 1 ∷ [])
 unfolding post_order post_order_within
-would_conflict_too = (1, (1, 0, (0, lit< tt, refl), (0, lit< tt, refl), zero_not_one, (1 ∷ [], ((0, lit< tt, refl), refl))), (0, lit< tt, refl))
+would_conflict_too = (1, 0, (0, lit< tt, refl), (0, lit< tt, refl), (zero_not_one, 1, (1 ∷ [], ((0, lit< tt, refl), refl)), (0, lit< tt, refl)))
 
 -- ---- 15
 

@@ -6,7 +6,7 @@ use Rattle.wit_data.specs.declared.stability.Stability.{Stability}
 use Rattle.wit_data.specs.declared.types.Handle.TheVariants as handle
 use Rattle.wit_data.specs.declared.types.Type_.TheVariants as type
 use Rattle.wit_elaboration.specs.Elaboration.{graph_uses}
-use Rattle.wit_elaboration.specs.Imported.{HasConflict}
+use Rattle.wit_elaboration.specs.Imported.{HasTransitiveConflict}
 use Rattle.wit_graph_data.specs.examples.Samples.{entry_of, foo_bar_of, interface_of, world_of}
 use Rattle.wit_graph_data.specs.declared.cause.Cause.TheVariants as cause
 use Rattle.wit_graph_data.specs.declared.error_kind.ResolveErrorKind.TheVariants.{InvalidTransitiveDependency, OffsetOverflow, PackageCycle, Semantic, StabilityMismatch}
@@ -107,13 +107,13 @@ pub record ExamplesOfTwoReasons : Type 0 where
   pub cycle : IsMergeCause l_agrees (PackageCycle None (foo_named (codes "a")))
   -- but neither beside a mismatch, though both would be there
   pub l_told : HasMismatchText l_differs (codes "failed to merge package `foo:a` into existing copy: failed to merge interface `l`: mismatch in function `g`: different function parameter names: q != p")
-  pub would_conflict : HasConflict (graph_uses (joined_graph l_differs)) (entry_of 0 ∷ entry_of 2 ∷ [])
+  pub would_conflict : HasTransitiveConflict (graph_uses (joined_graph l_differs)) (entry_of 0 ∷ entry_of 2 ∷ [])
   pub would_cycle : DependsOnItself (joined_graph l_differs) (foo_named (codes "a"))
   pub no_conflict : (span : OptionalSpan) (name : List ℕ) → IsMergeCause l_differs (InvalidTransitiveDependency span name) → ⊥
   pub no_cycle : (span : OptionalSpan) (home : PackageName) → IsMergeCause l_differs (PackageCycle span home) → ⊥
   -- 22 spoils 4, which would be there
   pub circle : IsMergeCause x_agrees (Semantic None (codes "interface `foo:bar/x` would depend on itself") cause.InterfaceCycle)
-  pub would_conflict_too : HasConflict (graph_uses (joined_graph x_agrees)) (entry_of 1 ∷ [])
+  pub would_conflict_too : HasTransitiveConflict (graph_uses (joined_graph x_agrees)) (entry_of 1 ∷ [])
   pub no_conflict_beside : (span : OptionalSpan) (name : List ℕ) → IsMergeCause x_agrees (InvalidTransitiveDependency span name) → ⊥
   -- and a mismatch spoils 22
   pub x_told : HasMismatchText x_differs (codes "failed to merge package `foo:bar` into existing copy: failed to merge interface `x`: mismatch in function `g`: different function parameter names: q != p")

@@ -1,26 +1,27 @@
 -- Merges against which no cause holds.
-use Rattle.std.proofs.Common.{◌≡◌, ◌∙◌, ℕ, Bool, true, false, List, [], ◌∷◌, Option, Some, is_some, slice_get, sym, ap, subst, Contains}
+use Rattle.std.proofs.Common.{◌≡◌, ◌∙◌, ℕ, Bool, true, false, List, [], ◌∷◌, Option, Some, is_some, slice_get, sym, ap, subst, Contains, if◌then◌else◌}
 use Rattle.std.proofs.lemmas.Bool.{false≢true}
 use Rattle.std.specs.List.{list_all}
 use Rattle.std.specs.Option.{option_map_or}
 use Rattle.wit_digraph.specs.Cycles.{IsOnCycle}
 use Rattle.wit_digraph.specs.Relation.{IsPath, direct}
 use Rattle.wit_data.specs.Reference.{type_references}
+use Rattle.wit_data.specs.Uses.{type_interface_dep}
 use Rattle.wit_data.specs.declared.interface.Interface.{Interface}
 use Rattle.wit_data.specs.declared.types.TypeDef.{TypeDef}
 use Rattle.wit_data.specs.declared.track.TrackRule.{TrackRule}
 use Rattle.wit_data.specs.declared.world.World.{World}
 use Rattle.wit_elaboration.specs.Elaboration.{graph_uses}
-use Rattle.wit_elaboration.specs.Imported.{HasConflict, exported_interfaces, exported_keys}
+use Rattle.wit_elaboration.specs.Imported.{HasTransitiveConflict, exported_interfaces, exported_keys}
 use Rattle.wit_graph_data.specs.declared.error_kind.ResolveErrorKind.{ResolveErrorKind}
 use Rattle.wit_graph_data.specs.declared.graph.Graph.{Graph}
 use Rattle.wit_graph_theory.specs.AllElaborated.{graph_package_uses}
 use Rattle.wit_graph_theory.specs.facts.ListFacts.{contained_at}
 use Rattle.wit_graph_theory.specs.facts.OptionFacts.{some_same}
 use Rattle.wit_graph_theory.specs.examples.TestFacts.{all_are, all_uses, falls, is_empty, no_cycle, nothing_in}
-use Rattle.wit_semver_spec.specs.Rewritten.{interface_type, replaced_use, rewritable_types, target_name, with_new_entries_at}
-use Rattle.wit_semver_spec.specs.TrackCause.{Disagrees, IsComplete, IsTrackCause, UpgradeCause, conflict_4, functions_disagree_25, interface_cycle_22, package_cycle_6, type_cycle_23, type_missing_25}
-use Rattle.wit_semver_spec.specs.Tracks.{Upgrade, newest}
+use Rattle.wit_semver_spec.specs.Rewritten.{interface_type, rewritable_types, with_new_entries_at}
+use Rattle.wit_semver_spec.specs.TrackCause.{Disagrees, IsComplete, IsTrackCause, UpgradeCause, conflict_4, functions_disagree_25, interface_cycle_22, package_cycle_6, target_name, type_cycle_23, type_missing_25}
+use Rattle.wit_semver_spec.specs.Tracks.{Upgrade, is_replaced, newest}
 
 module _ (u : Upgrade) where
   -- does the newest have the type of this name?
@@ -28,10 +29,10 @@ module _ (u : Upgrade) where
   has_name f name = is_some (interface_type u.graph.interfaces (newest u f) name)
 
   abbrev has_target_of : TypeDef → ℕ → Bool
-  has_target_of def f = option_map_or (has_name f) (target_name u.graph.types def) true
+  has_target_of def f = if is_replaced u f then option_map_or (has_name f) (target_name u.graph.types def) true else true
 
   abbrev has_target_in : ℕ → TypeDef → Bool
-  has_target_in t def = option_map_or (has_target_of def) (replaced_use u t) true
+  has_target_in t def = option_map_or (has_target_of def) (type_interface_dep u.graph.types t) true
 
   -- is there a type to name in the place of what type t names?
   abbrev pub has_target : ℕ → Bool
@@ -42,7 +43,9 @@ module _ (u : Upgrade) where
       let one : option_map_or (has_target_in lacks.t) (Some lacks.def) true ≡ true =
       ap (λ (o : Option TypeDef). option_map_or (has_target_in lacks.t) o true) (sym lacks.is) ∙ all_are has_target (rewritable_types u) all lacks.t lacks.follows in
       let two : option_map_or (has_target_of lacks.def) (Some lacks.f) true ≡ true = ap (λ (o : Option ℕ). option_map_or (has_target_of lacks.def) o true) (sym lacks.uses) ∙ one in
-      let three : option_map_or (has_name lacks.f) (Some lacks.name) true ≡ true = ap (λ (o : Option (List ℕ)). option_map_or (has_name lacks.f) o true) (sym lacks.named) ∙ two in
+      let of : option_map_or (has_name lacks.f) (target_name u.graph.types lacks.def) true ≡ true =
+      ap (λ (b : Bool). if b then option_map_or (has_name lacks.f) (target_name u.graph.types lacks.def) true else true) (sym lacks.replaced) ∙ two in
+      let three : option_map_or (has_name lacks.f) (Some lacks.name) true ≡ true = ap (λ (o : Option (List ℕ)). option_map_or (has_name lacks.f) o true) (sym lacks.named) ∙ of in
       let four : false ≡ true = ap (λ (o : Option ℕ). is_some o) (sym lacks.absent) ∙ three in
       false≢true four
 
@@ -53,7 +56,7 @@ pub record Clear (u : Upgrade) (w : ℕ) : Type 0 where
   pub packages : (p q : ℕ) → IsOnCycle (graph_package_uses (with_new_entries_at u w)) p q → ⊥
   pub interfaces : (i j : ℕ) → IsOnCycle (graph_uses (with_new_entries_at u w)) i j → ⊥
   pub types : (s t : ℕ) → IsOnCycle (type_references (with_new_entries_at u w).types) s t → ⊥
-  pub exports : (world : World) → Contains (with_new_entries_at u w).worlds world → HasConflict (graph_uses (with_new_entries_at u w)) world.exports → ⊥
+  pub exports : (world : World) → Contains (with_new_entries_at u w).worlds world → HasTransitiveConflict (graph_uses (with_new_entries_at u w)) world.exports → ⊥
 
 clear_is_fine : (u : Upgrade) (w : ℕ) (error : ResolveErrorKind) → Clear u w → UpgradeCause u w error → ⊥
 clear_is_fine u w error clear (conflict_4 span name complete is) = clear.exports is.world is.there is.conflict
@@ -95,8 +98,8 @@ abbrev exports_pass : List (List ℕ) → World → Bool
 exports_pass uses world = list_all (uses_leaves uses) (exported_interfaces world.exports)
 
 -- so exports need nothing from outside that is exported
-no_conflict : (uses : List (List ℕ)) (world : World) → exports_pass uses world ≡ true → HasConflict uses world.exports → ⊥
-no_conflict uses world all (j, (x, d, shown, used, outside, (path, leads)), exported) = by path leads
+no_conflict : (uses : List (List ℕ)) (world : World) → exports_pass uses world ≡ true → HasTransitiveConflict uses world.exports → ⊥
+no_conflict uses world all (x, d, shown, used, (outside, j, (path, leads), exported)) = by path leads
   where
     by : (path : List ℕ) → IsPath uses d path j → ⊥
     by [] same = outside (subst (λ k. Contains (exported_keys world.exports) k) (sym same) exported)

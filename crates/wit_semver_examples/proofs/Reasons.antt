@@ -15,7 +15,7 @@ use Rattle.wit_data.specs.declared.types.Type_.TheVariants as type
 use Rattle.wit_data.specs.declared.world.World.{World}
 use Rattle.wit_elaboration.specs.Elaboration.{graph_uses}
 use Rattle.wit_elaboration.specs.Entries.{Entry}
-use Rattle.wit_elaboration.specs.Imported.{HasConflict, IsEntryInConflict, exported_interfaces, exported_keys}
+use Rattle.wit_elaboration.specs.Imported.{HasTransitiveConflict, IsEntryInConflict, exported_interfaces, exported_keys}
 use Rattle.wit_graph_data.specs.examples.Samples.{entry_of}
 use Rattle.wit_graph_data.specs.declared.cause.Cause.TheVariants.{InterfaceCycle, TypeCycle}
 use Rattle.wit_graph_data.specs.declared.error_kind.ResolveErrorKind.{ResolveErrorKind}
@@ -52,18 +52,18 @@ rank_of ranks i = slice_index_or ranks i 0
 abbrev no_export : World → Bool
 no_export world = is_empty world.exports
 
-nothing_exported : (uses : List (List ℕ)) (exports : List Entry) → is_empty exports ≡ true → HasConflict uses exports → ⊥
+nothing_exported : (uses : List (List ℕ)) (exports : List Entry) → is_empty exports ≡ true → HasTransitiveConflict uses exports → ⊥
 nothing_exported uses [] none conflict = Contains-nil conflict.2
 nothing_exported uses (e ∷ es) none conflict = cc
 
-no_exports : (g : Graph) → list_all no_export g.worlds ≡ true → (world : World) → Contains g.worlds world → HasConflict (graph_uses g) world.exports → ⊥
+no_exports : (g : Graph) → list_all no_export g.worlds ≡ true → (world : World) → Contains g.worlds world → HasTransitiveConflict (graph_uses g) world.exports → ⊥
 no_exports g all world there conflict = nothing_exported (graph_uses g) world.exports (all_are no_export g.worlds all world there) conflict
 
 -- a graph is clear whose things fall by ranks
 clear_by : (u : Upgrade) (w : ℕ) (packages interfaces types : List ℕ) → list_all (has_target u) (rewritable_types u) ≡ true → ((message : List ℕ) → Disagrees u message → ⊥)
     → all_uses (falls (rank_of packages)) (graph_package_uses (with_new_entries_at u w)) ≡ true → all_uses (falls (rank_of interfaces)) (graph_uses (with_new_entries_at u w)) ≡ true
     → all_uses (falls (rank_of types)) (type_references (with_new_entries_at u w).types) ≡ true
-    → ((world : World) → Contains (with_new_entries_at u w).worlds world → HasConflict (graph_uses (with_new_entries_at u w)) world.exports → ⊥) → Clear u w
+    → ((world : World) → Contains (with_new_entries_at u w).worlds world → HasTransitiveConflict (graph_uses (with_new_entries_at u w)) world.exports → ⊥) → Clear u w
 clear_by u w packages interfaces types targets agree package_fall interface_fall type_fall exports = record {
   is_complete = complete u targets;
   agrees = agree;
@@ -74,11 +74,12 @@ clear_by u w packages interfaces types targets agree package_fall interface_fall
 }
 
 -- one interface alone is exported, which is on no cycle
-one_export : (uses : List (List ℕ)) (exports : List Entry) (i : ℕ) → exported_keys exports ≡ i ∷ [] → exported_interfaces exports ≡ i ∷ [] → ((k j : ℕ) → IsOnCycle uses k j → ⊥) → HasConflict uses exports → ⊥
+one_export : (uses : List (List ℕ)) (exports : List Entry) (i : ℕ) → exported_keys exports ≡ i ∷ [] → exported_interfaces exports ≡ i ∷ [] → ((k j : ℕ) → IsOnCycle uses k j → ⊥) → HasTransitiveConflict uses exports → ⊥
 one_export uses exports i keys held acyclic conflict =
-    let key : i ≡ conflict.0 = only_one i conflict.0 (subst (λ (is : List ℕ). Contains is conflict.0) keys conflict.2) in
-    let user : i ≡ conflict.1.0 = only_one i conflict.1.0 (subst (λ (is : List ℕ). Contains is conflict.1.0) held conflict.1.2) in
-    acyclic conflict.1.0 conflict.1.1 (record { is_used = conflict.1.3; leads_back = subst (λ (k : ℕ). Reaches uses conflict.1.1 k) (sym key ∙ user) conflict.1.5 })
+    let between = conflict.4 in
+    let key : i ≡ between.1 = only_one i between.1 (subst (λ (is : List ℕ). Contains is between.1) keys between.3) in
+    let user : i ≡ conflict.0 = only_one i conflict.0 (subst (λ (is : List ℕ). Contains is conflict.0) held conflict.2) in
+    acyclic conflict.0 conflict.1 (record { is_used = conflict.3; leads_back = subst (λ (k : ℕ). Reaches uses conflict.1 k) (sym key ∙ user) between.2 })
 
 -- ---- 4
 
@@ -107,8 +108,8 @@ conflict = (
     types = λ message is. no_cycle (rank_of (0 ∷ 1 ∷ 2 ∷ 3 ∷ [])) (type_references (with_new_entries_at exporting_both 0).types) refl is.t is.u is.on_cycle;
     world = listed_world exporting_both;
     there = Contains-here (listed_world exporting_both) [];
-    conflict = (1, (3, 2, Contains-there 1 3 (3 ∷ []) (Contains-here 3 []), Contains-here 2 [], two_not_there, (1 ∷ [], (Contains-here 1 [], refl))), Contains-here 1 (3 ∷ []));
-    name_is = (key.Interface 3, (entry_of 1 ∷ [], entry_of 3, [], refl, not_before, (3, Contains-here 3 [], (2, 2, Contains-here 2 [], ([], refl), two_not_there, (1, (1 ∷ [], (Contains-here 1 [], refl)), Contains-here 1 (3 ∷ [])))), refl), refl);
+    conflict = (3, 2, Contains-there 1 3 (3 ∷ []) (Contains-here 3 []), Contains-here 2 [], (two_not_there, 1, (1 ∷ [], (Contains-here 1 [], refl)), Contains-here 1 (3 ∷ [])));
+    name_is = (key.Interface 3, (entry_of 1 ∷ [], entry_of 3, [], refl, not_before, (3, Contains-here 3 [], (2, 2, Contains-here 2 [], ([], refl), (two_not_there, 1, (1 ∷ [], (Contains-here 1 [], refl)), Contains-here 1 (3 ∷ [])))), refl), refl);
     span_is = refl;
   }),
 )
@@ -127,7 +128,7 @@ not_exported =
     is_fine Published (exporting (3 ∷ [])) 0 (w_exporting (3 ∷ [])) refl
     (clear_by u 0 (0 ∷ 1 ∷ 2 ∷ []) (0 ∷ 1 ∷ 2 ∷ 3 ∷ []) (0 ∷ 1 ∷ 2 ∷ 3 ∷ []) refl (no_functions u refl) refl refl refl
     (λ world there. let same = only_one (listed_world u) world there in
-    subst (λ (x : World). HasConflict (graph_uses (with_new_entries_at u 0)) x.exports → ⊥) same
+    subst (λ (x : World). HasTransitiveConflict (graph_uses (with_new_entries_at u 0)) x.exports → ⊥) same
     (one_export (graph_uses (with_new_entries_at u 0)) (keyed (3 ∷ [])) 3 refl refl (no_cycle (rank_of (0 ∷ 1 ∷ 2 ∷ 3 ∷ [])) (graph_uses (with_new_entries_at u 0)) refl))))
 
 -- ---- 6
@@ -294,6 +295,7 @@ missing = (
     follows = Contains-here 1 [];
     is = refl;
     uses = refl;
+    replaced = refl;
     named = refl;
     absent = refl;
     message_is = refl;
@@ -340,6 +342,7 @@ lacks_u = record {
   follows = Contains-here 3 (2 ∷ []);
   is = refl;
   uses = refl;
+  replaced = refl;
   named = refl;
   absent = refl;
   message_is = refl;

@@ -36,6 +36,8 @@ target t g = option_map_or (λ (def : TypeDef). unwrap_or (alias_target def.kind
 pub examples_of_rewriting : ExamplesOfRewriting
 unfolding post_order post_order_within import_steps import_steps_within strip_zeros imports_at import_at import_count export_count target
 examples_of_rewriting = record {
+  table = refl;
+  no_row = refl;
   merged = refl;
   again = refl;
   not_kept = λ same. let apart : 1 ≡ 0 = ap (import_at 0 0) same in absurd (omega (arith, apart));

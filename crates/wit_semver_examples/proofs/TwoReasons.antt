@@ -11,7 +11,7 @@ use Rattle.wit_data.specs.declared.world.World.{World}
 use Rattle.wit_data.specs.declared.world.WorldKey.TheVariants as key
 use Rattle.wit_elaboration.specs.Elaboration.{graph_uses}
 use Rattle.wit_elaboration.specs.Entries.{Entry}
-use Rattle.wit_elaboration.specs.Imported.{HasConflict, IsEntryInConflict}
+use Rattle.wit_elaboration.specs.Imported.{HasTransitiveConflict, IsEntryInConflict}
 use Rattle.wit_graph_data.specs.examples.Samples.{entry_of}
 use Rattle.wit_graph_data.specs.declared.cause.Cause.TheVariants.{InterfaceCycle}
 use Rattle.wit_graph_data.specs.declared.error_kind.ResolveErrorKind.TheVariants.{InvalidTransitiveDependency, PackageCycle, Semantic}
@@ -72,7 +72,7 @@ u_text = codes "failed to upgrade `foo:x/x@0.2.0` to `foo:x/x@0.2.1`, was this s
 
 lacks_u : NewestLacksType lacks u_text
 unfolding strip_zeros digits
-lacks_u = record { t = 4; def = alias_in 2 (codes "u") 1; f = 0; name = codes "u"; follows = (1, lit< tt, refl); is = refl; uses = refl; named = refl; absent = refl; message_is = refl }
+lacks_u = record { t = 4; def = alias_in 2 (codes "u") 1; f = 0; name = codes "u"; follows = (1, lit< tt, refl); is = refl; uses = refl; replaced = refl; named = refl; absent = refl; message_is = refl }
 
 -- ---- 4 beside 22, 23 and 25
 
@@ -83,9 +83,9 @@ circle_newer = record { i = 1; j = 2; on_cycle = record { is_used = (0, lit< tt,
 two_not_one : Contains {X = ℕ} (1 ∷ []) 2 → ⊥
 two_not_one has = let one : 1 ≡ 2 = only_one 1 2 has in absurd (omega (arith, one))
 
-would_conflict : HasConflict (graph_uses (listed exporting_newer)) (keyed (1 ∷ []))
+would_conflict : HasTransitiveConflict (graph_uses (listed exporting_newer)) (keyed (1 ∷ []))
 unfolding strip_zeros
-would_conflict = (1, (1, 2, (0, lit< tt, refl), (0, lit< tt, refl), two_not_one, (1 ∷ [], ((0, lit< tt, refl), refl))), (0, lit< tt, refl))
+would_conflict = (1, 2, (0, lit< tt, refl), (0, lit< tt, refl), (two_not_one, 1, (1 ∷ [], ((0, lit< tt, refl), refl)), (0, lit< tt, refl)))
 
 two_not_there : Contains {X = ℕ} (1 ∷ 3 ∷ []) 2 → ⊥
 two_not_there has = elim (one_of_two 1 3 2 has) [
@@ -93,9 +93,9 @@ two_not_there has = elim (one_of_two 1 3 2 has) [
   | inr same ↦ absurd (omega (arith, same))
 ]
 
-would_conflict_of_type : HasConflict (graph_uses (listed exporting_own)) (keyed (1 ∷ 3 ∷ []))
+would_conflict_of_type : HasTransitiveConflict (graph_uses (listed exporting_own)) (keyed (1 ∷ 3 ∷ []))
 unfolding strip_zeros
-would_conflict_of_type = (1, (3, 2, (1, lit< tt, refl), (0, lit< tt, refl), two_not_there, (1 ∷ [], ((0, lit< tt, refl), refl))), (0, lit< tt, refl))
+would_conflict_of_type = (3, 2, (1, lit< tt, refl), (0, lit< tt, refl), (two_not_there, 1, (1 ∷ [], ((0, lit< tt, refl), refl)), (0, lit< tt, refl)))
 
 t_of_own : RefersToItself (listed exporting_own) (codes "type `t` would refer to itself")
 unfolding strip_zeros
@@ -107,13 +107,13 @@ own = upgrade_of Published exporting_own (world_in 2 (codes "w") (keyed (0 ∷ 2
 abbrev lacking : Upgrade
 lacking = upgrade_of Published exporting_lacking (world_in 2 (codes "w") (keyed (0 ∷ 2 ∷ 1 ∷ [])) (keyed (1 ∷ 3 ∷ [])))
 
-would_conflict_of_lack : HasConflict (graph_uses (listed exporting_lacking)) (keyed (1 ∷ 3 ∷ []))
+would_conflict_of_lack : HasTransitiveConflict (graph_uses (listed exporting_lacking)) (keyed (1 ∷ 3 ∷ []))
 unfolding strip_zeros
-would_conflict_of_lack = (1, (3, 2, (1, lit< tt, refl), (0, lit< tt, refl), two_not_there, (1 ∷ [], ((0, lit< tt, refl), refl))), (0, lit< tt, refl))
+would_conflict_of_lack = (3, 2, (1, lit< tt, refl), (0, lit< tt, refl), (two_not_there, 1, (1 ∷ [], ((0, lit< tt, refl), refl)), (0, lit< tt, refl)))
 
 lacks_too : NewestLacksType lacking u_text
 unfolding strip_zeros digits
-lacks_too = record { t = 5; def = alias_in 2 (codes "u") 4; f = 0; name = codes "u"; follows = (1, lit< tt, refl); is = refl; uses = refl; named = refl; absent = refl; message_is = refl }
+lacks_too = record { t = 5; def = alias_in 2 (codes "u") 4; f = 0; name = codes "u"; follows = (1, lit< tt, refl); is = refl; uses = refl; replaced = refl; named = refl; absent = refl; message_is = refl }
 
 abbrev newer : Upgrade
 newer = upgrade_of Published exporting_newer (world_in 2 (codes "w") (keyed (0 ∷ 2 ∷ 1 ∷ [])) (keyed (1 ∷ [])))
@@ -145,10 +145,10 @@ conflict = record {
   types = λ message is. no_cycle (λ t. t) (type_references (with_new_entries_at both 0).types) refl is.t is.u is.on_cycle;
   world = _;
   there = (0, lit< tt, refl);
-  conflict = (1, (4, 3, (1, lit< tt, refl), (0, lit< tt, refl), three_not_there, (2 ∷ 1 ∷ [], ((0, lit< tt, refl), ((0, lit< tt, refl), refl)))), (0, lit< tt, refl));
+  conflict = (4, 3, (1, lit< tt, refl), (0, lit< tt, refl), (three_not_there, 1, (2 ∷ 1 ∷ [], ((0, lit< tt, refl), ((0, lit< tt, refl), refl))), (0, lit< tt, refl)));
   name_is = (
     key.Interface 4,
-    (entry_of 1 ∷ [], entry_of 4, [], refl, not_before, (4, (0, lit< tt, refl), (3, 3, (0, lit< tt, refl), ([], refl), three_not_there, (1, (2 ∷ 1 ∷ [], ((0, lit< tt, refl), ((0, lit< tt, refl), refl))), (0, lit< tt, refl)))), refl),
+    (entry_of 1 ∷ [], entry_of 4, [], refl, not_before, (4, (0, lit< tt, refl), (3, 3, (0, lit< tt, refl), ([], refl), (three_not_there, 1, (2 ∷ 1 ∷ [], ((0, lit< tt, refl), ((0, lit< tt, refl), refl))), (0, lit< tt, refl)))), refl),
     refl,
   );
   span_is = refl;

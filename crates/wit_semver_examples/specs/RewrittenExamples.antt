@@ -2,10 +2,12 @@
 use Rattle.std.specs.Prelude.{ℕ, ◌≡◌, List, [], ◌∷◌, ◌++◌, codes}
 use Rattle.wit_values.specs.Version.{Parts}
 use Rattle.wit_data.specs.declared.track.TrackRule.TheVariants.{Published, WithPrereleases}
+use Rattle.wit_data.specs.declared.world.World.{World}
 use Rattle.wit_elaboration.specs.Entries.{Entry}
 use Rattle.wit_graph_data.specs.examples.Samples.{labelled_entry}
 use Rattle.wit_graph_data.specs.declared.graph.Graph.{Graph}
-use Rattle.wit_semver_spec.specs.Rewritten.{rewritten}
+use Rattle.wit_semver_spec.specs.Rewritten.{rewritten, upgraded_types}
+use Rattle.wit_semver_spec.specs.Tracks.{Upgrade}
 use Rattle.wit_semver_examples.specs.Releases.{alias_in, called, graph_of, importing, interface_in, keyed, number_in, prerelease, release, two, world_in}
 
 -- ---- three versions, and an interface that uses one
@@ -48,7 +50,15 @@ with_second_name target second imports exports =
 abbrev pub old_x : Entry
 old_x = labelled_entry (codes "old") 0
 
+-- world w of a graph whose imports are merged by the published rule
+abbrev pub published : Graph → World → Upgrade
+published g world = record { rule = Published; graph = g; world = world }
+
 pub record ExamplesOfRewriting : Type 0 where
+  -- t of x@0.2.0 has t of x@0.2.1 beside it; nothing has t of x@0.3.0, and no row has y's
+  pub table : upgraded_types (published of_three (world_in 3 (codes "w") (keyed (0 ∷ 3 ∷ 1 ∷ 2 ∷ [])) [])) ≡ (0, 1) ∷ []
+  -- a type that the newest lacks has no row
+  pub no_row : upgraded_types (published (with_second_name 0 0 (keyed (0 ∷ 1 ∷ [])) (keyed (0 ∷ 2 ∷ []))) (world_in 2 (codes "w") (keyed (0 ∷ 1 ∷ [])) (keyed (0 ∷ 2 ∷ [])))) ≡ (0, 1) ∷ []
   -- 0.2.1 stands for 0.2.0, and y uses it; 0.3.0 is on a track of its own
   pub merged : rewritten Published of_three 0 ≡ three 1 (1 ∷ 3 ∷ 2 ∷ [])
   -- a second time nothing changes

@@ -4,7 +4,7 @@ use Rattle.wit_data.specs.declared.package_name.PackageName.{PackageName}
 use Rattle.wit_data.specs.declared.track.TrackRule.TheVariants.{Published}
 use Rattle.wit_data.specs.declared.types.TypeDef.{TypeDef}
 use Rattle.wit_elaboration.specs.Elaboration.{graph_uses}
-use Rattle.wit_elaboration.specs.Imported.{HasConflict}
+use Rattle.wit_elaboration.specs.Imported.{HasTransitiveConflict}
 use Rattle.wit_graph_data.specs.declared.cause.Cause.TheVariants.{InterfaceCycle, TypeCycle}
 use Rattle.wit_graph_data.specs.declared.error_kind.ResolveErrorKind.TheVariants.{InvalidTransitiveDependency, PackageCycle, Semantic}
 use Rattle.wit_graph_data.specs.declared.graph.Graph.{Graph}
@@ -79,15 +79,15 @@ pub record ExamplesOfTwoReasons : Type 0 where
   pub no_package_cycle : (span : Option (ℕ × ℕ)) (home : PackageName) → IsCauseOf without_u (PackageCycle span home) → ⊥
   -- interfaces that use one another (22) spoil a conflict (4)
   pub circle_told : IsCauseOf exporting_newer (Semantic None x_text InterfaceCycle)
-  pub would_conflict : HasConflict (graph_uses (listed exporting_newer)) (keyed (1 ∷ []))
+  pub would_conflict : HasTransitiveConflict (graph_uses (listed exporting_newer)) (keyed (1 ∷ []))
   pub no_conflict : (span : Option (ℕ × ℕ)) (name : List ℕ) → IsCauseOf exporting_newer (InvalidTransitiveDependency span name) → ⊥
   -- and so does a type that refers to itself (23)
   pub type_told : IsCauseOf exporting_own (Semantic None (codes "type `t` would refer to itself") TypeCycle)
-  pub would_conflict_of_type : HasConflict (graph_uses (listed exporting_own)) (keyed (1 ∷ 3 ∷ []))
+  pub would_conflict_of_type : HasTransitiveConflict (graph_uses (listed exporting_own)) (keyed (1 ∷ 3 ∷ []))
   pub no_conflict_of_type : (span : Option (ℕ × ℕ)) (name : List ℕ) → IsCauseOf exporting_own (InvalidTransitiveDependency span name) → ⊥
   -- and a type that is missing (25)
   pub lack_told : IsCauseOf exporting_lacking (failed (codes "type `u` is missing"))
-  pub would_conflict_of_lack : HasConflict (graph_uses (listed exporting_lacking)) (keyed (1 ∷ 3 ∷ []))
+  pub would_conflict_of_lack : HasTransitiveConflict (graph_uses (listed exporting_lacking)) (keyed (1 ∷ 3 ∷ []))
   pub no_conflict_of_lack : (span : Option (ℕ × ℕ)) (name : List ℕ) → IsCauseOf exporting_lacking (InvalidTransitiveDependency span name) → ⊥
   -- packages that use one another (6) don't: both are told
   pub cycle_and_conflict : IsCauseOf exporting_z (PackageCycle None foo_main)

@@ -25,7 +25,7 @@ use Rattle.wit_elaboration.specs.Elaborated.{Elaborated}
 use Rattle.wit_elaboration.specs.laws.ElaborationLaws.{ConflictsAreRefused}
 use Rattle.wit_elaboration.specs.Entries.{Entry}
 use Rattle.wit_graph_data.specs.IdText.{id_text, interface_id_at, interface_id_text, key_text}
-use Rattle.wit_elaboration.specs.Imported.{HasConflict}
+use Rattle.wit_elaboration.specs.Imported.{HasTransitiveConflict}
 use Rattle.wit_elaboration.specs.Sound.{HasSoundEntries}
 use Rattle.wit_elaboration.specs.facts.SoundFacts.{lists_in_order, named_within}
 use Rattle.wit_elaboration.specs.Valid.{IsValid}
@@ -99,7 +99,7 @@ module _ (u : Upgrade) (valid : IsValid u.graph) (w : ℕ) (there : slice_get u.
           (λ (s : ℕ). SomeAt new_types s (λ (x : TypeDef). IsSome x.name × ((x.owner ≡ def.owner) ⊎ IsNamedInterface interfaces x.owner))) (alias_target def.kind)
           (λ s h. stays_so (λ name by. IsSome name × ((by ≡ def.owner) ⊎ IsNamedInterface interfaces by)) s h) (valid.well_formed.references.aliases t def there_t)
       by def there_t (Some t') is =
-          let transformed = transformed_from u t def t' is in
+          let transformed = transformed_from u valid t def t' there_t is in
           let named = transformed_type u valid t def t' transformed in
           stays_so (λ name by. IsSome name × ((by ≡ def.owner) ⊎ IsNamedInterface interfaces by)) t'
           (weaken transformed.name (newest u transformed.f) named (newest_named transformed.f transformed.replaced))
@@ -206,7 +206,7 @@ module _ (u : Upgrade) (valid : IsValid u.graph) (w : ℕ) (there : slice_get u.
     -- ---- no world is in conflict
 
     module _ (refused : ConflictsAreRefused) where
-      pub no_conflict : (v : ℕ) (world : World) → slice_get relisted_worlds v ≡ Some world → HasConflict new_uses world.exports → ⊥
+      pub no_conflict : (v : ℕ) (world : World) → slice_get relisted_worlds v ≡ Some world → HasTransitiveConflict new_uses world.exports → ⊥
       no_conflict v world at conflict =
           let k = (refused new_types new_uses world.imports world.exports uses_acyclic (in_order v world at)).0 conflict in
           let name = key_text u.graph.packages interfaces k.0 in

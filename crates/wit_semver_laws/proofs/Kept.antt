@@ -1,5 +1,5 @@
 -- What semver merging keeps of a graph: everything stands at its id.
-use Rattle.std.proofs.Common.{◌≡◌, ◌∙◌, inl, inr, ℕ, Option, None, Some, IsSome, slice_get, option_and_then, refl, sym, ap}
+use Rattle.std.proofs.Common.{◌≡◌, ◌∙◌, inl, inr, ℕ, Option, None, Some, IsSome, slice_get, option_and_then, refl, sym, ap, subst}
 use Rattle.std.specs.Option.{option_map_or}
 use Rattle.wit_data.specs.Each.{EachAt, SomeAt}
 use Rattle.wit_data.specs.Uses.{alias_target}
@@ -12,15 +12,12 @@ use Rattle.wit_graph_data.specs.declared.graph.Graph.{Graph}
 use Rattle.wit_graph_theory.specs.facts.ListFacts.{at_map, found_at, same_at, some_at}
 use Rattle.wit_graph_theory.specs.AllElaborated.{all_elaborated, elaborated_world}
 use Rattle.wit_values.specs.facts.Lists.{kept-cases, slice_get-set}
-use Rattle.wit_semver_spec.specs.Rewritten.{listed_world, name_of, new_target, retargeted, rewritten_types, target_name, with_new_entries_at}
+use Rattle.wit_semver_spec.specs.Rewritten.{listed_world, new_target, retargeted, rewritten_types, with_new_entries_at}
+use Rattle.wit_semver_spec.specs.TrackCause.{name_of, target_name}
 use Rattle.wit_semver_spec.specs.laws.Unchanged.{SameButLists, SameButTarget}
 use Rattle.wit_semver_spec.specs.Tracks.{Upgrade, newest}
 use Rattle.wit_semver_laws.specs.laws.TrackLaws.{AliasesKeepNames, KeepsThings, RewrittenKeep}
-use Rattle.wit_semver_laws.proofs.TypesAfter.{after, retargeted_name, transformed_from, transformed_type, type_after, type_into}
-
-some_of : {X Y : Type 0} (f : X → Option Y) (o : Option X) (y : Y) → option_and_then f o ≡ Some y → IsSome o
-some_of f None y is = cc
-some_of f (Some x) y is = refl
+use Rattle.wit_semver_laws.proofs.TypesAfter.{after, retargeted_name, rewritten_from, transformed_from, transformed_type, type_after, type_into}
 
 abbrev upgrade : TrackRule → Graph → World → Upgrade
 upgrade rule g world = record { rule = rule; graph = g; world = world }
@@ -53,8 +50,8 @@ module _ (u : Upgrade) where
   same_but : (t : ℕ) (def : TypeDef) (o : Option ℕ) → new_target u t def ≡ o → SameButTarget def (retargeted def o)
   same_but t def None is = (refl, inl refl)
   same_but t def (Some t') is =
-      let transformed = transformed_from u t def t' is in
-      (refl, inr (some_of (name_of u.graph.types) (alias_target def.kind) transformed.name transformed.named, refl))
+      let row = rewritten_from u t def t' is in
+      (refl, inr (subst IsSome (sym row.names) refl, refl))
 
   types_kept : EachAt (λ t (def : TypeDef). SomeAt (rewritten_types u) t (SameButTarget def)) u.graph.types
   types_kept t def at = some_at (SameButTarget def) (rewritten_types u) t (after u t def) (type_into u t def at) (same_but t def (new_target u t def) refl)
@@ -96,14 +93,14 @@ module _ (u : Upgrade) where
           cc
       by (Some def) at p found = ap (λ (q : Option TypeDef). option_and_then (λ (d : TypeDef). d.name) q) (sym found ∙ type_into u s def at) ∙ retargeted_name def (new_target u s def)
 
-  target_kept : (valid : IsValid u.graph) (t : ℕ) (def : TypeDef) (o : Option ℕ) → new_target u t def ≡ o → target_name (rewritten_types u) (retargeted def o) ≡ target_name u.graph.types def
-  target_kept valid t def None is = by (alias_target def.kind)
+  target_kept : (valid : IsValid u.graph) (t : ℕ) (def : TypeDef) (o : Option ℕ) → slice_get u.graph.types t ≡ Some def → new_target u t def ≡ o → target_name (rewritten_types u) (retargeted def o) ≡ target_name u.graph.types def
+  target_kept valid t def None at is = by (alias_target def.kind)
     where
       by : (o : Option ℕ) → option_and_then (name_of (rewritten_types u)) o ≡ option_and_then (name_of u.graph.types) o
       by None = refl
       by (Some s) = names_kept s
-  target_kept valid t def (Some t') is =
-      let transformed = transformed_from u t def t' is in
+  target_kept valid t def (Some t') at is =
+      let transformed = transformed_from u valid t def t' at is in
       let named = found_at (λ (x : TypeDef). (x.name ≡ Some transformed.name) × (x.owner ≡ owner.Interface (newest u transformed.f))) u.graph.types t' (transformed_type u valid t def t' transformed) in
       names_kept t' ∙ ap (λ (o : Option TypeDef). option_and_then (λ (d : TypeDef). d.name) o) named.1 ∙ named.2.0 ∙ sym transformed.named
 
@@ -117,4 +114,4 @@ aliases_keep_names rule g w valid = by (slice_get g.worlds w)
     by (Some world) t def at =
         let u = upgrade rule g world in
         some_at (λ (new : TypeDef). target_name (rewritten_types u) new ≡ target_name g.types def) (rewritten_types u) t (after u t def) (type_into u t def at)
-        (target_kept u valid t def (new_target u t def) refl)
+        (target_kept u valid t def (new_target u t def) at refl)

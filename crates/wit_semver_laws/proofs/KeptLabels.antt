@@ -104,7 +104,7 @@ module _ (u : Upgrade) (valid : IsValid u.graph) (complete : IsComplete u) (w : 
               }),
             )
         | inr some ↦
-            let transformed = transformed_from u t needs.alias some.0 some.1 in
+            let transformed = transformed_from u valid t needs.alias some.0 needs.there some.1 in
             let found = found_at (λ (named : TypeDef). (named.name ≡ Some transformed.name) × (named.owner ≡ owner.Interface (newest u transformed.f))) types some.0 (transformed_type u valid t needs.alias some.0 transformed) in
             let own : (after u t needs.alias).owner ≡ owner.World w = retargeted_owner needs.alias (new_target u t needs.alias) ∙ mine in
             let of : (after u some.0 found.0).owner ≡ owner.Interface (newest u transformed.f) = retargeted_owner found.0 (new_target u some.0 found.0) ∙ found.2.1 in (

@@ -9,5 +9,6 @@ pub mod Merged
 pub mod NewestNamed
 pub mod TypesAfter
 pub mod TypesGood
+pub mod UpgradedTypes
 pub mod ValidRewriting
 pub mod WorldsGood

@@ -23,13 +23,13 @@ use Rattle.wit_elaboration.specs.Valid.{IsValid}
 use Rattle.wit_graph_theory.specs.facts.Good.{HasGoodThings, IsGoodInterface}
 use Rattle.wit_graph_theory.specs.facts.GoodIsValid.{good_things}
 use Rattle.wit_graph_theory.specs.facts.ListFacts.{found_at, from_row, in_row, some_at}
-use Rattle.wit_graph_theory.specs.facts.OptionFacts.{option_cases, some_parts}
+use Rattle.wit_graph_theory.specs.facts.OptionFacts.{option_cases}
 use Rattle.wit_graph_theory.specs.facts.OwnedFacts.{row, row_from, row_into}
 use Rattle.wit_graph_theory.specs.facts.PackagesAcyclic.{length-numbered}
 use Rattle.wit_semver_spec.specs.Rewritten.{new_target, retargeted, rewritten_types}
 use Rattle.wit_semver_spec.specs.Tracks.{Upgrade, newest}
 use Rattle.wit_semver_laws.proofs.Accepting.{stays_so}
-use Rattle.wit_semver_laws.proofs.TypesAfter.{after, retargeted_name, retargeted_owner, transformed_from, transformed_type, type_after}
+use Rattle.wit_semver_laws.proofs.TypesAfter.{after, retargeted_name, retargeted_owner, rewritten_from, transformed_from, transformed_type, type_after}
 
 -- an alias is not plain
 alias_not_plain : (k : TypeDefKind) (t : ℕ) → alias_target k ≡ Some t → IsPlain k → ⊥
@@ -50,9 +50,8 @@ module _ (u : Upgrade) (valid : IsValid u.graph) (w : ℕ) (there : slice_get u.
   stays_from_target : (t : ℕ) (def : TypeDef) → ((s : ℕ) → alias_target def.kind ≡ Some s → ⊥) → (o : Option ℕ) → new_target u t def ≡ o → retargeted def o ≡ def
   stays_from_target t def no_alias None is = refl
   stays_from_target t def no_alias (Some t') is =
-      let transformed = transformed_from u t def t' is in
-      let target = some_parts _ (alias_target def.kind) transformed.name transformed.named in
-      absurd (no_alias target.0 target.1)
+      let row = rewritten_from u t def t' is in
+      absurd (no_alias row.old row.names)
 
   plain_stays : (t : ℕ) (def : TypeDef) → IsPlain def.kind → after u t def ≡ def
   plain_stays t def plain = stays_from_target t def (λ s alias. alias_not_plain def.kind s alias plain) (new_target u t def) refl
@@ -119,7 +118,7 @@ module _ (u : Upgrade) (valid : IsValid u.graph) (w : ℕ) (there : slice_get u.
           let old = All-contains (λ x. x < length (type_references types)) (direct (type_references types) i) j (valid.no_cycles.types.in_range i) (in_row (λ (d : TypeDef). referred d.kind) types i def j at has) in
           omega (arith, old, length-map types (λ (d : TypeDef). referred d.kind))
       by def at (Some t') is has =
-          let transformed = transformed_from u i def t' is in
+          let transformed = transformed_from u valid i def t' at is in
           let found = found_at (λ (named : TypeDef). (named.name ≡ Some transformed.name) × (named.owner ≡ owner.Interface (newest u transformed.f))) types t' (transformed_type u valid i def t' transformed) in
           let same : t' ≡ j = elim (Contains-cons_cases t' j [] has) [ inl one ↦ one | inr none ↦ absurd (Contains-nil none) ] in
           let within = slice_get_within types t' found.0 found.1 in

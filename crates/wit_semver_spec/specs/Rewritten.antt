@@ -2,10 +2,10 @@
 -- its replaced imports no more; what its other entries use of replaced interfaces they use of the newest; then every
 -- world is elaborated. All else is as it was.
 -- Source: `merge_world_imports_based_on_semver` and `update_interface_dep_of_type` of wit-parser 0.263.0.
-use Rattle.std.specs.Prelude.{ℕ, Bool, not, List, [], ◌∷◌, ◌++◌, map, filter, nat_eq, Option, None, Some, slice_get, slice_set, option_and_then, if◌then◌else◌}
+use Rattle.std.specs.Prelude.{ℕ, Bool, not, ◌&&◌, List, [], ◌∷◌, ◌++◌, map, filter, filter_map, nat_eq, Option, None, Some, is_some, slice_get, slice_set, option_and_then, if◌then◌else◌}
 use Rattle.std.specs.List.{enumerate_from, flat_map, list_any}
 use Rattle.std.specs.Map.{lookup}
-use Rattle.std.specs.Option.{option_map_or}
+use Rattle.std.specs.Option.{option_map, option_map_or}
 use Rattle.std.specs.Str.{bytes_eq}
 use Rattle.wit_data.specs.Uses.{alias_target, type_interface_dep}
 use Rattle.wit_data.specs.declared.interface.Interface.{Interface}
@@ -18,7 +18,7 @@ use Rattle.wit_data.specs.declared.world.WorldItem.TheVariants as item
 use Rattle.wit_elaboration.specs.Entries.{Entry, key_interface}
 use Rattle.wit_graph_data.specs.declared.graph.Graph.{Graph}
 use Rattle.wit_graph_theory.specs.AllElaborated.{all_elaborated}
-use Rattle.wit_semver_spec.specs.Tracks.{Upgrade, is_replaced, newest}
+use Rattle.wit_semver_spec.specs.Tracks.{Upgrade, imported, is_replaced, newest}
 
 -- ---- the world's list
 
@@ -34,7 +34,16 @@ kept_imports u = filter (λ e. not (is_replaced_entry u e)) u.world.imports
 abbrev pub listed_world : Upgrade → World
 listed_world u = record u.world { imports = kept_imports u }
 
--- ---- what its entries use
+-- ---- what aliases name
+--
+--     foo:x@0.2.0, @0.2.1, @0.3.0    interfaces 0, 1, 2: x { type t }    types 0, 1, 2
+--     foo:main                       interface 3: y { use x@0.2.0.{t} }  type 3 = type 0
+--
+--     the world imports 0, 3, 1, 2: interface 1 is the newest on the track of 0, which is replaced
+--     upgraded_types    0 -> 1       t of 0: t of 1
+--     type 3 = type 0   becomes      type 3 = type 1, as y stays and may be rewritten
+--
+-- (`merged` and `table` of `ExamplesOfRewriting` in wit_semver_examples)
 
 -- the types of an interface
 abbrev pub types_of : Interface → List ℕ
@@ -54,24 +63,24 @@ rewritable_types u = flat_map (entry_types u.graph.interfaces) (kept_imports u +
 abbrev pub interface_type : List Interface → ℕ → List ℕ → Option ℕ
 interface_type interfaces i name = option_and_then (λ (interface : Interface). lookup (bytes_eq name) interface.types) (slice_get interfaces i)
 
--- the replaced interface that type t uses: it is an alias of a type of that interface, which doesn't own t itself
-abbrev pub replaced_use : Upgrade → ℕ → Option ℕ
-replaced_use u t = option_and_then (λ f. if is_replaced u f then Some f else None) (type_interface_dep u.graph.types t)
+-- the types of interface i, each under its name
+abbrev pub type_table : List Interface → ℕ → List (List ℕ × ℕ)
+type_table interfaces i = option_map_or (λ (interface : Interface). interface.types) (slice_get interfaces i) []
 
--- the name of type t
-abbrev pub name_of : List TypeDef → ℕ → Option (List ℕ)
-name_of types t = option_and_then (λ (def : TypeDef). def.name) (slice_get types t)
+-- each type of interface f, with the type of that name in the newest, if that has it
+abbrev pub upgraded_in : Upgrade → ℕ → List (ℕ × ℕ)
+upgraded_in u f = filter_map (λ (e : List ℕ × ℕ). option_map (λ new. (e.1, new)) (interface_type u.graph.interfaces (newest u f) e.0)) (type_table u.graph.interfaces f)
 
--- the name of the type that an alias names
-abbrev pub target_name : List TypeDef → TypeDef → Option (List ℕ)
-target_name types def = option_and_then (name_of types) (alias_target def.kind)
+-- the table from old to new: each type of each replaced interface, with the newest's of that name
+abbrev pub upgraded_types : Upgrade → List (ℕ × ℕ)
+upgraded_types u = flat_map (upgraded_in u) (filter (is_replaced u) (imported u))
 
--- what type t names after the rewriting: where it follows and uses a replaced interface, the type of the same name in
--- the newest, if that has it
+-- what type t comes to name: where it may be rewritten and is an alias of another owner's type that the table has, the
+-- new one
 abbrev pub new_target : Upgrade → ℕ → TypeDef → Option ℕ
 new_target u t def =
-    if list_any (nat_eq t) (rewritable_types u)
-    then option_and_then (λ f. option_and_then (interface_type u.graph.interfaces (newest u f)) (target_name u.graph.types def)) (replaced_use u t)
+    if list_any (nat_eq t) (rewritable_types u) && is_some (type_interface_dep u.graph.types t)
+    then option_and_then (λ old. lookup (nat_eq old) (upgraded_types u)) (alias_target def.kind)
     else None
 
 -- an alias of another type, or the type as it was
@@ -79,7 +88,7 @@ abbrev pub retargeted : TypeDef → Option ℕ → TypeDef
 retargeted def None = def
 retargeted def (Some t) = record def { kind = kind.Type_ (type.Id t) }
 
--- the types, each naming what it names then
+-- the types, each naming what it comes to name
 abbrev pub rewritten_types : Upgrade → List TypeDef
 rewritten_types u = map (λ (e : ℕ × TypeDef). retargeted e.1 (new_target u e.0 e.1)) (enumerate_from 0 u.graph.types)
 

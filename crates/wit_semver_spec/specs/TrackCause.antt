@@ -3,7 +3,8 @@
 -- told.
 -- Source: `merge_world_imports_based_on_semver` of wit-parser 0.263.0; that a missing type is refused, and its text,
 -- are rules of this project.
-use Rattle.std.specs.Prelude.{◌≡◌, ℕ, true, List, ◌++◌, None, Some, codes, slice_get, unwrap_or, Option, Contains, []}
+use Rattle.std.specs.Prelude.{◌≡◌, ℕ, true, List, ◌++◌, None, Some, codes, slice_get, option_and_then, unwrap_or, Option, Contains, []}
+use Rattle.wit_data.specs.Uses.{alias_target, type_interface_dep}
 use Rattle.wit_data.specs.declared.interface.Interface.{Interface}
 use Rattle.wit_data.specs.declared.package_name.PackageName.{PackageName}
 use Rattle.wit_data.specs.declared.track.TrackRule.{TrackRule}
@@ -17,7 +18,7 @@ use Rattle.wit_graph_data.specs.declared.error_kind.ResolveErrorKind.TheVariants
 use Rattle.wit_graph_data.specs.declared.graph.Graph.{Graph}
 use Rattle.wit_graph_theory.specs.AllElaborated.{DependsOnItself, HasWorldInConflict, RefersToItself, UsesItself}
 use Rattle.wit_graph_theory.specs.FunctionMismatch.{HaveFunctionMismatch}
-use Rattle.wit_semver_spec.specs.Rewritten.{interface_type, replaced_use, rewritable_types, target_name, with_new_entries_at}
+use Rattle.wit_semver_spec.specs.Rewritten.{interface_type, rewritable_types, with_new_entries_at}
 use Rattle.wit_semver_spec.specs.Tracks.{Upgrade, is_replaced, newest}
 
 -- ---- texts
@@ -44,7 +45,16 @@ upgrade_message u f reason = upgrade_text (id_text_at f) (id_text_at (newest u f
 
 -- ---- what holds against it
 
--- 25: what follows uses a type of a replaced interface, and the newest has none of its name
+-- the name of type t
+abbrev pub name_of : List TypeDef → ℕ → Option (List ℕ)
+name_of types t = option_and_then (λ (def : TypeDef). def.name) (slice_get types t)
+
+-- the name of the type that an alias names
+abbrev pub target_name : List TypeDef → TypeDef → Option (List ℕ)
+target_name types def = option_and_then (name_of types) (alias_target def.kind)
+
+-- 25: a type that may be rewritten is an alias of a type of a replaced interface, not its own owner, and the newest has
+-- none of that name
 pub record NewestLacksType (u : Upgrade) (message : List ℕ) : Type 0 where
   pub t : ℕ
   pub def : TypeDef
@@ -52,7 +62,8 @@ pub record NewestLacksType (u : Upgrade) (message : List ℕ) : Type 0 where
   pub name : List ℕ
   pub follows : Contains (rewritable_types u) t
   pub is : slice_get u.graph.types t ≡ Some def
-  pub uses : replaced_use u t ≡ Some f
+  pub uses : type_interface_dep u.graph.types t ≡ Some f
+  pub replaced : is_replaced u f ≡ true
   pub named : target_name u.graph.types def ≡ Some name
   pub absent : interface_type u.graph.interfaces (newest u f) name ≡ None
   pub message_is : message ≡ upgrade_message u f (missing_text name)

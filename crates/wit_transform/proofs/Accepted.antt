@@ -21,7 +21,7 @@ use Rattle.wit_graph_data.specs.declared.graph.Package.{Package}
 use Rattle.wit_elaboration.specs.Elaboration.{graph_uses}
 use Rattle.wit_elaboration.specs.Entries.{Entry}
 use Rattle.wit_graph_data.specs.IdText.{key_text}
-use Rattle.wit_elaboration.specs.Imported.{HasConflict}
+use Rattle.wit_elaboration.specs.Imported.{HasTransitiveConflict}
 use Rattle.wit_elaboration.specs.Valid.{IsValid}
 use Rattle.wit_graph_theory.specs.facts.ListFacts.{found_at, get_at, place_of}
 use Rattle.wit_graph_theory.specs.facts.LawsOfElaboration.{LawsOfElaboration}
@@ -63,7 +63,7 @@ module _ (g : Graph) (valid : IsValid g) (w : ℕ) (old : World) (there : slice_
 -- what is so of a turn against which no cause holds
 pub record IsAcceptedTransformation (g : Graph) (w : ℕ) (old : World) (transform : WorldLists) : Type 0 where
   pub from : ComesFrom old transform
-  pub no_conflict : HasConflict (graph_uses g) transform.exports → ⊥
+  pub no_conflict : HasTransitiveConflict (graph_uses g) transform.exports → ⊥
   pub free : (home : Package) → HasNameTaken g w old transform.name home → ⊥
 
 module _ (laws : LawsOfElaboration) (g : Graph) (valid : IsValid g) (w : ℕ) (out : Option (List ℕ)) where

@@ -12,7 +12,7 @@ use Rattle.wit_data.specs.declared.world.WorldKey.{WorldKey}
 use Rattle.wit_data.specs.declared.world.WorldKey.TheVariants as key
 use Rattle.wit_elaboration.specs.Elaboration.{graph_uses}
 use Rattle.wit_elaboration.specs.Entries.{Entry, keyed_interfaces, item_interface, role_of}
-use Rattle.wit_elaboration.specs.Imported.{HasConflict, IsImported, Needed, roots_of}
+use Rattle.wit_elaboration.specs.Imported.{HasTransitiveConflict, IsImported, Needed, roots_of}
 use Rattle.wit_graph_data.specs.Relations.{entry_interface, entry_interfaces, world_interfaces}
 use Rattle.wit_elaboration.specs.Valid.{IsValid}
 use Rattle.wit_graph_data.specs.declared.graph.Graph.{Graph}
@@ -39,7 +39,7 @@ fewer_acyclic old rows same fewer acyclic = record {
     old_path i (k ∷ path) j leads = (fewer i k leads.0, old_path k path j leads.1)
 
 module _ (g : Graph) (valid : IsValid g) (w : ℕ) (old : World) (there : slice_get g.worlds w ≡ Some old) (transform : WorldLists) (from : ComesFrom old transform) (laws : LawsOfElaboration)
-    (no_conflict : HasConflict (graph_uses g) transform.exports → ⊥) where
+    (no_conflict : HasTransitiveConflict (graph_uses g) transform.exports → ⊥) where
   abbrev rows : List (List ℕ)
   rows = uses_of g.types g.interfaces
 

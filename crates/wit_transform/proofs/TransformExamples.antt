@@ -14,7 +14,7 @@ use Rattle.wit_graph_data.specs.declared.graph.Package.{Package}
 use Rattle.wit_elaboration.specs.Elaborated.{import_steps, import_steps_within}
 use Rattle.wit_elaboration.specs.Elaboration.{graph_uses}
 use Rattle.wit_elaboration.specs.Entries.{Entry}
-use Rattle.wit_elaboration.specs.Imported.{HasConflict, IsEntryInConflict, exported_keys}
+use Rattle.wit_elaboration.specs.Imported.{HasTransitiveConflict, IsEntryInConflict, exported_keys}
 use Rattle.wit_graph_data.specs.examples.Samples.{entry_of, foo_bar_of, world_of}
 use Rattle.wit_transform.specs.TransformCause.{ExportizeCause, HasNameTaken, HasTypeAt, ImportizeCause, NameIsTakenIn, export_conflict, exportized_name_taken, importized_name_taken, label_clash, type_exported}
 use Rattle.wit_transform.specs.examples.TransformExamples.{ExamplesOfRefusedTransformations, ExamplesOfTransformations, a, b, chain, clashing, first_and_last, function_t, two, type_t}
@@ -151,11 +151,11 @@ b_outside has = elim (Contains-cons_cases 0 1 (2 ∷ []) has) [
   | inr there ↦ elim (Contains-cons_cases 2 1 [] there) [ inl same ↦ cc | inr none ↦ Contains-nil none ]
 ]
 
-chain_conflict : HasConflict (graph_uses chain) (a ∷ c ∷ [])
-chain_conflict = (0, (2, 1, Contains-there 0 2 (2 ∷ []) (Contains-here 2 []), Contains-here 1 [], b_outside, (0 ∷ [], (Contains-here 0 [], refl))), Contains-here 0 (2 ∷ []))
+chain_conflict : HasTransitiveConflict (graph_uses chain) (a ∷ c ∷ [])
+chain_conflict = (2, 1, Contains-there 0 2 (2 ∷ []) (Contains-here 2 []), Contains-here 1 [], (b_outside, 0, (0 ∷ [], (Contains-here 0 [], refl)), Contains-here 0 (2 ∷ [])))
 
 c_leads : IsEntryInConflict (graph_uses chain) (a ∷ c ∷ []) c
-c_leads = (2, Contains-here 2 [], (1, 1, Contains-here 1 [], ([], refl), b_outside, (0, (0 ∷ [], (Contains-here 0 [], refl)), Contains-here 0 (2 ∷ []))))
+c_leads = (2, Contains-here 2 [], (1, 1, Contains-here 1 [], ([], refl), (b_outside, 0, (0 ∷ [], (Contains-here 0 [], refl)), Contains-here 0 (2 ∷ []))))
 
 a_safe : (f : Entry) → Contains (a ∷ []) f → IsEntryInConflict (graph_uses chain) (a ∷ c ∷ []) f → ⊥
 a_safe f has conflict =

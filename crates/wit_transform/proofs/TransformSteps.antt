@@ -5,7 +5,7 @@ use Rattle.std.proofs.lemmas.Option.{slice_get_within}
 use Rattle.wit_data.specs.declared.world.World.{World}
 use Rattle.wit_elaboration.specs.Elaboration.{IsConflictError, graph_uses}
 use Rattle.wit_elaboration.specs.Entries.{Entry}
-use Rattle.wit_elaboration.specs.Imported.{HasConflict, IsRefusedName}
+use Rattle.wit_elaboration.specs.Imported.{HasTransitiveConflict, IsRefusedName}
 use Rattle.wit_elaboration.specs.Sound.{HasSoundEntries}
 use Rattle.wit_elaboration.specs.Valid.{IsValid}
 use Rattle.wit_graph_data.specs.declared.error_kind.ResolveErrorKind.{ResolveErrorKind}
@@ -105,7 +105,7 @@ importize_clear g w current out there free clear error cause =
 
 -- nor against an export of the imports
 pub exportize_clear : (g : Graph) (w : ℕ) (current : World) (answers : List Bool) (out : Option (List ℕ)) → slice_get g.worlds w ≡ Some current → NameIsFreeAt g w (exportized answers out current).name
-    → ((label : List ℕ) → HasTypeAt (entries_by_answer true current.imports answers) label → ⊥) → (HasConflict (graph_uses g) (entries_by_answer true current.imports answers) → ⊥)
+    → ((label : List ℕ) → HasTypeAt (entries_by_answer true current.imports answers) label → ⊥) → (HasTransitiveConflict (graph_uses g) (entries_by_answer true current.imports answers) → ⊥)
     → (error : ResolveErrorKind) → IsExportizeCause g w answers out error → ⊥
 exportize_clear g w current answers out there free no_type no_conflict error cause =
     let same = same_at g.worlds w w cause.0 current refl cause.1 there in
@@ -123,7 +123,7 @@ exportize_conflict g w current answers out exports error there free no_type expo
     let same = same_at g.worlds w w told.0 current refl told.2 there in (
       current,
       there,
-      export_conflict told.1 (λ home taken. free current home there taken) no_type (subst (HasConflict (graph_uses g)) exports_are told.3)
+      export_conflict told.1 (λ home taken. free current home there taken) no_type (subst (HasTransitiveConflict (graph_uses g)) exports_are told.3)
           (subst (λ (es : List Entry). IsRefusedName g.packages g.interfaces (graph_uses g) es told.1) exports_are told.4)
           (told.5 ∙ ap (λ (x : World). InvalidTransitiveDependency x.span told.1) same),
     )

@@ -15,7 +15,7 @@ use Rattle.wit_elaboration.proofs.Filters.{Contains-filter, Contains-filtered}
 use Rattle.wit_elaboration.specs.Elaborated.{Elaborated, without_span}
 use Rattle.wit_elaboration.specs.Elaboration.{graph_uses}
 use Rattle.wit_elaboration.specs.Entries.{Entry, by_class}
-use Rattle.wit_elaboration.specs.Imported.{HasConflict}
+use Rattle.wit_elaboration.specs.Imported.{HasTransitiveConflict}
 use Rattle.wit_elaboration.specs.laws.KeptByElaboration.{IsListedWithoutSpan, is_label, labelled, listed_without_span}
 use Rattle.wit_elaboration.specs.Sound.{HasSoundEntries}
 use Rattle.wit_elaboration.specs.facts.SoundFacts.{HasSoundEntries-of_world}
@@ -85,7 +85,7 @@ module _ (g : Graph) (valid : IsValid g) (w : ℕ) (old : World) (there : slice_
   pub in_order : HasSoundEntries g.types (length uses) transform.imports transform.exports
   in_order = in_order_over (length uses) (length-map g.interfaces (interface_uses g.types))
 
-  module _ (laws : LawsOfElaboration) (no_conflict : HasConflict (graph_uses g) transform.exports → ⊥) where
+  module _ (laws : LawsOfElaboration) (no_conflict : HasTransitiveConflict (graph_uses g) transform.exports → ⊥) where
     pub is_elaborated : Elaborated g.types uses listed done
     is_elaborated = record { no_conflict = no_conflict; world_is = refl }
 

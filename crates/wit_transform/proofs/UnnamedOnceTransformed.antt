@@ -8,7 +8,7 @@ use Rattle.wit_data.specs.declared.world.WorldItem.TheVariants as item
 use Rattle.wit_elaboration.specs.Elaborated.{without_span}
 use Rattle.wit_elaboration.specs.Elaboration.{graph_uses}
 use Rattle.wit_elaboration.specs.Entries.{Entry}
-use Rattle.wit_elaboration.specs.Imported.{HasConflict}
+use Rattle.wit_elaboration.specs.Imported.{HasTransitiveConflict}
 use Rattle.wit_values.specs.Table.{HasDistinctKeys}
 use Rattle.wit_elaboration.specs.Valid.{IsValid}
 use Rattle.wit_graph_data.specs.declared.graph.Graph.{Graph}
@@ -54,7 +54,7 @@ stood_at old e has =
     ]
 
 module _ (laws : LawsOfElaboration) (g : Graph) (valid : IsValid g) (w : ℕ) (old : World) (there : slice_get g.worlds w ≡ Some old) (transform : WorldLists) (from : ComesFrom old transform)
-    (no_conflict : HasConflict (graph_uses g) transform.exports → ⊥) (one : StandsOnceOnly g.interfaces g.worlds) where
+    (no_conflict : HasTransitiveConflict (graph_uses g) transform.exports → ⊥) (one : StandsOnceOnly g.interfaces g.worlds) where
   abbrev new : World
   new = done g valid w old there transform from
 

@@ -17,7 +17,7 @@ use Rattle.wit_data.specs.declared.world.World.{World}
 use Rattle.wit_elaboration.proofs.Filters.{Contains-filter, Contains-filtered}
 use Rattle.wit_elaboration.specs.Elaborated.{Elaborated}
 use Rattle.wit_elaboration.specs.Elaboration.{graph_uses}
-use Rattle.wit_elaboration.specs.Imported.{HasConflict}
+use Rattle.wit_elaboration.specs.Imported.{HasTransitiveConflict}
 use Rattle.wit_graph_data.specs.Relations.{other_package, package_interfaces, package_needs, package_uses, world_interfaces}
 use Rattle.wit_values.specs.Table.{HasDistinctKeys}
 use Rattle.wit_elaboration.specs.Valid.{HasPackageNames, IsValid, IsWorldInTable, IsWorldOf}
@@ -53,7 +53,7 @@ some_of : (P : ℕ → Type 0) (o : Option ℕ) (p : ℕ) → o ≡ Some p → P
 some_of P o p is h = subst (λ (x : Option ℕ). IsSomeAnd x P) (sym is) h
 
 module _ (laws : LawsOfElaboration) (g : Graph) (valid : IsValid g) (w : ℕ) (old : World) (there : slice_get g.worlds w ≡ Some old) (transform : WorldLists) (from : ComesFrom old transform)
-    (no_conflict : HasConflict (graph_uses g) transform.exports → ⊥) (p : ℕ) (home : Package) (of : old.package ≡ Some p) (at_home : slice_get g.packages p ≡ Some home)
+    (no_conflict : HasTransitiveConflict (graph_uses g) transform.exports → ⊥) (p : ℕ) (home : Package) (of : old.package ≡ Some p) (at_home : slice_get g.packages p ≡ Some home)
     (free : NameIsTakenIn home w transform.name → ⊥) where
   abbrev new_world : World
   new_world = done g valid w old there transform from

@@ -23,7 +23,7 @@ use Rattle.wit_graph_data.specs.declared.graph.Graph.{Graph}
 use Rattle.wit_graph_data.specs.declared.graph.Package.{Package}
 use Rattle.wit_elaboration.specs.Elaboration.{graph_uses}
 use Rattle.wit_elaboration.specs.Entries.{Entry}
-use Rattle.wit_elaboration.specs.Imported.{HasConflict, IsRefusedName}
+use Rattle.wit_elaboration.specs.Imported.{HasTransitiveConflict, IsRefusedName}
 use Rattle.wit_transform.specs.Transformed.{WorldLists, exportized, importized, new_name, transformed, type_entries}
 
 -- ---- texts
@@ -71,7 +71,7 @@ pub data ImportizeCause (g : Graph) (w : ℕ) (world : World) (lists : WorldList
 pub data ExportizeCause (g : Graph) (w : ℕ) (world : World) (lists : WorldLists) (error : ResolveErrorKind) : Type 0 where
   -- 4: the new exports are in conflict, where there is a transformed world
   export_conflict : (name : List ℕ) → ((home : Package) → HasNameTaken g w world lists.name home → ⊥) → ((label : List ℕ) → HasTypeAt lists.exports label → ⊥)
-      → HasConflict (graph_uses g) lists.exports → IsRefusedName g.packages g.interfaces (graph_uses g) lists.exports name
+      → HasTransitiveConflict (graph_uses g) lists.exports → IsRefusedName g.packages g.interfaces (graph_uses g) lists.exports name
       → error ≡ InvalidTransitiveDependency world.span name → ExportizeCause g w world lists error
   -- 20: the new name is another world's of the package
   exportized_name_taken : (home : Package) → HasNameTaken g w world lists.name home → error ≡ Semantic None (name_taken_text lists.name home.name) NameTaken → ExportizeCause g w world lists error
@@ -105,7 +105,7 @@ HasNameTakenAt g w suffix out error =
 -- these exports of world w are in conflict, and the error says so
 abbrev pub ExportsAreInConflict : Graph → ℕ → List Entry → ResolveErrorKind → Type 0
 ExportsAreInConflict g w exports error =
-    (world : World) × (name : List ℕ) × (slice_get g.worlds w ≡ Some world) × HasConflict (graph_uses g) exports × IsRefusedName g.packages g.interfaces (graph_uses g) exports name
+    (world : World) × (name : List ℕ) × (slice_get g.worlds w ≡ Some world) × HasTransitiveConflict (graph_uses g) exports × IsRefusedName g.packages g.interfaces (graph_uses g) exports name
     × (error ≡ InvalidTransitiveDependency world.span name)
 
 -- the imports of world w, none where it isn't there

@@ -6,7 +6,7 @@ ghost use Rattle.std.specs.Prelude.{◌≡◌, ◌⊎◌, ◌<◌, Bool, IfErr, 
 ghost use Rattle.std.specs.Option.{option_map};
 ghost use Rattle.wit_elaboration.specs.AllWorlds.{elaborated_world};
 ghost use Rattle.wit_elaboration.specs.Elaboration.{IsConflictError, graph_uses};
-ghost use Rattle.wit_elaboration.specs.Imported.{HasConflict};
+ghost use Rattle.wit_elaboration.specs.Imported.{HasTransitiveConflict};
 ghost use Rattle.wit_elaboration.specs.Sound.{HasSoundEntries};
 ghost use Rattle.wit_elaboration.specs.Valid.{IsValid};
 ghost use Rattle.wit_graph_data.specs.declared.error_kind.ResolveErrorKind.{ResolveErrorKind};
@@ -85,7 +85,7 @@ fn elaborated(alloc: Global, graph: &Graph, world: World) -> ResolveResult<World
     requires acyclic { IsAcyclic (graph_uses graph.now) }
     requires listed { HasSoundEntries graph.now.types (length graph.now.interfaces) world.imports world.exports }
     ensures ok { IfOk result (λ new. new ≡ elaborated_world graph.now world) }
-    ensures no_conflict { OnOk result (HasConflict (graph_uses graph.now) world.exports → ⊥) }
+    ensures no_conflict { OnOk result (HasTransitiveConflict (graph_uses graph.now) world.exports → ⊥) }
     ensures cause { IfErr result (IsConflictError graph.now world) }
 {
     let mut world = world;
@@ -129,7 +129,7 @@ fn transform(
     requires listed { HasSoundEntries graph.old.types (length graph.old.interfaces) lists.imports lists.exports }
     requires free { NameIsFreeAt graph.old world name }
     ensures ok { OnOk result (graph.new ≡ transformed graph.old world (λ _. record { name = name; imports = lists.imports; exports = lists.exports })) }
-    ensures no_conflict { OnOk result (HasConflict (graph_uses graph.old) lists.exports → ⊥) }
+    ensures no_conflict { OnOk result (HasTransitiveConflict (graph_uses graph.old) lists.exports → ⊥) }
     ensures err { OnErr result (graph.new ≡ graph.old) }
     ensures cause { IfErr result (λ e. (e ≡ OutOfMemory) ⊎ ExportsAreInConflict graph.old world lists.exports e) }
 {

@@ -8,7 +8,7 @@ use Rattle.wit_data.specs.Each.{Each}
 use Rattle.wit_data.specs.Reference.{type_references}
 use Rattle.wit_data.specs.declared.world.World.{World}
 use Rattle.wit_elaboration.specs.Elaboration.{graph_uses}
-use Rattle.wit_elaboration.specs.Imported.{HasConflict}
+use Rattle.wit_elaboration.specs.Imported.{HasTransitiveConflict}
 use Rattle.wit_graph_data.specs.declared.error_kind.ResolveErrorKind.{ResolveErrorKind}
 use Rattle.wit_graph_data.specs.declared.error_kind.ResolveErrorKind.TheVariants.{OutOfMemory}
 use Rattle.wit_graph_data.specs.declared.graph.Graph.{Graph}
@@ -43,12 +43,12 @@ module _ (g : Graph) (none : HasNoCycle g) where
   refusal_told (Err e) is = elim is [ inl memory ↦ inl memory | inr world ↦ inr (world_told e world) ]
 
   -- where no world is in conflict no reason holds
-  no_reason : Each (λ (world : World). HasConflict (graph_uses g) world.exports → ⊥) g.worlds → (e : ResolveErrorKind) → ElaborationCause g e → ⊥
+  no_reason : Each (λ (world : World). HasTransitiveConflict (graph_uses g) world.exports → ⊥) g.worlds → (e : ResolveErrorKind) → ElaborationCause g e → ⊥
   no_reason fine _ (conflict_4 span name is) = fine is.there.0 is.world (slice_get_read g.worlds _ is.there.0 is.world refl is.there.1 (sym is.there.2)) is.conflict
   no_reason fine _ (package_cycle_6 home is) = on_none (graph_package_uses g) none.packages is.p is.q is.on_cycle
   no_reason fine _ (interface_cycle_22 message is) = on_none (graph_uses g) none.interfaces is.i is.j is.on_cycle
   no_reason fine _ (type_cycle_23 message is) = on_none (type_references g.types) none.types is.t is.u is.on_cycle
 
-  pub reason_refuses : {T : Type 0} (r : Result T ResolveErrorKind) → OnOk r (Each (λ (world : World). HasConflict (graph_uses g) world.exports → ⊥) g.worlds) → (e : ResolveErrorKind) → ElaborationCause g e → OnOk r ⊥
+  pub reason_refuses : {T : Type 0} (r : Result T ResolveErrorKind) → OnOk r (Each (λ (world : World). HasTransitiveConflict (graph_uses g) world.exports → ⊥) g.worlds) → (e : ResolveErrorKind) → ElaborationCause g e → OnOk r ⊥
   reason_refuses (Ok x) fine e reason = no_reason fine e reason
   reason_refuses (Err e') fine e reason = tt

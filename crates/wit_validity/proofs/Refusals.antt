@@ -4,7 +4,7 @@ use Rattle.std.specs.Prelude.{◌↔◌, IfOk, IsTrue}
 use Rattle.wit_data.specs.declared.world.World.{World}
 use Rattle.wit_elaboration.specs.Elaborated.{Elaborated, elaborated_exports, elaborated_imports}
 use Rattle.wit_elaboration.specs.Elaboration.{AreElaborated, graph_uses}
-use Rattle.wit_elaboration.specs.Imported.{HasConflict}
+use Rattle.wit_elaboration.specs.Imported.{HasTransitiveConflict}
 use Rattle.wit_elaboration.specs.declared.entries.Lists.{Lists}
 use Rattle.wit_graph_data.specs.declared.graph.Graph.{Graph}
 
@@ -19,7 +19,7 @@ pub elaborated_is : (g : Graph) (id : ℕ) (world : World) (lists : Lists) (b : 
 elaborated_is g id world lists b at is test =
     let both : Some is.0 ≡ Some world = sym is.1 ∙ at in
     let same : is.0 ≡ world = cc in
-    let no_conflict : HasConflict (graph_uses g) world.exports → ⊥ = subst (λ (x : World). HasConflict (graph_uses g) x.exports → ⊥) same is.2 in
+    let no_conflict : HasTransitiveConflict (graph_uses g) world.exports → ⊥ = subst (λ (x : World). HasTransitiveConflict (graph_uses g) x.exports → ⊥) same is.2 in
     let imports : lists.imports ≡ elaborated_imports g.types (graph_uses g) world.imports world.exports =
     is.3 ∙ ap (λ (x : World). elaborated_imports g.types (graph_uses g) x.imports x.exports) same in
     let exports : lists.exports ≡ elaborated_exports g.types (graph_uses g) world.exports = is.4 ∙ ap (λ (x : World). elaborated_exports g.types (graph_uses g) x.exports) same in (

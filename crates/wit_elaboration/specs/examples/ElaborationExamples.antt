@@ -6,7 +6,7 @@ use Rattle.wit_data.specs.declared.world.WorldItem.TheVariants as item
 use Rattle.wit_data.specs.declared.world.WorldKey.TheVariants.{Name, Interface}
 use Rattle.wit_elaboration.specs.Elaborated.{elaborated_imports, elaborated_exports}
 use Rattle.wit_elaboration.specs.Entries.{Entry}
-use Rattle.wit_elaboration.specs.Imported.{HasConflict, IsEntryInConflict, IsRefusedKey}
+use Rattle.wit_elaboration.specs.Imported.{HasTransitiveConflict, IsEntryInConflict, IsRefusedKey}
 
 abbrev pub chain : List (List ℕ)
 chain = [] ∷ (0 ∷ []) ∷ (0 ∷ 1 ∷ []) ∷ (1 ∷ []) ∷ []
@@ -68,8 +68,12 @@ pub record WorkedConflicts : Type 0 where
   -- a label is not refused where what it exports only uses exported keys
   pub label_passed : IsRefusedKey chain (labelled 1 ∷ a ∷ c ∷ []) (Interface 2)
   -- there is a conflict in each of these
-  pub c_in_conflict : HasConflict chain (a ∷ c ∷ [])
+  pub c_in_conflict : HasTransitiveConflict chain (a ∷ c ∷ [])
   -- not for what uses nothing
   pub a_passed : IsEntryInConflict chain (a ∷ c ∷ []) a → ⊥
   -- nor where all uses are exported
-  pub all_passed : HasConflict chain (a ∷ b ∷ []) → ⊥
+  pub all_passed : HasTransitiveConflict chain (a ∷ b ∷ []) → ⊥
+  -- nor where b is exported as well
+  pub b_exported_too : HasTransitiveConflict chain (a ∷ b ∷ c ∷ []) → ⊥
+  -- nor where a is exported under a label alone
+  pub a_under_label : HasTransitiveConflict chain (labelled 0 ∷ c ∷ []) → ⊥

@@ -6,7 +6,7 @@ use Rattle.wit_data.specs.declared.world.WorldKey.{WorldKey}
 use Rattle.wit_digraph.specs.Relation.{direct, IsAcyclic}
 use Rattle.wit_elaboration.specs.Entries.{Entry, Role, Instance, TypeUse, TypeDefinition, FreeFunction, ResourceFunction, role_of, key_interface, keyed_interfaces}
 use Rattle.wit_elaboration.specs.Elaborated.{Elaborated}
-use Rattle.wit_elaboration.specs.Imported.{HasConflict, IsImported, IsRefusedKey}
+use Rattle.wit_elaboration.specs.Imported.{HasTransitiveConflict, IsImported, IsRefusedKey}
 use Rattle.wit_elaboration.specs.Sound.{HasSoundEntries}
 
 -- an elaborated world is its own elaboration
@@ -44,9 +44,9 @@ SameEntries xs ys = (e : Entry) → Contains xs e ↔ Contains ys e
 -- neither a conflict nor what is imported depends on the order of the entries
 abbrev pub OrderIsFree : Type 0
 OrderIsFree = (types : List TypeDef) (uses : List (List ℕ)) (imports imports' exports exports' : List Entry) → SameEntries imports imports' → SameEntries exports exports' →
-    (HasConflict uses exports ↔ HasConflict uses exports') × ((j : ℕ) → IsImported types uses imports exports j ↔ IsImported types uses imports' exports' j)
+    (HasTransitiveConflict uses exports ↔ HasTransitiveConflict uses exports') × ((j : ℕ) → IsImported types uses imports exports j ↔ IsImported types uses imports' exports' j)
 
 -- there is a refused key exactly where there is a conflict
 abbrev pub ConflictsAreRefused : Type 0
 ConflictsAreRefused = (types : List TypeDef) (uses : List (List ℕ)) (imports exports : List Entry) → IsAcyclic uses → HasSoundEntries types (length uses) imports exports →
-    HasConflict uses exports ↔ ((k : WorldKey) × IsRefusedKey uses exports k)
+    HasTransitiveConflict uses exports ↔ ((k : WorldKey) × IsRefusedKey uses exports k)

@@ -12,7 +12,7 @@ use Rattle.wit_graph_data.specs.declared.graph.Graph.{Graph}
 use Rattle.wit_graph_theory.specs.Image.{Maps, interface_image, type_image}
 use Rattle.wit_graph_theory.specs.Operations.{include_maps}
 use Rattle.wit_labels.specs.Rename.{renamed_label}
-use Rattle.wit_link_spec.specs.Include.{belongs_to, entry_mentions, is_owned_within, is_unnamed_type, owner_belongs_to}
+use Rattle.wit_link_spec.specs.Include.{belongs_to, entry_mentions, is_owned_within, is_unnamed_type, named_types, owner_belongs_to}
 use Rattle.wit_link_spec.specs.Addition.{selected, selected_with_index}
 use Rattle.wit_link_include.specs.declared.copies.Copies.{Copies}
 use Rattle.wit_link_include.specs.declared.origin.Origin.{Origin}
@@ -45,6 +45,10 @@ with_images g m types interfaces = record g {
 abbrev pub StayApart : Graph → ℕ → World → Type 0
 StayApart g w world = (t o : ℕ) → is_unnamed_type g t ≡ false → is_owned_within g w world t ≡ false →
     Reaches (type_references g.types) t o → is_owned_within g w world o ≡ false
+
+-- the entries of world w name what belongs to it
+abbrev pub NamesBelonging : Graph → ℕ → World → Type 0
+NamesBelonging g w world = (t : ℕ) → is_owned_within g w world t ≡ true → Contains (named_types g world) t
 
 -- the types that the entries of a world name are there
 abbrev pub NamesThere : Graph → World → Type 0

@@ -9,7 +9,7 @@ use Rattle.std.proofs.lemmas.Option.{slice_get_within}
 use Rattle.wit_digraph.specs.facts.FreshFacts.{any_from_contains, contains_from_any}
 use Rattle.wit_digraph.specs.facts.MemberFacts.{Contains-cons_cases, Contains-flat_map, Contains-flat_map_cases, Contains-here, Contains-nil}
 use Rattle.wit_data.specs.Entries.{Entry, IsImport, interfaces_in_worlds, interfaces_of_entries, is_unnamed, item_interface}
-use Rattle.wit_data.specs.Ownership.{IsListed, IsNamed}
+use Rattle.wit_data.specs.Ownership.{IsListed, IsNamed, entry_type, world_types}
 use Rattle.wit_elaboration.specs.facts.SoundFacts.{named_within}
 use Rattle.wit_data.specs.Reference.{function_references, referred}
 use Rattle.wit_data.specs.declared.function.Function.{Function}
@@ -30,9 +30,9 @@ use Rattle.wit_graph_theory.specs.Kept.{KeptIds}
 use Rattle.wit_graph_theory.specs.facts.ListFacts.{Contains-map, contained_at, found_at, get_at, same_at, some_at}
 use Rattle.wit_graph_theory.specs.Operations.{include_source}
 use Rattle.wit_graph_theory.specs.steps.Sources.{IsGoodSource}
-use Rattle.wit_link_spec.specs.Include.{belongs_to, entry_mentions, interface_mentions, named_types}
+use Rattle.wit_link_spec.specs.Include.{belongs_to, entry_mentions, interface_mentions, is_owned_within, named_types, owner_belongs_to}
 use Rattle.wit_link_laws.specs.facts.Among.{owner_of_own}
-use Rattle.wit_link_laws.specs.facts.Mentioned.{BelongsOrNamed, entry_is, entry_mentioned, mentioned_refers, mentioned_with}
+use Rattle.wit_link_laws.specs.facts.Mentioned.{BelongsOrNamed, entry_is, entry_mentioned, mentioned_refers, mentioned_with, owned_has}
 use Rattle.wit_link_laws.specs.facts.PartiallyLinked.{IsSoundSoFar}
 use Rattle.wit_link_laws.specs.facts.Truth.{all_pass, and_both, and_parts, or_cases, or_left, or_right, passes}
 
@@ -241,3 +241,37 @@ module _ (g : Graph) (stands : IsSoundSoFar g) (from : ℕ) (old : World) (there
       (of_going f interface t at goes
       (Contains-append_right (map (λ (d : List ℕ × ℕ). d.1) interface.types) (flat_map (λ (d : List ℕ × Function). function_references d.1) interface.functions) t
       (Contains-flat_map (λ (d : List ℕ × Function). function_references d.1) interface.functions e t has uses))))
+
+  -- what belongs to the world is mentioned
+  pub belonging_mentioned : (t : ℕ) → is_owned_within g from old t ≡ true → Contains (named_types g old) t
+  belonging_mentioned t owned =
+      let is = owned_has g stands from old t owned in
+      by is.0.name is.0.owner (stands.items.types t is.0 is.1).listed is.2
+    where
+      of_import : (name : List ℕ) (k : WorldKey) (held : WorldItem) → Contains old.imports (k, held) → Contains (entry_type k held) (name, t) → Contains (named_types g old) t
+      of_import name (key.Interface f) held has among = absurd (Contains-nil among)
+      of_import name (key.Name label) (item.Interface i stability docs span external_id) has among = absurd (Contains-nil among)
+      of_import name (key.Name label) (item.Function fn) has among = absurd (Contains-nil among)
+      of_import name (key.Name label) (item.Type_ u span) has among =
+          let listed : List ℕ × ℕ = (label, u) in
+          let one : List ℕ × ℕ = (name, t) in
+          elim (Contains-cons_cases listed one [] among) [
+            | inl same ↦
+                let same_type : u ≡ t = ap (λ (e : List ℕ × ℕ). e.1) same in
+                entry_mentioned g stands from old there (key.Name label, item.Type_ u span) t (Contains-append_left old.imports old.exports (key.Name label, item.Type_ u span) has)
+                (subst (λ (x : ℕ). Contains (u ∷ []) x) same_type (Contains-here u []))
+            | inr none ↦ absurd (Contains-nil none)
+          ]
+
+      by : (name : Option (List ℕ)) (o : TypeOwner) → IsListed g.interfaces g.worlds t name o → owner_belongs_to g from old o ≡ true → Contains (named_types g old) t
+      by name owner.None listed goes = cc
+      by None (owner.Interface f) listed goes = absurd listed
+      by None (owner.World w) listed goes = absurd listed
+      by (Some name) (owner.Interface f) listed goes =
+          let found = found_at (λ (interface : Interface). Contains interface.types (name, t)) g.interfaces f listed in
+          active_by_mentioned t (belonging_types f found.0 (name, t) found.1 goes found.2)
+      by (Some name) (owner.World w) listed goes =
+          let found = found_at (λ (world : World). Contains (world_types world) (name, t)) g.worlds w listed in
+          let same : found.0 ≡ old = same_at g.worlds w from found.0 old (eqb-true w from goes) found.1 there in
+          let e = Contains-flat_map_cases (λ (e : WorldKey × WorldItem). entry_type e.0 e.1) old.imports (name, t) (subst (λ (world : World). Contains (world_types world) (name, t)) same found.2) in
+          of_import name e.0.0 e.0.1 e.1.0 e.1.1

@@ -1,5 +1,5 @@
 -- What things are remapped to that are copied, and that all else stays.
-use Rattle.std.proofs.Common.{◌≡◌, ◌∙◌, ◌⊎◌, ◌&&◌, ◌||◌, ◌+◌, inl, inr, ℕ, ◌<◌, ◌≤◌, Bool, true, false, not, List, map, Option, None, Some, slice_get, refl, sym, ap, subst, arith, Contains, IsSome, length, is_some, nat_eq, if◌then◌else◌}
+use Rattle.std.proofs.Common.{◌≡◌, ◌∙◌, ◌⊎◌, ◌&&◌, ◌+◌, inl, inr, ℕ, ◌<◌, ◌≤◌, Bool, true, false, not, List, map, Option, None, Some, slice_get, refl, sym, ap, subst, arith, Contains, IsSome, length, is_some, nat_eq, if◌then◌else◌}
 use Rattle.std.specs.List.{list_any}
 use Rattle.std.specs.Option.{option_map_or}
 use Rattle.std.proofs.lemmas.Bool.{cases_Bool, eq-eqb, eqb-true, false≢true}
@@ -20,10 +20,10 @@ use Rattle.wit_graph_theory.specs.Image.{interface_image, type_image}
 use Rattle.wit_graph_theory.specs.facts.ListFacts.{at_map, at_new, from_map, in_row, old_or_new, same_at}
 use Rattle.wit_graph_theory.specs.facts.UnnamedOnceCarried.{named_not}
 use Rattle.wit_graph_theory.specs.facts.RowFacts.{Reaches-join, Reaches-self, Reaches-use}
-use Rattle.wit_link_spec.specs.Include.{belongs_to, interface_copy, is_copied, is_owned_within, is_unnamed_type, owner_belongs_to, type_copy}
+use Rattle.wit_link_spec.specs.Include.{belongs_to, interface_copy, is_copied, is_on_way, is_owned_within, is_unnamed_type, owner_belongs_to, type_copy}
 use Rattle.wit_link_spec.specs.facts.RankFacts.{rank-injective, selected-at, selected_with_index-from}
 use Rattle.wit_link_spec.specs.Addition.{rank, selected, selected_with_index}
-use Rattle.wit_link_laws.specs.facts.CopiedPart.{active_by_mentioned, goes_parts, is_mentioned}
+use Rattle.wit_link_laws.specs.facts.CopiedPart.{active_by_mentioned, belonging_mentioned, goes_parts, is_mentioned, mentioned_by_active}
 use Rattle.wit_link_laws.specs.facts.IncludedWorld.{Including, IsIncluded, joined_world, maps}
 use Rattle.wit_link_laws.specs.facts.Among.{owner_of_own}
 use Rattle.wit_link_laws.specs.facts.Mentioned.{in_rows, mentioned_with, owned_is}
@@ -52,10 +52,24 @@ module _ (g : Graph) (stands : IsSoundSoFar g) (i : Including g) where
   abbrev goes : ℕ → Bool
   goes = belongs_to g i.old
 
+  abbrev owned : ℕ → Bool
+  owned = is_owned_within g i.from i.old
+
+  abbrev on_way : ℕ → Bool
+  on_way = is_on_way g i.from i.old
+
   -- ---- types
 
+  -- what is on a way is mentioned, and leads to what belongs to the world
+  way_parts : (t : ℕ) → on_way t ≡ true → (is_mentioned g i.old t ≡ true) × (list_any owned (post_order (type_references g.types) t) ≡ true)
+  way_parts t is = and_parts (is_mentioned g i.old t) (list_any owned (post_order (type_references g.types) t)) is
+
   pub copied_mentioned : (t : ℕ) → copied t ≡ true → is_mentioned g i.old t ≡ true
-  copied_mentioned t is = (and_parts (is_mentioned g i.old t) (is_owned_within g i.from i.old t || (is_unnamed_type g t && list_any (is_owned_within g i.from i.old) (post_order (type_references g.types) t))) is).0
+  copied_mentioned t is =
+      elim (or_cases (owned t) (is_unnamed_type g t && on_way t) is) [
+        | inl own ↦ mentioned_by_active g stands i.from i.old i.old_at t (belonging_mentioned g stands i.from i.old i.old_at t own)
+        | inr other ↦ (way_parts t (and_parts (is_unnamed_type g t) (on_way t) other).1).0
+      ]
 
   pub copied_there : (t : ℕ) → copied t ≡ true → t < length g.types
   copied_there t is = (mentioned_with g stands i.from i.old i.old_at t (active_by_mentioned g stands i.from i.old i.old_at t (copied_mentioned t is))).own.there
@@ -73,12 +87,9 @@ module _ (g : Graph) (stands : IsSoundSoFar g) (i : Including g) where
     | inr left ↦ let same = type_stays t left in absurd (omega arith)
   ]
 
-  abbrev owned : ℕ → Bool
-  owned = is_owned_within g i.from i.old
-
-  -- a mentioned type that goes with the world is copied
-  pub owned_copied : (t : ℕ) → is_mentioned g i.old t ≡ true → owned t ≡ true → copied t ≡ true
-  owned_copied t has is = and_both (is_mentioned g i.old t) _ has (or_left (owned t) (is_unnamed_type g t && list_any owned (post_order (type_references g.types) t)) is)
+  -- a type that belongs to the world is copied
+  pub owned_copied : (t : ℕ) → owned t ≡ true → copied t ≡ true
+  owned_copied t is = or_left (owned t) (is_unnamed_type g t && on_way t) is
 
   unnamed_type_is : (t : ℕ) (def : TypeDef) → slice_get g.types t ≡ Some def → is_unnamed_type g t ≡ not (is_some def.name)
   unnamed_type_is t def at = ap (λ (o : Option TypeDef). option_map_or (λ (d : TypeDef). not (is_some d.name)) o false) at
@@ -86,10 +97,9 @@ module _ (g : Graph) (stands : IsSoundSoFar g) (i : Including g) where
   -- a type with a name that is copied goes with the world
   pub named_copied : (t : ℕ) (def : TypeDef) → slice_get g.types t ≡ Some def → IsSome def.name → copied t ≡ true → owned t ≡ true
   named_copied t def at named is =
-      let parts = and_parts (is_mentioned g i.old t) (owned t || (is_unnamed_type g t && list_any owned (post_order (type_references g.types) t))) is in
-      elim (or_cases (owned t) (is_unnamed_type g t && list_any owned (post_order (type_references g.types) t)) parts.1) [
+      elim (or_cases (owned t) (is_unnamed_type g t && on_way t) is) [
         | inl own ↦ own
-        | inr other ↦ absurd (not_both (is_some def.name) named (sym (unnamed_type_is t def at) ∙ (and_parts (is_unnamed_type g t) (list_any owned (post_order (type_references g.types) t)) other).0))
+        | inr other ↦ absurd (not_both (is_some def.name) named (sym (unnamed_type_is t def at) ∙ (and_parts (is_unnamed_type g t) (on_way t) other).0))
       ]
     where
       not_both : (b : Bool) → b ≡ true → not b ≡ true → ⊥
@@ -116,16 +126,16 @@ module _ (g : Graph) (stands : IsSoundSoFar g) (i : Including g) where
       through r reaches goes =
           let all = Reaches-join rows t u r step reaches in
           let unnamed : is_unnamed_type g t ≡ true = unnamed_type_is t def at ∙ ap (λ (o : Option (List ℕ)). not (is_some o)) none in
-          and_both (is_mentioned g i.old t) _ has
-          (or_right (owned t) _ (and_both (is_unnamed_type g t) _ unnamed (one_passes owned (post_order rows t) r (post_order-from_IsPath rows stands.references t all.0 r within all.1) goes)))
+          or_right (owned t) _
+          (and_both (is_unnamed_type g t) _ unnamed
+          (and_both (is_mentioned g i.old t) _ has (one_passes owned (post_order rows t) r (post_order-from_IsPath rows stands.references t all.0 r within all.1) goes)))
 
       refers_copied : copied u ≡ true → copied t ≡ true
       refers_copied is =
-          let parts = and_parts (is_mentioned g i.old u) (owned u || (is_unnamed_type g u && list_any owned (post_order rows u))) is in
-          elim (or_cases (owned u) (is_unnamed_type g u && list_any owned (post_order rows u)) parts.1) [
+          elim (or_cases (owned u) (is_unnamed_type g u && on_way u) is) [
             | inl own ↦ through u (Reaches-self rows u) own
             | inr other ↦
-                let one = passing owned (post_order rows u) (and_parts (is_unnamed_type g u) (list_any owned (post_order rows u)) other).1 in
+                let one = passing owned (post_order rows u) (way_parts u (and_parts (is_unnamed_type g u) (on_way u) other).1).1 in
                 let there = in_rows g stands i.from i.old i.old_at u (copied_there u is) in
                 through one.0 (Reaches-from_post_order rows stands.references u there one.0 one.1) one.2
           ]
@@ -152,7 +162,7 @@ module _ (g : Graph) (stands : IsSoundSoFar g) (i : Including g) where
           let among = mentioned_with g stands i.from i.old i.old_at t (active_by_mentioned g stands i.from i.old i.old_at t has) in
           let same = owner_of_own g stands t def among.by at (ap is_some is) among.own in
           elim among.is [
-            | inl goes ↦ absurd (false≢true (sym left ∙ owned_copied t has (owned_is g stands i.from i.old t def at ∙ ap (owner_belongs_to g i.from i.old) same ∙ goes)))
+            | inl goes ↦ absurd (false≢true (sym left ∙ owned_copied t (owned_is g stands i.from i.old t def at ∙ ap (owner_belongs_to g i.from i.old) same ∙ goes)))
             | inr other ↦ let is = named among.by other in inr (is.0, same ∙ is.1, is.2)
           ]
 

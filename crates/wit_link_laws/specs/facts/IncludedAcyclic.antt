@@ -112,7 +112,7 @@ module _ (g : Graph) (stands : IsSoundSoFar g) (i : Including g) (new : Graph) (
       let within = (sources_good g stands i true).closed.interfaces_in_range f on in
       let long = length-map g.interfaces (cut_interface (copied_part g i.from i.old)) in
       let goes = behind_goes g stands i f (omega arith) past in
-      let copied = owned_copied g stands i t takes (owned_is g stands i.from i.old t def at ∙ ap (owner_belongs_to g i.from i.old) by ∙ goes) in
+      let copied = owned_copied g stands i t (owned_is g stands i.from i.old t def at ∙ ap (owner_belongs_to g i.from i.old) by ∙ goes) in
       some_at (λ (there : TypeDef). alias_target there.kind ≡ option_map (type_copy g i.from i.old) (alias_target def.kind)) new.types (type_copy g i.from i.old t) (type_image (maps g i) def)
       (copy_at g stands i new are t def at copied) (alias_image (maps g i) def.kind)
 

@@ -10,7 +10,7 @@ use Rattle.wit_data.specs.declared.world.World.{World}
 use Rattle.wit_data.specs.declared.world.WorldInclude.{WorldInclude}
 use Rattle.wit_elaboration.specs.Elaborated.{Elaborated}
 use Rattle.wit_elaboration.specs.Elaboration.{graph_uses}
-use Rattle.wit_elaboration.specs.Imported.{HasConflict}
+use Rattle.wit_elaboration.specs.Imported.{HasTransitiveConflict}
 use Rattle.wit_graph_data.specs.declared.graph.Graph.{Graph}
 use Rattle.wit_graph_theory.specs.facts.LawsOfElaboration.{LawsOfElaboration}
 use Rattle.wit_link_spec.specs.Addition.{Addition, remapped_world}
@@ -95,11 +95,11 @@ module _ (a : Addition) (before : List World) (k : ℕ) (e : ℕ × World) (b : 
 
 module _ (laws : LawsOfElaboration) (a : Addition) (before : List World) (k : ℕ) (e : ℕ × World) (b : PartiallyLinked) where
   -- it is the elaboration of what is begun
-  pub finished_is : (HasConflict (graph_uses b.graph) (placed b.lists.exports) → ⊥) → Elaborated b.graph.types (graph_uses b.graph) (with_placed (unfinished_world a e.0 e.1 b.lists)) (linked_world a e.0 e.1 b)
+  pub finished_is : (HasTransitiveConflict (graph_uses b.graph) (placed b.lists.exports) → ⊥) → Elaborated b.graph.types (graph_uses b.graph) (with_placed (unfinished_world a e.0 e.1 b.lists)) (linked_world a e.0 e.1 b)
   finished_is none = record { no_conflict = none; world_is = refl }
 
   -- and the next stage stands
-  pub finish_step : IsSoundSoFar (staged a before k e b) → (HasConflict (graph_uses b.graph) (placed b.lists.exports) → ⊥)
+  pub finish_step : IsSoundSoFar (staged a before k e b) → (HasTransitiveConflict (graph_uses b.graph) (placed b.lists.exports) → ⊥)
       → IsSoundSoFar (record b.graph { worlds = before ++ linked_world a e.0 e.1 b ∷ drop (suc k) (listed_images a) })
   finish_step stands none =
       let later = drop (suc k) (listed_images a) in

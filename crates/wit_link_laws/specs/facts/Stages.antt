@@ -16,7 +16,7 @@ use Rattle.wit_data.specs.declared.world.World.{World}
 use Rattle.wit_data.specs.declared.world.WorldInclude.{WorldInclude}
 use Rattle.wit_elaboration.specs.Elaborated.{Elaborated}
 use Rattle.wit_elaboration.specs.Elaboration.{graph_uses}
-use Rattle.wit_elaboration.specs.Imported.{HasConflict}
+use Rattle.wit_elaboration.specs.Imported.{HasTransitiveConflict}
 use Rattle.wit_graph_data.specs.IdText.{key_text}
 use Rattle.wit_graph_data.specs.declared.graph.Graph.{Graph}
 use Rattle.wit_graph_theory.specs.Image.{world_image}
@@ -143,7 +143,7 @@ module _ (a : Addition) where
       includes_fine : (j : ℕ) → IncludeIsAccepted a k j
       includes_fine = includes_accepted a k image fine
 
-      no_conflict : HasConflict (graph_uses whole.graph) (placed whole.lists.exports) → ⊥
+      no_conflict : HasTransitiveConflict (graph_uses whole.graph) (placed whole.lists.exports) → ⊥
       no_conflict conflict =
           let so_far = whole_stands stands includes_fine in
           let there = slice_get-behind before (drop (suc k) (listed_images a)) (unfinished_world a e.0 e.1 whole.lists) in

@@ -1,6 +1,6 @@
 -- What is known at each stage of an addition, so that a contract can say it: of the graph before an include, where all
 -- before it is accepted, and of the graph and the lists before a world is finished.
-use Rattle.std.specs.Prelude.{◌≡◌, ℕ, false, length, slice_get, take, Some, IsSome}
+use Rattle.std.specs.Prelude.{◌≡◌, ℕ, true, false, length, slice_get, take, Some, IsSome, Contains}
 use Rattle.wit_digraph.specs.Relation.{IsAcyclic, Reaches}
 use Rattle.wit_data.specs.Each.{EachAt}
 use Rattle.wit_data.specs.Reference.{type_references}
@@ -15,7 +15,7 @@ use Rattle.wit_graph_data.specs.declared.graph.Graph.{Graph}
 use Rattle.wit_graph_theory.specs.facts.Good.{IsGoodInterface, IsGoodWorld}
 use Rattle.wit_link_spec.specs.Addition.{Addition, active_includes, own_worlds, remapped_world}
 use Rattle.wit_link_spec.specs.Cause.{IncludeIsReached, IsReached}
-use Rattle.wit_link_spec.specs.Include.{PartiallyLinked, is_owned_within}
+use Rattle.wit_link_spec.specs.Include.{PartiallyLinked, is_owned_within, named_types}
 use Rattle.wit_link_spec.specs.Pushed.{pushed, with_all_includes, with_includes, with_worlds}
 use Rattle.wit_link_spec.specs.Reasons.{HasPackage, IsResolved}
 use Rattle.wit_link_spec.specs.WorldReasons.{AtInclude, AtWorld, IncludeIsAccepted}
@@ -29,12 +29,14 @@ pub record IsPartiallyLinked (g : Graph) : Type 0 where
   pub interfaces : EachAt (IsGoodInterface g.types) g.interfaces
 
 -- world `old`, which stands at place `from` of such a graph, can be included: it is good, so its ids are in range and no
--- key comes twice; and a type with a name that doesn't go with it refers to none that does, through whatever others
+-- key comes twice; a type with a name that doesn't belong to it refers to none that does, through whatever others; and
+-- its entries name what belongs to it
 pub record CanInclude (g : Graph) (from : ℕ) (old : World) : Type 0 where
   pub graph : IsPartiallyLinked g
   pub world : IsGoodWorld g.types g.interfaces from old
   pub apart : (t r : ℕ) (def : TypeDef) → slice_get g.types t ≡ Some def → IsSome def.name → is_owned_within g from old t ≡ false
       → Reaches (type_references g.types) t r → is_owned_within g from old r ≡ false
+  pub belonging : (t : ℕ) → is_owned_within g from old t ≡ true → Contains (named_types g old) t
 
 -- before each include that is reached
 abbrev pub IncludesCanBe : Type 0

@@ -7,6 +7,7 @@ use Rattle.wit_graph_theory.specs.facts.LawsOfElaboration.{LawsOfElaboration}
 use Rattle.wit_link_spec.specs.Addition.{Addition, active_includes, own_worlds, remapped_world}
 use Rattle.wit_link_spec.specs.Include.{PartiallyLinked}
 use Rattle.wit_link_spec.specs.Pushed.{unfinished_world, with_all_includes, with_includes, with_worlds}
+use Rattle.wit_link_laws.specs.facts.CopiedPart.{belonging_mentioned}
 use Rattle.wit_link_laws.specs.facts.ListedStage.{listed_images}
 use Rattle.wit_link_laws.specs.laws.StageFacts.{CanBeLinked, CanInclude, IncludesCanBe, IsPartiallyLinked, WorldsCanBe}
 use Rattle.wit_link_laws.specs.facts.StageGrows.{begun_more}
@@ -34,6 +35,7 @@ module _ (a : Addition) (before : List World) (k : ℕ) (e : ℕ × World) (b : 
     graph = on_its_way;
     world = stands.items.worlds from old (slice_get-append before _ from old at);
     apart = λ t r def there named left reaches. apart (staged a before k e b) stands from old t r def there named left reaches;
+    belonging = λ t owned. belonging_mentioned (staged a before k e b) stands from old (slice_get-append before _ from old at) t owned;
   }
 
 pub worlds_can_be : LawsOfElaboration → WorldsCanBe

@@ -6,7 +6,7 @@ use Rattle.wit_data.specs.Entries.{ExportsAreAllowed, ImportsAreAllowed}
 use Rattle.wit_data.specs.Ownership.{AliasesNamed}
 use Rattle.wit_data.specs.declared.world.World.{World}
 use Rattle.wit_elaboration.specs.Elaboration.{graph_uses}
-use Rattle.wit_elaboration.specs.Imported.{HasConflict}
+use Rattle.wit_elaboration.specs.Imported.{HasTransitiveConflict}
 use Rattle.wit_elaboration.specs.Sound.{HasSoundEntries}
 use Rattle.wit_elaboration.specs.facts.SoundFacts.{lists_in_order}
 use Rattle.wit_elaboration.specs.Valid.{IsValid}
@@ -25,7 +25,7 @@ use Rattle.wit_merge_laws.specs.facts.WorldsStand.{joined_covered, joined_stands
 -- in two graphs as one no interface uses itself, and no world is in conflict
 pub record UnionCanElaborate (m : GraphMerge) : Type 0 where
   pub acyclic : IsAcyclic (graph_uses (joined_graph m))
-  pub clear : (world : World) → Contains (joined_graph m).worlds world → HasConflict (graph_uses (joined_graph m)) world.exports → ⊥
+  pub clear : (world : World) → Contains (joined_graph m).worlds world → HasTransitiveConflict (graph_uses (joined_graph m)) world.exports → ⊥
 
 module _ (m : GraphMerge) (valid : IsValid m.graph) (valid_other : IsValid m.other) (one : HasNoMismatch m) where
   abbrev g : Graph

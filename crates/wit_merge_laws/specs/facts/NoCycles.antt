@@ -19,7 +19,7 @@ use Rattle.wit_data.specs.declared.world.World.{World}
 use Rattle.wit_elaboration.specs.Elaboration.{graph_uses}
 use Rattle.wit_elaboration.specs.laws.ElaborationLaws.{ConflictsAreRefused}
 use Rattle.wit_graph_data.specs.IdText.{id_text, interface_id_at, interface_id_text, key_text}
-use Rattle.wit_elaboration.specs.Imported.{HasConflict}
+use Rattle.wit_elaboration.specs.Imported.{HasTransitiveConflict}
 use Rattle.wit_elaboration.specs.facts.SoundFacts.{named_within}
 use Rattle.wit_elaboration.specs.Valid.{IsValid}
 use Rattle.wit_graph_data.specs.declared.cause.Cause.TheVariants as cause
@@ -170,7 +170,7 @@ module _ (m : GraphMerge) (valid : IsValid m.graph) (valid_other : IsValid m.oth
   }
 
   -- no world is in conflict
-  joined_clear : ConflictsAreRefused → (world : World) → Contains joined.worlds world → HasConflict uses world.exports → ⊥
+  joined_clear : ConflictsAreRefused → (world : World) → Contains joined.worlds world → HasTransitiveConflict uses world.exports → ⊥
   joined_clear refused world there conflict =
       let place = place_of joined.worlds world there in
       let k = (refused joined.types uses world.imports world.exports joined_uses_acyclic (in_order m valid valid_other one place.0 world place.1)).0 conflict in

@@ -10,7 +10,7 @@ use Rattle.wit_data.specs.declared.stability.Stability.{Stability}
 use Rattle.wit_data.specs.declared.world.World.{World}
 use Rattle.wit_elaboration.specs.Elaboration.{graph_uses}
 use Rattle.wit_elaboration.specs.examples.Examples.{empty_graph}
-use Rattle.wit_elaboration.specs.Imported.{HasConflict}
+use Rattle.wit_elaboration.specs.Imported.{HasTransitiveConflict}
 use Rattle.wit_elaboration.specs.Valid.{IsValid}
 use Rattle.wit_graph_data.specs.declared.graph.Graph.{Graph}
 use Rattle.wit_graph_theory.specs.AllElaborated.{all_elaborated, elaborated_world, graph_package_uses}
@@ -55,7 +55,7 @@ no_first : (before : List TypePair) (pair : TypePair) (after : List TypePair) �
 no_first [] pair after same = cc
 no_first (p ∷ before) pair after same = cc
 
-clear : (g : Graph) → IsValid g → (world : World) → Contains g.worlds world → HasConflict (graph_uses g) world.exports → ⊥
+clear : (g : Graph) → IsValid g → (world : World) → Contains g.worlds world → HasTransitiveConflict (graph_uses g) world.exports → ⊥
 clear g valid world there conflict = let place = place_of g.worlds world there in (valid.canonical place.0 world place.1).no_conflict conflict
 
 no_cycle : (rows : List (List ℕ)) → IsAcyclic rows → (p q : ℕ) → IsOnCycle rows p q → ⊥
@@ -81,7 +81,7 @@ module _ (g : Graph) (offset : ℕ) (valid : IsValid g) where
   none_differ message (differ.types text first) = no_first first.before first.pair first.after first.pairs_are
 
   pub nothing_speaks : MergeIsAccepted m
-  nothing_speaks error (conflict_4 span name one is) = so (λ h. (world : World) → Contains h.worlds world → HasConflict (graph_uses h) world.exports → ⊥) (clear g valid) is.world is.there is.conflict
+  nothing_speaks error (conflict_4 span name one is) = so (λ h. (world : World) → Contains h.worlds world → HasTransitiveConflict (graph_uses h) world.exports → ⊥) (clear g valid) is.world is.there is.conflict
   nothing_speaks error (package_cycle_6 home one is) = no_cycle (graph_package_uses (joined_graph m)) (so (λ h. IsAcyclic (graph_package_uses h)) valid.no_cycles.packages) is.p is.q is.on_cycle
   nothing_speaks error (mismatch_8 from into is) = none_joined from into is.joined
   nothing_speaks error (borrow_in_result_15 message one is) = Contains-nil is.moved

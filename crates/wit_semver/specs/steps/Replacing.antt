@@ -3,6 +3,7 @@ use Rattle.std.specs.Prelude.{◌≡◌, ℕ, Bool, false, true, List, get_or, l
 use Rattle.std.specs.List.{enumerate_from, list_any}
 use Rattle.std.specs.Map.{lookup}
 use Rattle.std.specs.Option.{option_map, option_map_or}
+use Rattle.wit_data.specs.Uses.{type_interface_dep}
 use Rattle.wit_data.specs.declared.interface.Interface.{Interface}
 use Rattle.wit_data.specs.declared.track.TrackRule.{TrackRule}
 use Rattle.wit_data.specs.declared.types.TypeDef.{TypeDef}
@@ -10,8 +11,8 @@ use Rattle.wit_data.specs.declared.world.World.{World}
 use Rattle.wit_elaboration.specs.Entries.{Entry}
 use Rattle.wit_graph_data.specs.declared.graph.Graph.{Graph}
 use Rattle.wit_graph_theory.specs.FunctionMismatch.{HaveFunctionMismatch}
-use Rattle.wit_semver_spec.specs.Rewritten.{interface_type, replaced_use, retargeted, target_name, with_new_entries_at}
-use Rattle.wit_semver_spec.specs.TrackCause.{Disagrees, IsComplete, disagreement_text, missing_text, upgrade_message}
+use Rattle.wit_semver_spec.specs.Rewritten.{interface_type, retargeted, with_new_entries_at}
+use Rattle.wit_semver_spec.specs.TrackCause.{Disagrees, IsComplete, disagreement_text, missing_text, target_name, upgrade_message}
 use Rattle.wit_semver_spec.specs.Tracks.{Upgrade, Versioned, both, is_below, is_replaced, newest, track_key, versioned}
 use Rattle.wit_semver.specs.contracts.tracks.TrackKeyPartialEq.TheImpl.{eq-value}
 use Rattle.wit_semver.specs.declared.tracks.TrackKey.{TrackKey}
@@ -82,7 +83,12 @@ IsUpgradeReady a = AreReplacements (upgrade_of a) a.replaced
 abbrev pub name_used : List TypeDef → ℕ → Option (List ℕ)
 name_used types t = option_and_then (target_name types) (slice_get types t)
 
--- what type t names after the rewriting, if it follows
+-- the replaced interface that type t uses: it is an alias of a type of that interface, which doesn't own t itself
+abbrev pub replaced_use : Upgrade → ℕ → Option ℕ
+replaced_use u t = option_and_then (λ f. if is_replaced u f then Some f else None) (type_interface_dep u.graph.types t)
+
+-- what type t comes to name, if it may be rewritten: the newest's type of the name of what it names, if it uses a
+-- replaced interface
 abbrev pub used_target : Upgrade → ℕ → Option ℕ
 used_target u t = option_and_then (λ f. option_and_then (interface_type u.graph.interfaces (newest u f)) (name_used u.graph.types t)) (replaced_use u t)
 

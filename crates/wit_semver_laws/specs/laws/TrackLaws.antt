@@ -4,7 +4,7 @@ use Rattle.std.specs.Map.{keys_of}
 use Rattle.std.specs.declared.cmp.Ordering.TheVariants.{Greater}
 use Rattle.wit_values.specs.Version.{version_cmp}
 use Rattle.wit_data.specs.Each.{EachAt, SomeAt}
-use Rattle.wit_data.specs.Uses.{alias_target}
+use Rattle.wit_data.specs.Uses.{alias_target, type_interface_dep}
 use Rattle.wit_data.specs.declared.track.TrackRule.{TrackRule}
 use Rattle.wit_data.specs.declared.types.TypeDef.{TypeDef}
 use Rattle.wit_data.specs.declared.world.World.{World}
@@ -15,9 +15,9 @@ use Rattle.wit_elaboration.specs.Entries.{keyed_interfaces}
 use Rattle.wit_elaboration.specs.laws.KeptByElaboration.{labelled}
 use Rattle.wit_elaboration.specs.Valid.{IsValid}
 use Rattle.wit_graph_data.specs.declared.graph.Graph.{Graph}
-use Rattle.wit_semver_spec.specs.Rewritten.{interface_type, replaced_use, rewritable_types, rewritten, target_name, with_new_entries}
+use Rattle.wit_semver_spec.specs.Rewritten.{interface_type, rewritable_types, rewritten, with_new_entries}
 use Rattle.wit_semver_spec.specs.laws.Unchanged.{SameButLists, SameButTarget}
-use Rattle.wit_semver_spec.specs.TrackCause.{SemverMergeIsAccepted}
+use Rattle.wit_semver_spec.specs.TrackCause.{SemverMergeIsAccepted, target_name}
 use Rattle.wit_semver_spec.specs.Tracks.{Upgrade, Versioned, are_on_one_track, imported, is_replaced, newest, versioned}
 
 -- what stands for a replaced interface is an import on its track, which stays, and no import there is of a greater
@@ -86,9 +86,9 @@ abbrev pub AliasesKeepNames : Type 0
 AliasesKeepNames = (rule : TrackRule) (g : Graph) (w : ℕ) → IsValid g
     → EachAt (λ t (def : TypeDef). SomeAt (rewritten rule g w).types t (λ (new : TypeDef). target_name (rewritten rule g w).types new ≡ target_name g.types def)) g.types
 
--- and each alias that follows and uses a replaced interface f comes to name the type of the newest that has the name of
--- what it named
+-- each alias that may be rewritten and names a type of a replaced interface f, not its own owner, comes to name the type
+-- of the newest that has the name of what it named
 abbrev pub AliasesNameNewest : Type 0
 AliasesNameNewest = (u : Upgrade) (w t f : ℕ) (def : TypeDef) → IsValid u.graph → slice_get u.graph.worlds w ≡ Some u.world → SemverMergeIsAccepted u.rule u.graph w
-    → Contains (rewritable_types u) t → replaced_use u t ≡ Some f → slice_get u.graph.types t ≡ Some def
+    → Contains (rewritable_types u) t → type_interface_dep u.graph.types t ≡ Some f → is_replaced u f ≡ true → slice_get u.graph.types t ≡ Some def
     → SomeAt (rewritten u.rule u.graph w).types t (λ (new : TypeDef). (name : List ℕ) × (s : ℕ) × (target_name u.graph.types def ≡ Some name) × (interface_type u.graph.interfaces (newest u f) name ≡ Some s) × (alias_target new.kind ≡ Some s))

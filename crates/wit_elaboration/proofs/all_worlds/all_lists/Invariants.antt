@@ -1,6 +1,6 @@
 use Rattle.std.proofs.Common.{◌≡◌, take}
 use Rattle.wit_elaboration.specs.Elaboration.{graph_uses}
-use Rattle.wit_elaboration.specs.Imported.{HasConflict}
+use Rattle.wit_elaboration.specs.Imported.{HasTransitiveConflict}
 use Rattle.wit_data.specs.facts.EachFacts.{EachBelow}
 use Rattle.wit_data.specs.declared.world.World.{World}
 use Rattle.wit_elaboration.specs.AllWorlds.{AreListsOf}
@@ -10,6 +10,6 @@ use Rattle.wit_elaboration.proofs.all_worlds.all_lists.Given as goal
 abbrev pub invariant-loop-index : goal.invariant-loop-index
 invariant-loop-index l = record {
   lists : AreListsOf l.graph (take l.index l.graph.worlds) l.all;
-  no_conflict : EachBelow l.index (λ _ (world : World). HasConflict (graph_uses l.graph) world.exports → ⊥) l.graph.worlds;
+  no_conflict : EachBelow l.index (λ _ (world : World). HasTransitiveConflict (graph_uses l.graph) world.exports → ⊥) l.graph.worlds;
   same : l.elaborator ≡ graph_uses l.graph;
 }

@@ -9,7 +9,7 @@ use Rattle.wit_labels.specs.Rename.{renamed_label}
 use Rattle.wit_link_spec.specs.Include.{belongs_to, copy_maps, interface_copy, is_copied, type_copy}
 use Rattle.wit_remap.specs.Grown.{Grown}
 use Rattle.wit_remap.specs.facts.GrownFacts.{Grown-same}
-use Rattle.wit_link_include.specs.steps.Copied.{NamesThere, goes, numbered, places, with_images}
+use Rattle.wit_link_include.specs.steps.Copied.{NamesBelonging, NamesThere, goes, numbered, places, with_images}
 use Rattle.wit_link_include.proofs.RisingIds.{numbered-keys}
 use Rattle.wit_link_include.proofs.Standing.{copied_there, goes_there, keys_there, some_there}
 use Rattle.wit_link_include.proofs.SelectedIndices.{goes_where, told_where}
@@ -57,6 +57,10 @@ copied_types-requires-clause-belonging_interfaces c =
 pub copied_types-requires-clause-named : goal.copied_types-requires-clause-named
 copied_types-requires-clause-named c =
     subst (λ (x : Graph). (world : World) → slice_get x.worlds c.args.from ≡ Some world → NamesThere x world) (sym c.in_ok-interfaces.ensures.same) c.requires.named
+
+pub copied_types-requires-clause-belonging : goal.copied_types-requires-clause-belonging
+copied_types-requires-clause-belonging c =
+    subst (λ (x : Graph). (world : World) → slice_get x.worlds c.args.from ≡ Some world → NamesBelonging x c.args.from world) (sym c.in_ok-interfaces.ensures.same) c.requires.belonging
 
 pub append_copies-requires-clause-types : goal.append_copies-requires-clause-types
 append_copies-requires-clause-types c =

@@ -22,5 +22,5 @@ returns-clause-places c =
     c.in_ok-known.ensures t ∙ ap (λ (roots : List ℕ). known_of o roots t) (c.as_slice.ensures ∙ c.in_ok-roots.ensures) in
     if_ok_both (λ (ids : List ℕ). IsStrictlySortedBy nat_cmp ids) (λ (ids : List ℕ). (t : ℕ) → list_any (nat_eq t) ids ≡ list_any (nat_eq t) c.in_ok-those_leading.field-0) (λ (ids : List ℕ). ids ≡ places kept o.graph.now.types)
     (λ ids rising members. are_places kept o.graph.now.types (copied_there o.graph.now o.id o.world.now) ids rising
-    (λ t. members t ∙ (c.in_ok-those_leading.ensures t ∙ said_is_copied o c.requires.acyclic c.requires.apart c.requires.named c.in_ok-known.known known t)))
+    (λ t. members t ∙ (c.in_ok-those_leading.ensures t ∙ said_is_copied o c.requires.acyclic c.requires.apart c.requires.named c.requires.belonging c.in_ok-known.known known t)))
     c.in_order.result c.in_order.ensures.rising c.in_order.ensures.members

@@ -39,6 +39,9 @@ returns-in_err-check_names-clause-cause c =
 pub add_copies-requires-clause-named : goal.add_copies-requires-clause-named
 add_copies-requires-clause-named c = λ (old : World) at. names_there c.args.graph.now c.args.include.now.id old (c.requires.can old at)
 
+pub add_copies-requires-clause-belonging : goal.add_copies-requires-clause-belonging
+add_copies-requires-clause-belonging c = λ (old : World) at. (c.requires.can old at).belonging
+
 pub add_copies-requires-clause-apart : goal.add_copies-requires-clause-apart
 add_copies-requires-clause-apart c = λ (old : World) at. stay_apart c.args.graph.now c.args.include.now.id old (c.requires.can old at)
 

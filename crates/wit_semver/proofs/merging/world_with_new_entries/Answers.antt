@@ -99,5 +99,5 @@ returns-clause-ok c =
       agree = λ message differ. c.in_ok-check_functions.ensures.agree message (subst (λ (x : Upgrade). Disagrees x message) (sym of) differ);
       is =
           c.in_ok-with_new_entries.ensures ∙ ap (λ (es : List Entry). with_lists g c.args.world es targets) (imports_are c.args.rule g c.args.world world there v of imports stay ids are)
-          ∙ relisted_is (upgrade c.args.rule g world) targets (filled c.args.rule g c.args.world world there v of imports stay ids are targets c.in_ok-targets.ensures.ok) c.args.world there;
+          ∙ relisted_is (upgrade c.args.rule g world) c.requires.valid targets (filled c.args.rule g c.args.world world there v of imports stay ids are targets c.in_ok-targets.ensures.ok) c.args.world there;
     }

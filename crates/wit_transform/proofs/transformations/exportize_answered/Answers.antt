@@ -4,7 +4,7 @@ use Rattle.wit_data.specs.declared.world.World.{World}
 use Rattle.wit_graph_data.specs.facts.ResultFacts.{residual_error}
 use Rattle.wit_elaboration.specs.Elaboration.{graph_uses}
 use Rattle.wit_elaboration.specs.Entries.{Entry}
-use Rattle.wit_elaboration.specs.Imported.{HasConflict}
+use Rattle.wit_elaboration.specs.Imported.{HasTransitiveConflict}
 use Rattle.wit_elaboration.specs.Sound.{HasSoundEntries}
 use Rattle.wit_elaboration.specs.Valid.{IsValid}
 use Rattle.wit_graph_data.specs.declared.error_kind.ResolveErrorKind.{ResolveErrorKind}
@@ -79,7 +79,7 @@ returns-clause-refuses c =
     let same : named.0 ≡ c.at.result.now = same_at c.args.graph.now.worlds c.args.world c.args.world named.0 c.at.result.now refl named.1 there in
     let name : c.in_ok-name.name ≡ (exportized c.args.answers.now out c.at.result.now).name = named.2 ∙ ap (λ (x : World). (exportized c.args.answers.now out x).name) same in
     exportize_clear c.args.graph.now c.args.world c.at.result.now c.args.answers.now out there (subst (NameIsFreeAt c.args.graph.now c.args.world) name c.in_ok-name.ensures.free) c.in_ok-lists.ensures.no_type
-    (λ conflict. c.in_ok-transform.ensures.no_conflict (subst (λ (es : List Entry). HasConflict (graph_uses c.args.graph.now) es) (sym c.in_ok-lists.ensures.exports) conflict)) error cause
+    (λ conflict. c.in_ok-transform.ensures.no_conflict (subst (λ (es : List Entry). HasTransitiveConflict (graph_uses c.args.graph.now) es) (sym c.in_ok-lists.ensures.exports) conflict)) error cause
 
 pub returns-clause-valid : goal.returns-clause-valid
 returns-clause-valid c =
@@ -96,4 +96,4 @@ returns-clause-valid c =
     (c.exportized_stay_valid.ensures c.args.graph.now c.args.world c.args.answers.now out c.requires.valid c.requires.answers
     (λ error cause.
     exportize_clear c.args.graph.now c.args.world c.at.result.now c.args.answers.now out there (subst (NameIsFreeAt c.args.graph.now c.args.world) name c.in_ok-name.ensures.free) c.in_ok-lists.ensures.no_type
-    (λ conflict. c.in_ok-transform.ensures.no_conflict (subst (λ (es : List Entry). HasConflict (graph_uses c.args.graph.now) es) (sym c.in_ok-lists.ensures.exports) conflict)) error cause))
+    (λ conflict. c.in_ok-transform.ensures.no_conflict (subst (λ (es : List Entry). HasTransitiveConflict (graph_uses c.args.graph.now) es) (sym c.in_ok-lists.ensures.exports) conflict)) error cause))

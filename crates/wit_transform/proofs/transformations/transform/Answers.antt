@@ -2,7 +2,7 @@ use Rattle.std.proofs.Common.{◌≡◌, ◌∙◌, ◌⊎◌, ℕ, Some, slice_
 use Rattle.wit_data.specs.declared.world.World.{World}
 use Rattle.wit_graph_data.specs.facts.ResultFacts.{residual_error}
 use Rattle.wit_elaboration.specs.Elaboration.{IsConflictError, graph_uses}
-use Rattle.wit_elaboration.specs.Imported.{HasConflict}
+use Rattle.wit_elaboration.specs.Imported.{HasTransitiveConflict}
 use Rattle.wit_graph_data.specs.declared.error_kind.ResolveErrorKind.{ResolveErrorKind}
 use Rattle.wit_graph_data.specs.declared.error_kind.ResolveErrorKind.TheVariants.{OutOfMemory}
 use Rattle.wit_transform.proofs.TransformSteps.{conflict_told, within_of}
@@ -34,4 +34,4 @@ put-requires-clause-world c = within_of c.args.graph.now c.args.world c.requires
 
 pub returns-clause-no_conflict : goal.returns-clause-no_conflict
 returns-clause-no_conflict c =
-    λ conflict. c.in_ok-transformed.ensures.no_conflict (subst (λ (x : World). HasConflict (graph_uses c.args.graph.now) x.exports) (sym c.in_ok-listed.ensures) conflict)
+    λ conflict. c.in_ok-transformed.ensures.no_conflict (subst (λ (x : World). HasTransitiveConflict (graph_uses c.args.graph.now) x.exports) (sym c.in_ok-listed.ensures) conflict)

@@ -2,7 +2,7 @@ use Rattle.std.proofs.Common.{◌≡◌, ◌∙◌, sym, subst, ℕ, List, lengt
 use Rattle.wit_digraph.specs.Relation.{IsAcyclic}
 use Rattle.wit_elaboration.specs.steps.Elaborating.{IsFirstConflict}
 use Rattle.wit_elaboration.specs.Elaboration.{graph_uses}
-use Rattle.wit_elaboration.specs.Imported.{HasConflict}
+use Rattle.wit_elaboration.specs.Imported.{HasTransitiveConflict}
 use Rattle.wit_elaboration.proofs.Refusing.{below_from_get, conflict_cause, interfaces_in_range, keys_in_range, listed_over, none_found}
 use Rattle.wit_elaboration.proofs.ElaboratedIs.{own_keys}
 use Rattle.wit_elaboration.proofs.Roles.{in_order}
@@ -41,7 +41,7 @@ returns-in_ok-conflict_error-in-Some-clause-cause c =
 pub returns-in_ok-lists_of-in-None-clause-no_conflict : goal.returns-in_ok-lists_of-in-None-clause-no_conflict
 returns-in_ok-lists_of-in-None-clause-no_conflict c =
     let uses : c.as_slice-uses.result.now ≡ graph_uses c.args.graph.now = c.as_slice-uses.ensures ∙ c.self.view_is ∙ c.requires.uses in
-    subst (λ (us : List (List ℕ)). HasConflict us c.args.world.now.exports → ⊥) uses
+    subst (λ (us : List (List ℕ)). HasTransitiveConflict us c.args.world.now.exports → ⊥) uses
     (none_found c.as_slice-uses.result.now c.args.world.now.exports (subst (IsFirstConflict c.as_slice-uses.result.now c.args.world.now.exports) c.in-None.is c.in_ok-found.ensures.found))
 
 pub find_refused-requires-clause-own : goal.find_refused-requires-clause-own
