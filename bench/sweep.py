@@ -34,6 +34,8 @@ import sys
 import tempfile
 import time
 
+from model.scripts import COMMANDS, SILENT
+
 BENCH = os.path.dirname(os.path.abspath(__file__))
 TOP = os.path.dirname(BENCH)
 WANT = "refused 28 out of memory"
@@ -216,17 +218,13 @@ class Calls:
 
 # ---- scripts
 
-SILENT = ("feature", "all-features", "other", "tracks")
-TALKS = ("push", "merge", "importize", "exportize", "semver", "print", "select")
-
-
 def commands_of(script):
     """The commands of a script, each as its word and its text."""
     commands, text = [], ""
     for line in script.splitlines(keepends=True):
         text += line
         word = (line.split() or [""])[0]
-        if word in SILENT + TALKS:
+        if word in COMMANDS:
             commands.append((word, text))
             text = ""
     return commands

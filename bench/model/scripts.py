@@ -21,6 +21,8 @@ COMMANDS = {
     "other": (0, 0),
     "merge": (0, 0),
 }
+# that print nothing where they are carried out
+SILENT = {"feature", "all-features", "tracks", "other"}
 # whose first word is the name of a package
 OF_PACKAGES = {"importize", "exportize", "print", "select", "semver"}
 

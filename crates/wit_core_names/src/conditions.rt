@@ -11,7 +11,8 @@ use crate::import::{FutureIntrinsic, ResourceIntrinsic, StreamIntrinsic, WasmImp
 use std::alloc::Global;
 use wit_data::{Function, LiftLowerAbi, ManglingAndAbi, TypeId, WorldKey};
 use wit_graph_data::{Graph, ResolveResult};
-use wit_queries::{holds_future_or_stream, named_interface};
+use wit_queries::entries::named_interface;
+use wit_queries::futures::holds_future_or_stream;
 
 fn key_has_name(graph: &Graph, key: &WorldKey) -> bool
     ensures { result ≡ key_has_name graph.now.interfaces key.now }

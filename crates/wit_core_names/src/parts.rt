@@ -9,7 +9,7 @@ use crate::import::{FutureIntrinsic, ResourceIntrinsic, StreamIntrinsic};
 use std::alloc::Global;
 use wit_data::{Function, LiftLowerAbi, TypeId};
 use wit_graph_data::{Graph, ResolveResult};
-use wit_queries::find_futures_and_streams;
+use wit_queries::futures::find_futures_and_streams;
 
 /// What stands before the name of what is imported.
 pub(crate) fn import_prefix(abi: LiftLowerAbi) -> &'static str

@@ -12,7 +12,7 @@ use crate::parts::resource_name;
 use std::alloc::Global;
 use wit_data::{TypeId, WorldKey};
 use wit_graph_data::{Graph, ResolveResult};
-use wit_queries::name_canonicalized_world_key;
+use wit_queries::canonical::name_canonicalized_world_key;
 
 /// The canonical name of an interface's key, empty without an interface.
 fn standard_key(

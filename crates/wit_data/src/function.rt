@@ -1,6 +1,7 @@
 //! Functions.
 ghost use Rattle.std.specs.Prelude.{◌≡◌};
 ghost use Rattle.wit_data.specs.Function.{resource_of, accessor_of};
+ghost use Rattle.wit_data.specs.New.{new_function};
 
 use crate::ids::TypeId;
 use crate::stability::{Docs, Stability};
@@ -116,6 +117,30 @@ pub struct Function {
     pub stability: Stability,
     pub span: Span,
     pub external_id: Option<Text>,
+}
+
+impl Function {
+    /// A function of which nothing more is said: without docs, gate and external id, with an unknown span. It takes no
+    /// memory.
+    pub fn new(
+        name: Text,
+        kind: FunctionKind,
+        params: Items<Param>,
+        result_: Option<Type_>,
+    ) -> Function
+        ensures { result ≡ new_function name kind params result_ }
+    {
+        Function {
+            name,
+            kind,
+            params,
+            result_,
+            docs: Docs::none(),
+            stability: Stability::Unknown,
+            span: Span::unknown(),
+            external_id: None,
+        }
+    }
 }
 
 /// As the derived one: each field is let go. A call of it costs the check less than a derived one,

@@ -1,8 +1,11 @@
 //! Interfaces.
+ghost use Rattle.std.specs.Prelude.{◌≡◌};
+ghost use Rattle.wit_data.specs.New.{new_interface};
+
 use crate::function::Function;
 use crate::ids::{PackageId, TypeId};
 use crate::stability::{Docs, Stability};
-use std::alloc::AllocError;
+use std::alloc::{AllocError, Global};
 use wit_sources::Span;
 use wit_values::{Names, Text, TryClone, try_clone_three, try_clone_two};
 
@@ -19,6 +22,24 @@ pub struct Interface {
     /// The package that it belongs to, None in an unresolved package.
     pub package: Option<PackageId>,
     pub span: Span,
+}
+
+impl Interface {
+    /// An interface without types and functions, of which nothing more is said: without docs, gate and package, with an
+    /// unknown span. It takes no memory.
+    pub fn new(alloc: Global, name: Option<Text>) -> Interface
+        ensures { result ≡ new_interface name }
+    {
+        Interface {
+            name,
+            types: Names::new(alloc),
+            functions: Names::new(alloc),
+            docs: Docs::none(),
+            stability: Stability::Unknown,
+            package: None,
+            span: Span::unknown(),
+        }
+    }
 }
 
 /// As the derived one: each field is let go. A call of it costs the check less than a derived one,

@@ -1,4 +1,7 @@
 //! Types.
+ghost use Rattle.std.specs.Prelude.{◌≡◌};
+ghost use Rattle.wit_data.specs.New.{new_type};
+
 use crate::ids::{InterfaceId, TypeId, WorldId};
 use crate::stability::{Docs, Stability};
 use std::alloc::AllocError;
@@ -222,6 +225,24 @@ pub struct TypeDef {
     pub stability: Stability,
     pub span: Span,
     pub external_id: Option<Text>,
+}
+
+impl TypeDef {
+    /// A type of which nothing more is said: without docs, gate and external id, with an unknown span. It takes no
+    /// memory.
+    pub fn new(name: Option<Text>, kind: TypeDefKind, owner: TypeOwner) -> TypeDef
+        ensures { result ≡ new_type name kind owner }
+    {
+        TypeDef {
+            name,
+            kind,
+            owner,
+            docs: Docs::none(),
+            stability: Stability::Unknown,
+            span: Span::unknown(),
+            external_id: None,
+        }
+    }
 }
 
 /// As the derived one: each field is let go. A call of it costs the check less than a derived one,

@@ -1,8 +1,11 @@
 //! Worlds.
+ghost use Rattle.std.specs.Prelude.{◌≡◌};
+ghost use Rattle.wit_data.specs.New.{new_interface_entry, new_world};
+
 use crate::function::Function;
 use crate::ids::{InterfaceId, PackageId, TypeId, WorldId};
 use crate::stability::{Docs, Stability};
-use std::alloc::AllocError;
+use std::alloc::{AllocError, Global};
 use wit_sources::Span;
 use wit_values::{Items, Table, Text, TryClone, try_clone_six, try_clone_three, try_clone_two};
 
@@ -42,6 +45,21 @@ pub enum WorldItem {
         id: TypeId,
         span: Span,
     },
+}
+
+impl WorldItem {
+    /// The entry of an interface, without gate, docs and external id, with an unknown span. It takes no memory.
+    pub fn interface(id: InterfaceId) -> WorldItem
+        ensures { result ≡ new_interface_entry id }
+    {
+        WorldItem::Interface {
+            id,
+            stability: Stability::Unknown,
+            docs: Docs::none(),
+            span: Span::unknown(),
+            external_id: None,
+        }
+    }
 }
 
 impl TryClone for WorldItem {
@@ -125,6 +143,25 @@ pub struct World {
     /// What it includes. Empty in a graph, where includes have become entries.
     pub includes: Items<WorldInclude>,
     pub span: Span,
+}
+
+impl World {
+    /// A world without entries and includes, of which nothing more is said: without docs, gate and package, with an
+    /// unknown span. It takes no memory.
+    pub fn new(alloc: Global, name: Text) -> World
+        ensures { result ≡ new_world name }
+    {
+        World {
+            name,
+            imports: Table::new(alloc),
+            exports: Table::new(alloc),
+            docs: Docs::none(),
+            stability: Stability::Unknown,
+            package: None,
+            includes: Items::new(alloc),
+            span: Span::unknown(),
+        }
+    }
 }
 
 /// As the derived one: each field is let go. A call of it costs the check less than a derived one,

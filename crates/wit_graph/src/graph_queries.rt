@@ -12,7 +12,9 @@ ghost use Rattle.wit_graph_data.specs.declared.graph.Graph.{Graph};
 use std::alloc::Global;
 use wit_data::{Function, InterfaceId, PackageId, TypeId, WorldKey};
 use wit_graph_data::{Graph, ResolveResult};
-use wit_queries::{InterfaceDirectDeps, PackageDirectDeps};
+use wit_queries::interface_deps::InterfaceDirectDeps;
+use wit_queries::package_deps::PackageDirectDeps;
+use wit_queries::{canonical, futures, interface_deps, package_deps};
 
 /// What is asked of a graph whose ids are in range, whose interfaces are of packages that are there, and in which
 /// nothing depends on itself, as in a valid one. All ids are the graph's.
@@ -102,19 +104,19 @@ impl GraphQueries for Graph {
     }
 
     fn interface_direct_deps(&self, id: InterfaceId) -> InterfaceDirectDeps<'_> {
-        wit_queries::interface_direct_deps(self, id)
+        interface_deps::interface_direct_deps(self, id)
     }
 
     fn package_direct_deps(&self, id: PackageId) -> PackageDirectDeps<'_> {
-        wit_queries::package_direct_deps(self, id)
+        package_deps::package_direct_deps(self, id)
     }
 
     fn topological_packages(&self, alloc: Global) -> ResolveResult<Vec<PackageId>> {
-        wit_queries::topological_packages(alloc, self)
+        package_deps::topological_packages(alloc, self)
     }
 
     fn canonicalized_id_of(&self, alloc: Global, id: InterfaceId) -> ResolveResult<Option<String>> {
-        wit_queries::canonicalized_id_of(alloc, self, id)
+        canonical::canonicalized_id_of(alloc, self, id)
     }
 
     fn canonicalized_id_of_name(
@@ -123,11 +125,11 @@ impl GraphQueries for Graph {
         package: PackageId,
         name: &str,
     ) -> ResolveResult<String> {
-        wit_queries::canonicalized_id_of_name(alloc, self, package, name)
+        canonical::canonicalized_id_of_name(alloc, self, package, name)
     }
 
     fn name_canonicalized_world_key(&self, alloc: Global, key: &WorldKey) -> ResolveResult<String> {
-        wit_queries::name_canonicalized_world_key(alloc, self, key)
+        canonical::name_canonicalized_world_key(alloc, self, key)
     }
 
     fn find_futures_and_streams(
@@ -135,6 +137,6 @@ impl GraphQueries for Graph {
         alloc: Global,
         function: &Function,
     ) -> ResolveResult<Vec<TypeId>> {
-        wit_queries::find_futures_and_streams(alloc, self, function)
+        futures::find_futures_and_streams(alloc, self, function)
     }
 }

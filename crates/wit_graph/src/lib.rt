@@ -1,10 +1,11 @@
 //! The graph of WIT packages: five lists of plain data in which each name has become a typed number, its errors with
 //! their numbers and texts, canonical worlds, and what is asked of a graph.
 //!
-//! [`Graph`] has public fields; its own methods `id_of`, `id_of_name` and `name_world_key` give id texts, and
-//! [`GraphQueries`] has the other questions. [`elaborate`] makes a world canonical, [`rows`] has what interfaces reach
-//! and makes all worlds canonical, [`is_valid`] tells whether a graph is valid, as the graph of each `Resolve` is. A
-//! [`ResolveError`] has a number and fields of its kind, and renders itself with its line of the sources.
+//! [`Graph`] has public fields; its own methods `id_of`, `id_of_name` and `name_world_key` give id texts, [`queries`] has
+//! the other questions as functions, and [`GraphQueries`] has them as methods. [`elaborate`] makes a world canonical,
+//! [`rows`] has what interfaces reach and makes all worlds canonical, [`is_valid`] tells whether a graph is valid, as the
+//! graph of each `Resolve` is. A [`ResolveError`] has a number and fields of its kind, and renders itself with its line of
+//! the sources.
 //!
 //! ```text
 //! use wit_graph::{Graph, GraphQueries, ResolveResult};
@@ -27,10 +28,11 @@ pub use wit_elaboration::{elaborate, is_elaborable, rows};
 pub use wit_graph_data::{
     Cause, Features, Graph, Package, ResolveError, ResolveErrorKind, ResolveResult,
 };
-pub use wit_queries::{
-    InterfaceDirectDeps, PackageDirectDeps, external_id_value, implements_interface,
-    version_suffix_of,
-};
+pub use wit_queries as queries;
+pub use wit_queries::canonical::version_suffix_of;
+pub use wit_queries::entries::{external_id_value, implements_interface};
+pub use wit_queries::interface_deps::InterfaceDirectDeps;
+pub use wit_queries::package_deps::PackageDirectDeps;
 pub use wit_selection::select_world;
 pub use wit_validity::is_valid;
 pub use wit_values::NameSet;

@@ -97,15 +97,7 @@ pub fn type_def(
     kind: TypeDefKind,
     owner: TypeOwner,
 ) -> TypeDef {
-    TypeDef {
-        name: text_or_none(rt, alloc, name),
-        kind,
-        owner,
-        docs: Docs::none(),
-        stability: Stability::Unknown,
-        span: Span::unknown(),
-        external_id: None,
-    }
+    TypeDef::new(text_or_none(rt, alloc, name), kind, owner)
 }
 
 /// A function with one parameter and no result.
@@ -122,16 +114,7 @@ pub fn function(
         span: Span::unknown(),
     };
     let params = one(rt, alloc, param);
-    Function {
-        name: text(rt, alloc, name),
-        kind,
-        params,
-        result_: None,
-        docs: Docs::none(),
-        stability: Stability::Unknown,
-        span: Span::unknown(),
-        external_id: None,
-    }
+    Function::new(text(rt, alloc, name), kind, params, None)
 }
 
 /// Types under names.
@@ -156,15 +139,11 @@ pub fn interface(
 ) -> Interface {
     let name = text_or_none(rt, alloc, name);
     let types = listed_types(rt, alloc, types);
-    Interface {
-        name,
-        types,
-        functions,
-        docs: Docs::none(),
-        stability: Stability::Unknown,
-        package,
-        span: Span::unknown(),
-    }
+    let mut interface = Interface::new(alloc, name);
+    interface.types = types;
+    interface.functions = functions;
+    interface.package = package;
+    interface
 }
 
 pub fn world(
@@ -176,16 +155,11 @@ pub fn world(
     includes: Items<WorldInclude>,
 ) -> World {
     let name = text(rt, alloc, name);
-    World {
-        name,
-        imports,
-        exports,
-        docs: Docs::none(),
-        stability: Stability::Unknown,
-        package: None,
-        includes,
-        span: Span::unknown(),
-    }
+    let mut world = World::new(alloc, name);
+    world.imports = imports;
+    world.exports = exports;
+    world.includes = includes;
+    world
 }
 
 /// The entry of an interface without docs and gates.

@@ -12,7 +12,7 @@ ghost use Rattle.wit_link_resources.specs.steps.Leading.{AreRight};
 use crate::asked::asked;
 use crate::leading::{leading, wanted};
 use std::alloc::{AllocError, Global};
-use wit_data::{Docs, Handle, Items, Span, Stability, TypeDef, TypeDefKind, TypeId, TypeOwner};
+use wit_data::{Handle, Items, TypeDef, TypeDefKind, TypeId, TypeOwner};
 use wit_link_spec::{Activity, AdditionRef, NewIds, Values};
 use wit_values::Table;
 
@@ -134,13 +134,5 @@ pub fn type_place(places: &NewIds, place: usize) -> TypeId
 pub fn own_of(id: TypeId) -> TypeDef
     ensures { result ≡ own_of id }
 {
-    TypeDef {
-        name: None,
-        kind: TypeDefKind::Handle(Handle::Own(id)),
-        owner: TypeOwner::None,
-        docs: Docs::none(),
-        stability: Stability::Unknown,
-        span: Span::unknown(),
-        external_id: None,
-    }
+    TypeDef::new(None, TypeDefKind::Handle(Handle::Own(id)), TypeOwner::None)
 }

@@ -5,10 +5,10 @@ use Rattle.std.specs.Prelude.{ℕ, Bool, true, false, List, [], ◌++◌, slice_
 use Rattle.std.specs.List.{flat_map, list_any}
 use Rattle.std.specs.Option.{option_map_or}
 use Rattle.wit_digraph.specs.PostOrder.{post_order}
+use Rattle.wit_data.specs.New.{new_type}
 use Rattle.wit_data.specs.Reference.{named_option, named_type, referred}
 use Rattle.wit_data.specs.declared.function.Function.{Function}
 use Rattle.wit_data.specs.declared.function.Param.{Param}
-use Rattle.wit_data.specs.declared.stability.Stability.TheVariants as stability
 use Rattle.wit_data.specs.declared.types.Handle.TheVariants.{Own}
 use Rattle.wit_data.specs.declared.types.TypeDef.{TypeDef}
 use Rattle.wit_data.specs.declared.types.TypeDefKind.{TypeDefKind}
@@ -40,12 +40,4 @@ signature_positions f = flat_map (λ (p : Param). named_type p.ty) f.params ++ n
 
 -- the unnamed `own` of a type
 abbrev pub own_of : ℕ → TypeDef
-own_of t = record {
-  name = None;
-  kind = kind.Handle (Own t);
-  owner = owner.None;
-  docs = record { contents = None };
-  stability = stability.Unknown;
-  span = None;
-  external_id = None;
-}
+own_of t = new_type None (kind.Handle (Own t)) owner.None

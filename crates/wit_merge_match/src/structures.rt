@@ -14,7 +14,7 @@ use std::alloc::{AllocError, Global};
 use wit_data::{InterfaceId, Items, Names, PackageId, Table, TypeId, WorldId, WorldItem, WorldKey};
 use wit_graph_data::Graph;
 use wit_merge_structure::Comparison;
-use wit_queries::topological_packages;
+use wit_queries::package_deps::topological_packages;
 
 impl<'a> MatchedGraphs<'a> {
     /// The first two matched types that differ in structure: those of interfaces, package by package, each after those

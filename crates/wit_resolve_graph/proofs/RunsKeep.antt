@@ -33,7 +33,7 @@ use Rattle.wit_resolve_graph.specs.State.{State}
 use Rattle.wit_resolve_graph.specs.Step.{Step, answers_at}
 use Rattle.wit_transform.specs.Transformed.{WorldLists, exportized, importized, put_last, transformed, transformed_at, transformed_world, with_renamed}
 use Rattle.wit_resolve_graph.specs.declared.command.Command.{Command}
-use Rattle.wit_resolve_graph.specs.declared.command.Command.TheVariants.{AddFeature, SetAllFeatures, SetTrackRule, PushGroups, Merge, Importize, Exportize, Semver}
+use Rattle.wit_resolve_graph.specs.declared.command.Command.TheVariants.{AddFeature, PushGroups, Merge, Importize, Exportize, Semver}
 use Rattle.wit_resolve_graph.specs.declared.command.Reply.{Reply}
 use Rattle.wit_resolve_graph.specs.declared.command.Reply.TheVariants as reply
 
@@ -253,50 +253,32 @@ same_graph old new same = subst (Keeps old.graph) (sym same) (keeps_all old.grap
 unchanged : (old new : State) → new ≡ old → Keeps old.graph new.graph
 unchanged old new same = same_graph old new (ap (λ (s : State). s.graph) same)
 
+-- the last two lines are those of each command that sets something, and leaves the graph as it is
 keeps_step : RewrittenKeep → (old : State) (command : Command) (answer : Reply) (new : State) → Step old command answer new → Keeps old.graph new.graph
-keeps_step kept old (AddFeature name) reply.Done new step = same_graph old new (ap (λ (s : State). s.graph) step)
-keeps_step kept old (AddFeature name) (reply.Pushed id) new step = absurd step
-keeps_step kept old (AddFeature name) (reply.Merged remap) new step = absurd step
-keeps_step kept old (AddFeature name) reply.NoWorld new step = absurd step
 keeps_step kept old (AddFeature name) (reply.Refused error) new step = unchanged old new step.1
-keeps_step kept old (SetAllFeatures all) reply.Done new step = same_graph old new (ap (λ (s : State). s.graph) step)
-keeps_step kept old (SetAllFeatures all) (reply.Pushed id) new step = absurd step
-keeps_step kept old (SetAllFeatures all) (reply.Merged remap) new step = absurd step
-keeps_step kept old (SetAllFeatures all) reply.NoWorld new step = absurd step
-keeps_step kept old (SetAllFeatures all) (reply.Refused error) new step = absurd step
-keeps_step kept old (SetTrackRule rule) reply.Done new step = same_graph old new (ap (λ (s : State). s.graph) step)
-keeps_step kept old (SetTrackRule rule) (reply.Pushed id) new step = absurd step
-keeps_step kept old (SetTrackRule rule) (reply.Merged remap) new step = absurd step
-keeps_step kept old (SetTrackRule rule) reply.NoWorld new step = absurd step
-keeps_step kept old (SetTrackRule rule) (reply.Refused error) new step = absurd step
-keeps_step kept old (PushGroups main deps) reply.Done new step = absurd step
 keeps_step kept old (PushGroups main deps) (reply.Pushed id) new step = keeps_pushes old.features old.graph step.sorted new.graph step.ids step.are_pushed
-keeps_step kept old (PushGroups main deps) (reply.Merged remap) new step = absurd step
-keeps_step kept old (PushGroups main deps) reply.NoWorld new step = absurd step
 keeps_step kept old (PushGroups main deps) (reply.Refused error) new step = same_graph old new step.graph
-keeps_step kept old (Merge other) reply.Done new step = absurd step
-keeps_step kept old (Merge other) (reply.Pushed id) new step = absurd step
+keeps_step kept old (PushGroups main deps) _ new step = absurd step
 keeps_step kept old (Merge other) (reply.Merged remap) new step = subst (Keeps old.graph) (sym step.graph) (keeps_united (merge_of old other))
-keeps_step kept old (Merge other) reply.NoWorld new step = absurd step
 keeps_step kept old (Merge other) (reply.Refused error) new step = same_graph old new step.graph
+keeps_step kept old (Merge other) _ new step = absurd step
 keeps_step kept old (Importize home world out) reply.Done new step =
     subst (λ (s : State). Keeps old.graph s.graph) (sym step.is_changed) (keeps_transformed old.graph step.w (importized out))
-keeps_step kept old (Importize home world out) (reply.Pushed id) new step = absurd step
-keeps_step kept old (Importize home world out) (reply.Merged remap) new step = absurd step
 keeps_step kept old (Importize home world out) reply.NoWorld new step = unchanged old new step.1
 keeps_step kept old (Importize home world out) (reply.Refused error) new step = unchanged old new step.same
+keeps_step kept old (Importize home world out) _ new step = absurd step
 keeps_step kept old (Exportize home world out keys) reply.Done new step =
     subst (λ (s : State). Keeps old.graph s.graph) (sym step.is_changed) (keeps_transformed old.graph step.w (exportized (answers_at old keys step.w) out))
-keeps_step kept old (Exportize home world out keys) (reply.Pushed id) new step = absurd step
-keeps_step kept old (Exportize home world out keys) (reply.Merged remap) new step = absurd step
 keeps_step kept old (Exportize home world out keys) reply.NoWorld new step = unchanged old new step.1
 keeps_step kept old (Exportize home world out keys) (reply.Refused error) new step = unchanged old new step.same
+keeps_step kept old (Exportize home world out keys) _ new step = absurd step
 keeps_step kept old (Semver home world) reply.Done new step =
     subst (λ (s : State). Keeps old.graph s.graph) (sym step.is_changed) (keeps_things old.graph (rewritten old.track_rule old.graph step.w) (kept old.track_rule old.graph step.w))
-keeps_step kept old (Semver home world) (reply.Pushed id) new step = absurd step
-keeps_step kept old (Semver home world) (reply.Merged remap) new step = absurd step
 keeps_step kept old (Semver home world) reply.NoWorld new step = unchanged old new step.1
 keeps_step kept old (Semver home world) (reply.Refused error) new step = unchanged old new step.same
+keeps_step kept old (Semver home world) _ new step = absurd step
+keeps_step kept old _ reply.Done new step = same_graph old new (ap (λ (s : State). s.graph) step)
+keeps_step kept old _ _ new step = absurd step
 
 pub runs_keep : RewrittenKeep → RunsKeep
 runs_keep kept old new [] [] run = unchanged old new run

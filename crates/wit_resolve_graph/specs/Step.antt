@@ -154,11 +154,5 @@ Run old (command ∷ commands) [] new = ⊥
 
 -- groups that are pushed have their shape; nothing else has one
 abbrev pub IsCommandShaped : Command → Type 0
-IsCommandShaped (AddFeature name) = Unit {0}
-IsCommandShaped (SetAllFeatures all) = Unit {0}
-IsCommandShaped (SetTrackRule rule) = Unit {0}
 IsCommandShaped (PushGroups main deps) = AllByRecursion IsGroupShaped (main ∷ deps)
-IsCommandShaped (Importize home world out) = Unit {0}
-IsCommandShaped (Exportize home world out keys) = Unit {0}
-IsCommandShaped (Semver home world) = Unit {0}
-IsCommandShaped (Merge other) = Unit {0}
+IsCommandShaped _ = Unit {0}

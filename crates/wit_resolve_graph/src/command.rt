@@ -1,7 +1,15 @@
-//! Commands and their replies, as data.
+//! Commands and their replies as data, and runs of commands.
+ghost use Rattle.std.specs.Prelude.{◌≡◌, IfErr, IfOk, OnErr};
+ghost use Rattle.std.specs.List.{AllByRecursion};
+ghost use Rattle.wit_graph_data.specs.declared.error_kind.ResolveErrorKind.TheVariants.{OutOfMemory};
+ghost use Rattle.wit_resolve_graph.specs.Step.{IsCommandShaped, Run, Step};
+ghost use Rattle.wit_resolve_graph.specs.declared.command.Command.TheVariants.{AddFeature};
+
 use crate::resolve::Resolve;
+use crate::transformations::{exportize, importize, merge_world_imports};
+use std::alloc::Global;
 use wit_data::{Items, PackageId, PackageName, Text, TrackRule, UnresolvedPackageGroup};
-use wit_graph_data::ResolveError;
+use wit_graph_data::{ResolveError, ResolveResult};
 use wit_link::Remap;
 
 /// A change of a `Resolve`. A world is named by its package's name and its own.
@@ -55,4 +63,76 @@ pub enum Reply {
     NoWorld,
     /// It is refused, and nothing was changed but the source map.
     Refused(ResolveError),
+}
+
+/// Runs commands in order, and answers a reply to each. Room for all replies is made first; where there
+/// is no memory for it (28), nothing has changed. Any other refusal is a reply.
+///
+/// The packages of a `PushGroups` have their shape, as `Resolve::push_groups` asks.
+pub fn run(
+    alloc: Global,
+    resolve: &mut Resolve,
+    commands: Vec<Command>,
+) -> ResolveResult<Vec<Reply>>
+    requires { AllByRecursion IsCommandShaped commands.items }
+    ensures ok { IfOk result (λ replies. Run resolve.old commands.items replies.items resolve.new) }
+    ensures err { OnErr result (resolve.new ≡ resolve.old) }
+    ensures cause { IfErr result (λ kind. kind ≡ OutOfMemory) }
+{
+    let mut replies = Vec::with_capacity(alloc, commands.len())?;
+    for command in commands {
+        let reply = step(alloc, resolve, command);
+        replies.push(reply).unwrap();
+    }
+    Ok(replies)
+}
+
+/// The reply to one command.
+fn step(alloc: Global, resolve: &mut Resolve, command: Command) -> Reply
+    requires { IsCommandShaped command }
+    ensures { Step resolve.old command result resolve.new }
+{
+    match command {
+        Command::AddFeature(name) => add_feature(alloc, resolve, name),
+        Command::SetAllFeatures(all) => {
+            resolve.set_all_features(all);
+            Reply::Done
+        }
+        Command::SetTrackRule(rule) => {
+            resolve.set_track_rule(rule);
+            Reply::Done
+        }
+        Command::PushGroups { main, deps } => match resolve.push_groups(alloc, main, deps) {
+            Ok(id) => Reply::Pushed(id),
+            Err(refusal) => Reply::Refused(refusal),
+        },
+        Command::Importize {
+            package,
+            world,
+            out,
+        } => importize(alloc, resolve, package, world, out),
+        Command::Exportize {
+            package,
+            world,
+            out,
+            keys,
+        } => exportize(alloc, resolve, package, world, out, keys),
+        Command::Semver { package, world } => {
+            merge_world_imports(alloc, resolve, package, world)
+        }
+        Command::Merge(other) => match resolve.merge(alloc, other) {
+            Ok(remap) => Reply::Merged(remap),
+            Err(refusal) => Reply::Refused(refusal),
+        },
+    }
+}
+
+/// The reply to `AddFeature`.
+fn add_feature(alloc: Global, resolve: &mut Resolve, name: Text) -> Reply
+    ensures { Step resolve.old (AddFeature name) result resolve.new }
+{
+    match resolve.add_feature(alloc, name.as_str()) {
+        Ok(()) => Reply::Done,
+        Err(refusal) => Reply::Refused(refusal),
+    }
 }

@@ -15,7 +15,7 @@ use wit_data::{Items, PackageId, Table, TryClone, TypeId, UnresolvedPackage};
 use wit_elaboration::Elaborator;
 use wit_graph_data::{Features, Graph, ResolveResult};
 use wit_link::append_with;
-use wit_queries::add_valid_bits;
+use wit_queries::valid_bits::add_valid_bits;
 use wit_remap::Mark;
 
 /// Which interfaces of a graph use which, which of its types were met along aliases and whether these lead to a

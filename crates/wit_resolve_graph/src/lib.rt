@@ -25,14 +25,12 @@ pub mod laws;
 mod push_source;
 mod queries;
 mod resolve;
-mod running;
 mod sources;
 mod transformations;
 mod uniting;
 
-pub use crate::command::{Command, Reply};
+pub use crate::command::{Command, Reply, run};
 pub use crate::resolve::Resolve;
-pub use crate::running::run;
 pub use crate::sources::{ParseFault, SourceFault};
 pub use wit_graph::{
     Cause, Features, FutureIntrinsic, Graph, GraphQueries, InterfaceDirectDeps, NameSet, Package,

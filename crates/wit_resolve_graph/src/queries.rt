@@ -13,12 +13,14 @@ use wit_data::{
     Function, InterfaceId, PackageId, Type_, TypeId, WorldItem, WorldKey, type_interface_dep,
 };
 use wit_graph_data::ResolveResult;
-use wit_queries::{
-    InterfaceDirectDeps, PackageDirectDeps, canonicalized_id_of, canonicalized_id_of_name,
-    external_id_value, find_futures_and_streams, implements_interface, interface_direct_deps,
-    is_valid_by, name_canonicalized_world_key, package_direct_deps, topological_packages,
-    version_suffix_of,
+use wit_queries::canonical::{
+    canonicalized_id_of, canonicalized_id_of_name, name_canonicalized_world_key, version_suffix_of,
 };
+use wit_queries::entries::{external_id_value, implements_interface};
+use wit_queries::futures::find_futures_and_streams;
+use wit_queries::interface_deps::{InterfaceDirectDeps, interface_direct_deps};
+use wit_queries::package_deps::{PackageDirectDeps, package_direct_deps, topological_packages};
+use wit_queries::valid_bits::is_valid_by;
 
 /// Dependencies.
 impl Resolve {

@@ -111,15 +111,7 @@ pub fn type_at(index: usize) -> Type_ {
 
 /// A type without an owner and a name.
 pub fn unnamed(alloc: Global, kind: TypeDefKind) -> TypeDef {
-    TypeDef {
-        name: None,
-        kind,
-        owner: TypeOwner::None,
-        docs: Docs::none(),
-        stability: Stability::Unknown,
-        span: Span::unknown(),
-        external_id: None,
-    }
+    TypeDef::new(None, kind, TypeOwner::None)
 }
 
 /// A type of an interface.
@@ -160,16 +152,7 @@ pub fn param(rt: &impl Abort, alloc: Global, name: &str, ty: Type_) -> Param {
 
 /// A function without parameters and result.
 pub fn function(rt: &impl Abort, alloc: Global, name: &str, kind: FunctionKind) -> Function {
-    Function {
-        name: text(rt, alloc, name),
-        kind,
-        params: Items::new(alloc),
-        result_: None,
-        docs: Docs::none(),
-        stability: Stability::Unknown,
-        span: Span::unknown(),
-        external_id: None,
-    }
+    Function::new(text(rt, alloc, name), kind, Items::new(alloc), None)
 }
 
 // ---- interfaces and worlds
@@ -182,15 +165,9 @@ pub fn inline_interface(rt: &impl Abort, alloc: Global, types: &[(&str, usize)])
             .insert(string(rt, alloc, name), TypeId::from_index(*index))
             .expect(rt, "memory");
     }
-    Interface {
-        name: None,
-        types: Names::from_map(listed),
-        functions: Names::new(alloc),
-        docs: Docs::none(),
-        stability: Stability::Unknown,
-        package: None,
-        span: Span::unknown(),
-    }
+    let mut made = Interface::new(alloc, None);
+    made.types = Names::from_map(listed);
+    made
 }
 
 pub fn interface(rt: &impl Abort, alloc: Global, name: &str, types: &[(&str, usize)]) -> Interface {
@@ -215,16 +192,7 @@ pub fn functions<const N: usize>(
 
 /// A world without entries.
 pub fn world(rt: &impl Abort, alloc: Global, name: &str) -> World {
-    World {
-        name: text(rt, alloc, name),
-        imports: Table::new(alloc),
-        exports: Table::new(alloc),
-        docs: Docs::none(),
-        stability: Stability::Unknown,
-        package: None,
-        includes: Items::new(alloc),
-        span: Span::unknown(),
-    }
+    World::new(alloc, text(rt, alloc, name))
 }
 
 pub fn entries<const N: usize>(
@@ -242,14 +210,7 @@ pub fn entries<const N: usize>(
 /// The entry of an interface under its own key.
 pub fn interface_entry(index: usize) -> (WorldKey, WorldItem) {
     let id = InterfaceId::from_index(index);
-    let item = WorldItem::Interface {
-        id,
-        stability: Stability::Unknown,
-        docs: Docs::none(),
-        span: Span::unknown(),
-        external_id: None,
-    };
-    (WorldKey::Interface(id), item)
+    (WorldKey::Interface(id), WorldItem::interface(id))
 }
 
 /// The entry of a function.

@@ -5,16 +5,17 @@ use Rattle.std.specs.Option.{option_and_then}
 use Rattle.wit_script_lines.specs.Line.{lines_of}
 use Rattle.wit_script_lines.specs.Statement.{statement_of}
 use Rattle.wit_script_lines.specs.declared.request.Request.{Request}
-use Rattle.wit_script_lines.specs.declared.request.Request.TheVariants as request
 use Rattle.wit_graph_data.specs.declared.graph.Graph.{Graph}
 use Rattle.wit_resolve_graph.specs.State.{State}
 use Rattle.wit_resolve_graph.specs.declared.command.Command.{Command}
 use Rattle.wit_resolve_graph.specs.declared.command.Reply.{Reply}
 use Rattle.wit_script.proofs.Scripts.{and_then_both}
 use Rattle.wit_script.proofs.Stepped.{Makes, adds, said-makes, same-some, stays, step-of}
-use Rattle.wit_script.specs.Answer.{Answers, AnswersByRun, AnswersMerge, AnswersOther, Chooses, Replies, Runs, with_working_state_of}
-use Rattle.wit_script.specs.Ready.{CanAllBeAsked, CanBeAsked, other_after, waits_after, waits_after_all}
+use Rattle.wit_script.specs.Answer.{Acts, Answers, AnswersByRun, AnswersMerge, AnswersOther, Chooses, Runs, action_of, open_after, with_working_state_of}
+use Rattle.wit_script.specs.Ready.{CanAllBeAsked, CanBeAsked, waits_after, waits_after_all}
 use Rattle.wit_script.specs.Script.{IsUnderstood, after_line, after_lines, new_reading}
+use Rattle.wit_script.specs.declared.answer.Action.{Action}
+use Rattle.wit_script.specs.declared.answer.Action.TheVariants as does
 use Rattle.wit_script.specs.declared.answer.Stage.{Stage}
 use Rattle.wit_script.specs.declared.reader.Reading.{Reading}
 use Rattle.wit_script.specs.declared.ready.ScriptCommand.{ScriptCommand}
@@ -54,6 +55,11 @@ understood-come text commands understood =
 
 -- ---- commands that are answered
 
+-- what a command does that brings no packages can be asked where the command can
+pub asked-opens : (command : ScriptCommand) (request : Request) (done : Action) (other : Bool) → command ≡ asks.Request request → done ≡ action_of request → CanBeAsked command other → IsTrue (is_some (open_after done other))
+asked-opens command request done other read is come =
+    subst (λ (a : Action). IsTrue (is_some (open_after a other))) (sym is) (subst (λ (c : ScriptCommand). CanBeAsked c other) read come)
+
 -- one can be asked, and then those after it
 pub first-comes : (command : ScriptCommand) (commands : List ScriptCommand) (other : Bool) → CanAllBeAsked (command ∷ commands) other → CanBeAsked command other
 first-comes command commands other come = of (waits_after command other) come where
@@ -68,30 +74,25 @@ works-wait runs told before after command text works = sym (ap (λ (s : Stage). 
   kept first None new = refl
   kept first (Some second) new = refl
 
-opened-waits : (before after : Stage) (second : Option State) (text : List ℕ) → AnswersOther before second text after → other_after request.Other (is_some second) ≡ Some (is_some after.second)
+opened-waits : (before after : Stage) (second : Option State) (text : List ℕ) → AnswersOther before second text after → open_after does.Open (is_some second) ≡ Some (is_some after.second)
 opened-waits before after None text opened = ap (λ (s : Stage). Some (is_some s.second)) (sym opened.1)
 opened-waits before after (Some second) text opened = absurd opened
 
-merged-waits : (runs : Runs) (before after : Stage) (second : Option State) (text : List ℕ) → AnswersMerge runs before second text after → other_after request.Merge (is_some second) ≡ Some (is_some after.second)
+merged-waits : (runs : Runs) (before after : Stage) (second : Option State) (text : List ℕ) → AnswersMerge runs before second text after → open_after does.Merge (is_some second) ≡ Some (is_some after.second)
 merged-waits runs before after None text merged = absurd merged
 merged-waits runs before after (Some second) text merged = ap (λ (s : Stage). Some (is_some s.second)) (sym merged.2)
 
 module _ (runs : Runs) (chooses : Chooses) (before after : Stage) where
-  replies-wait : (asked : Request) (text : List ℕ) → Replies runs chooses before asked text after → other_after asked (is_some before.second) ≡ Some (is_some after.second)
-  replies-wait (request.Feature name) text works = ap Some (works-wait runs _ before after _ text works)
-  replies-wait request.AllFeatures text works = ap Some (works-wait runs _ before after _ text works)
-  replies-wait (request.Tracks rule) text works = ap Some (works-wait runs _ before after _ text works)
-  replies-wait request.Other text opened = opened-waits before after before.second text opened
-  replies-wait request.Merge text merged = merged-waits runs before after before.second text merged
-  replies-wait (request.Importize owner world out) text works = ap Some (works-wait runs _ before after _ text works)
-  replies-wait (request.Exportize owner world out keys) text works = ap Some (works-wait runs _ before after _ text works)
-  replies-wait (request.Semver owner world) text works = ap Some (works-wait runs _ before after _ text works)
-  replies-wait (request.Print owner world) text same = ap (λ (s : Stage). Some (is_some s.second)) (sym same.0)
-  replies-wait (request.Select owner said) text same = ap (λ (s : Stage). Some (is_some s.second)) (sym same.0)
+  acts-wait : (done : Action) (text : List ℕ) → Acts runs chooses before done text after → open_after done (is_some before.second) ≡ Some (is_some after.second)
+  acts-wait (does.Run command style) text works = ap Some (works-wait runs _ before after _ text works)
+  acts-wait does.Open text opened = opened-waits before after before.second text opened
+  acts-wait does.Merge text merged = merged-waits runs before after before.second text merged
+  acts-wait (does.Print owner world) text same = ap (λ (s : Stage). Some (is_some s.second)) (sym same.0)
+  acts-wait (does.Select owner said) text same = ap (λ (s : Stage). Some (is_some s.second)) (sym same.0)
 
   answers-wait : (command : ScriptCommand) (text : List ℕ) → Answers runs chooses before command text after → waits_after command (is_some before.second) ≡ Some (is_some after.second)
   answers-wait (asks.Push main deps) text works = ap Some (works-wait runs _ before after _ text works)
-  answers-wait (asks.Request asked) text replies = replies-wait asked text replies
+  answers-wait (asks.Request asked) text replies = acts-wait (action_of asked) text replies
 
   pub others-come : (command : ScriptCommand) (commands : List ScriptCommand) (text : List ℕ) → Answers runs chooses before command text after → CanAllBeAsked (command ∷ commands) (is_some before.second)
       → CanAllBeAsked commands (is_some after.second)

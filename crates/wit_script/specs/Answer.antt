@@ -1,5 +1,5 @@
 -- What the commands of a script answer. Between `other` and `merge` commands work on a second graph.
-use Rattle.std.specs.Prelude.{◌≡◌, ◌⊎◌, ℕ, true, List, [], ◌∷◌, ◌++◌, Option, None, Some, Result, Ok, Err, slice_get, option_and_then, codes, MatchOption, String, string_bytes}
+use Rattle.std.specs.Prelude.{◌≡◌, ◌⊎◌, ℕ, Bool, true, false, List, [], ◌∷◌, ◌++◌, Option, None, Some, Result, Ok, Err, slice_get, option_and_then, codes, MatchOption, String, string_bytes}
 use Rattle.std.specs.declared.alloc.Global.{Global}
 use Rattle.std.specs.Fmt.{decimal}
 use Rattle.std.specs.List.{flat_map}
@@ -19,11 +19,14 @@ use Rattle.wit_script_lines.specs.declared.request.Request.{Request}
 use Rattle.wit_script_lines.specs.declared.request.Request.TheVariants as request
 use Rattle.wit_selection.specs.Selection.{IsSelection}
 use Rattle.wit_resolve_graph.specs.State.{State, new_state}
+use Rattle.wit_resolve_graph.specs.Step.{IsCommandShaped}
 use Rattle.wit_resolve_graph.specs.declared.command.Command.{Command}
 use Rattle.wit_resolve_graph.specs.declared.command.Command.TheVariants.{AddFeature, SetAllFeatures, SetTrackRule, PushGroups, Merge, Importize, Exportize, Semver}
 use Rattle.wit_resolve_graph.specs.declared.command.Reply.{Reply}
 use Rattle.wit_resolve_graph.specs.declared.command.Reply.TheVariants as reply
 use Rattle.wit_script.specs.World.{world_id_text_at, world_text_at}
+use Rattle.wit_script.specs.declared.answer.Action.{Action}
+use Rattle.wit_script.specs.declared.answer.Action.TheVariants as does
 use Rattle.wit_script.specs.declared.answer.Stage.{Stage}
 use Rattle.wit_script.specs.declared.answer.ReplyStyle.{ReplyStyle}
 use Rattle.wit_script.specs.declared.answer.ReplyStyle.TheVariants.{Aloud, Quietly}
@@ -148,18 +151,45 @@ abbrev pub AnswersSelect : Chooses → Graph → PackageName → Option (List �
 AnswersSelect chooses g owner said text =
     MatchOption (package_named g owner) (text ≡ codes "no package\n") (λ id. PrintsChoice chooses g id said text)
 
+-- what a command that brings no packages does: a command of the graph on which commands work, and how its reply is told,
+-- or else what is done for it
+abbrev pub action_of : Request → Action
+action_of (request.Feature name) = does.Run (AddFeature name) Quietly
+action_of request.AllFeatures = does.Run (SetAllFeatures true) Quietly
+action_of (request.Tracks rule) = does.Run (SetTrackRule rule) Quietly
+action_of request.Other = does.Open
+action_of request.Merge = does.Merge
+action_of (request.Importize owner world out) = does.Run (Importize owner world out) Aloud
+action_of (request.Exportize owner world out keys) = does.Run (Exportize owner world out keys) Aloud
+action_of (request.Semver owner world) = does.Run (Semver owner world) Aloud
+action_of (request.Print owner world) = does.Print owner world
+action_of (request.Select owner said) = does.Select owner said
+
+-- the packages that it brings have their shape: it brings none
+abbrev pub IsActionShaped : Action → Type 0
+IsActionShaped (does.Run command style) = IsCommandShaped command
+IsActionShaped _ = Unit {0}
+
+-- whether a second graph is open after it, where one was or none was; None where it can't be asked then: `other` once
+-- more, or `merge` without it
+abbrev pub open_after : Action → Bool → Option Bool
+open_after does.Open true = None
+open_after does.Open false = Some true
+open_after does.Merge true = Some false
+open_after does.Merge false = None
+open_after _ other = Some other
+
+-- the answer to what is done, and the stage after it
+abbrev pub Acts : Runs → Chooses → Stage → Action → List ℕ → Stage → Type 0
+Acts runs chooses before (does.Run command style) text after = AnswersByRun runs (line_of style) before command text after
+Acts runs chooses before does.Open text after = AnswersOther before before.second text after
+Acts runs chooses before does.Merge text after = AnswersMerge runs before before.second text after
+Acts runs chooses before (does.Print owner world) text after = (after ≡ before) × AnswersPrint (working_state before).graph owner world text
+Acts runs chooses before (does.Select owner said) text after = (after ≡ before) × AnswersSelect chooses (working_state before).graph owner said text
+
 -- the answer to a command that brings no packages, and the stage after it
 abbrev pub Replies : Runs → Chooses → Stage → Request → List ℕ → Stage → Type 0
-Replies runs chooses before (request.Feature name) text after = AnswersByRun runs line_unless_done before (AddFeature name) text after
-Replies runs chooses before request.AllFeatures text after = AnswersByRun runs line_unless_done before (SetAllFeatures true) text after
-Replies runs chooses before (request.Tracks rule) text after = AnswersByRun runs line_unless_done before (SetTrackRule rule) text after
-Replies runs chooses before request.Other text after = AnswersOther before before.second text after
-Replies runs chooses before request.Merge text after = AnswersMerge runs before before.second text after
-Replies runs chooses before (request.Importize owner world out) text after = AnswersByRun runs reply_text before (Importize owner world out) text after
-Replies runs chooses before (request.Exportize owner world out keys) text after = AnswersByRun runs reply_text before (Exportize owner world out keys) text after
-Replies runs chooses before (request.Semver owner world) text after = AnswersByRun runs reply_text before (Semver owner world) text after
-Replies runs chooses before (request.Print owner world) text after = (after ≡ before) × AnswersPrint (working_state before).graph owner world text
-Replies runs chooses before (request.Select owner said) text after = (after ≡ before) × AnswersSelect chooses (working_state before).graph owner said text
+Replies runs chooses before asked text after = Acts runs chooses before (action_of asked) text after
 
 -- the answer to a command, and the stage after it
 abbrev pub Answers : Runs → Chooses → Stage → ScriptCommand → List ℕ → Stage → Type 0

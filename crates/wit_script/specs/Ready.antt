@@ -1,10 +1,10 @@
 -- Which commands may be asked: packages that are pushed have their shape, and of `other` and `merge` each comes where it may.
-use Rattle.std.specs.Prelude.{Bool, true, false, List, [], ◌∷◌, Option, None, Some, IsTrue, is_some, option_and_then}
+use Rattle.std.specs.Prelude.{Bool, List, [], ◌∷◌, Option, Some, IsTrue, is_some, option_and_then}
 use Rattle.std.specs.List.{AllByRecursion}
 use Rattle.wit_data.specs.Shape.{IsGroupShaped}
 use Rattle.wit_data.specs.declared.unresolved.UnresolvedPackageGroup.{UnresolvedPackageGroup}
 use Rattle.wit_script_lines.specs.declared.request.Request.{Request}
-use Rattle.wit_script_lines.specs.declared.request.Request.TheVariants as request
+use Rattle.wit_script.specs.Answer.{action_of, open_after}
 use Rattle.wit_script.specs.declared.ready.ScriptCommand.{ScriptCommand}
 use Rattle.wit_script.specs.declared.ready.ScriptCommand.TheVariants as asks
 
@@ -27,11 +27,7 @@ AreReady commands = AllByRecursion IsReady commands
 -- whether an `other` waits for its `merge` after a command that brings no packages, where one waited before or none did;
 -- None where it can't be asked then: `other` once more, or `merge` without it
 abbrev pub other_after : Request → Bool → Option Bool
-other_after request.Other true = None
-other_after request.Other false = Some true
-other_after request.Merge true = Some false
-other_after request.Merge false = None
-other_after asked other = Some other
+other_after asked other = open_after (action_of asked) other
 
 -- whether an `other` waits for its `merge` after a command, where one waited or none did before it
 abbrev pub waits_after : ScriptCommand → Bool → Option Bool

@@ -1,13 +1,13 @@
 //! The answers to the commands of a script.
-ghost use Rattle.std.specs.Prelude.{◌≡◌, ◌≢◌, ℕ, None, Some, Ok, Err, IfErr, IfOk, false, is_some, string_bytes};
+ghost use Rattle.std.specs.Prelude.{◌≡◌, ◌≢◌, ℕ, None, Some, Ok, Err, IfErr, IfOk, IsTrue, false, is_some, string_bytes};
 ghost use Rattle.std.specs.List.{flat_map};
 ghost use Rattle.wit_resolve_graph.specs.State.{new_state};
 ghost use Rattle.wit_resolve_graph.specs.Step.{IsCommandShaped, Run};
-ghost use Rattle.wit_resolve_graph.specs.declared.command.Command.TheVariants.{Exportize};
-ghost use Rattle.wit_script.specs.Answer.{AnswersCommand, IsChoice, Answers, AnswersAll, AnswersMerge, AnswersPrint, AnswersSelect, IsResultLine, Replies, AnswersByRun, working_state, only_first, line_of, refusal_text, selected_text, pushed_text, line_unless_done, reply_text, world_named};
+ghost use Rattle.wit_script.specs.Answer.{Acts, AnswersCommand, IsActionShaped, IsChoice, Answers, AnswersAll, AnswersMerge, AnswersPrint, AnswersSelect, IsResultLine, AnswersByRun, action_of, open_after, working_state, only_first, line_of, refusal_text, selected_text, pushed_text, line_unless_done, reply_text, world_named};
 ghost use Rattle.wit_script.specs.Ready.{CanAllBeAsked, CanBeAsked};
+ghost use Rattle.wit_script.specs.declared.answer.Action.TheVariants as does;
+ghost use Rattle.wit_script.specs.declared.answer.ReplyStyle.TheVariants.{Aloud, Quietly};
 ghost use Rattle.wit_script.specs.declared.answer.Stage.{Stage};
-ghost use Rattle.wit_script.specs.declared.ready.ScriptCommand.TheVariants as asks;
 
 use crate::printer::{print_world, world_id_text};
 use crate::ready::{ReadyCommand, ScriptCommand};
@@ -25,11 +25,96 @@ pub struct Stage {
 
 /// How a reply is told.
 #[derive(Clone, Copy)]
-enum ReplyStyle {
+pub enum ReplyStyle {
     /// With a line, whatever it is.
     Aloud,
     /// With nothing where the command is carried out.
     Quietly,
+}
+
+/// What a command of a script that brings no packages does.
+#[derive(Drop)]
+pub enum Action {
+    /// Carries out a command on the graph on which commands work, whose reply is told so.
+    Run {
+        command: Command,
+        style: ReplyStyle,
+    },
+    /// Opens a second graph.
+    Open,
+    /// The second graph goes into the first.
+    Merge,
+    /// Shows a world.
+    Print {
+        package: PackageName,
+        world: Text,
+    },
+    /// Chooses a world.
+    Select {
+        package: PackageName,
+        text: Option<Text>,
+    },
+}
+
+/// What a command that brings no packages does.
+pub fn action_of(request: Request) -> Action
+    ensures same { result ≡ action_of request }
+    ensures shaped { IsActionShaped result }
+{
+    match request {
+        Request::Feature(name) => quiet(Command::AddFeature(name)),
+        Request::AllFeatures => quiet(Command::SetAllFeatures(true)),
+        Request::Tracks(rule) => quiet(Command::SetTrackRule(rule)),
+        Request::Other => Action::Open,
+        Request::Merge => Action::Merge,
+        Request::Importize {
+            package,
+            world,
+            out,
+        } => aloud(Command::Importize {
+            package,
+            world,
+            out,
+        }),
+        Request::Exportize {
+            package,
+            world,
+            out,
+            keys,
+        } => aloud(Command::Exportize {
+            package,
+            world,
+            out,
+            keys,
+        }),
+        Request::Semver { package, world } => aloud(Command::Semver { package, world }),
+        Request::Print { package, world } => Action::Print { package, world },
+        Request::Select { package, text } => Action::Select { package, text },
+    }
+}
+
+/// A command that answers nothing where it is carried out.
+fn quiet(command: Command) -> Action
+    requires { IsCommandShaped command }
+    ensures same { result ≡ does.Run command Quietly }
+    ensures shaped { IsActionShaped result }
+{
+    Action::Run {
+        command,
+        style: ReplyStyle::Quietly,
+    }
+}
+
+/// A command that always answers a line.
+fn aloud(command: Command) -> Action
+    requires { IsCommandShaped command }
+    ensures same { result ≡ does.Run command Aloud }
+    ensures shaped { IsActionShaped result }
+{
+    Action::Run {
+        command,
+        style: ReplyStyle::Aloud,
+    }
 }
 
 impl Stage {
@@ -116,72 +201,26 @@ fn answer_to(alloc: Global, stage: &mut Stage, command: ReadyCommand) -> Result<
         ScriptCommand::Push { main, deps } => {
             stage.work(alloc, Command::PushGroups { main, deps }, ReplyStyle::Aloud)
         }
-        ScriptCommand::Request(request) => reply_to(alloc, stage, request),
+        ScriptCommand::Request(request) => act(alloc, stage, action_of(request)),
     }
 }
 
-/// The answer to a command that brings no packages.
-fn reply_to(alloc: Global, stage: &mut Stage, request: Request) -> Result<String, AllocError>
-    requires { CanBeAsked (asks.Request request) (is_some stage.old.second) }
-    ensures { IfOk result (λ text. Replies Run IsChoice stage.old request (string_bytes text) stage.new) }
+/// Does what a command asks that brings no packages, and answers it.
+fn act(alloc: Global, stage: &mut Stage, action: Action) -> Result<String, AllocError>
+    requires shaped { IsActionShaped action }
+    requires open { IsTrue (is_some (open_after action (is_some stage.old.second))) }
+    ensures { IfOk result (λ text. Acts Run IsChoice stage.old action (string_bytes text) stage.new) }
 {
-    match request {
-        Request::Feature(name) => stage.work(alloc, Command::AddFeature(name), ReplyStyle::Quietly),
-        Request::AllFeatures => {
-            stage.work(alloc, Command::SetAllFeatures(true), ReplyStyle::Quietly)
-        }
-        Request::Tracks(rule) => {
-            stage.work(alloc, Command::SetTrackRule(rule), ReplyStyle::Quietly)
-        }
-        Request::Other => {
+    match action {
+        Action::Run { command, style } => stage.work(alloc, command, style),
+        Action::Open => {
             stage.open(alloc);
             Ok(String::new(alloc))
         }
-        Request::Merge => stage.merge(alloc),
-        Request::Importize {
-            package,
-            world,
-            out,
-        } => {
-            let command = Command::Importize {
-                package,
-                world,
-                out,
-            };
-            stage.work(alloc, command, ReplyStyle::Aloud)
-        }
-        Request::Exportize {
-            package,
-            world,
-            out,
-            keys,
-        } => exportize(alloc, stage, package, world, out, keys),
-        Request::Semver { package, world } => {
-            stage.work(alloc, Command::Semver { package, world }, ReplyStyle::Aloud)
-        }
-        Request::Print { package, world } => print(alloc, stage.working_state(), &package, &world),
-        Request::Select { package, text } => select(alloc, stage.working_state(), &package, &text),
+        Action::Merge => stage.merge(alloc),
+        Action::Print { package, world } => print(alloc, stage.working_state(), &package, &world),
+        Action::Select { package, text } => select(alloc, stage.working_state(), &package, &text),
     }
-}
-
-/// The answer to `exportize`.
-fn exportize(
-    alloc: Global,
-    stage: &mut Stage,
-    package: PackageName,
-    world: Text,
-    out: Option<Text>,
-    keys: Option<Items<Text>>,
-) -> Result<String, AllocError>
-    ensures { IfOk result (λ text. AnswersByRun Run reply_text stage.old (Exportize «package» world out keys) (string_bytes text) stage.new) }
-{
-    let command = Command::Exportize {
-        package,
-        world,
-        out,
-        keys,
-    };
-    stage.work(alloc, command, ReplyStyle::Aloud)
 }
 
 /// The reply to a command, or the refusal of the run itself.

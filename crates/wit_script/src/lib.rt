@@ -3,8 +3,8 @@
 //!
 //! [`execute`] reads a script to its end and writes the answers of its commands; it answers false where a line isn't
 //! understood, which is then all that it writes. It works on any reader and writer, each within a [`Watched`], which
-//! records whether one of its calls failed. [`print_world`] gives the text of one world, and [`read_script`] the
-//! commands of a script.
+//! records whether one of its calls failed. [`print_world`] gives the text of one world, [`read_script`] the commands of
+//! a script, and [`action_of`] what one of them does.
 //!
 //! ```text
 //! let mut reader = Watched::new(script.as_bytes());
@@ -24,6 +24,7 @@ mod script;
 mod stream;
 mod watched;
 
+pub use crate::answer::{Action, ReplyStyle, action_of};
 pub use crate::fault::{ReadFault, ScriptFault};
 pub use crate::printer::print_world;
 pub use crate::reader::read_script;

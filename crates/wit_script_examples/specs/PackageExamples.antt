@@ -1,5 +1,6 @@
 -- What the lines of packages make: packages, and near misses that aren't understood.
 use Rattle.std.specs.Prelude.{◌≡◌, ℕ, List, [], ◌∷◌, ◌++◌, false, Some, None, codes}
+use Rattle.wit_data.specs.New.{new_function}
 use Rattle.wit_data.specs.declared.function.FunctionKind.TheVariants as role
 use Rattle.wit_data.specs.declared.stability.Stability.TheVariants.{Unknown, Unstable}
 use Rattle.wit_data.specs.declared.types.Handle.TheVariants as handle
@@ -77,16 +78,7 @@ first_package = record {
         types = (codes "t", 1) ∷ (codes "r", 2) ∷ (codes "l", 4) ∷ [];
         functions = (
           codes "[method]r.m",
-          record {
-            name = codes "[method]r.m";
-            kind = role.Method 2;
-            params = record { name = codes "x"; ty = type.Id 5; span = at 82 111 } ∷ [];
-            result_ = Some (type.Id 4);
-            docs = record { contents = None };
-            stability = Unknown;
-            span = at 82 111;
-            external_id = None;
-          },
+          record (new_function (codes "[method]r.m") (role.Method 2) (record { name = codes "x"; ty = type.Id 5; span = at 82 111 } ∷ []) (Some (type.Id 4))) { span = at 82 111 },
         )
             ∷ [];
       }
@@ -156,16 +148,7 @@ world_package = record {
             ∷ (key.Name (codes "p"), item.Type_ 6 (at 104 116))
             ∷ (
               key.Name (codes "g"),
-              item.Function (record {
-                name = codes "g";
-                kind = role.Freestanding;
-                params = record { name = codes "x"; ty = type.Id 6; span = at 117 135 } ∷ [];
-                result_ = None;
-                docs = record { contents = None };
-                stability = Unknown;
-                span = at 117 135;
-                external_id = None;
-              }),
+              item.Function (record (new_function (codes "g") role.Freestanding (record { name = codes "x"; ty = type.Id 6; span = at 117 135 } ∷ []) None) { span = at 117 135 }),
             )
             ∷ [];
       }
@@ -175,15 +158,9 @@ world_package = record {
         types = (codes "r", 0) ∷ (codes "s", 1) ∷ [];
         functions = (
           codes "f",
-          record {
-            name = codes "f";
-            kind = role.Freestanding;
-            params = record { name = codes "x"; ty = type.Id 2; span = at 44 87 } ∷ record { name = codes "y"; ty = type.Id 4; span = at 44 87 } ∷ [];
-            result_ = None;
-            docs = record { contents = None };
+          record (new_function (codes "f") role.Freestanding (record { name = codes "x"; ty = type.Id 2; span = at 44 87 } ∷ record { name = codes "y"; ty = type.Id 4; span = at 44 87 } ∷ []) None) {
             stability = Unstable (codes "f") None;
             span = at 44 87;
-            external_id = None;
           },
         )
             ∷ [];

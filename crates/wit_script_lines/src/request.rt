@@ -6,6 +6,7 @@ ghost use Rattle.wit_script_lines.specs.Request.{alone_of, exportize_in, exporti
 use crate::fault::LineFault;
 use crate::token::{read_package_name, read_part};
 use std::alloc::{AllocError, Global};
+use std::fmt;
 use wit_data::{Items, PackageName, Text, TrackRule};
 
 /// A command that brings no package.
@@ -49,6 +50,24 @@ pub enum Request {
         package: PackageName,
         text: Option<Text>,
     },
+}
+
+/// The command by its first token, with the package and the world that it works on.
+impl fmt::Display for Request {
+    fn fmt<W: fmt::Write>(&self, f: &mut fmt::Formatter<W>) -> fmt::Result {
+        match self {
+            Self::Feature(name) => write!(f, "feature {name}"),
+            Self::AllFeatures => f.write_str("all-features"),
+            Self::Tracks(_) => f.write_str("tracks"),
+            Self::Other => f.write_str("other"),
+            Self::Merge => f.write_str("merge"),
+            Self::Importize { package, world, .. } => write!(f, "importize {package} {world}"),
+            Self::Exportize { package, world, .. } => write!(f, "exportize {package} {world}"),
+            Self::Semver { package, world } => write!(f, "semver {package} {world}"),
+            Self::Print { package, world } => write!(f, "print {package} {world}"),
+            Self::Select { package, .. } => write!(f, "select {package}"),
+        }
+    }
 }
 
 /// Whether a first token begins a command that brings no package.

@@ -3,6 +3,7 @@ use Rattle.std.specs.Prelude.{ℕ, List, [], ◌∷◌, ◌++◌, length, is_som
 use Rattle.std.specs.Map.{lookup}
 use Rattle.std.specs.Option.{option_map, option_map_or}
 use Rattle.std.specs.Str.{bytes_eq}
+use Rattle.wit_data.specs.New.{new_interface, new_type, new_world}
 use Rattle.wit_data.specs.declared.function.Function.{Function}
 use Rattle.wit_data.specs.declared.interface.Interface.{Interface}
 use Rattle.wit_data.specs.declared.types.Type_.TheVariants as type
@@ -25,11 +26,11 @@ use Rattle.wit_script_package.specs.declared.draft.LineContext.{LineContext}
 
 -- an interface with nothing in it
 abbrev pub empty_interface : List ℕ → LineContext → Interface
-empty_interface name here = record { name = Some name; types = []; functions = []; docs = record { contents = None }; stability = here.gate; «package» = None; span = here.span }
+empty_interface name here = record (new_interface (Some name)) { stability = here.gate; span = here.span }
 
 -- a world with nothing in it
 abbrev pub empty_world : List ℕ → LineContext → World
-empty_world name here = record { name = name; imports = []; exports = []; docs = record { contents = None }; stability = here.gate; «package» = None; includes = []; span = here.span }
+empty_world name here = record (new_world name) { stability = here.gate; span = here.span }
 
 -- one more interface, under a name that none has yet; the next lines go into it
 abbrev pub with_interface : Draft → List ℕ → LineContext → Option Draft
@@ -53,8 +54,7 @@ with_world p name here =
 
 -- a type with a name, or without one
 abbrev pub type_with : Option (List ℕ) → TypeDefKind → TypeOwner → LineContext → TypeDef
-type_with name made owned here =
-    record { name = name; kind = made; owner = owned; docs = record { contents = None }; stability = here.gate; span = here.span; external_id = None }
+type_with name made owned here = record (new_type name made owned) { stability = here.gate; span = here.span }
 
 -- the type at the end of the aliases of a type of this kind, which stands at this place
 abbrev pub root_of : Draft → ℕ → TypeDefKind → ℕ

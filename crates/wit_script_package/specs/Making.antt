@@ -2,6 +2,7 @@
 -- makes types of its own, which have its gate and its place.
 use Rattle.std.specs.Prelude.{ℕ, List, [], ◌∷◌, ◌++◌, length, slice_get, Option, Some, None, option_and_then}
 use Rattle.std.specs.Option.{option_map}
+use Rattle.wit_data.specs.New.{new_function}
 use Rattle.wit_data.specs.declared.function.Function.{Function}
 use Rattle.wit_data.specs.declared.function.FunctionKind.{FunctionKind}
 use Rattle.wit_data.specs.declared.function.Param.{Param}
@@ -102,8 +103,7 @@ answer_made p (Some text) here = option_map (λ (made : Type_ × Draft). (Some m
 
 -- the function of a line, of these parts
 abbrev pub function_with : List ℕ → FunctionKind → List Param → Option Type_ → LineContext → Function
-function_with name does params answer here =
-    record { name = name; kind = does; params = params; result_ = answer; docs = record { contents = None }; stability = here.gate; span = here.span; external_id = None }
+function_with name does params answer here = record (new_function name does params answer) { stability = here.gate; span = here.span }
 
 -- the parameters and the result of a function, which is what its name says
 abbrev pub function_by : Draft → Signature → LineContext → FunctionKind → Option (Function × Draft)

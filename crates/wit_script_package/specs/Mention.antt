@@ -44,20 +44,13 @@ abbrev pub path_mention : ParsedUsePath → MentionKind → Stability → Option
 path_mention (path.Name own) takes gate span = []
 path_mention (path.Package parent name) takes gate span = record { parent = parent; name = name; kind = takes; gate = gate; span = span } ∷ []
 
--- what a line mentions
+-- what a line mentions: nothing, where it takes no path
 abbrev pub mentions_of : PackageLine → Stability → OptionalSpan → List Mention
-mentions_of (says.Interface name) gate span = []
-mentions_of (says.World name) gate span = []
-mentions_of (says.Type_ name text) gate span = []
-mentions_of (says.Record name fields) gate span = []
-mentions_of (says.Resource name) gate span = []
 mentions_of (says.Use from name new) gate span = path_mention from (taken.Type_ name) gate span
-mentions_of (says.Function said) gate span = []
 mentions_of (says.Import label from) gate span = path_mention from taken.Interface gate span
 mentions_of (says.Export label from) gate span = path_mention from taken.Interface gate span
-mentions_of (says.ImportFunction said) gate span = []
-mentions_of (says.ExportFunction said) gate span = []
 mentions_of (says.Include from names) gate span = path_mention from taken.World gate span
+mentions_of said gate span = []
 
 -- a first token of lines of a package without a path
 abbrev pub takes_no_path : List ℕ → Bool

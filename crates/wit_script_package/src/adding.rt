@@ -6,8 +6,8 @@ ghost use Rattle.wit_script_package.specs.steps.DraftResult.{DraftResult};
 use crate::draft::{Draft, LineContext, Scope};
 use std::alloc::{AllocError, Global};
 use wit_data::{
-    Docs, Function, Interface, InterfaceId, Items, Names, Table, Text, TryClone, Type_, TypeDef,
-    TypeDefKind, TypeId, TypeOwner, World, WorldId, WorldInclude, WorldItem, WorldKey,
+    Function, Interface, InterfaceId, Text, TryClone, Type_, TypeDef, TypeDefKind, TypeId,
+    TypeOwner, World, WorldId, WorldInclude, WorldItem, WorldKey,
 };
 use wit_script_lines::LineFault;
 
@@ -17,15 +17,10 @@ pub fn new_interface(alloc: Global, name: Text, here: &LineContext) -> Result<In
     ensures { IfOk result (λ interface. interface ≡ empty_interface name here.now) }
 {
     let stability = here.gate.try_clone()?;
-    Ok(Interface {
-        name: Some(name),
-        types: Names::new(alloc),
-        functions: Names::new(alloc),
-        docs: Docs::none(),
-        stability,
-        package: None,
-        span: here.span,
-    })
+    let mut interface = Interface::new(alloc, Some(name));
+    interface.stability = stability;
+    interface.span = here.span;
+    Ok(interface)
 }
 
 /// The world of a line that stands here, without imports, exports and includes. The only error is want
@@ -34,16 +29,10 @@ pub fn new_world(alloc: Global, name: Text, here: &LineContext) -> Result<World,
     ensures { IfOk result (λ world. world ≡ empty_world name here.now) }
 {
     let stability = here.gate.try_clone()?;
-    Ok(World {
-        name,
-        imports: Table::new(alloc),
-        exports: Table::new(alloc),
-        docs: Docs::none(),
-        stability,
-        package: None,
-        includes: Items::new(alloc),
-        span: here.span,
-    })
+    let mut world = World::new(alloc, name);
+    world.stability = stability;
+    world.span = here.span;
+    Ok(world)
 }
 
 /// The type of a line that stands here, with a name or without one. The only error is want of memory.
@@ -56,15 +45,10 @@ pub fn new_type(
     ensures { IfOk result (λ def. def ≡ type_with name kind owner here.now) }
 {
     let stability = here.gate.try_clone()?;
-    Ok(TypeDef {
-        name,
-        kind,
-        owner,
-        docs: Docs::none(),
-        stability,
-        span: here.span,
-        external_id: None,
-    })
+    let mut def = TypeDef::new(name, kind, owner);
+    def.stability = stability;
+    def.span = here.span;
+    Ok(def)
 }
 
 impl Draft {

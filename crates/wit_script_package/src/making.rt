@@ -35,16 +35,10 @@ fn function_with(
     ensures { IfOk result (λ function. function ≡ function_with name kind params result_ here.now) }
 {
     let stability = here.gate.try_clone()?;
-    Ok(Function {
-        name,
-        kind,
-        params,
-        result_,
-        docs: Docs::none(),
-        stability,
-        span: here.span,
-        external_id: None,
-    })
+    let mut function = Function::new(name, kind, params, result_);
+    function.stability = stability;
+    function.span = here.span;
+    Ok(function)
 }
 
 impl Draft {

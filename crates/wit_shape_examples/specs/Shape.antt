@@ -4,6 +4,7 @@ use Rattle.wit_data.specs.Entries.{Entry}
 use Rattle.wit_data.specs.Foreign.{ForeignItems}
 use Rattle.wit_data.specs.Shape.{HasForeign, HasNames, HasUnknown, HasUnresolvedOwners, HasUnresolvedReferences, HasUnresolvedWorlds, IsUnplaced, KeepsToOwn, KeysDiffer}
 use Rattle.wit_data.specs.Uses.{uses_of}
+use Rattle.wit_data.specs.New.{new_function, new_interface, new_interface_entry, new_type, new_world}
 use Rattle.wit_data.specs.declared.function.Function.{Function}
 use Rattle.wit_data.specs.declared.function.FunctionKind.TheVariants as function
 use Rattle.wit_data.specs.declared.interface.Interface.{Interface}
@@ -20,7 +21,6 @@ use Rattle.wit_data.specs.declared.types.Type_.TheVariants as type
 use Rattle.wit_data.specs.declared.unresolved.AstItem.TheVariants as ast
 use Rattle.wit_data.specs.declared.unresolved.UnresolvedPackage.{UnresolvedPackage}
 use Rattle.wit_data.specs.declared.world.World.{World}
-use Rattle.wit_data.specs.declared.world.WorldItem.TheVariants as item
 use Rattle.wit_data.specs.declared.world.WorldKey.TheVariants as key
 use Rattle.wit_digraph.specs.Relation.{IsAcyclic}
 
@@ -34,7 +34,7 @@ named namespace name = record { namespace = namespace; name = name; version = No
 
 -- a named type of interface i
 abbrev pub type_in : ℕ → List ℕ → TypeDefKind → TypeDef
-type_in i name k = record { name = Some name; kind = k; owner = owner.Interface i; docs = no_docs; stability = Unknown; span = None; external_id = None }
+type_in i name k = new_type (Some name) k (owner.Interface i)
 
 -- a record of one field
 abbrev pub record_of : Type_ → TypeDefKind
@@ -42,28 +42,19 @@ record_of ty = kind.Record (record { name = codes "f"; ty = ty; docs = no_docs; 
 
 -- an interface with these types and functions
 abbrev pub interface_of : List ℕ → List (List ℕ × ℕ) → List (List ℕ × Function) → Interface
-interface_of name types functions = record { name = Some name; types = types; functions = functions; docs = no_docs; stability = Unknown; «package» = None; span = None }
+interface_of name types functions = record (new_interface (Some name)) { types = types; functions = functions }
 
 -- a world with these imports
 abbrev pub world_of : List ℕ → List Entry → World
-world_of name imports = record { name = name; imports = imports; exports = []; docs = no_docs; stability = Unknown; «package» = None; includes = []; span = None }
+world_of name imports = record (new_world name) { imports = imports }
 
 -- interface i under its own key
 abbrev pub entry_of : ℕ → Entry
-entry_of i = (key.Interface i, item.Interface i Unknown no_docs None None)
+entry_of i = (key.Interface i, new_interface_entry i)
 
 -- `func(p: ty)`
 abbrev pub function_of : List ℕ → Type_ → Function
-function_of name ty = record {
-  name = name;
-  kind = function.Freestanding;
-  params = record { name = codes "p"; ty = ty; span = None } ∷ [];
-  result_ = None;
-  docs = no_docs;
-  stability = Unknown;
-  span = None;
-  external_id = None;
-}
+function_of name ty = new_function name function.Freestanding (record { name = codes "p"; ty = ty; span = None } ∷ []) None
 
 -- interface i, and interface x where it lists these types
 abbrev pub foreign_i : Interface
@@ -128,6 +119,6 @@ pub record NearMissesOfShape : Type 0 where
   -- r refers to the t of i itself
   pub own : KeepsToOwn (record shaped_package { types = types_of (kind.Type_ (type.Id 0)) (record_of (type.Id 0)) }) → ⊥
   -- under the key of i stands x
-  pub worlds : HasUnresolvedWorlds (record shaped_package { worlds = world_of (codes "w") ((key.Interface 0, item.Interface 1 Unknown no_docs None None) ∷ []) ∷ [] }) → ⊥
+  pub worlds : HasUnresolvedWorlds (record shaped_package { worlds = world_of (codes "w") ((key.Interface 0, new_interface_entry 1) ∷ []) ∷ [] }) → ⊥
   -- i and x use each other
   pub uses : IsAcyclic (uses_of (type_in 0 (codes "t") (kind.Type_ (type.Id 1)) ∷ type_in 1 (codes "t") (kind.Type_ (type.Id 0)) ∷ []) (foreign_i ∷ x_of ((codes "t", 1) ∷ []) ∷ [])) → ⊥

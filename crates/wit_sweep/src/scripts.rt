@@ -3,12 +3,12 @@ ghost use Rattle.std.specs.Prelude.{◌∷◌, IfSome};
 ghost use Rattle.std.specs.List.{AllByRecursion};
 ghost use Rattle.wit_data.specs.Shape.{IsGroupShaped};
 ghost use Rattle.wit_resolve_graph.specs.Step.{IsCommandShaped};
+ghost use Rattle.wit_script.specs.Answer.{IsActionShaped};
 ghost use Rattle.wit_script.specs.Ready.{IsReady};
 
 use std::alloc::Global;
 use wit_resolve_graph::{Command, Items, Reply, Resolve, UnresolvedPackageGroup, run};
-use wit_script::{ReadyCommand, ScriptCommand, read_script};
-use wit_script_lines::Request;
+use wit_script::{Action, ReadyCommand, ScriptCommand, action_of, read_script};
 
 /// The commands of a script; none where it isn't understood.
 pub fn commands_of(alloc: Global, script: &str) -> Option<Vec<ReadyCommand>> {
@@ -50,39 +50,17 @@ pub fn command_of(command: ScriptCommand) -> Option<Command>
 {
     match command {
         ScriptCommand::Push { main, deps } => Some(Command::PushGroups { main, deps }),
-        ScriptCommand::Request(request) => requested(request),
+        ScriptCommand::Request(request) => carried_out(action_of(request)),
     }
 }
 
-/// The same of a command that brings no package.
-fn requested(request: Request) -> Option<Command>
+/// The same of what a command does that brings no package.
+fn carried_out(action: Action) -> Option<Command>
+    requires { IsActionShaped action }
     ensures { IfSome result (λ command. IsCommandShaped command) }
 {
-    match request {
-        Request::Feature(name) => Some(Command::AddFeature(name)),
-        Request::AllFeatures => Some(Command::SetAllFeatures(true)),
-        Request::Tracks(rule) => Some(Command::SetTrackRule(rule)),
-        Request::Importize {
-            package,
-            world,
-            out,
-        } => Some(Command::Importize {
-            package,
-            world,
-            out,
-        }),
-        Request::Exportize {
-            package,
-            world,
-            out,
-            keys,
-        } => Some(Command::Exportize {
-            package,
-            world,
-            out,
-            keys,
-        }),
-        Request::Semver { package, world } => Some(Command::Semver { package, world }),
+    match action {
+        Action::Run { command, .. } => Some(command),
         _ => None,
     }
 }

@@ -3,7 +3,6 @@
 
 pub mod laws;
 mod new_lists;
-mod refusal;
 mod renaming;
 mod transformations;
 

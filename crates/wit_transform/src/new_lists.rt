@@ -1,20 +1,60 @@
-//! The lists of a transformed world, before they are elaborated.
-ghost use Rattle.std.specs.Prelude.{◌≡◌, ◌++◌, ◌∷◌, ◌⊎◌, [], false, true, IfErr, IfNone, IfOk, IfSome, None, OnOk, Contains, List, ℕ, length, not, if◌then◌else◌};
+//! The lists of a transformed world, before they are elaborated, and the errors where there are none.
+ghost use Rattle.std.specs.Prelude.{◌≡◌, ◌++◌, ◌∷◌, ◌⊎◌, [], false, true, IfErr, IfNone, IfOk, IfSome, None, OnOk, Contains, List, ℕ, length, not, string_bytes, if◌then◌else◌};
 ghost use Rattle.std.specs.Map.{keys_of, lookup};
 ghost use Rattle.wit_data.specs.contracts.world.WorldKeyPartialEq.TheImpl.{eq-value};
 ghost use Rattle.wit_graph_data.specs.declared.cause.Cause.TheVariants as cause;
 ghost use Rattle.wit_graph_data.specs.declared.error_kind.ResolveErrorKind.TheVariants.{OutOfMemory, Semantic};
 ghost use Rattle.wit_data.specs.declared.world.WorldKey.{WorldKey};
 ghost use Rattle.wit_data.specs.declared.world.WorldKey.TheVariants as key;
-ghost use Rattle.wit_transform.specs.TransformCause.{HasClash, HasTypeAt, label_clash_text, type_exported_text};
+ghost use Rattle.wit_transform.specs.TransformCause.{HasClash, HasTypeAt, label_clash_text, name_taken_text, type_exported_text};
 ghost use Rattle.wit_transform.specs.Transformed.{AreUnderLabels, entries_by_answer, is_type, type_entries};
 
-use crate::refusal::{label_clash, type_exported};
 use std::alloc::{AllocError, Global};
-use wit_data::{Items, Table, Text, World, WorldItem, WorldKey};
+use wit_data::{Items, Span, Table, Text, World, WorldItem, WorldKey};
 use wit_elaboration::Lists;
-use wit_graph_data::ResolveResult;
+use wit_graph_data::{Cause, Package, ResolveError, ResolveErrorKind, ResolveResult};
 use wit_values::try_clone_two;
+
+/// An error without a place.
+fn semantic(message: String, cause: Cause) -> ResolveError
+    ensures { result ≡ Semantic None (string_bytes message) cause }
+{
+    ResolveErrorKind::Semantic {
+        span: Span::unknown(),
+        message: Text::from_string(message),
+        cause,
+    }
+    .into()
+}
+
+/// 19: an export has the label of an import that stays.
+fn label_clash(alloc: Global, label: &Text) -> Result<ResolveError, AllocError>
+    ensures { IfOk result (λ e. e ≡ Semantic None (label_clash_text label.now) cause.LabelClash) }
+{
+    let message = format!(in alloc; "world export `{label}` conflicts with import of same name")?;
+    Ok(semantic(message, Cause::LabelClash))
+}
+
+/// 20: the package has another world of the new name.
+pub(crate) fn name_taken(
+    alloc: Global,
+    name: &Text,
+    home: &Package,
+) -> Result<ResolveError, AllocError>
+    ensures { IfOk result (λ e. e ≡ Semantic None (name_taken_text name.now home.now.name) cause.NameTaken) }
+{
+    let package = &home.name;
+    let message = format!(in alloc; "world `{name}` is already defined in package `{package}`")?;
+    Ok(semantic(message, Cause::NameTaken))
+}
+
+/// 21: a type would be exported.
+fn type_exported(alloc: Global, label: &Text) -> Result<ResolveError, AllocError>
+    ensures { IfOk result (λ e. e ≡ Semantic None (type_exported_text label.now) cause.TypeExported) }
+{
+    let message = format!(in alloc; "type import `{label}` cannot be exported")?;
+    Ok(semantic(message, Cause::TypeExported))
+}
 
 /// Whether an item is a type.
 fn holds_type(item: &WorldItem) -> bool

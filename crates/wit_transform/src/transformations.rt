@@ -17,8 +17,7 @@ ghost use Rattle.wit_transform.specs.TransformCause.{AreAnswers, Exportizes, Exp
 ghost use Rattle.wit_transform.specs.Transformed.{exportized, importized, listed_world, new_name, transformed, with_world};
 
 use crate::laws::{exportized_stay_valid, importized_stay_valid};
-use crate::new_lists::{exportized_lists, importized_lists};
-use crate::refusal::name_taken;
+use crate::new_lists::{exportized_lists, importized_lists, name_taken};
 use crate::renaming::{is_taken, renamed, with_last};
 use std::alloc::{AllocError, Global};
 use wit_data::{Items, Names, PackageId, Table, Text, World, WorldId, WorldItem, WorldKey};

@@ -14,7 +14,7 @@ use std::alloc::{AllocError, Global};
 use wit_data::{InterfaceId, Span, TypeDef, type_references, uses_of};
 use wit_digraph::find_cycle;
 use wit_graph_data::{Cause, Graph, ResolveError, ResolveErrorKind, ResolveResult};
-use wit_queries::package_uses;
+use wit_queries::package_deps::package_uses;
 use wit_values::{Text, TryClone};
 
 /// Refuses interfaces of which one uses itself, through whatever others (22). One on the cycle is told, by its id text.

@@ -33,15 +33,9 @@ pub fn interface(
 ) -> Result<Interface, AllocError> {
     let mut types = Names::new(alloc);
     types.push(String::from_str(alloc, type_name)?, ty)?;
-    Ok(Interface {
-        name: Some(Text::try_from_str(alloc, name)?),
-        types,
-        functions: Names::new(alloc),
-        docs: Docs::none(),
-        stability: Stability::Unknown,
-        package: None,
-        span: Span::unknown(),
-    })
+    let mut made = Interface::new(alloc, Some(Text::try_from_str(alloc, name)?));
+    made.types = types;
+    Ok(made)
 }
 
 /// A type of this name and kind, which an interface owns.
@@ -51,40 +45,18 @@ pub fn ty(
     name: &str,
     kind: TypeDefKind,
 ) -> Result<TypeDef, AllocError> {
-    Ok(TypeDef {
-        name: Some(Text::try_from_str(alloc, name)?),
-        kind,
-        owner: TypeOwner::Interface(owner),
-        docs: Docs::none(),
-        stability: Stability::Unknown,
-        span: Span::unknown(),
-        external_id: None,
-    })
+    let name = Text::try_from_str(alloc, name)?;
+    Ok(TypeDef::new(Some(name), kind, TypeOwner::Interface(owner)))
 }
 
 /// A world of this name without entries.
 pub fn world(alloc: Global, name: &str) -> Result<World, AllocError> {
-    Ok(World {
-        name: Text::try_from_str(alloc, name)?,
-        imports: Table::new(alloc),
-        exports: Table::new(alloc),
-        docs: Docs::none(),
-        stability: Stability::Unknown,
-        package: None,
-        includes: Items::new(alloc),
-        span: Span::unknown(),
-    })
+    Ok(World::new(alloc, Text::try_from_str(alloc, name)?))
 }
 
 /// The item of an interface, as it stands under the interface's own key.
 pub fn item(id: InterfaceId) -> WorldItem {
-    WorldItem::Interface {
-        id,
-        stability: Stability::Unknown,
-        docs: Docs::none(),
-        span: Span::unknown(),
-        external_id: None,
-    }
+    WorldItem::interface(id)
 }
 
 /// The package `foo:NAME` of interface `i` with `type t = u32`.

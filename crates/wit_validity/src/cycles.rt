@@ -6,7 +6,7 @@ use std::alloc::{AllocError, Global};
 use wit_data::{type_references, uses_of};
 use wit_digraph::is_acyclic;
 use wit_graph_data::Graph;
-use wit_queries::package_uses;
+use wit_queries::package_deps::package_uses;
 
 /// Whether no interface uses itself, no type refers to itself and no package depends on itself,
 /// through whatever others.

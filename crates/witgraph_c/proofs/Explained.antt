@@ -6,9 +6,12 @@ use Rattle.std.proofs.lemmas.List.{append-nil}
 use Rattle.wit_data.specs.declared.package_name.PackageName.{PackageName}
 use Rattle.wit_graph_data.specs.declared.error_kind.ResolveErrorKind.{ResolveErrorKind}
 use Rattle.wit_resolve_graph.specs.State.{State}
-use Rattle.wit_script.specs.Answer.{IsChoice, package_named}
+use Rattle.wit_script_lines.specs.declared.request.Request.{Request}
+use Rattle.wit_script.specs.Answer.{IsChoice, action_of, package_named}
+use Rattle.wit_script.specs.declared.answer.Action.{Action}
 use Rattle.wit_script.specs.declared.ready.ScriptCommand.{ScriptCommand}
-use Rattle.witgraph_c.specs.Refusals.{ExplainsCommand, ExplainsAll, ExplainsSelect, rendered_refusal}
+use Rattle.wit_script.specs.declared.ready.ScriptCommand.TheVariants as asks
+use Rattle.witgraph_c.specs.Refusals.{ExplainsAction, ExplainsCommand, ExplainsAll, ExplainsSelect, rendered_refusal}
 use Rattle.witgraph_c.specs.declared.refusals.Stage.{Stage}
 
 -- one more command
@@ -24,6 +27,13 @@ ExplainsAll-more before between after (first ∷ commands) command text more all
   ExplainsAll-more all.0 between after commands command all.2 more all.4 one,
   ap (λ (t : List ℕ). t ++ more) all.5 ∙ append_assoc all.1 all.2 more,
 )
+
+-- a command that pushes nothing, by what it does
+pub acts-as : {E : Type 0} (told : Result (String Global) E) (before after : Stage) (asked : ScriptCommand) (request : Request) (done : Action) → asked ≡ asks.Request request → done ≡ action_of request
+    → IfOk told (λ text. ExplainsAction before done (string_bytes text) after) → IfOk told (λ text. ExplainsCommand before asked (string_bytes text) after)
+acts-as told before after asked request done read is acts =
+    subst (λ (c : ScriptCommand). IfOk told (λ text. ExplainsCommand before c (string_bytes text) after)) (sym read)
+    (subst (λ (a : Action). IfOk told (λ text. ExplainsAction before a (string_bytes text) after)) is acts)
 
 -- a choice that is refused, of a package that is there
 pub select-refused : {E : Type 0} (state : State) (owner : PackageName) (text : Option (List ℕ)) (id : ℕ) (kind : ResolveErrorKind) (told : Result (String Global) E)

@@ -12,14 +12,14 @@ use Rattle.wit_graph_data.specs.declared.error_kind.ResolveErrorKind.{ResolveErr
 use Rattle.wit_resolve_graph.specs.State.{State, new_state}
 use Rattle.wit_resolve_graph.specs.Step.{Run}
 use Rattle.wit_resolve_graph.specs.declared.command.Command.{Command}
-use Rattle.wit_resolve_graph.specs.declared.command.Command.TheVariants.{AddFeature, SetAllFeatures, SetTrackRule, PushGroups, Merge, Importize, Exportize, Semver}
+use Rattle.wit_resolve_graph.specs.declared.command.Command.TheVariants.{PushGroups, Merge}
 use Rattle.wit_resolve_graph.specs.declared.command.Reply.{Reply}
 use Rattle.wit_resolve_graph.specs.declared.command.Reply.TheVariants as reply
-use Rattle.wit_script_lines.specs.declared.request.Request.{Request}
-use Rattle.wit_script_lines.specs.declared.request.Request.TheVariants as request
-use Rattle.wit_script.specs.Answer.{IsChoice, package_named}
+use Rattle.wit_script.specs.Answer.{IsChoice, action_of, package_named}
 use Rattle.wit_script.specs.Prints.{PrintsLine}
 use Rattle.wit_script.specs.Script.{IsUnderstood}
+use Rattle.wit_script.specs.declared.answer.Action.{Action}
+use Rattle.wit_script.specs.declared.answer.Action.TheVariants as does
 use Rattle.wit_script.specs.declared.ready.ScriptCommand.{ScriptCommand}
 use Rattle.wit_script.specs.declared.ready.ScriptCommand.TheVariants as asks
 use Rattle.witgraph_c.specs.declared.refusals.Stage.{Stage}
@@ -79,23 +79,18 @@ abbrev pub ExplainsSelect : State → PackageName → Option (List ℕ) → List
 ExplainsSelect state owner said text =
     MatchOption (package_named state.graph owner) (text ≡ []) (λ id. (choice : Result ℕ ResolveErrorKind) × IsChoice state.graph id said choice × (text ≡ rendered_choice state.source_map.files choice))
 
--- what is shown of a command that pushes nothing, and the stage after it
-abbrev pub ExplainsRequest : Stage → Request → List ℕ → Stage → Type 0
-ExplainsRequest before (request.Feature name) text after = ExplainsWork before (AddFeature name) text after
-ExplainsRequest before request.AllFeatures text after = ExplainsWork before (SetAllFeatures true) text after
-ExplainsRequest before (request.Tracks rule) text after = ExplainsWork before (SetTrackRule rule) text after
-ExplainsRequest before request.Other text after = (text ≡ []) × (after ≡ record { first = before.first; second = Some new_state })
-ExplainsRequest before request.Merge text after = ExplainsMerge before before.second text after
-ExplainsRequest before (request.Importize owner world out) text after = ExplainsWork before (Importize owner world out) text after
-ExplainsRequest before (request.Exportize owner world out keys) text after = ExplainsWork before (Exportize owner world out keys) text after
-ExplainsRequest before (request.Semver owner world) text after = ExplainsWork before (Semver owner world) text after
-ExplainsRequest before (request.Print owner world) text after = (text ≡ []) × (after ≡ before)
-ExplainsRequest before (request.Select owner said) text after = (after ≡ before) × ExplainsSelect (active before) owner said text
+-- what is shown of what a command does that pushes nothing, and the stage after it
+abbrev pub ExplainsAction : Stage → Action → List ℕ → Stage → Type 0
+ExplainsAction before (does.Run command style) text after = ExplainsWork before command text after
+ExplainsAction before does.Open text after = (text ≡ []) × (after ≡ record { first = before.first; second = Some new_state })
+ExplainsAction before does.Merge text after = ExplainsMerge before before.second text after
+ExplainsAction before (does.Print owner world) text after = (text ≡ []) × (after ≡ before)
+ExplainsAction before (does.Select owner said) text after = (after ≡ before) × ExplainsSelect (active before) owner said text
 
 -- what is shown of a command, and the stage after it
 abbrev pub ExplainsCommand : Stage → ScriptCommand → List ℕ → Stage → Type 0
 ExplainsCommand before (asks.Push main deps) text after = ExplainsWork before (PushGroups main deps) text after
-ExplainsCommand before (asks.Request asked) text after = ExplainsRequest before asked text after
+ExplainsCommand before (asks.Request asked) text after = ExplainsAction before (action_of asked) text after
 
 -- what is shown of commands, one after another
 abbrev pub ExplainsAll : Stage → List ScriptCommand → List ℕ → Stage → Type 0

@@ -4,9 +4,8 @@ ghost use Rattle.std.specs.List.{flat_map};
 ghost use Rattle.std.specs.Str.{IsUtf8};
 ghost use Rattle.wit_resolve_graph.specs.Step.{IsCommandShaped};
 ghost use Rattle.wit_resolve_graph.specs.State.{new_state};
-ghost use Rattle.wit_resolve_graph.specs.declared.command.Command.TheVariants.{Exportize};
-ghost use Rattle.wit_script.specs.Answer.{IsChoice};
-ghost use Rattle.witgraph_c.specs.Refusals.{Explains, ExplainsMerge, ExplainsSelect, ExplainsRun, ExplainsCommand, ExplainsAll, ExplainsRequest, ExplainsWork, active, alone, rendered_refusal, rendered_reply};
+ghost use Rattle.wit_script.specs.Answer.{IsActionShaped, IsChoice};
+ghost use Rattle.witgraph_c.specs.Refusals.{Explains, ExplainsMerge, ExplainsSelect, ExplainsRun, ExplainsCommand, ExplainsAll, ExplainsAction, ExplainsWork, active, alone, rendered_refusal, rendered_reply};
 ghost use Rattle.witgraph_c.specs.declared.refusals.Stage.{Stage};
 
 use std::alloc::Global;
@@ -14,8 +13,9 @@ use wit_resolve_graph::{
     Command, Items, PackageId, PackageName, Reply, Resolve, ResolveError, ResolveResult, Text,
     WorldId, run,
 };
-use wit_script::{ReadFault, ReadyCommand, ScriptCommand, ScriptFault, read_script};
-use wit_script_lines::Request;
+use wit_script::{
+    Action, ReadFault, ReadyCommand, ScriptCommand, ScriptFault, action_of, read_script,
+};
 
 /// The graph of a script, and the second one between `other` and `merge`.
 #[derive(Drop)]
@@ -109,67 +109,25 @@ fn refusal_to(alloc: Global, stage: &mut Stage, command: ReadyCommand) -> Resolv
         ScriptCommand::Push { main, deps } => {
             stage.work(alloc, Command::PushGroups { main, deps })
         }
-        ScriptCommand::Request(request) => refusal_to_request(alloc, stage, request),
+        ScriptCommand::Request(request) => { refusal_to_action(alloc, stage, action_of(request)) }
     }
 }
 
-/// The same of a command that pushes nothing.
-fn refusal_to_request(alloc: Global, stage: &mut Stage, request: Request) -> ResolveResult<String>
-    ensures { IfOk result (λ text. ExplainsRequest stage.old request (string_bytes text) stage.new) }
+/// The same of what a command does that pushes nothing.
+fn refusal_to_action(alloc: Global, stage: &mut Stage, action: Action) -> ResolveResult<String>
+    requires { IsActionShaped action }
+    ensures { IfOk result (λ text. ExplainsAction stage.old action (string_bytes text) stage.new) }
 {
-    match request {
-        Request::Feature(name) => stage.work(alloc, Command::AddFeature(name)),
-        Request::AllFeatures => stage.work(alloc, Command::SetAllFeatures(true)),
-        Request::Tracks(rule) => stage.work(alloc, Command::SetTrackRule(rule)),
-        Request::Other => {
+    match action {
+        Action::Run { command, .. } => stage.work(alloc, command),
+        Action::Open => {
             stage.second = Some(Resolve::new(alloc));
             Ok(String::new(alloc))
         }
-        Request::Merge => stage.merge(alloc),
-        Request::Importize {
-            package,
-            world,
-            out,
-        } => {
-            let command = Command::Importize {
-                package,
-                world,
-                out,
-            };
-            stage.work(alloc, command)
-        }
-        Request::Exportize {
-            package,
-            world,
-            out,
-            keys,
-        } => exportize(alloc, stage, package, world, out, keys),
-        Request::Semver { package, world } => {
-            stage.work(alloc, Command::Semver { package, world })
-        }
-        Request::Print { .. } => Ok(String::new(alloc)),
-        Request::Select { package, text } => select(alloc, stage.active(), &package, &text),
+        Action::Merge => stage.merge(alloc),
+        Action::Print { .. } => Ok(String::new(alloc)),
+        Action::Select { package, text } => select(alloc, stage.active(), &package, &text),
     }
-}
-
-/// The same of `exportize`.
-fn exportize(
-    alloc: Global,
-    stage: &mut Stage,
-    package: PackageName,
-    world: Text,
-    out: Option<Text>,
-    keys: Option<Items<Text>>,
-) -> ResolveResult<String>
-    ensures { IfOk result (λ text. ExplainsWork stage.old (Exportize «package» world out keys) (string_bytes text) stage.new) }
-{
-    let command = Command::Exportize {
-        package,
-        world,
-        out,
-        keys,
-    };
-    stage.work(alloc, command)
 }
 
 /// Carries out a command, and answers its refusal, or an empty text.

@@ -11,16 +11,18 @@ use Rattle.wit_resolve_graph.specs.declared.command.Command.{Command}
 use Rattle.wit_resolve_graph.specs.declared.command.Command.TheVariants.{Merge, PushGroups}
 use Rattle.wit_resolve_graph.specs.declared.command.Reply.{Reply}
 use Rattle.wit_script_lines.specs.declared.request.Request.{Request}
-use Rattle.wit_script_lines.specs.declared.request.Request.TheVariants as request
 use Rattle.wit_script.proofs.Answered.{AnswersAll-more}
 use Rattle.wit_script.proofs.Waiting.{others-come}
-use Rattle.wit_script.specs.Answer.{AnswersByRun, AnswersPrint, AnswersSelect, IsChoice, PrintsChoice, Replies, only_first, package_named, refusal_text, reply_text, working_state, world_named}
+use Rattle.wit_script.specs.Answer.{AnswersByRun, AnswersPrint, AnswersSelect, IsChoice, PrintsChoice, action_of, line_of, only_first, package_named, refusal_text, reply_text, working_state, world_named}
 use Rattle.wit_script.specs.Ready.{CanAllBeAsked}
 use Rattle.wit_script.specs.World.{world_text_at}
+use Rattle.wit_script.specs.declared.answer.Action.{Action}
+use Rattle.wit_script.specs.declared.answer.Action.TheVariants as does
+use Rattle.wit_script.specs.declared.answer.ReplyStyle.{ReplyStyle}
 use Rattle.wit_script.specs.declared.answer.Stage.{Stage}
 use Rattle.wit_script.specs.declared.ready.ScriptCommand.{ScriptCommand}
 use Rattle.wit_script.specs.declared.ready.ScriptCommand.TheVariants as asks
-use Rattle.witgraph_dot.specs.Drawn.{Carries, Follows, FollowsAll, graphs}
+use Rattle.witgraph_dot.specs.Drawn.{Carries, Follows, FollowsAction, FollowsAll, graphs}
 use Rattle.witgraph_dot.specs.declared.listed_graph.ListedGraph.{ListedGraph}
 
 -- what follows where there is an answer
@@ -39,16 +41,19 @@ works : (told : Graph → Reply → List ℕ) (listed after : ListedGraph) (wait
 works told listed after None command carried = (flat_map (told after.resolve.graph) carried.0, (after.resolve, inl (carried.0, carried.1, refl), refl))
 works told listed after (Some first) command carried = (flat_map (told after.resolve.graph) carried.0, (after.resolve, inl (carried.0, carried.1, refl), refl))
 
+-- what is done, as it is read
+as-done : {A E : Type 0} (told : Result A E) (before after : Stage) (done read : Action) → done ≡ read → OnOk told (FollowsAction before read after) → OnOk told (FollowsAction before done after)
+as-done told before after done read is follows = subst (λ (a : Action). OnOk told (FollowsAction before a after)) (sym is) follows
+
 -- the active graph goes into the first one
-merges : (listed first after : ListedGraph) → Carries first.resolve (Merge listed.resolve) after.resolve
-    → Follows (graphs listed (Some first)) (asks.Request request.Merge) (graphs after None)
+merges : (listed first after : ListedGraph) → Carries first.resolve (Merge listed.resolve) after.resolve → FollowsAction (graphs listed (Some first)) does.Merge (graphs after None)
 merges listed first after carried = (flat_map (reply_text after.resolve.graph) carried.0, (after.resolve, inl (carried.0, carried.1, refl), refl))
 
 pub merges-in : {A E : Type 0} (told : Result A E) (listed first after : ListedGraph) (waiting left : Option ListedGraph) → waiting ≡ Some first → left ≡ None
-    → OnOk told (Carries first.resolve (Merge listed.resolve) after.resolve) → OnOk told (Follows (graphs listed waiting) (asks.Request request.Merge) (graphs after left))
+    → OnOk told (Carries first.resolve (Merge listed.resolve) after.resolve) → OnOk told (FollowsAction (graphs listed waiting) does.Merge (graphs after left))
 merges-in told listed first after waiting left there gone carried =
-    subst (λ (w : Option ListedGraph). OnOk told (Follows (graphs listed w) (asks.Request request.Merge) (graphs after left))) (sym there)
-    (subst (λ (w : Option ListedGraph). OnOk told (Follows (graphs listed (Some first)) (asks.Request request.Merge) (graphs after w))) (sym gone)
+    subst (λ (w : Option ListedGraph). OnOk told (FollowsAction (graphs listed w) does.Merge (graphs after left))) (sym there)
+    (subst (λ (w : Option ListedGraph). OnOk told (FollowsAction (graphs listed (Some first)) does.Merge (graphs after w))) (sym gone)
     (on-ok (merges listed first after) told carried))
 
 -- `print` and `select` can be answered, and leave the graphs as they are
@@ -58,8 +63,7 @@ printable g owner world = of (world_named g owner world) where
   of None = (codes "no world\n", refl)
   of (Some id) = (refusal_text OutOfMemory, inr refl)
 
-prints : (listed : ListedGraph) (waiting : Option ListedGraph) (owner : PackageName) (world : List ℕ)
-    → Follows (graphs listed waiting) (asks.Request (request.Print owner world)) (graphs listed waiting)
+prints : (listed : ListedGraph) (waiting : Option ListedGraph) (owner : PackageName) (world : List ℕ) → FollowsAction (graphs listed waiting) (does.Print owner world) (graphs listed waiting)
 prints listed waiting owner world = let told = printable (working_state (graphs listed waiting)).graph owner world in (told.0, (refl, told.1))
 
 selectable : (g : Graph) (owner : PackageName) (said : Option (List ℕ)) → (text : List ℕ) × AnswersSelect IsChoice g owner said text
@@ -68,8 +72,7 @@ selectable g owner said = of (package_named g owner) where
   of None = (codes "no package\n", refl)
   of (Some id) = (refusal_text OutOfMemory, (Err OutOfMemory, inl refl, refl))
 
-selects : (listed : ListedGraph) (waiting : Option ListedGraph) (owner : PackageName) (said : Option (List ℕ))
-    → Follows (graphs listed waiting) (asks.Request (request.Select owner said)) (graphs listed waiting)
+selects : (listed : ListedGraph) (waiting : Option ListedGraph) (owner : PackageName) (said : Option (List ℕ)) → FollowsAction (graphs listed waiting) (does.Select owner said) (graphs listed waiting)
 selects listed waiting owner said = let told = selectable (working_state (graphs listed waiting)).graph owner said in (told.0, (refl, told.1))
 
 -- `other` waits where a first graph does
@@ -89,19 +92,36 @@ others-wait listed next waiting left command commands follows come =
     subst (λ (b : Bool). CanAllBeAsked commands b) (waits next left)
     (others-come Run IsChoice (graphs listed waiting) (graphs next left) command commands follows.0 follows.1 (subst (λ (b : Bool). CanAllBeAsked (command ∷ commands) b) (sym (waits listed waiting)) come))
 
--- ---- what is asked, as it is read
+-- ---- what is done, as it is read
 
--- a command that pushes nothing
-pub as-asked : {A E : Type 0} (told : Result A E) (before after : Stage) (asked read : Request) → asked ≡ read → OnOk told (Follows before (asks.Request read) after) → OnOk told (Follows before (asks.Request asked) after)
-as-asked told before after asked read is follows = subst (λ (r : Request). OnOk told (Follows before (asks.Request r) after)) (sym is) follows
+-- a command that is carried out on the active graph
+pub runs-as : {A E : Type 0} (told : Result A E) (listed after : ListedGraph) (waiting : Option ListedGraph) (done : Action) (command : Command) (style : ReplyStyle)
+    → done ≡ does.Run command style → OnOk told (Carries listed.resolve command after.resolve) → OnOk told (FollowsAction (graphs listed waiting) done (graphs after waiting))
+runs-as told listed after waiting done command style is carried =
+    as-done told (graphs listed waiting) (graphs after waiting) done (does.Run command style) is (on-ok (works (line_of style) listed after waiting command) told carried)
 
--- one that is carried out on the active graph
-pub works-as : {A E : Type 0} (line : Graph → Reply → List ℕ) (told : Result A E) (listed after : ListedGraph) (waiting : Option ListedGraph) (asked read : Request) (command : Command)
-    → ((text : List ℕ) → AnswersByRun Run line (graphs listed waiting) command text (graphs after waiting) → Replies Run IsChoice (graphs listed waiting) read text (graphs after waiting))
-    → asked ≡ read → OnOk told (Carries listed.resolve command after.resolve) → OnOk told (Follows (graphs listed waiting) (asks.Request asked) (graphs after waiting))
-works-as line told listed after waiting asked read command reply is carried =
-    as-asked told (graphs listed waiting) (graphs after waiting) asked read is
-    (on-ok (λ (c : Carries listed.resolve command after.resolve). let done = works line listed after waiting command c in (done.0, reply done.0 done.1)) told carried)
+-- `merge`
+pub merges-as : {A E : Type 0} (told : Result A E) (before after : Stage) (done : Action) → done ≡ does.Merge → OnOk told (FollowsAction before does.Merge after) → OnOk told (FollowsAction before done after)
+merges-as told before after done is follows = as-done told before after done does.Merge is follows
+
+pub prints-as : {A E : Type 0} (told : Result A E) (listed : ListedGraph) (waiting : Option ListedGraph) (done : Action) (owner : PackageName) (world : List ℕ)
+    → done ≡ does.Print owner world → OnOk told (FollowsAction (graphs listed waiting) done (graphs listed waiting))
+prints-as told listed waiting done owner world is =
+    as-done told (graphs listed waiting) (graphs listed waiting) done (does.Print owner world) is (holding (prints listed waiting owner world) told)
+
+pub selects-as : {A E : Type 0} (told : Result A E) (listed : ListedGraph) (waiting : Option ListedGraph) (done : Action) (owner : PackageName) (said : Option (List ℕ))
+    → done ≡ does.Select owner said → OnOk told (FollowsAction (graphs listed waiting) done (graphs listed waiting))
+selects-as told listed waiting done owner said is =
+    as-done told (graphs listed waiting) (graphs listed waiting) done (does.Select owner said) is (holding (selects listed waiting owner said) told)
+
+-- `other`, where none waits
+pub opens-as : (listed next : ListedGraph) (waiting left : Option ListedGraph) (done : Action) → done ≡ does.Open → waiting ≡ None
+    → graphs next left ≡ record { first = listed.resolve; second = Some new_state } → FollowsAction (graphs listed waiting) done (graphs next left)
+opens-as listed next waiting left done is closed opened =
+    subst (λ (a : Action). FollowsAction (graphs listed waiting) a (graphs next left)) (sym is)
+    (subst (λ (w : Option ListedGraph). FollowsAction (graphs listed w) does.Open (graphs next left)) (sym closed) ([], (refl, opened)))
+
+-- ---- commands, as they are read
 
 -- the packages of a push
 pub pushes-as : {A E : Type 0} (told : Result A E) (listed after : ListedGraph) (waiting : Option ListedGraph) (asked : ScriptCommand) (main : UnresolvedPackageGroup) (deps : List UnresolvedPackageGroup)
@@ -110,19 +130,8 @@ pushes-as told listed after waiting asked main deps is carried =
     subst (λ (c : ScriptCommand). OnOk told (Follows (graphs listed waiting) c (graphs after waiting))) (sym is)
     (on-ok (works reply_text listed after waiting (PushGroups main deps)) told carried)
 
-pub prints-as : {A E : Type 0} (told : Result A E) (listed : ListedGraph) (waiting : Option ListedGraph) (asked : Request) (owner : PackageName) (world : List ℕ)
-    → asked ≡ request.Print owner world → OnOk told (Follows (graphs listed waiting) (asks.Request asked) (graphs listed waiting))
-prints-as told listed waiting asked owner world is =
-    as-asked told (graphs listed waiting) (graphs listed waiting) asked (request.Print owner world) is (holding (prints listed waiting owner world) told)
-
-pub selects-as : {A E : Type 0} (told : Result A E) (listed : ListedGraph) (waiting : Option ListedGraph) (asked : Request) (owner : PackageName) (said : Option (List ℕ))
-    → asked ≡ request.Select owner said → OnOk told (Follows (graphs listed waiting) (asks.Request asked) (graphs listed waiting))
-selects-as told listed waiting asked owner said is =
-    as-asked told (graphs listed waiting) (graphs listed waiting) asked (request.Select owner said) is (holding (selects listed waiting owner said) told)
-
--- `other`, where none waits
-pub opens-as : (listed next : ListedGraph) (waiting left : Option ListedGraph) (asked : Request) → asked ≡ request.Other → waiting ≡ None
-    → graphs next left ≡ record { first = listed.resolve; second = Some new_state } → Follows (graphs listed waiting) (asks.Request asked) (graphs next left)
-opens-as listed next waiting left asked is closed opened =
-    subst (λ (r : Request). Follows (graphs listed waiting) (asks.Request r) (graphs next left)) (sym is)
-    (subst (λ (w : Option ListedGraph). Follows (graphs listed w) (asks.Request request.Other) (graphs next left)) (sym closed) ([], (refl, opened)))
+-- a command that pushes nothing, by what it does
+pub acts-as : {A E : Type 0} (told : Result A E) (before after : Stage) (asked : ScriptCommand) (request : Request) (done : Action) → asked ≡ asks.Request request → done ≡ action_of request
+    → OnOk told (FollowsAction before done after) → OnOk told (Follows before asked after)
+acts-as told before after asked request done read is follows =
+    subst (λ (c : ScriptCommand). OnOk told (Follows before c after)) (sym read) (subst (λ (a : Action). OnOk told (FollowsAction before a after)) is follows)

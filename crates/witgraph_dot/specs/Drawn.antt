@@ -6,7 +6,8 @@ use Rattle.wit_resolve_graph.specs.State.{State, new_state}
 use Rattle.wit_resolve_graph.specs.Step.{Run}
 use Rattle.wit_resolve_graph.specs.declared.command.Command.{Command}
 use Rattle.wit_resolve_graph.specs.declared.command.Reply.{Reply}
-use Rattle.wit_script.specs.Answer.{Answers, AnswersAll, IsChoice, only_first}
+use Rattle.wit_script.specs.Answer.{Acts, Answers, AnswersAll, IsChoice, only_first}
+use Rattle.wit_script.specs.declared.answer.Action.{Action}
 use Rattle.wit_script.specs.declared.answer.Stage.{Stage}
 use Rattle.wit_script.specs.declared.ready.ScriptCommand.{ScriptCommand}
 use Rattle.witgraph_dot.specs.declared.listed_graph.ListedGraph.{ListedGraph}
@@ -25,6 +26,10 @@ graphs active (Some first) = record { first = first.resolve; second = Some activ
 -- the graphs that `execute` may have after a command, whatever it answers
 abbrev pub Follows : Stage → ScriptCommand → Stage → Type 0
 Follows before command after = (text : List ℕ) × Answers Run IsChoice before command text after
+
+-- the same after what a command does that brings no packages
+abbrev pub FollowsAction : Stage → Action → Stage → Type 0
+FollowsAction before done after = (text : List ℕ) × Acts Run IsChoice before done text after
 
 -- the graphs that `execute` may have after commands on an empty graph
 abbrev pub FollowsAll : List ScriptCommand → Stage → Type 0

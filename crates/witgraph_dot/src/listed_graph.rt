@@ -57,6 +57,28 @@ impl ListedGraph {
         }
     }
 
+    /// The same, with what counts as listed after a command that transforms a world.
+    pub fn carry_out(&mut self, alloc: Global, command: Command) -> ResolveResult<Option<String>>
+        requires { IsCommandShaped command }
+        ensures { OnOk result (Carries self.old.resolve command self.new.resolve) }
+    {
+        match command {
+            Command::Importize {
+                package,
+                world,
+                out,
+            } => self.importize(alloc, package, world, out),
+            Command::Exportize {
+                package,
+                world,
+                out,
+                keys,
+            } => self.exportize(alloc, package, world, out, keys),
+            Command::Semver { package, world } => self.semver(alloc, package, world),
+            other => self.change(alloc, other),
+        }
+    }
+
     /// `push`: the lines of the packages list imports.
     pub fn push(
         &mut self,

@@ -1,18 +1,17 @@
 //! A script as it is carried out.
-ghost use Rattle.std.specs.Prelude.{◌≡◌, ◌≢◌, None, Some, IfOk, OnOk, false, is_some};
+ghost use Rattle.std.specs.Prelude.{◌≡◌, ◌≢◌, None, Some, IfOk, IsTrue, OnOk, false, is_some};
 ghost use Rattle.wit_resolve_graph.specs.State.{new_state};
-ghost use Rattle.wit_script_lines.specs.declared.request.Request.TheVariants as requested;
+ghost use Rattle.wit_script.specs.Answer.{IsActionShaped, open_after};
 ghost use Rattle.wit_script.specs.Ready.{CanAllBeAsked, CanBeAsked, IsReady};
-ghost use Rattle.wit_script.specs.declared.ready.ScriptCommand.TheVariants as asks;
-ghost use Rattle.witgraph_dot.specs.Drawn.{Follows, FollowsAll, graphs};
+ghost use Rattle.wit_script.specs.declared.answer.Action.TheVariants as does;
+ghost use Rattle.witgraph_dot.specs.Drawn.{Follows, FollowsAction, FollowsAll, graphs};
 
 use crate::heading::Heading;
 use crate::listed_graph::ListedGraph;
 use std::alloc::Global;
 use std::mem;
-use wit_resolve_graph::{Command, Items, ResolveResult};
-use wit_script::{ReadyCommand, ScriptCommand};
-use wit_script_lines::Request;
+use wit_resolve_graph::{Items, ResolveResult};
+use wit_script::{Action, ReadyCommand, ScriptCommand, action_of};
 
 /// The graph of a script on which commands work, the first one where it waits for `merge`, and a note for each command so
 /// far that came to nothing.
@@ -79,42 +78,25 @@ impl Stage {
     {
         match command {
             ScriptCommand::Push { main, deps } => self.active.push(alloc, main, deps),
-            ScriptCommand::Request(request) => self.failure_of_request(alloc, request),
+            ScriptCommand::Request(request) => self.failure_of_action(alloc, action_of(request)),
         }
     }
 
-    /// The same of a command that pushes nothing.
-    fn failure_of_request(
-        &mut self,
-        alloc: Global,
-        request: Request,
-    ) -> ResolveResult<Option<String>>
-        requires { CanBeAsked (asks.Request request) (is_some self.old.waiting) }
-        ensures { OnOk result (Follows (graphs self.old.active self.old.waiting) (asks.Request request) (graphs self.new.active self.new.waiting)) }
+    /// The same of what a command does that pushes nothing.
+    fn failure_of_action(&mut self, alloc: Global, action: Action) -> ResolveResult<Option<String>>
+        requires shaped { IsActionShaped action }
+        requires open { IsTrue (is_some (open_after action (is_some self.old.waiting))) }
+        ensures { OnOk result (FollowsAction (graphs self.old.active self.old.waiting) action (graphs self.new.active self.new.waiting)) }
     {
-        match request {
-            Request::Feature(name) => self.active.change(alloc, Command::AddFeature(name)),
-            Request::AllFeatures => self.active.change(alloc, Command::SetAllFeatures(true)),
-            Request::Tracks(rule) => self.active.change(alloc, Command::SetTrackRule(rule)),
-            Request::Other => {
+        match action {
+            Action::Run { command, .. } => self.active.carry_out(alloc, command),
+            Action::Open => {
                 self.begin_other(alloc);
                 Ok(None)
             }
-            Request::Merge => self.merge(alloc),
-            Request::Importize {
-                package,
-                world,
-                out,
-            } => self.active.importize(alloc, package, world, out),
-            Request::Exportize {
-                package,
-                world,
-                out,
-                keys,
-            } => self.active.exportize(alloc, package, world, out, keys),
-            Request::Semver { package, world } => self.active.semver(alloc, package, world),
-            Request::Print { package, world } => self.active.print(alloc, &package, &world),
-            Request::Select { package, text } => self.active.select(alloc, &package, &text),
+            Action::Merge => self.merge(alloc),
+            Action::Print { package, world } => self.active.print(alloc, &package, &world),
+            Action::Select { package, text } => self.active.select(alloc, &package, &text),
         }
     }
 
@@ -130,7 +112,7 @@ impl Stage {
     /// `merge`: the second graph goes into the first, and is no longer there, whether it is refused or not.
     fn merge(&mut self, alloc: Global) -> ResolveResult<Option<String>>
         requires { self.old.waiting ≢ None }
-        ensures { OnOk result (Follows (graphs self.old.active self.old.waiting) (asks.Request requested.Merge) (graphs self.new.active self.new.waiting)) }
+        ensures { OnOk result (FollowsAction (graphs self.old.active self.old.waiting) does.Merge (graphs self.new.active self.new.waiting)) }
     {
         match self.waiting.take() {
             Some(first) => {

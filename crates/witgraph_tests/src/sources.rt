@@ -10,7 +10,7 @@ use std::fmt::Write;
 use std::process::Abort;
 use wit_data::{
     Docs, Function, FunctionKind, Interface, Items, Names, PackageId, PackageName, SourceMap, Span,
-    Stability, Table, Text, TryClone, UnresolvedPackage, UnresolvedPackageGroup,
+    Table, Text, TryClone, UnresolvedPackage, UnresolvedPackageGroup,
 };
 use wit_resolve_graph::{PackageSources, ParseFault, Resolve, Shape, SourceFault};
 
@@ -87,16 +87,9 @@ fn faults_stand_in_the_files_that_follow(rt: HostRuntime) {
 
 /// The function of the interface, at its place in the file.
 fn functions(rt: &impl Abort, alloc: Global) -> Names<Function> {
-    let function = Function {
-        name: text(rt, alloc, "second-func"),
-        kind: FunctionKind::Freestanding,
-        params: Items::new(alloc),
-        result_: None,
-        docs: Docs::none(),
-        stability: Stability::Unknown,
-        span: Span::new(51, 62),
-        external_id: None,
-    };
+    let name = text(rt, alloc, "second-func");
+    let mut function = Function::new(name, FunctionKind::Freestanding, Items::new(alloc), None);
+    function.span = Span::new(51, 62);
     let name = String::from_str(alloc, "second-func").expect(rt, "memory");
     let mut functions = Names::new(alloc);
     functions.push(name, function).expect(rt, "memory");
@@ -105,15 +98,10 @@ fn functions(rt: &impl Abort, alloc: Global) -> Names<Function> {
 
 /// An interface, at its place in the file.
 fn interface(rt: &impl Abort, alloc: Global) -> Interface {
-    Interface {
-        name: Some(text(rt, alloc, "second-iface")),
-        types: Names::new(alloc),
-        functions: functions(rt, alloc),
-        docs: Docs::none(),
-        stability: Stability::Unknown,
-        package: None,
-        span: Span::new(32, 44),
-    }
+    let mut interface = Interface::new(alloc, Some(text(rt, alloc, "second-iface")));
+    interface.functions = functions(rt, alloc);
+    interface.span = Span::new(32, 44);
+    interface
 }
 
 /// The package of the file.

@@ -1,8 +1,7 @@
 -- Worked worlds over four interfaces: a; b, which uses a; c, which uses a and then b; d, which uses b.
-use Rattle.std.specs.Prelude.{ℕ, ◌≡◌, List, [], ◌∷◌, None, codes}
-use Rattle.wit_data.specs.declared.stability.Stability.TheVariants.{Unknown}
+use Rattle.std.specs.Prelude.{ℕ, ◌≡◌, List, [], ◌∷◌, codes}
+use Rattle.wit_data.specs.New.{new_interface_entry}
 use Rattle.wit_data.specs.declared.world.WorldItem.{WorldItem}
-use Rattle.wit_data.specs.declared.world.WorldItem.TheVariants as item
 use Rattle.wit_data.specs.declared.world.WorldKey.TheVariants.{Name, Interface}
 use Rattle.wit_elaboration.specs.Elaborated.{elaborated_imports, elaborated_exports}
 use Rattle.wit_elaboration.specs.Entries.{Entry}
@@ -13,7 +12,7 @@ chain = [] ∷ (0 ∷ []) ∷ (0 ∷ 1 ∷ []) ∷ (1 ∷ []) ∷ []
 
 -- an interface without a gate, docs, span and external id
 abbrev pub plain : ℕ → WorldItem
-plain i = item.Interface i Unknown (record { contents = None }) None None
+plain i = new_interface_entry i
 
 -- the interfaces under their own keys
 abbrev pub a : Entry

@@ -1,12 +1,12 @@
 -- Small graphs that the examples speak of.
 use Rattle.std.specs.Prelude.{ℕ, List, [], ◌∷◌, Option, Some, None, codes}
+use Rattle.wit_data.specs.New.{new_function, new_interface, new_interface_entry, new_type, new_world}
 use Rattle.wit_data.specs.declared.function.Function.{Function}
 use Rattle.wit_data.specs.declared.function.FunctionKind.TheVariants as function
 use Rattle.wit_data.specs.declared.function.Param.{Param}
 use Rattle.wit_data.specs.declared.interface.Interface.{Interface}
 use Rattle.wit_data.specs.declared.package_name.PackageName.{PackageName}
 use Rattle.wit_data.specs.declared.stability.Docs.{Docs}
-use Rattle.wit_data.specs.declared.stability.Stability.TheVariants.{Unknown}
 use Rattle.wit_data.specs.declared.types.TypeDef.{TypeDef}
 use Rattle.wit_data.specs.declared.types.TypeDefKind.{TypeDefKind}
 use Rattle.wit_data.specs.declared.types.TypeDefKind.TheVariants as kind
@@ -16,7 +16,6 @@ use Rattle.wit_data.specs.declared.types.Type_.{Type_}
 use Rattle.wit_data.specs.declared.types.Type_.TheVariants as type
 use Rattle.wit_data.specs.declared.world.World.{World}
 use Rattle.wit_data.specs.declared.world.WorldItem.{WorldItem}
-use Rattle.wit_data.specs.declared.world.WorldItem.TheVariants as item
 use Rattle.wit_data.specs.declared.world.WorldKey.{WorldKey}
 use Rattle.wit_data.specs.declared.world.WorldKey.TheVariants as key
 use Rattle.wit_graph_data.specs.declared.graph.Graph.{Graph}
@@ -28,7 +27,7 @@ no_docs = record { contents = None }
 
 -- a type of this name, kind and owner, without anything else
 abbrev pub type_of : Option (List ℕ) → TypeDefKind → TypeOwner → TypeDef
-type_of name k by = record { name = name; kind = k; owner = by; docs = no_docs; stability = Unknown; span = None; external_id = None }
+type_of name k by = new_type name k by
 
 -- a named type of interface i
 abbrev pub type_in : ℕ → List ℕ → TypeDefKind → TypeDef
@@ -40,15 +39,15 @@ unnamed k = type_of None k owner.None
 
 -- an interface of package 0 with these types
 abbrev pub interface_of : Option (List ℕ) → List (List ℕ × ℕ) → Interface
-interface_of name types = record { name = name; types = types; functions = []; docs = no_docs; stability = Unknown; «package» = Some 0; span = None }
+interface_of name types = record (new_interface name) { types = types; «package» = Some 0 }
 
 -- a world of package 0 with these lists
 abbrev pub world_of : List ℕ → List (WorldKey × WorldItem) → List (WorldKey × WorldItem) → World
-world_of name imports exports = record { name = name; imports = imports; exports = exports; docs = no_docs; stability = Unknown; «package» = Some 0; includes = []; span = None }
+world_of name imports exports = record (new_world name) { imports = imports; exports = exports; «package» = Some 0 }
 
 -- the entry of interface i under its own key, and under a label
 abbrev pub instance : ℕ → WorldItem
-instance i = item.Interface i Unknown no_docs None None
+instance i = new_interface_entry i
 
 -- the entry of interface i under its own key
 abbrev pub entry_of : ℕ → WorldKey × WorldItem
@@ -60,8 +59,7 @@ labelled_entry label i = (key.Name label, instance i)
 
 -- a function of these parameters and this result
 abbrev pub function_of : List ℕ → List Type_ → Option Type_ → Function
-function_of name params result =
-    record { name = name; kind = function.Freestanding; params = params_of params; result_ = result; docs = no_docs; stability = Unknown; span = None; external_id = None }
+function_of name params result = new_function name function.Freestanding (params_of params) result
   where
     params_of : List Type_ → List Param
     params_of [] = []

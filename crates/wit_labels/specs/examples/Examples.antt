@@ -1,8 +1,8 @@
 -- Small labels and lists, and what the definitions say of them.
 use Rattle.std.specs.Prelude.{◌≡◌, ℕ, true, false, List, [], ◌∷◌, Some, None, codes}
 use Rattle.wit_data.specs.Entries.{Entry}
+use Rattle.wit_data.specs.New.{new_function}
 use Rattle.wit_data.specs.declared.function.FunctionKind.TheVariants as function
-use Rattle.wit_data.specs.declared.stability.Stability.TheVariants.{Unknown}
 use Rattle.wit_data.specs.declared.world.IncludeName.{IncludeName}
 use Rattle.wit_data.specs.declared.world.WorldItem.TheVariants as item
 use Rattle.wit_data.specs.declared.world.WorldKey.{WorldKey}
@@ -44,19 +44,7 @@ pub record ExamplesOfClashes : Type 0 where
 
 -- an entry that is a function under this label
 abbrev pub function_entry : List ℕ → Entry
-function_entry label = (
-  key.Name label,
-  item.Function (record {
-    name = label;
-    kind = function.Freestanding;
-    params = [];
-    result_ = None;
-    docs = record { contents = None };
-    stability = Unknown;
-    span = None;
-    external_id = None;
-  }),
-)
+function_entry label = (key.Name label, item.Function (new_function label function.Freestanding [] None))
 
 -- what is a setter, and where setters go
 pub record ExamplesOfSetters : Type 0 where

@@ -1,6 +1,6 @@
 -- Worked examples: where small types differ in structure, and that some don't.
 use Rattle.std.specs.Prelude.{◌≡◌, ℕ, List, [], ◌∷◌, codes, Option, None, Some}
-use Rattle.wit_data.specs.declared.stability.Stability.TheVariants.{Unknown}
+use Rattle.wit_data.specs.New.{new_type}
 use Rattle.wit_data.specs.declared.types.Case.{Case}
 use Rattle.wit_data.specs.declared.types.EnumCase.{EnumCase}
 use Rattle.wit_data.specs.declared.types.Field.{Field}
@@ -17,7 +17,7 @@ use Rattle.wit_merge_structure.specs.Structure.{DifferInStructure, structure}
 -- ---- types
 
 abbrev pub type_of : Option (List ℕ) → TypeDefKind → TypeDef
-type_of name k = record { name = name; kind = k; owner = owner.None; docs = record { contents = None }; stability = Unknown; span = None; external_id = None }
+type_of name k = new_type name k owner.None
 
 abbrev pub with_name : TypeDefKind → TypeDef
 with_name k = type_of (Some (codes "t")) k

@@ -2,7 +2,7 @@ use Rattle.std.proofs.Common.{◌+◌, ◌≤◌, length, vec_capacity, vec_len}
 use Rattle.std.specs.List.{AllByRecursion}
 use Rattle.std.specs.Vec.Iter.{into_iter_items}
 use Rattle.wit_resolve_graph.specs.Step.{IsCommandShaped, Run}
-use Rattle.wit_resolve_graph.proofs.running.run.Given as goal
+use Rattle.wit_resolve_graph.proofs.command.run.Given as goal
 
 -- there is room for the replies that are left, the commands that are left have their shape, and those so far
 -- are run
