@@ -156,26 +156,26 @@ pub included_causes : ExamplesOfIncludedCauses
 included_causes = record {
   conflict = reason.of_world 0 _ (first_reached (exporting 0)) (of_finish _ (exporting_image 0) (all_fine (exporting 0) (exporting_include 0) (λ j. refl)
       (fine (exporting 0) 0 0 (exporting_include 0) (record { import_labels = refl; export_labels = refl; import_keys = refl; export_keys = refl; names = refl }))) (record {
-    at = (exporting_include 0).at;
-    whole = _;
-    whole_is = refl;
-    cause = conflict_4 (codes "foo:bar/c") (record {
-      conflict = (2, 1, (0, lit< tt, refl), (0, lit< tt, refl), (b_outside, 0, (0 ∷ [], ((0, lit< tt, refl), refl)), (1, lit< tt, refl)));
-      name_is = (
-        key.Interface 2,
-        (
-          [],
-          entry_of 2,
-          entry_of 0 ∷ [],
-          refl,
-          λ e inside. absurd (none_in e inside),
-          (2, (0, lit< tt, refl), (1, 1, (0, lit< tt, refl), ([], refl), (b_outside, 0, (0 ∷ [], ((0, lit< tt, refl), refl)), (1, lit< tt, refl)))),
-          refl,
-        ),
-        refl,
-      );
-    });
-  }));
+        at = (exporting_include 0).at;
+        whole = _;
+        whole_is = refl;
+        cause = conflict_4 (codes "foo:bar/c") (record {
+          conflict = (2, 1, (0, lit< tt, refl), (0, lit< tt, refl), (b_outside, 0, (0 ∷ [], ((0, lit< tt, refl), refl)), (1, lit< tt, refl)));
+          name_is = (
+            key.Interface 2,
+            (
+              [],
+              entry_of 2,
+              entry_of 0 ∷ [],
+              refl,
+              λ e inside. absurd (none_in e inside),
+              (2, (0, lit< tt, refl), (1, 1, (0, lit< tt, refl), ([], refl), (b_outside, 0, (0 ∷ [], ((0, lit< tt, refl), refl)), (1, lit< tt, refl)))),
+              refl,
+            ),
+            refl,
+          );
+        });
+      }));
   closed = λ span name c.
       let found = of_conflict (exporting 1) span name c in
       of_first (exporting 1) (λ k. refl) (λ (k : ℕ). IsCauseAtFinish (exporting 1) k (InvalidTransitiveDependency span name)) (λ k x. x.at)
@@ -213,29 +213,29 @@ included_causes = record {
       (λ (k j : ℕ). IsCauseAtInclude (exports (gated_entry since_one) (gated_entry gate_f)) k j (StabilityMismatch span brings has)) (λ k j x. x.at) (since span brings has) found.0 found.1 found.3;
   alike = reason.of_world 0 _ (first_reached (imports (codes "ab") (codes "AB"))) (of_finish _ (imports_image (codes "ab") (codes "AB"))
       (imports_fine (codes "ab") (codes "AB") (record { import_labels = refl; export_labels = refl; import_keys = refl; export_keys = refl; names = refl })) (record {
-    at = (import_include (codes "ab") (codes "AB")).at;
-    whole = _;
-    whole_is = refl;
-    cause = not_strongly_unique_17 (codes "import") (codes "ab") (codes "AB") (record { entries = _; list = inl (refl, refl); clash = (0, 1, lit< tt, refl, refl, refl) });
-  }));
+        at = (import_include (codes "ab") (codes "AB")).at;
+        whole = _;
+        whole_is = refl;
+        cause = not_strongly_unique_17 (codes "import") (codes "ab") (codes "AB") (record { entries = _; list = inl (refl, refl); clash = (0, 1, lit< tt, refl, refl, refl) });
+      }));
   alike_exports = reason.of_world 0 _ (first_reached (exports (function_entry (codes "ab")) (function_entry (codes "AB")))) (of_finish _ (exports_image (codes "ab") (codes "AB"))
       (all_fine _ (export_include (codes "ab") (codes "AB")) (λ j. refl)
       (fine _ 0 0 (export_include (codes "ab") (codes "AB")) (record { import_labels = refl; export_labels = refl; import_keys = refl; export_keys = refl; names = refl }))) (record {
-    at = (export_include (codes "ab") (codes "AB")).at;
-    whole = _;
-    whole_is = refl;
-    cause = not_strongly_unique_17 (codes "export") (codes "ab") (codes "AB") (record { entries = _; list = inr (refl, refl); clash = (0, 1, lit< tt, refl, refl, refl) });
-  }));
+        at = (export_include (codes "ab") (codes "AB")).at;
+        whole = _;
+        whole_is = refl;
+        cause = not_strongly_unique_17 (codes "export") (codes "ab") (codes "AB") (record { entries = _; list = inr (refl, refl); clash = (0, 1, lit< tt, refl, refl, refl) });
+      }));
   not_alike = λ span message c.
       let found = of_alike (imports (codes "ab") (codes "ac")) span message c in
       of_first (imports (codes "ab") (codes "ac")) (λ k. refl) (ClashAt (imports (codes "ab") (codes "ac"))) (λ k x. list_world _ k x.lists x.have) not_alike found.0 found.2;
   no_getter = reason.of_world 0 _ (first_reached (imports (codes "f") (codes "[set]p"))) (of_finish _ (imports_image (codes "f") (codes "[set]p"))
       (imports_fine (codes "f") (codes "[set]p") (record { import_labels = refl; export_labels = refl; import_keys = refl; export_keys = refl; names = refl })) (record {
-    at = (import_include (codes "f") (codes "[set]p")).at;
-    whole = _;
-    whole_is = refl;
-    cause = no_getter_18 (codes "import") (codes "[set]p") _ (record { entries = _; list = inl (refl, refl); setter = ((0, lit< tt, refl), (refl, refl)); absent = no_getter });
-  }));
+        at = (import_include (codes "f") (codes "[set]p")).at;
+        whole = _;
+        whole_is = refl;
+        cause = no_getter_18 (codes "import") (codes "[set]p") _ (record { entries = _; list = inl (refl, refl); setter = ((0, lit< tt, refl), (refl, refl)); absent = no_getter });
+      }));
   getter_comes = λ span message c.
       let found = of_getter (imports (codes "[get]p") (codes "[set]p")) span message c in
       of_first (imports (codes "[get]p") (codes "[set]p")) (λ k. refl) (LonelySetterAt (imports (codes "[get]p") (codes "[set]p"))) (λ k x. list_world _ k x.lists x.have) getter_comes found.0 found.1;

@@ -1,5 +1,5 @@
 -- The examples of worlds one after another, and of packages without an image.
-use Rattle.std.proofs.Common.{◌≡◌, ℕ, ◌<◌, zero, suc, List, [], ◌∷◌, Some, None, slice_get, refl, subst, inl, lit<, arith}
+use Rattle.std.proofs.Common.{◌≡◌, ℕ, ◌<◌, zero, suc, [], ◌∷◌, Some, None, slice_get, refl, subst, inl, lit<, arith}
 use Rattle.std.specs.Prelude.{codes}
 use Rattle.wit_values.specs.facts.Lists.{differ}
 use Rattle.wit_digraph.specs.PostOrder.{post_order, post_order_within}

@@ -1,5 +1,5 @@
 -- The packages of a reading are those that lines build, and their groups lack nothing of their shape but what lines may break.
-use Rattle.std.proofs.Common.{◌≡◌, ◌∙◌, ◌↔◌, ℕ, zero, suc, Bool, true, false, cond, List, [], ◌∷◌, ◌++◌, length, Option, Some, None, is_some, IfSome, IsTrue, slice_get, refl, subst, option_and_then, option_map, option_to_list}
+use Rattle.std.proofs.Common.{◌≡◌, ◌↔◌, ℕ, zero, suc, Bool, true, false, cond, List, [], ◌∷◌, ◌++◌, length, Option, Some, None, is_some, IfSome, IsTrue, slice_get, refl, subst, option_and_then, option_map, option_to_list}
 use Rattle.wit_values.specs.facts.Lists.{slice_get-behind}
 use Rattle.wit_data.specs.Each.{Each}
 use Rattle.wit_data.specs.Shape.{IsGroupShaped}

@@ -208,7 +208,7 @@ fn answer_to(alloc: Global, stage: &mut Stage, command: ReadyCommand) -> Result<
 /// Does what a command asks that brings no packages, and answers it.
 fn act(alloc: Global, stage: &mut Stage, action: Action) -> Result<String, AllocError>
     requires shaped { IsActionShaped action }
-    requires open { IsTrue (is_some (open_after action (is_some stage.old.second))) }
+    requires come { IsTrue (is_some (open_after action (is_some stage.old.second))) }
     ensures { IfOk result (λ text. Acts Run IsChoice stage.old action (string_bytes text) stage.new) }
 {
     match action {

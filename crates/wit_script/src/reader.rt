@@ -15,7 +15,7 @@ ghost use Rattle.wit_script.specs.Script.{GoesOn, HasLineFault, HasReadFault, Is
 use crate::ahead::mentions_ahead;
 use crate::fault::ReadFault;
 use crate::ready::{ReadyCommand, ScriptCommand, other_after};
-use std::alloc::{AllocError, Global};
+use std::alloc::Global;
 use std::mem;
 use wit_data::{Items, PackageName, Stability, UnresolvedPackageGroup};
 use wit_script_lines::{LineFault, PackageLine, Request, Statement, lines, read_line};

@@ -50,7 +50,7 @@ with_second_name target second imports exports =
 abbrev pub old_x : Entry
 old_x = labelled_entry (codes "old") 0
 
--- world w of a graph whose imports are merged by the published rule
+-- a world of a graph, whose imports are merged by the published rule
 abbrev pub published : Graph → World → Upgrade
 published g world = record { rule = Published; graph = g; world = world }
 

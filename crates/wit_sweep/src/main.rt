@@ -21,7 +21,9 @@ mod states;
 
 use crate::adding::{add_group, push_groups};
 use crate::changing::{change, change_world, merge, run_command, run_merge};
-use crate::memoryless::{read_interface, read_package, read_type, read_values, read_whole};
+use crate::memoryless::{
+    new_types, new_worlds, read_interface, read_package, read_type, read_values, read_whole,
+};
 use crate::questions::{
     ask_function, ask_interface, ask_package, ask_whole, ask_world, name_resource,
 };
@@ -170,6 +172,8 @@ fn merge_each(rt: &impl Print, alloc: Global, one: &Resolve, other: &Resolve) ->
 
 fn make_all(rt: &impl Print, alloc: Global) -> Option<()> {
     read_values(rt, alloc)?;
+    new_types(rt, alloc)?;
+    new_worlds(rt, alloc)?;
     join_rows(rt)?;
     make_values(rt, alloc)?;
     make_sources(rt, alloc)?;

@@ -3,8 +3,9 @@ ghost use Rattle.std.specs.Prelude.{◌<◌, length};
 
 use std::alloc::Global;
 use wit_resolve_graph::{
-    AstItem, Docs, InterfaceId, PackageId, Resolve, SourceMap, Span, Stability, TrackRule,
-    TryClone, Type_, TypeId, WorldId,
+    AstItem, Docs, Function, FunctionKind, Interface, InterfaceId, Items, PackageId, Resolve,
+    SourceMap, Span, Stability, Text, TrackRule, TryClone, Type_, TypeDef, TypeDefKind, TypeId,
+    TypeOwner, World, WorldId, WorldItem,
 };
 use wit_script::Watched;
 use wit_sweep_layers::marks::{bare, tell};
@@ -42,6 +43,28 @@ pub fn read_values(rt: &impl Print, alloc: Global) -> Option<()> {
         SourceMap::with_base(alloc, 7).end(),
     );
     tell(rt, Ok((is_new, start, base)))
+}
+
+/// Of types and functions of which nothing is said yet.
+pub fn new_types(rt: &impl Print, alloc: Global) -> Option<()> {
+    bare(rt, "new of types and functions");
+    let def = TypeDef::new(None, TypeDefKind::Resource, TypeOwner::None);
+    let kind = FunctionKind::Freestanding;
+    let function = Function::new(Text::new(alloc), kind, Items::new(alloc), None);
+    tell(rt, Ok((def.name.is_none(), function.params.len())))
+}
+
+/// The same of interfaces and worlds.
+pub fn new_worlds(rt: &impl Print, alloc: Global) -> Option<()> {
+    bare(rt, "new of interfaces and worlds, and interface");
+    let interface = Interface::new(alloc, None);
+    let world = World::new(alloc, Text::new(alloc));
+    let entry = WorldItem::interface(InterfaceId::from_index(7));
+    let is_interface = matches!(entry, WorldItem::Interface { .. });
+    tell(
+        rt,
+        Ok((interface.types.len(), world.imports.len(), is_interface)),
+    )
 }
 
 /// Of a `Resolve` as a whole.

@@ -3,7 +3,7 @@ use std::alloc::{AllocError, Global};
 use wit_resolve_graph::{
     AstItem, Docs, Interface, InterfaceId, Items, Names, PackageName, SourceMap, Span, Stability,
     Table, Text, Type_, TypeDef, TypeDefKind, TypeId, TypeOwner, UnresolvedPackage,
-    UnresolvedPackageGroup, World, WorldItem, WorldKey,
+    UnresolvedPackageGroup, World, WorldItem,
 };
 
 /// The package `foo:NAME` with nothing in it.

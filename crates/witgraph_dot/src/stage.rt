@@ -85,7 +85,7 @@ impl Stage {
     /// The same of what a command does that pushes nothing.
     fn failure_of_action(&mut self, alloc: Global, action: Action) -> ResolveResult<Option<String>>
         requires shaped { IsActionShaped action }
-        requires open { IsTrue (is_some (open_after action (is_some self.old.waiting))) }
+        requires come { IsTrue (is_some (open_after action (is_some self.old.waiting))) }
         ensures { OnOk result (FollowsAction (graphs self.old.active self.old.waiting) action (graphs self.new.active self.new.waiting)) }
     {
         match action {

@@ -1,7 +1,7 @@
 -- The includes of an addition's worlds, at its stages: what is told of one world with its includes, as causes of the
 -- addition, which are of the world and the includes as the package has them: their ids are remapped and their spans moved.
 -- For the proofs of the crates above.
-use Rattle.std.proofs.Common.{◌≡◌, ◌∙◌, inl, inr, ℕ, zero, suc, ◌+◌, List, [], ◌∷◌, map, filter, fold, take, length, Some, None, slice_get, refl, sym, ap, subst, arith, Contains}
+use Rattle.std.proofs.Common.{◌≡◌, ◌∙◌, inl, inr, ℕ, zero, suc, ◌+◌, List, [], ◌∷◌, map, filter, fold, take, length, Some, None, slice_get, refl, sym, ap, subst, Contains}
 use Rattle.std.proofs.lemmas.List.Sums.{fold-append}
 use Rattle.std.specs.Map.{keys_of}
 use Rattle.wit_values.specs.facts.Lists.{take-next_at}
@@ -12,6 +12,7 @@ use Rattle.wit_data.specs.declared.world.WorldInclude.{WorldInclude}
 use Rattle.wit_data.specs.declared.world.WorldItem.TheVariants as item
 use Rattle.wit_data.specs.declared.world.WorldKey.{WorldKey}
 use Rattle.wit_data.specs.declared.world.WorldKey.TheVariants as key
+use Rattle.wit_graph_data.specs.Error.{NoCause}
 use Rattle.wit_graph_data.specs.declared.error_kind.ResolveErrorKind.{ResolveErrorKind}
 use Rattle.wit_graph_data.specs.declared.graph.Graph.{Graph}
 use Rattle.wit_graph_theory.specs.Image.{entry_image, function_image, key_image, world_image}
@@ -20,16 +21,15 @@ use Rattle.wit_labels.specs.Setters.{getter_label}
 use Rattle.wit_labels.specs.Strong.{Clashes}
 use Rattle.wit_link_spec.specs.Addition.{Addition, active_includes, addition_maps, own_worlds, remapped_world}
 use Rattle.wit_link_spec.specs.Cause.{IsCause, IsReached, of_world}
+use Rattle.wit_link_spec.specs.FinishCause.{IsFinishCause, LabelsClash, SetterIsAlone, no_getter_18, not_strongly_unique_17}
 use Rattle.wit_link_spec.specs.Gates.{include_is_active}
 use Rattle.wit_link_spec.specs.Include.{IsListCalled, PartiallyLinked, lists_of, with_entry_lists, with_include_of}
+use Rattle.wit_link_spec.specs.IncludeCause.{IsIncludeCause}
 use Rattle.wit_link_spec.specs.Pushed.{placed_include, placed_includes, with_all_includes, with_finished, with_include, with_includes, with_parts, with_world, with_worlds}
 use Rattle.wit_link_spec.specs.Reasons.{IsResolved}
-use Rattle.wit_link_spec.specs.FinishCause.{IsFinishCause, LabelsClash, SetterIsAlone, no_getter_18, not_strongly_unique_17}
 use Rattle.wit_link_spec.specs.WorldReasons.{AtWorld, IncludeIsAccepted, IsCauseAtFinish, IsCauseAtInclude, WorldIsAccepted, of_finish, of_include, written_no_getter_18, written_not_strongly_unique_17}
 use Rattle.wit_link_include.specs.steps.Included as local
 use Rattle.wit_link_include.specs.facts.SeveralFacts.{one_worlds}
-use Rattle.wit_graph_data.specs.Error.{NoCause}
-use Rattle.wit_link_spec.specs.IncludeCause.{IsIncludeCause}
 
 take_map : {X Y : Type 0} (f : X → Y) (j : ℕ) (xs : List X) → take j (map f xs) ≡ map f (take j xs)
 take_map f zero [] = refl

@@ -3,7 +3,7 @@
 -- list becomes is `joined_entries`; why an include and a finished world are refused is `IsIncludeCause` and `IsFinishCause`.
 -- Source: the WIT page of the component model, "include"; `resolve_include` and `process_world_includes` of
 -- wit-parser 0.263.0.
-use Rattle.std.specs.Prelude.{◌≡◌, ◌<◌, ℕ, Bool, List, fold, length, map, take, slice_get, Some, false, ◌∷◌, ◌++◌, ◌==◌, Option, None, if◌then◌else◌, Contains, ◌⊎◌, codes}
+use Rattle.std.specs.Prelude.{◌≡◌, ◌<◌, ℕ, Bool, List, fold, length, map, take, slice_get, Some, false, ◌==◌, Option, None, if◌then◌else◌, Contains, ◌⊎◌, codes}
 use Rattle.std.specs.List.{AllByRecursion, before_first}
 use Rattle.std.specs.Map.{keys_of}
 use Rattle.std.specs.Option.{option_map_or}

@@ -1,8 +1,9 @@
-use Rattle.std.proofs.Common.{rules, ◌≡◌, ◌∙◌, inr, ◌++◌, ◌∷◌, [], sym, subst, None, Some, List, slice_get, position, Contains}
-use Rattle.std.proofs.lemmas.List.{append_assoc}
+use Rattle.std.proofs.Common.{rules, arith, ◌≡◌, ◌∙◌, inr, ◌++◌, ◌∷◌, [], ap, sym, subst, None, Some, List, slice_get, position, Contains}
+use Rattle.std.proofs.lemmas.List.{append-nil, append_assoc}
 use Rattle.std.specs.Map.{keys_of, lookup}
 use Rattle.std.specs.Vec.Iter.{into_iter_items}
 use Rattle.wit_data.specs.Entries.{Entry}
+use Rattle.wit_data.specs.facts.EachFacts.{nil_from_length}
 use Rattle.wit_graph_data.specs.facts.ResultFacts.{residual_error}
 use Rattle.wit_graph_data.specs.declared.error_kind.ResolveErrorKind.TheVariants.{ItemShadowing}
 use Rattle.wit_data.specs.facts.WorldKeyFacts.{same_key}
@@ -77,6 +78,9 @@ returns-in_err-join_at-in-Interface-clause-cause c =
 
 pub returns-clause-fine : goal.returns-clause-fine
 returns-clause-fine c =
-    let all : c.loop-key.yielded ≡ c.args.brought = search rules in
+    let over = c.in-None.ensures.steps.0 in
+    let long = c.loop-key.key-iterator.rest.ok.0 in
+    let none : into_iter_items c.loop-key.key-iterator ≡ [] = nil_from_length (into_iter_items c.loop-key.key-iterator) (omega (arith, over, long)) in
+    let all : c.loop-key.yielded ≡ c.args.brought = sym (append-nil c.loop-key.yielded) ∙ ap (λ (l : List Entry). c.loop-key.yielded ++ l) (sym none) ∙ c.loop-key.invariant.left in
     subst (λ (l : List Entry). JoinIsAccepted c.args.other c.args.span c.args.word.now c.args.current l) all
     (joining_accepted c.args.other c.args.span c.args.word.now c.args.current c.loop-key.yielded c.loop-key.entries.entries c.loop-key.invariant.joining)
