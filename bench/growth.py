@@ -4,17 +4,21 @@
     python3 bench/growth.py PATH/TO/witgraph [--kind KIND].. [SIZE ..]
 
 Each kind of script (all, where none is named) is run at each size, three times (once where a run takes more
-than ten seconds); the fastest run counts. The table shows time and peak memory of each size, also as ratios
-to those of the size before: for linear growth they are the ratio of the bytes.
+than ten seconds); the fastest run counts. The table shows the seconds of the processor and the peak of memory of
+each size, in MiB, also as ratios to those of the size before: for linear growth they are the ratio of the bytes.
+
+It runs on Linux alone.
 """
+import ctypes
 import os
 import subprocess
 import sys
 import tempfile
-import time
 
-# sizes other than 1,000, 10,000 and 100,000
-SIZES = {"pushes": [1000, 10000, 30000], "alias_pushes": [1000, 3000, 10000]}
+PR_SET_CHILD_SUBREAPER = 36
+
+# starts a program that waits for a line before it begins, tells its number, and ends
+LAUNCH = 'exec 3<&0; { read -r line <&3; exec "$@" < "$0" 3<&- 2> /dev/null; } & echo $! >&2'
 
 
 def chain(size):
@@ -228,31 +232,43 @@ KINDS = {
 }
 
 
-def run(program, script, out):
-    """The seconds and the peak of memory, in MiB, of one run, which has to end well."""
-    with tempfile.TemporaryFile() as given:
-        given.write(script)
-        given.seek(0)
-        out.seek(0)
-        out.truncate()
-        begin = time.perf_counter()
-        child = subprocess.Popen([program], stdin=given, stdout=out)
-        _, status, usage = os.wait4(child.pid, 0)
-        seconds = time.perf_counter() - begin
-    child.returncode = status
+def adopt_children():
+    """What a shell leaves becomes a child of this process."""
+    ctypes.CDLL(None).prctl(PR_SET_CHILD_SUBREAPER, 1)
+
+
+def write_script(folder, kind, size):
+    """The path of the script of that kind and size, written to the folder."""
+    script = os.path.join(folder, "script")
+    with open(script, "w", encoding="ascii") as file:
+        file.writelines(f"{line}\n" for line in KINDS[kind](size))
+    return script
+
+
+def run(command, script, out):
+    """The seconds and the peak, in MiB, of one run, which has to end well.
+
+    A process begins with the peak of what starts it. So a shell does, which is small, and the program waits until that
+    is gone, and the program is a child of this one.
+    """
+    with open(out, "wb") as file:
+        shell = subprocess.Popen(["sh", "-c", LAUNCH, script, *command], stdin=subprocess.PIPE, stdout=file, stderr=subprocess.PIPE)
+    number = int(shell.stderr.readline())
+    shell.wait()
+    shell.communicate(b"\n")
+    _, status, used = os.wait4(number, 0)
     if status != 0:
-        out.seek(0)
-        sys.exit(f"status {status}, {out.read(200)!r}")
-    return seconds, usage.ru_maxrss / 1024
+        sys.exit(f"{command[0]} ends with status {status} on {script}")
+    # (a run of no time that can be told counts as a millisecond)
+    return max(used.ru_utime + used.ru_stime, 0.001), used.ru_maxrss / 1024
 
 
-def measure(program, kind, size):
-    script = ("\n".join(KINDS[kind](size)) + "\n").encode()
-    with tempfile.TemporaryFile() as out:
-        runs = [run(program, script, out)]
-        while len(runs) < 3 and runs[0][0] < 10:
-            runs.append(run(program, script, out))
-    return len(script), min(it[0] for it in runs), min(it[1] for it in runs)
+def measure(program, script, out):
+    """The bytes of the script, and the least time and peak of its runs."""
+    runs = [run([program], script, out)]
+    while len(runs) < 3 and runs[0][0] < 10:
+        runs.append(run([program], script, out))
+    return os.path.getsize(script), min(it[0] for it in runs), min(it[1] for it in runs)
 
 
 def main():
@@ -266,17 +282,19 @@ def main():
             kinds.append(words.pop(0))
         else:
             sizes.append(int(word))
+    adopt_children()
     print("| script | size | bytes | seconds | MiB | ratio of bytes | of times | of memory |")
     print("|---|---|---|---|---|---|---|---|")
-    for kind in kinds or KINDS:
-        before = None
-        for size in sizes or SIZES.get(kind, [1000, 10000, 100000]):
-            now = measure(program, kind, size)
-            ratios = [f"{a / b:.1f}" for a, b in zip(now, before)] if before else ["", "", ""]
-            length, seconds, peak = now
-            row = [kind, f"{size:,}", f"{length:,}", f"{seconds:.3f}", f"{peak:.0f}", *ratios]
-            print("| " + " | ".join(row) + " |", flush=True)
-            before = now
+    with tempfile.TemporaryDirectory() as folder:
+        for kind in kinds or KINDS:
+            before = None
+            for size in sizes or [1000, 10000, 100000]:
+                now = measure(os.path.abspath(program), write_script(folder, kind, size), os.path.join(folder, "out"))
+                ratios = [f"{a / b:.1f}" for a, b in zip(now, before)] if before else ["", "", ""]
+                length, seconds, peak = now
+                row = [kind, f"{size:,}", f"{length:,}", f"{seconds:.3f}", f"{peak:.1f}", *ratios]
+                print("| " + " | ".join(row) + " |", flush=True)
+                before = now
 
 
 if __name__ == "__main__":

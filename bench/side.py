@@ -13,41 +13,16 @@ and the greatest ratios. The last column says whether both print the same bytes;
 
 It runs on Linux alone.
 """
-import ctypes
 import itertools
 import math
 import os
-import subprocess
 import sys
 import tempfile
 
-from growth import KINDS
+from growth import KINDS, adopt_children, run, write_script
 
 # in these the original takes more than linear time
 NOT_LINEAR = {"renames", "handed_on", "alias_pushes"}
-PR_SET_CHILD_SUBREAPER = 36
-
-
-# starts a program that waits for a line before it begins, tells its number, and ends
-LAUNCH = 'exec 3<&0; { read -r line <&3; exec "$@" < "$0" 3<&- 2> /dev/null; } & echo $! >&2'
-
-
-def run(command, script, out):
-    """The seconds and the peak, in MiB, of one run, which has to end well.
-
-    A process begins with the peak of what starts it. So a shell does, which is small, and the program waits until that
-    is gone, and the program is a child of this one.
-    """
-    with open(out, "wb") as file:
-        shell = subprocess.Popen(["sh", "-c", LAUNCH, script, *command], stdin=subprocess.PIPE, stdout=file, stderr=subprocess.PIPE)
-    number = int(shell.stderr.readline())
-    shell.wait()
-    shell.communicate(b"\n")
-    _, status, used = os.wait4(number, 0)
-    if status != 0:
-        sys.exit(f"{command[0]} ends with status {status} on {script}")
-    # (a run of no time that can be told counts as a millisecond)
-    return max(used.ru_utime + used.ru_stime, 0.001), used.ru_maxrss / 1024
 
 
 def difference(one, other):
@@ -80,16 +55,13 @@ def main():
             kinds.append(next(rest))
         else:
             sizes.append(int(word))
-    # what a shell leaves becomes a child of this process
-    ctypes.CDLL(None).prctl(PR_SET_CHILD_SUBREAPER, 1)
+    adopt_children()
     print("| script | size | seconds | of the original | ratio | MiB | of the original | ratio | bytes |")
     print("|---|---|---|---|---|---|---|---|---|")
     times, peaks, differ = [], [], 0
     with tempfile.TemporaryDirectory() as folder:
         for kind, size in itertools.product(kinds or KINDS, sizes or [10000]):
-            script = os.path.join(folder, "script")
-            with open(script, "w", encoding="ascii") as file:
-                file.writelines(f"{line}\n" for line in KINDS[kind](size))
+            script = write_script(folder, kind, size)
             ((time, of_time), (peak, of_peak)), told = measure(ours, original, script, folder)
             if kind not in NOT_LINEAR:
                 times.append(time / of_time)
