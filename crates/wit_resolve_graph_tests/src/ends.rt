@@ -92,19 +92,17 @@ fn files_stand_up_to_the_last_position(rt: HostRuntime) {
     );
 }
 
-/// What comes of two groups, where the first file ends at 59 and the files of the two would end there.
-fn groups_up_to(rt: &impl Abort, alloc: Global, end: u32, contents: &str) -> String {
+/// What comes of two groups, where the first file ends at 59. The main one, of `foo:a`, has a file of five positions, and
+/// behind it all but five of those that are left; the second one has this name and a file with these contents.
+fn two_groups(rt: &impl Abort, alloc: Global, name: &str, contents: &str) -> String {
     let mut resolve = first(rt, alloc);
     let before = shown(rt, alloc, resolve.graph());
-    let mut main = group(
-        rt,
-        alloc,
-        "",
-        "",
-        text_between(rt, alloc, "a", Span::unknown()),
-    );
-    main.source_map = SourceMap::with_base(alloc, end);
-    let dep = text_between(rt, alloc, "b", Span::unknown());
+    let main = text_between(rt, alloc, "a", Span::unknown());
+    let mut main = group(rt, alloc, "main.wit", "1234", main);
+    main.source_map
+        .append(alloc, SourceMap::with_base(alloc, 4294967226))
+        .expect(rt, "positions");
+    let dep = text_between(rt, alloc, name, Span::unknown());
     let dep = group(rt, alloc, "dep.wit", contents, dep);
     match push_two(rt, alloc, &mut resolve, main, dep) {
         Ok(id) => {
@@ -116,18 +114,35 @@ fn groups_up_to(rt: &impl Abort, alloc: Global, end: u32, contents: &str) -> Str
     }
 }
 
+/// No file stays, not even that of the main group.
+const NONE_STAYS: &str = "27 at 0-0\n\
+    source positions would pass 4294967295\n\
+    graph as before, files first.wit to 59";
+
+/// The name of the second package, the contents of its file, and what comes of it. That a name is there twice is told
+/// only where the files fit.
+const SECOND_GROUPS: [(&str, &str, &str); 4] = [
+    (
+        "b",
+        "1234",
+        "package 1, files first.wit main.wit dep.wit to 4294967295",
+    ),
+    ("b", "12345", NONE_STAYS),
+    (
+        "a",
+        "1234",
+        "5 at 0-0 name foo:a also at 0-0\n\
+        package `foo:a` is defined in two different locations:\n\
+        \x20 * <unknown>\n\
+        \x20 * <unknown>\n\
+        graph as before, files first.wit main.wit dep.wit to 4294967295",
+    ),
+    ("a", "12345", NONE_STAYS),
+];
+
 #[test]
 fn files_of_a_second_group_fit_or_none_stays(rt: HostRuntime) {
-    assert_text(
-        &rt,
-        groups_up_to(&rt, rt.alloc(), 4294967231, "1234"),
-        "package 1, files first.wit dep.wit to 4294967295",
-    );
-    assert_text(
-        &rt,
-        groups_up_to(&rt, rt.alloc(), 4294967231, "12345"),
-        "27 at 0-0\n\
-        source positions would pass 4294967295\n\
-        graph as before, files first.wit to 59",
-    );
+    for &(name, contents, wanted) in &SECOND_GROUPS {
+        assert_text(&rt, two_groups(&rt, rt.alloc(), name, contents), wanted);
+    }
 }
