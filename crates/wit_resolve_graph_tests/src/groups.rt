@@ -19,7 +19,7 @@ fn holding(rt: &impl Abort, alloc: Global, name: &str, own: &str) -> UnresolvedP
     made
 }
 
-/// The same package, which names interface `named` of package `foo:HOME` at 2 to 4.
+/// The same package, which names interface `named`, at 4 to 6, of package `foo:HOME`, at 2 to 4.
 fn naming(
     rt: &impl Abort,
     alloc: Global,
@@ -31,7 +31,8 @@ fn naming(
     let mut made = holding(rt, alloc, name, own);
     let item = (named, AstItem::Interface(InterfaceId::from_index(0)));
     name_foreign(rt, alloc, &mut made, home, Span::new(2, 4), item);
-    let foreign = interface(rt, alloc, named, &[]);
+    let mut foreign = interface(rt, alloc, named, &[]);
+    foreign.span = Span::new(4, 6);
     made.interfaces = interface_list(rt, alloc, [foreign, interface(rt, alloc, own, &[])]);
     made
 }
@@ -214,8 +215,8 @@ fn naming_each_other(rt: &impl Abort, alloc: Global) -> String {
     told::told(rt, alloc, before.as_str(), &resolve, pushed)
 }
 
-/// How the push of a package alone is refused that names an interface of its own name. Nothing is sorted, so the package
-/// counts as there and empty.
+/// How the push of a package alone is refused that names an interface of its own name, where its spans move by 7. Nothing
+/// is sorted, so the package counts as there and empty.
 fn naming_itself(rt: &impl Abort, alloc: Global) -> String {
     let mut resolve = told::first(rt, alloc);
     let before = shown(rt, alloc, resolve.graph());
@@ -241,8 +242,12 @@ fn packages_that_name_themselves_are_told(rt: HostRuntime) {
     assert_text(
         &rt,
         naming_itself(&rt, rt.alloc()),
-        "3 at 0-0 interface i package foo:a\n\
+        "3 at 11-13 interface i package foo:a\n\
         interface 'i' not found in package 'foo:a'\n\
+        \x20    --> first.wit:1:12\n\
+        \x20     |\n\
+        \x20   1 | package foo:first;\n\
+        \x20     |            ^-\n\
         graph as before, files first.wit to 59",
     );
 }
