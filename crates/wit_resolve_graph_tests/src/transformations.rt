@@ -125,7 +125,7 @@ const W: usize = 0;
 
 const V: usize = 1;
 
-const TRANSFORMATIONS: [(usize, WorldLists, &str, &str); 6] = [
+const TRANSFORMATIONS: [(usize, WorldLists, &str, &str); 7] = [
     (
         W,
         WorldLists::Importize,
@@ -147,6 +147,12 @@ const TRANSFORMATIONS: [(usize, WorldLists, &str, &str); 6] = [
     (
         W,
         WorldLists::Exportize(&[0, 1, 3]),
+        "x",
+        "21 type import `k` cannot be exported, graph as before",
+    ),
+    (
+        W,
+        WorldLists::Exportize(&[0]),
         "x",
         "21 type import `k` cannot be exported, graph as before",
     ),
