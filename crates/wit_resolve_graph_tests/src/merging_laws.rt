@@ -111,11 +111,15 @@ fn write_entries(
     }
 }
 
-/// The names of the interfaces of the first package, and the entries of its worlds.
+/// How many packages, interfaces, worlds and types there are, the names of the interfaces of the first package, and the
+/// entries of its worlds.
 fn names(rt: &impl Abort, alloc: Global, script: &str, other: &str) -> String {
     let resolve = merged(rt, alloc, script, other);
     let home = resolve.packages().first().expect(rt, "a package");
-    let mut out = String::new(alloc);
+    let (packages, interfaces) = (resolve.packages().len(), resolve.interfaces().len());
+    let (worlds, types) = (resolve.worlds().len(), resolve.types().len());
+    let out = format!(in alloc; "{packages} {interfaces} {worlds} {types}\n");
+    let mut out = out.expect(rt, "memory");
     for name in ["i", "j", "z"] {
         let id = home.interfaces.get(name).expect(rt, "an interface");
         let interface = resolve.interfaces().get(id.index());
@@ -164,7 +168,8 @@ const OTHER: &str = "package foo:bar\n\
     import i\n\
     push\n";
 
-const NAMES: &str = "func f func g func h type t type u type v of 3 and 3\n\
+const NAMES: &str = "1 3 3 6\n\
+    func f func g func h type t type u type v of 3 and 3\n\
     type v of 1 and 0\n\
     type u of 1 and 0\n\
     v: foo:bar/i=foo:bar/i lab=foo:bar/j t= ->\n\
