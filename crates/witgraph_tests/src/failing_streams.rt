@@ -1,4 +1,5 @@
-//! Readers and writers that fail at one of their calls, or take little at a time, and input that is no text.
+//! Readers and writers that fail at one of their calls, or take little at a time, input that is no text, and scripts that
+//! are understood or aren't.
 use crate::fixtures::assert_text;
 use std::alloc::{AllocError, Global};
 use std::io;
@@ -192,4 +193,32 @@ fn input_that_is_no_text_prints_nothing(rt: HostRuntime) {
     let (answer, text) = run(&rt, rt.alloc(), b"push\xff", steady(1), steady(1));
     assert!(rt; answer == Err(ScriptFault::NotUtf8));
     assert_text(&rt, text, "");
+}
+
+/// Scripts, whether each is understood, and what it prints. A refusal is an answer like any other.
+const SCRIPTS: [(&str, bool, &str); 6] = [
+    ("", true, ""),
+    ("push", false, "line 1: not understood\n"),
+    ("package foo:bar\n\n# x", false, "line 1: not understood\n"),
+    ("other", false, "line 1: not understood\n"),
+    (
+        "select foo:bar\npackage foo:bar\npush\nprint foo:bar",
+        false,
+        "line 4: not understood\n",
+    ),
+    (
+        "package foo:bar\npush\npackage foo:bar\npush",
+        true,
+        "pushed foo:bar\n\
+        refused 5 package `foo:bar` is defined in two different locations\n",
+    ),
+];
+
+#[test]
+fn whether_a_script_is_understood_is_answered(rt: HostRuntime) {
+    for &(script, understood, wanted) in &SCRIPTS {
+        let (answer, text) = run(&rt, rt.alloc(), script.as_bytes(), steady(1), steady(1));
+        assert!(rt; answer == Ok(understood), "{script}");
+        assert_text(&rt, text, wanted);
+    }
 }
