@@ -19,12 +19,18 @@ pub enum Change {
     Nothing,
     InterfaceNamedAsForeign,
     WorldNamedAsForeign,
+    TwoForeignWorlds,
     SpanOfPackageMissing,
     ForeignTwice,
+    ForeignWorldTwice,
+    ForeignWorldLast,
     GateMissing,
     ForeignFunction,
     ForeignNamedOtherwise,
+    ForeignWorldNamedOtherwise,
     ForeignWorldHoldsEntry,
+    ForeignWorldHoldsExport,
+    ForeignWorldIncludes,
     ForeignListsKnown,
     SpanOfTypeMissing,
     UnknownOfOwn,
@@ -64,21 +70,28 @@ pub enum Change {
     WorldNotKebab,
 }
 
-/// Changes that leave the shape: only names of things that aren't foreign have to differ.
-const KEEPS: [Change; 3] = [
+/// Changes that leave the shape: only names of things that aren't foreign have to differ, and several worlds may be
+/// foreign.
+const KEEPS: [Change; 4] = [
     Change::Nothing,
     Change::InterfaceNamedAsForeign,
     Change::WorldNamedAsForeign,
+    Change::TwoForeignWorlds,
 ];
 
 /// Changes that break a rule, in the order of the rules.
-const BREAKS: [Change; 43] = [
+const BREAKS: [Change; 48] = [
     Change::SpanOfPackageMissing,
     Change::ForeignTwice,
+    Change::ForeignWorldTwice,
+    Change::ForeignWorldLast,
     Change::GateMissing,
     Change::ForeignFunction,
     Change::ForeignNamedOtherwise,
+    Change::ForeignWorldNamedOtherwise,
     Change::ForeignWorldHoldsEntry,
+    Change::ForeignWorldHoldsExport,
+    Change::ForeignWorldIncludes,
     Change::ForeignListsKnown,
     Change::SpanOfTypeMissing,
     Change::UnknownOfOwn,
@@ -142,13 +155,13 @@ fn each_rule_is_asked(rt: HostRuntime) {
 
 #[test]
 fn each_package_of_a_group_is_asked(rt: HostRuntime) {
-    for (main, nested, wanted) in [
-        (Change::Nothing, Change::Nothing, true),
-        (Change::NotListed, Change::Nothing, false),
-        (Change::Nothing, Change::NotListed, false),
-    ] {
-        let shaped = group_keeps_shape(&rt, rt.alloc(), main, nested);
-        assert_eq!(rt; shaped, wanted, "{main:?} {nested:?}");
+    let kept = Change::Nothing;
+    assert!(rt; group_keeps_shape(&rt, rt.alloc(), kept, kept));
+    for &change in &BREAKS {
+        let main = group_keeps_shape(&rt, rt.alloc(), change, kept);
+        assert_eq!(rt; main, false, "{change:?}");
+        let nested = group_keeps_shape(&rt, rt.alloc(), kept, change);
+        assert_eq!(rt; nested, false, "{change:?}");
     }
 }
 
@@ -187,7 +200,7 @@ pub fn package(rt: &impl Abort, alloc: Global, change: Change) -> UnresolvedPack
         "b"
     };
     let mut foreign_dep_spans = spans(rt, alloc, change != Change::SpanOfPackageMissing);
-    if change == Change::ForeignTwice {
+    if matches!(change, Change::ForeignTwice | Change::ForeignWorldTwice) {
         foreign_dep_spans.push(Span::unknown()).expect(rt, "memory");
     }
     let required = (TypeId::from_index(required), Span::unknown());
@@ -229,10 +242,12 @@ fn foreign_deps(
         package_name(rt, alloc, "c", "d"),
         foreign_items(rt, alloc, change),
     );
-    if change != Change::ForeignTwice {
-        return table(rt, alloc, [first]);
-    }
-    let again = names(rt, alloc, [foreign_interface(rt, alloc, true)]);
+    let again = match change {
+        Change::ForeignTwice => foreign_interface(rt, alloc, true),
+        Change::ForeignWorldTwice => foreign_world(rt, alloc, "v", 0),
+        _ => return table(rt, alloc, [first]),
+    };
+    let again = names(rt, alloc, [again]);
     table(
         rt,
         alloc,
@@ -240,16 +255,41 @@ fn foreign_deps(
     )
 }
 
-/// Interface `e` and world `v`.
+/// Interface `e` and world `v`, and world `u` before that where two are foreign.
 fn foreign_items(
     rt: &impl Abort,
     alloc: Global,
     change: Change,
 ) -> Names<(AstItem, Items<Stability>)> {
     let interface = foreign_interface(rt, alloc, change != Change::GateMissing);
-    let item = AstItem::World(WorldId::from_index(0));
-    let world = (string(rt, alloc, "v"), (item, gates(rt, alloc, true)));
-    names(rt, alloc, [interface, world])
+    let place = match change {
+        Change::ForeignWorldLast => 2,
+        _ => either(has_two_foreign_worlds(change), 1, 0),
+    };
+    let v = foreign_world(rt, alloc, "v", place);
+    if has_two_foreign_worlds(change) {
+        let u = foreign_world(rt, alloc, "u", 0);
+        names(rt, alloc, [interface, u, v])
+    } else {
+        names(rt, alloc, [interface, v])
+    }
+}
+
+fn has_two_foreign_worlds(change: Change) -> bool {
+    matches!(
+        change,
+        Change::TwoForeignWorlds | Change::ForeignWorldIncludes
+    )
+}
+
+fn foreign_world(
+    rt: &impl Abort,
+    alloc: Global,
+    name: &str,
+    place: usize,
+) -> (String, (AstItem, Items<Stability>)) {
+    let item = AstItem::World(WorldId::from_index(place));
+    (string(rt, alloc, name), (item, gates(rt, alloc, true)))
 }
 
 fn foreign_interface(
@@ -270,7 +310,7 @@ fn gates(rt: &impl Abort, alloc: Global, is_there: bool) -> Items<Stability> {
 }
 
 /// `t` of `e`; `u`, `r`, a handle of `r` and a record with it in `a`; `z` in `b`; `k` in the interface
-/// without a name; `y` in world `w`.
+/// without a name; `y` in world `w`, which stands behind the foreign worlds.
 fn types(rt: &impl Abort, alloc: Global, change: Change) -> Items<TypeDef> {
     let owner = either(change == Change::UnknownOfOwn, 1, 0);
     let t = type_def(rt, alloc, "t", TypeDefKind::Unknown, interface_owner(owner));
@@ -284,7 +324,8 @@ fn types(rt: &impl Abort, alloc: Global, change: Change) -> Items<TypeDef> {
     let name = either(change == Change::OwnerWithoutName, "", "k");
     let k = type_def(rt, alloc, name, later_kind(change), interface_owner(3));
     let aliased = either(change == Change::AliasIntoUnnamedInterface, 6, 5);
-    let w = TypeOwner::World(WorldId::from_index(1));
+    let w = either(has_two_foreign_worlds(change), 2, 1);
+    let w = TypeOwner::World(WorldId::from_index(w));
     let y = alias(rt, alloc, "y", aliased, w);
     let types = Vec::from_array(alloc, [t, u, r, q, rec, z, k, y]);
     let mut types = Items::from_vec(types.expect(rt, "memory"));
@@ -436,37 +477,60 @@ fn functions(rt: &impl Abort, alloc: Global, change: Change) -> Names<Function> 
     )
 }
 
-/// The foreign world `v`, then `w`, which includes it, and `x`, which includes `w`.
+/// The foreign world `v`, then `w`, which includes the first world, and `x`, which includes `w`; or `x`, `w` and the
+/// foreign one; or another foreign one, `u`, before these three.
 fn worlds(rt: &impl Abort, alloc: Global, change: Change) -> Items<World> {
-    let mut worlds = Items::new(alloc);
-    let held = if change == Change::ForeignWorldHoldsEntry {
-        entries(rt, alloc, [(interface_key(1), interface_item(1))])
+    let v = world_v(rt, alloc, change);
+    let w = world_w(rt, alloc, change);
+    let x = world_x(rt, alloc, change);
+    let worlds = if change == Change::ForeignWorldLast {
+        Vec::from_array(alloc, [x, w, v])
+    } else if has_two_foreign_worlds(change) {
+        let u = bare_world(rt, alloc, "u", Items::new(alloc));
+        Vec::from_array(alloc, [u, v, w, x])
     } else {
-        Table::new(alloc)
+        Vec::from_array(alloc, [v, w, x])
     };
+    Items::from_vec(worlds.expect(rt, "memory"))
+}
+
+/// A world without entries.
+fn bare_world(rt: &impl Abort, alloc: Global, name: &str, includes: Items<WorldInclude>) -> World {
     let empty = Table::new(alloc);
-    worlds
-        .push(world(rt, alloc, "v", held, empty, Items::new(alloc)))
-        .expect(rt, "memory");
-    worlds.push(world_w(rt, alloc, change)).expect(rt, "memory");
+    world(rt, alloc, name, Table::new(alloc), empty, includes)
+}
+
+fn world_v(rt: &impl Abort, alloc: Global, change: Change) -> World {
+    let name = either(change == Change::ForeignWorldNamedOtherwise, "u", "v");
+    let imports = held(rt, alloc, change == Change::ForeignWorldHoldsEntry);
+    let exports = held(rt, alloc, change == Change::ForeignWorldHoldsExport);
+    let included = match change {
+        Change::ForeignWorldIncludes => includes(rt, alloc, 0),
+        _ => Items::new(alloc),
+    };
+    world(rt, alloc, name, imports, exports, included)
+}
+
+/// The entry of interface `a`, or none.
+fn held(rt: &impl Abort, alloc: Global, is_there: bool) -> Table<WorldKey, WorldItem> {
+    if !is_there {
+        return Table::new(alloc);
+    }
+    entries(rt, alloc, [(interface_key(1), interface_item(1))])
+}
+
+fn world_x(rt: &impl Abort, alloc: Global, change: Change) -> World {
     let name = match change {
         Change::WorldsOfOneName => "w",
         Change::WorldNamedAsForeign => "v",
         Change::WorldNotKebab => "X_",
         _ => "x",
     };
-    let includes = includes(rt, alloc, 1);
-    worlds
-        .push(world(
-            rt,
-            alloc,
-            name,
-            Table::new(alloc),
-            Table::new(alloc),
-            includes,
-        ))
-        .expect(rt, "memory");
-    worlds
+    let included = match change {
+        Change::ForeignWorldLast => Items::new(alloc),
+        _ => includes(rt, alloc, either(has_two_foreign_worlds(change), 2, 1)),
+    };
+    bare_world(rt, alloc, name, included)
 }
 
 fn world_w(rt: &impl Abort, alloc: Global, change: Change) -> World {
