@@ -1,5 +1,6 @@
 //! What several tests need.
 use std::alloc::Global;
+use std::fmt::Write;
 use std::process::Abort;
 use wit_graph::Graph;
 use wit_items::{
@@ -32,6 +33,15 @@ pub fn version(rt: &impl Abort, alloc: Global, text: &str) -> Version {
 
 pub fn list<T: Drop, const N: usize>(rt: &impl Abort, alloc: Global, items: [T; N]) -> Items<T> {
     Items::from_vec(Vec::from_array(alloc, items).expect(rt, "memory"))
+}
+
+/// Writes a place, and `-` where there is none.
+pub fn write_place(rt: &impl Abort, out: &mut String, place: Option<usize>) {
+    match place {
+        Some(place) => write!(out, "{place} "),
+        None => out.push_str("- "),
+    }
+    .expect(rt, "memory");
 }
 
 /// The groups of the first `push` of a script, the main one first.

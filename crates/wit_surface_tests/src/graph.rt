@@ -1,11 +1,20 @@
 //! The calls of `wit_graph`.
-use crate::fixtures::{assert_text, file, graph};
+use crate::fixtures::{assert_text, file, graph, text, write_place};
 use std::alloc::Global;
 use std::fmt::Write;
 use std::process::Abort;
-use wit_graph::{Graph, GraphQueries, ResolveError, elaborate, is_elaborable, is_valid};
+use wit_graph::queries::contents::type_contents;
+use wit_graph::queries::entries::{external_id_of, named_interface};
+use wit_graph::queries::futures::holds_future_or_stream;
+use wit_graph::queries::package_deps::package_uses;
+use wit_graph::queries::valid_bits::is_valid_by;
+use wit_graph::{
+    Graph, GraphQueries, ResolveError, elaborate, external_id_value, implements_interface,
+    is_elaborable, is_valid, select_world, version_suffix_of,
+};
 use wit_items::{
-    Docs, InterfaceId, PackageId, Span, Stability, TypeId, WorldId, WorldItem, WorldKey,
+    Docs, InterfaceId, Items, PackageId, Span, Stability, Text, Type_, TypeId, WorldId, WorldItem,
+    WorldKey,
 };
 
 /// Package 0 is `foo:dep@0.2.1` with interface 0, which has type 0 and a function that holds a future and a stream;
@@ -132,8 +141,8 @@ fn elaborated(rt: &impl Abort, alloc: Global) -> String {
     assert!(rt; graph.worlds.len() == 1);
     let imports = &mut graph.worlds.at_mut(0).imports;
     imports.truncate(0);
-    let (key, item) = (WorldKey::Interface(InterfaceId::from_index(1)), entry(1));
-    imports.push(key, item).expect(rt, "memory");
+    let key = WorldKey::Interface(InterfaceId::from_index(1));
+    imports.push(key, entry(1, None)).expect(rt, "memory");
     write_imports(rt, alloc, &mut out, &graph);
     let w = WorldId::from_index(0);
     assert!(rt; is_elaborable(alloc, &graph, w).expect(rt, "memory"));
@@ -143,13 +152,13 @@ fn elaborated(rt: &impl Abort, alloc: Global) -> String {
 }
 
 /// The entry of an interface.
-fn entry(index: usize) -> WorldItem {
+fn entry(index: usize, external_id: Option<Text>) -> WorldItem {
     WorldItem::Interface {
         id: InterfaceId::from_index(index),
         stability: Stability::Unknown,
         docs: Docs::none(),
         span: Span::unknown(),
-        external_id: None,
+        external_id,
     }
 }
 
@@ -160,6 +169,93 @@ fn worlds_are_elaborated(rt: HostRuntime) {
         elaborated(&rt, rt.alloc()),
         "0,1, true;1, false;0,1, true;",
     );
+}
+
+/// The only world of package 1, and what the canonical name of an interface of each package leaves out.
+fn chosen(rt: &impl Abort, alloc: Global) -> String {
+    let graph = graph(rt, alloc, SCRIPT);
+    let mut out = String::new(alloc);
+    let world = select_world(alloc, &graph, &[PackageId::from_index(1)], None);
+    write_place(rt, &mut out, Some(world.expect(rt, "a world").index()));
+    let suffix = version_suffix_of(alloc, &graph, InterfaceId::from_index(0));
+    let suffix = suffix.expect(rt, "memory").expect(rt, "a suffix");
+    let none = version_suffix_of(alloc, &graph, InterfaceId::from_index(1));
+    let is_none = none.expect(rt, "memory").is_none();
+    write!(out, "{suffix} {is_none}").expect(rt, "memory");
+    out
+}
+
+/// The interface of an entry under a label and under its own key, an interface that is there and one that isn't, and the
+/// external ids of an entry that has one and of one that has none.
+fn told_of_entries(rt: &impl Abort, alloc: Global) -> String {
+    let graph = graph(rt, alloc, SCRIPT);
+    let (id, absent) = (InterfaceId::from_index(0), InterfaceId::from_index(2));
+    let label = WorldKey::Name(text(rt, alloc, "lab"));
+    let own = WorldKey::Interface(id);
+    let (item, plain) = (entry(0, Some(text(rt, alloc, "e"))), entry(0, None));
+    let mut out = String::new(alloc);
+    let under_label = implements_interface(&graph, &label, &item);
+    write_place(rt, &mut out, under_label.map(InterfaceId::index));
+    let under_own = implements_interface(&graph, &own, &item);
+    write_place(rt, &mut out, under_own.map(InterfaceId::index));
+    let there = named_interface(&graph, id);
+    write_place(rt, &mut out, there.map(InterfaceId::index));
+    let missing = named_interface(&graph, absent);
+    write_place(rt, &mut out, missing.map(InterfaceId::index));
+    let looked_at = external_id_of(&graph, &item).expect(rt, "an id");
+    let copied = external_id_value(alloc, &graph, &item).expect(rt, "memory");
+    let copied = copied.expect(rt, "an id");
+    let none = external_id_value(alloc, &graph, &plain).expect(rt, "memory");
+    let is_none = none.is_none();
+    write!(out, "{looked_at} {copied} {is_none}").expect(rt, "memory");
+    out
+}
+
+fn write_rows(rt: &impl Abort, out: &mut String, rows: &Items<Items<usize>>) {
+    for row in rows.iter() {
+        for place in row.iter() {
+            write!(out, "{place},").expect(rt, "memory");
+        }
+        out.push_str(";").expect(rt, "memory");
+    }
+}
+
+/// What the values of each type hold, whether types 1 and 0 are futures or streams of function `f`, and which packages
+/// each package uses.
+fn held(rt: &impl Abort, alloc: Global) -> String {
+    let graph = graph(rt, alloc, SCRIPT);
+    assert!(rt; is_valid(alloc, &graph).expect(rt, "memory"));
+    assert!(rt; !graph.interfaces.is_empty());
+    let function = graph.interfaces.at(0).functions.get("f");
+    let function = function.expect(rt, "a function");
+    let future = holds_future_or_stream(alloc, &graph, function, TypeId::from_index(1));
+    let future = future.expect(rt, "memory");
+    let number = holds_future_or_stream(alloc, &graph, function, TypeId::from_index(0));
+    let number = number.expect(rt, "memory");
+    let mut out = String::new(alloc);
+    let rows = type_contents(alloc, graph.types.as_slice()).expect(rt, "memory");
+    write_rows(rt, &mut out, &rows);
+    write!(out, " {future} {number} ").expect(rt, "memory");
+    let rows = package_uses(alloc, &graph).expect(rt, "memory");
+    write_rows(rt, &mut out, &rows);
+    out
+}
+
+#[test]
+fn questions_are_answered_by_functions(rt: HostRuntime) {
+    let alloc = rt.alloc();
+    assert_text(&rt, chosen(&rt, alloc), "0 .1 true");
+    assert_text(&rt, told_of_entries(&rt, alloc), "0 - 0 - e e true");
+    assert_text(&rt, held(&rt, alloc), ";0,;;0,; true false ;0,0,;");
+    for (ty, wanted) in [
+        (Type_::U32, true),
+        (Type_::Bool, false),
+        (Type_::Id(TypeId::from_index(0)), true),
+        (Type_::Id(TypeId::from_index(1)), false),
+        (Type_::Id(TypeId::from_index(2)), false),
+    ] {
+        assert_eq!(rt; is_valid_by(&[true, false], ty), wanted);
+    }
 }
 
 /// The number of an error and its text, and how it is told in its file.

@@ -1,5 +1,5 @@
 //! The calls of `wit_items`.
-use crate::fixtures::{assert_text, file, groups, list, text, version};
+use crate::fixtures::{assert_text, file, groups, list, package, text, version};
 use std::alloc::Global;
 use std::fmt::Write;
 use std::process::Abort;
@@ -85,7 +85,8 @@ fn use_paths_are_read(rt: HostRuntime) {
     assert!(rt; is_kebab_name("a-b") && !is_kebab_name("a--b"));
 }
 
-/// Where a second file begins and the two end, where a span of the second is, how a text is told there, and the files.
+/// Where a second file begins and the two end, where a span of the second is, how a text is told there, and the files; how
+/// many are left where none is to be, and where a next one would begin then.
 fn sources(rt: &impl Abort, alloc: Global) -> String {
     let mut map = file(rt, alloc);
     let start = map.append(alloc, file(rt, alloc)).expect(rt, "positions");
@@ -98,6 +99,9 @@ fn sources(rt: &impl Abort, alloc: Global) -> String {
     for name in map.source_names() {
         write!(out, " {name}").expect(rt, "memory");
     }
+    map.truncate(0, 7);
+    let (count, end) = (map.len(), map.end());
+    write!(out, " {count} {end}").expect(rt, "memory");
     out
 }
 
@@ -110,7 +114,7 @@ fn spans_are_found_in_their_files(rt: HostRuntime) {
         \x20    --> m.wit:2:1\n\
         \x20     |\n\
         \x20   2 | world w {}\n\
-        \x20     | ^---- m.wit m.wit",
+        \x20     | ^---- m.wit m.wit 0 7",
     );
     assert!(rt; !Span::unknown().is_known() && Span::new(0, 0).is_known());
     assert!(rt; Span::new(0, 1).moved(u32::MAX).is_none());
@@ -145,7 +149,37 @@ fn given_back(rt: &impl Abort, alloc: Global) -> String {
     out
 }
 
+/// The name of a package, and the first entries of a table and of names, which have given back what they don't need.
+fn first_entries(rt: &impl Abort, alloc: Global) -> String {
+    let name = package(rt, alloc, SCRIPT).into_name();
+    let mut out = format!(in alloc; "{name}").expect(rt, "memory");
+    let mut table: Table<InterfaceId, usize> = Table::new(alloc);
+    table
+        .push(InterfaceId::from_index(4), 5)
+        .expect(rt, "memory");
+    table.shrink();
+    assert!(rt; table.len() == 1);
+    let (key, value) = table.entry_at(0);
+    write!(out, " {} {value}", key.index()).expect(rt, "memory");
+    let (key, value) = table.get_index(0).expect(rt, "an entry");
+    let is_last = table.get_index(1).is_none();
+    write!(out, " {} {value} {is_last}", key.index()).expect(rt, "memory");
+    let mut names: Names<usize> = Names::new(alloc);
+    let name = String::from_str(alloc, "n").expect(rt, "memory");
+    names.push(name, 6).expect(rt, "memory");
+    names.shrink();
+    assert!(rt; names.len() == 1);
+    let (name, value) = names.entry_at(0);
+    write!(out, " {name} {value}").expect(rt, "memory");
+    out
+}
+
 #[test]
 fn data_are_given_back(rt: HostRuntime) {
     assert_text(&rt, given_back(&rt, rt.alloc()), "t 2 1 3 4 5 n 6");
+    assert_text(
+        &rt,
+        first_entries(&rt, rt.alloc()),
+        "foo:bar 4 5 4 5 true n 6",
+    );
 }

@@ -1,5 +1,5 @@
 //! The calls of `wit_link`.
-use crate::fixtures::{assert_text, groups, list, package, text};
+use crate::fixtures::{assert_text, groups, list, package, text, write_place};
 use std::alloc::Global;
 use std::fmt::Write;
 use std::process::Abort;
@@ -16,14 +16,6 @@ fn remap(rt: &impl Abort, alloc: Global) -> Remap {
     let worlds = list(rt, alloc, [Some(WorldId::from_index(8)), None]);
     let packages = list(rt, alloc, [PackageId::from_index(7)]);
     Remap::from_lists(types, interfaces, worlds, packages)
-}
-
-fn write_place(rt: &impl Abort, out: &mut String, place: Option<usize>) {
-    match place {
-        Some(place) => write!(out, "{place} "),
-        None => out.push_str("- "),
-    }
-    .expect(rt, "memory");
 }
 
 /// All that it has: types, interfaces, worlds and packages.

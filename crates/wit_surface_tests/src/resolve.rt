@@ -69,15 +69,16 @@ fn added(rt: &impl Abort, alloc: Global) -> String {
         let place = id.index();
         write!(out, " {place}").expect(rt, "memory");
     }
-    let (packages, interfaces) = (all.packages().len(), all.interfaces().len());
-    write!(out, " of {packages} {interfaces}").expect(rt, "memory");
+    let (packages, named) = (all.packages().len(), all.package_names().len());
+    let interfaces = all.interfaces().len();
+    write!(out, " of {packages} {named} {interfaces}").expect(rt, "memory");
     assert!(rt; all.assert_valid(alloc).expect(rt, "memory"));
     out
 }
 
 #[test]
 fn packages_are_added_and_merged(rt: HostRuntime) {
-    assert_text(&rt, added(&rt, rt.alloc()), "0 2: 3 0 of 4 3");
+    assert_text(&rt, added(&rt, rt.alloc()), "0 2: 3 0 of 4 4 3");
 }
 
 /// Two versions of `x`, `y` that uses the older one, and worlds that import and export it.
