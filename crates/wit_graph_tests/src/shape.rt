@@ -484,14 +484,18 @@ fn worlds(rt: &impl Abort, alloc: Global, change: Change) -> Items<World> {
     let w = world_w(rt, alloc, change);
     let x = world_x(rt, alloc, change);
     let worlds = if change == Change::ForeignWorldLast {
-        Vec::from_array(alloc, [x, w, v])
-    } else if has_two_foreign_worlds(change) {
-        let u = bare_world(rt, alloc, "u", Items::new(alloc));
-        Vec::from_array(alloc, [u, v, w, x])
+        [x, w, v]
     } else {
-        Vec::from_array(alloc, [v, w, x])
+        [v, w, x]
     };
-    Items::from_vec(worlds.expect(rt, "memory"))
+    let mut all = Items::new(alloc);
+    if has_two_foreign_worlds(change) {
+        let u = bare_world(rt, alloc, "u", Items::new(alloc));
+        all.push(u).expect(rt, "memory");
+    }
+    let worlds = Items::from_vec(Vec::from_array(alloc, worlds).expect(rt, "memory"));
+    all.append(worlds).expect(rt, "memory");
+    all
 }
 
 /// A world without entries.
