@@ -4,16 +4,16 @@
 -- targets (the names that begin with `cm32p2`). Which prefix stands for which ABI is this project's table. Where
 -- the two functions of wit-parser end the process, and where a key or a resource has no name, there is none.
 use Rattle.std.specs.List.{list_any}
-use Rattle.std.specs.Prelude.{ℕ, Bool, true, false, List, [], ◌++◌, Option, None, Some, codes, decimal, nat_eq, position, slice_get, unwrap_or, ◌&&◌, ◌||◌, not, is_some}
-use Rattle.std.specs.Option.{option_copied, option_map_or}
-use Rattle.wit_data.specs.declared.abi.LiftLowerAbi.{LiftLowerAbi}
-use Rattle.wit_data.specs.declared.abi.LiftLowerAbi.TheVariants.{AsyncCallback, AsyncStackful, Sync}
-use Rattle.wit_data.specs.declared.abi.ManglingAndAbi.{ManglingAndAbi}
-use Rattle.wit_data.specs.declared.abi.ManglingAndAbi.TheVariants.{Legacy, Standard32}
+use Rattle.std.specs.Prelude.{ℕ, Bool, true, false, List, [], ◌++◌, Option, None, Some, codes, decimal, nat_eq, position, slice_get, unwrap_or, ◌&&◌, ◌||◌, not, is_some, option_copied}
+use Rattle.std.specs.Option.{option_map_or}
 use Rattle.wit_data.specs.declared.function.Function.{Function}
 use Rattle.wit_data.specs.declared.interface.Interface.{Interface}
+use Rattle.wit_data.specs.declared.abi.LiftLowerAbi.{LiftLowerAbi}
+use Rattle.wit_data.specs.declared.abi.ManglingAndAbi.{ManglingAndAbi}
 use Rattle.wit_data.specs.declared.types.TypeDef.{TypeDef}
 use Rattle.wit_data.specs.declared.world.WorldKey.{WorldKey}
+use Rattle.wit_data.specs.declared.abi.LiftLowerAbi.TheVariants.{AsyncCallback, AsyncStackful, Sync}
+use Rattle.wit_data.specs.declared.abi.ManglingAndAbi.TheVariants.{Legacy, Standard32}
 use Rattle.wit_data.specs.declared.world.WorldKey.TheVariants as key
 use Rattle.wit_graph_data.specs.IdText.{key_text}
 use Rattle.wit_graph_data.specs.Queries.{canonical_key_text, futures_and_streams, named_interface}

@@ -1,5 +1,1 @@
-pub mod Cuts
-pub mod Kebab
-pub mod Tracks
-pub mod UsePathGrammar
-pub mod VersionErrors
+mod PartsRead

@@ -1,22 +1,26 @@
 -- What worlds import, export and include.
-use Rattle.std.specs.Prelude.{◌≡◌, ℕ, ◌<◌, Bool, false, List, [], ◌∷◌, ◌++◌, length, nat_eq, slice_get, not, is_some, filter}
-use Rattle.std.specs.List.{IsDistinct, flat_map}
+use Rattle.std.specs.Prelude.{◌≡◌, ℕ, ◌<◌, Bool, false, List, [], ◌∷◌, ◌++◌, length, nat_eq, slice_get, not, is_some, filter, flat_map, if◌then◌else◌}
+use Rattle.std.specs.List.{IsDistinct}
 use Rattle.std.specs.Option.{option_map_or}
 use Rattle.wit_data.specs.Each.{Each}
 use Rattle.wit_data.specs.Ownership.{IsNamed, IsTypeOf, UsesOwn}
 use Rattle.wit_data.specs.declared.interface.Interface.{Interface}
 use Rattle.wit_data.specs.declared.types.TypeDef.{TypeDef}
-use Rattle.wit_data.specs.declared.types.TypeOwner.TheVariants as owner
 use Rattle.wit_data.specs.declared.world.World.{World}
 use Rattle.wit_data.specs.declared.world.WorldInclude.{WorldInclude}
 use Rattle.wit_data.specs.declared.world.WorldItem.{WorldItem}
-use Rattle.wit_data.specs.declared.world.WorldItem.TheVariants as item
 use Rattle.wit_data.specs.declared.world.WorldKey.{WorldKey}
+use Rattle.wit_data.specs.declared.types.TypeOwner.TheVariants as owner
+use Rattle.wit_data.specs.declared.world.WorldItem.TheVariants as item
 use Rattle.wit_data.specs.declared.world.WorldKey.TheVariants as key
 
 -- an entry of a world
 abbrev pub Entry : Type 0
 Entry = WorldKey × WorldItem
+
+-- the exports or the imports of a world
+abbrev pub entries_of : Bool → World → List Entry
+entries_of exported world = if exported then world.exports else world.imports
 
 -- the key of an interface holds that interface, which has a name; a label holds an interface or the
 -- function of that name

@@ -1,9 +1,9 @@
 -- What the kind of a function tells.
 use Rattle.std.specs.Prelude.{ℕ, Option, Some, None}
+use Rattle.wit_data.specs.declared.function.AccessorKind.{AccessorKind}
 use Rattle.wit_data.specs.declared.function.FunctionKind.{FunctionKind}
 use Rattle.wit_data.specs.declared.function.FunctionKind.TheVariants.{Freestanding, AsyncFreestanding, Method, AsyncMethod, Static, AsyncStatic, Constructor, MethodGetter, MethodSetter, StaticGetter, StaticSetter}
 use Rattle.wit_data.specs.declared.function.FunctionKind.TheVariants as kind
-use Rattle.wit_data.specs.declared.function.AccessorKind.{AccessorKind}
 use Rattle.wit_data.specs.declared.function.AccessorKind.TheVariants as accessor
 
 -- the resource that a function belongs to

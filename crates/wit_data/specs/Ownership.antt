@@ -1,21 +1,22 @@
 -- Which types belong to which interface or world, and what its types and functions may refer to.
-use Rattle.std.specs.Prelude.{◌≡◌, ℕ, ◌<◌, ◌⊎◌, List, [], ◌∷◌, map, length, Option, Some, None, IsSome, IfSome, Contains, is_some, if◌then◌else◌}
-use Rattle.std.specs.List.{flat_map}
+use Rattle.std.specs.Prelude.{◌≡◌, ℕ, Bool, true, false, ◌<◌, ◌⊎◌, List, [], ◌∷◌, map, length, Option, Some, None, IsSome, IfSome, Contains, is_some, if◌then◌else◌, flat_map}
 use Rattle.wit_digraph.specs.Relation.{Reaches}
 use Rattle.wit_data.specs.Each.{Each, SomeAt}
-use Rattle.wit_data.specs.Reference.{referred, function_references}
+use Rattle.wit_data.specs.Reference.{referred, referred_in, function_references}
 use Rattle.wit_data.specs.Uses.{alias_target}
 use Rattle.wit_data.specs.declared.function.Function.{Function}
 use Rattle.wit_data.specs.declared.interface.Interface.{Interface}
+use Rattle.wit_data.specs.declared.kind.PartRole.{PartRole}
 use Rattle.wit_data.specs.declared.types.TypeDef.{TypeDef}
 use Rattle.wit_data.specs.declared.types.TypeDefKind.{TypeDefKind}
-use Rattle.wit_data.specs.declared.types.TypeDefKind.TheVariants as kind
 use Rattle.wit_data.specs.declared.types.TypeOwner.{TypeOwner}
-use Rattle.wit_data.specs.declared.types.TypeOwner.TheVariants as owner
 use Rattle.wit_data.specs.declared.world.World.{World}
 use Rattle.wit_data.specs.declared.world.WorldItem.{WorldItem}
-use Rattle.wit_data.specs.declared.world.WorldItem.TheVariants as item
 use Rattle.wit_data.specs.declared.world.WorldKey.{WorldKey}
+use Rattle.wit_data.specs.declared.kind.PartRole.TheVariants.{Target}
+use Rattle.wit_data.specs.declared.types.TypeDefKind.TheVariants as kind
+use Rattle.wit_data.specs.declared.types.TypeOwner.TheVariants as owner
+use Rattle.wit_data.specs.declared.world.WorldItem.TheVariants as item
 use Rattle.wit_data.specs.declared.world.WorldKey.TheVariants as key
 
 -- ---- lists of types
@@ -89,10 +90,14 @@ pub record IsOwn (types : List TypeDef) (by : TypeOwner) (id : ℕ) : Type 0 whe
   pub there : id < length types
   pub only : (other : TypeOwner) → NamesThroughUnnamed types id other → other ≡ by
 
+-- other than as an alias
+abbrev pub is_no_target : PartRole → Bool
+is_no_target Target = false
+is_no_target _ = true
+
 -- what a kind refers to, other than as an alias
 abbrev pub parts : TypeDefKind → List ℕ
-parts (kind.Type_ ty) = []
-parts other = referred other
+parts k = referred_in is_no_target k
 
 -- a named type refers to its owner's types alone, but for an alias
 abbrev pub RefersToOwn : List TypeDef → TypeDef → Type 0

@@ -6,10 +6,8 @@
 -- are the types of foreign interfaces, are the first types. A world that is foreign holds nothing, so it
 -- owns no type; an interface that is foreign has a name, so it isn't one that a world writes in place.
 -- Source: how wit-parser 0.263.0 builds its `UnresolvedPackage`, and the WIT page of the component model.
-use Rattle.std.specs.Prelude.{◌≡◌, ℕ, ◌<◌, List, map, drop, length, Option, None, IfSome}
-use Rattle.std.specs.List.{IsDistinct, flat_map}
-use Rattle.std.specs.Option.{option_to_list}
-use Rattle.std.specs.Str.{bytes_eq}
+use Rattle.std.specs.Prelude.{◌≡◌, ℕ, ◌<◌, List, map, drop, length, Option, None, IfSome, flat_map, option_to_list, bytes_eq}
+use Rattle.std.specs.List.{IsDistinct}
 use Rattle.wit_values.specs.Table.{HasDistinctKeys}
 use Rattle.wit_digraph.specs.Relation.{IsAcyclic}
 use Rattle.wit_data.specs.Each.{Each, EachAt, SomeAt}
@@ -17,15 +15,15 @@ use Rattle.wit_data.specs.Entries.{EntriesUseOwn, ExportsAreAllowed, ImportsAreA
 use Rattle.wit_data.specs.Foreign.{ForeignItem, AreFirst, AreForeignTypes, AreUnknownFirst, IsForeign, ListUnknownAlone, foreign_interfaces, foreign_worlds}
 use Rattle.wit_data.specs.Ownership.{AliasesNamed, FunctionsUseOwn, IsListed, IsPlain, ListsOwn, NamesFunctions, RefersToOwn}
 use Rattle.wit_data.specs.Reference.{referred}
-use Rattle.wit_data.specs.UsePath.{IsKebabName}
+use Rattle.wit_names.specs.UsePath.{IsKebabName}
 use Rattle.wit_data.specs.Uses.{uses_of}
 use Rattle.wit_data.specs.declared.interface.Interface.{Interface}
-use Rattle.wit_data.specs.declared.package_name.PackageName.{PackageName}
+use Rattle.wit_names.specs.declared.package_name.PackageName.{PackageName}
 use Rattle.wit_data.specs.declared.types.TypeDef.{TypeDef}
-use Rattle.wit_data.specs.declared.types.TypeDefKind.TheVariants as kind
 use Rattle.wit_data.specs.declared.unresolved.UnresolvedPackage.{UnresolvedPackage}
 use Rattle.wit_data.specs.declared.unresolved.UnresolvedPackageGroup.{UnresolvedPackageGroup}
 use Rattle.wit_data.specs.declared.world.World.{World}
+use Rattle.wit_data.specs.declared.types.TypeDefKind.TheVariants as kind
 
 -- the names of the interfaces after the foreign ones
 abbrev pub interface_names : ℕ → List Interface → List (List ℕ)

@@ -1,18 +1,22 @@
 -- Which interfaces use which, as the types of a list tell.
 -- Source: `type_interface_dep` and `interface_direct_deps` of wit-parser 0.263.0.
-use Rattle.std.specs.Prelude.{ℕ, ◌==◌, List, Option, Some, None, slice_get, map, filter_map, option_and_then, if◌then◌else◌}
+use Rattle.std.specs.Prelude.{ℕ, ◌==◌, List, Option, Some, None, slice_get, map, filter_map, option_and_then, option_to_list, if◌then◌else◌}
 use Rattle.wit_data.specs.declared.interface.Interface.{Interface}
 use Rattle.wit_data.specs.declared.types.TypeDef.{TypeDef}
 use Rattle.wit_data.specs.declared.types.TypeDefKind.{TypeDefKind}
+use Rattle.wit_data.specs.declared.types.TypeOwner.{TypeOwner}
 use Rattle.wit_data.specs.declared.types.TypeDefKind.TheVariants as kind
 use Rattle.wit_data.specs.declared.types.Type_.TheVariants as type
-use Rattle.wit_data.specs.declared.types.TypeOwner.{TypeOwner}
 use Rattle.wit_data.specs.declared.types.TypeOwner.TheVariants as owner
 
 -- the type that an alias names
 abbrev pub alias_target : TypeDefKind → Option ℕ
 alias_target (kind.Type_ (type.Id target)) = Some target
 alias_target _ = None
+
+-- which type is another name of which, as adjacency lists
+abbrev pub alias_rows : List TypeDef → List (List ℕ)
+alias_rows types = map (λ (def : TypeDef). option_to_list (alias_target def.kind)) types
 
 -- the owner of what an alias names, where it is an interface other than the alias's own owner
 abbrev pub other_owner : TypeOwner → TypeOwner → Option ℕ

@@ -1,5 +1,5 @@
 pub mod EachFacts
-pub mod PackageNameFacts
+pub mod KindFacts
 pub mod ReferenceFacts
 pub mod WorldKeyFacts
 pub mod YieldedFacts

@@ -3,10 +3,10 @@ ghost use Rattle.std.specs.Prelude.{◌≡◌, ◌++◌, IfOk, OnOk};
 ghost use Rattle.std.specs.List.{flat_map};
 ghost use Rattle.wit_data.specs.Foreign.{ForeignItem, foreign_interfaces, foreign_worlds, interface_id, world_id};
 
-use crate::package_name::PackageName;
 use crate::stability::Stability;
 use crate::unresolved::AstItem;
 use std::alloc::{AllocError, Global};
+use wit_names::PackageName;
 use wit_values::{Items, Names, Table};
 
 /// The interfaces that are named of other packages, by their places in the package's list, in the

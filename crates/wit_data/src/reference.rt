@@ -3,12 +3,11 @@ ghost use Rattle.std.specs.Prelude.{◌≡◌, ◌++◌, IfOk, OnOk};
 ghost use Rattle.std.specs.List.{flat_map};
 ghost use Rattle.wit_data.specs.Reference.{function_references, named_option, named_type, referred, type_references};
 ghost use Rattle.wit_data.specs.declared.function.Param.{Param};
-ghost use Rattle.wit_data.specs.declared.types.Case.{Case};
-ghost use Rattle.wit_data.specs.declared.types.Field.{Field};
 
 use crate::function::{Function, Param};
 use crate::ids::TypeId;
-use crate::types::{Case, Field, Handle, Type_, TypeDef, TypeDefKind};
+use crate::kind::push_kind;
+use crate::types::{Type_, TypeDef, TypeDefKind};
 use std::alloc::{AllocError, Global};
 use wit_values::Items;
 
@@ -71,40 +70,13 @@ pub fn push_type(ids: &mut Items<TypeId>, ty: Type_) -> Result<(), AllocError>
     }
 }
 
-fn push_option(ids: &mut Items<TypeId>, ty: Option<Type_>) -> Result<(), AllocError>
+pub(crate) fn push_option(ids: &mut Items<TypeId>, ty: Option<Type_>) -> Result<(), AllocError>
     ensures { OnOk result (ids.new ≡ ids.old ++ named_option ty) }
 {
     match ty {
         Some(ty) => push_type(ids, ty),
         None => Ok(()),
     }
-}
-
-fn push_types(ids: &mut Items<TypeId>, types: &[Type_]) -> Result<(), AllocError>
-    ensures { OnOk result (ids.new ≡ ids.old ++ flat_map named_type types.now) }
-{
-    for ty in types {
-        push_type(ids, *ty)?;
-    }
-    Ok(())
-}
-
-fn push_fields(ids: &mut Items<TypeId>, fields: &[Field]) -> Result<(), AllocError>
-    ensures { OnOk result (ids.new ≡ ids.old ++ flat_map (λ (f : Field). named_type f.ty) fields.now) }
-{
-    for field in fields {
-        push_type(ids, field.ty)?;
-    }
-    Ok(())
-}
-
-fn push_cases(ids: &mut Items<TypeId>, cases: &[Case]) -> Result<(), AllocError>
-    ensures { OnOk result (ids.new ≡ ids.old ++ flat_map (λ (c : Case). named_option c.ty) cases.now) }
-{
-    for case in cases {
-        push_option(ids, case.ty)?;
-    }
-    Ok(())
 }
 
 fn push_params(ids: &mut Items<TypeId>, params: &[Param]) -> Result<(), AllocError>
@@ -114,32 +86,4 @@ fn push_params(ids: &mut Items<TypeId>, params: &[Param]) -> Result<(), AllocErr
         push_type(ids, param.ty)?;
     }
     Ok(())
-}
-
-fn push_kind(ids: &mut Items<TypeId>, kind: &TypeDefKind) -> Result<(), AllocError>
-    ensures { OnOk result (ids.new ≡ ids.old ++ referred kind.now) }
-{
-    match kind {
-        TypeDefKind::Record { fields } => push_fields(ids, fields.as_slice()),
-        TypeDefKind::Handle(Handle::Own(id) | Handle::Borrow(id)) => ids.push(*id),
-        TypeDefKind::Tuple { types } => push_types(ids, types.as_slice()),
-        TypeDefKind::Variant { cases } => push_cases(ids, cases.as_slice()),
-        TypeDefKind::Option(ty)
-        | TypeDefKind::List(ty)
-        | TypeDefKind::FixedLengthList(ty, _)
-        | TypeDefKind::Type_(ty) => push_type(ids, *ty),
-        TypeDefKind::Result_ { ok, err } => {
-            push_option(ids, *ok)?;
-            push_option(ids, *err)
-        }
-        TypeDefKind::Map(key, value) => {
-            push_type(ids, *key)?;
-            push_type(ids, *value)
-        }
-        TypeDefKind::Future(ty) | TypeDefKind::Stream(ty) => push_option(ids, *ty),
-        TypeDefKind::Resource
-        | TypeDefKind::Flags { .. }
-        | TypeDefKind::Enum { .. }
-        | TypeDefKind::Unknown => Ok(()),
-    }
 }

@@ -3,11 +3,11 @@ ghost use Rattle.std.specs.Prelude.{◌≡◌};
 
 use crate::ids::{InterfaceId, TypeId, WorldId};
 use crate::interface::Interface;
-use crate::package_name::PackageName;
 use crate::stability::{Docs, Stability};
 use crate::types::TypeDef;
 use crate::world::World;
 use std::alloc::AllocError;
+use wit_names::PackageName;
 use wit_sources::{SourceMap, Span};
 use wit_values::{Items, Names, Table, TryClone, try_clone_four, try_clone_three, try_clone_two};
 

@@ -1,6 +1,6 @@
 -- The post-order of a node: the post-orders of its direct uses, in order, then the node; and the first of each member.
-use Rattle.std.specs.Prelude.{◌↔◌, ℕ, ◌<◌, ◌≤◌, ◌*◌, zero, suc, List, [], ◌∷◌, ◌++◌, length, Contains, All, nat_eq, if◌then◌else◌}
-use Rattle.std.specs.List.{flat_map, list_any}
+use Rattle.std.specs.Prelude.{◌↔◌, ℕ, ◌<◌, ◌≤◌, ◌*◌, zero, suc, List, [], ◌∷◌, ◌++◌, length, Contains, All, nat_eq, if◌then◌else◌, flat_map}
+use Rattle.std.specs.List.{list_any}
 use Rattle.wit_digraph.specs.Relation.{direct}
 use Rattle.wit_digraph.specs.steps.Rows.{HasBit}
 

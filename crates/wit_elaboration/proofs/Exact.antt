@@ -4,8 +4,8 @@ use Rattle.std.proofs.lemmas.Bool.{false≢true, cond-false, cond_both}
 use Rattle.std.proofs.lemmas.List.Elements.{Contains-append_cases, Contains-append_left, Contains-append_right, All-contains}
 use Rattle.wit_data.specs.declared.types.TypeDef.{TypeDef}
 use Rattle.wit_data.specs.declared.world.WorldItem.{WorldItem}
-use Rattle.wit_data.specs.declared.world.WorldItem.TheVariants as item
 use Rattle.wit_data.specs.declared.world.WorldKey.{WorldKey}
+use Rattle.wit_data.specs.declared.world.WorldItem.TheVariants as item
 use Rattle.wit_data.specs.declared.world.WorldKey.TheVariants.{Name, Interface}
 use Rattle.wit_digraph.specs.facts.FreshFacts.{any_from_contains, no_any_from}
 use Rattle.wit_digraph.specs.facts.MemberFacts.{Contains-nil, Contains-here, Contains-cons_cases, Contains-flat_map, Contains-flat_map_cases}
@@ -14,7 +14,8 @@ use Rattle.wit_digraph.specs.Relation.{direct, IsPath, Reaches, IsAcyclic}
 use Rattle.wit_digraph.specs.PostOrder.{post_order}
 use Rattle.wit_elaboration.specs.Entries.{Entry, Role, Instance, TypeUse, TypeDefinition, FreeFunction, ResourceFunction, role_of, item_interface, key_interface, keyed_interfaces, by_class}
 use Rattle.wit_elaboration.specs.Elaborated.{dependency_of, dependencies_before, inherited_by_import, inherited_by_export, without_span, import_with_needs, import_steps_within, import_steps, export_imports}
-use Rattle.wit_elaboration.specs.Imported.{Needed, roots_of, IsImported, exported_interfaces, is_exported}
+use Rattle.wit_elaboration.specs.Imported.{exported_interfaces, is_exported}
+use Rattle.wit_elaboration.specs.laws.Imports.{Needed, roots_of, IsImported}
 use Rattle.wit_elaboration.specs.Sound.{IsRoleInRange}
 use Rattle.wit_elaboration.proofs.Classes.{by_class_in, in_by_class}
 use Rattle.wit_elaboration.proofs.ExportedUses.{key_here, exported_entry, id_inj}

@@ -6,9 +6,9 @@ use Rattle.std.specs.List.{IsDistinct}
 use Rattle.std.specs.Prelude.{codes, slice_index}
 use Rattle.wit_digraph.specs.Relation.{IsAcyclic, IsPath, direct}
 use Rattle.wit_digraph.specs.PostOrder.{post_order, post_order_within}
-use Rattle.wit_data.specs.UsePath.{is_kebab_name}
+use Rattle.wit_names.specs.UsePath.{is_kebab_name}
 use Rattle.wit_data.specs.Uses.{uses_of}
-use Rattle.wit_data.specs.declared.package_name.PackageName.{PackageName}
+use Rattle.wit_names.specs.declared.package_name.PackageName.{PackageName}
 use Rattle.wit_data.specs.declared.world.World.{World}
 use Rattle.wit_elaboration.proofs.EachLemmas.{EachAt-nil, EachAt-one, EachAt-two, HasDistinctKeys-nil, HasDistinctKeys-one, HasDistinctKeys-two, differ_by_test, none_in}
 use Rattle.wit_elaboration.specs.Elaborated.{Elaborated, import_steps, import_steps_within}

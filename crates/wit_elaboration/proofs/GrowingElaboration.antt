@@ -3,9 +3,9 @@ use Rattle.std.proofs.Common.{◌≡◌, ℕ, ◌<◌, true, not, inl, inr, List
 use Rattle.std.specs.List.{flat_map}
 use Rattle.std.proofs.lemmas.List.Elements.{Contains-append_cases}
 use Rattle.wit_data.specs.declared.types.TypeDef.{TypeDef}
+use Rattle.wit_data.specs.declared.world.World.{World}
 use Rattle.wit_data.specs.declared.world.WorldItem.{WorldItem}
 use Rattle.wit_data.specs.declared.world.WorldItem.TheVariants as item
-use Rattle.wit_data.specs.declared.world.World.{World}
 use Rattle.wit_digraph.specs.facts.MemberFacts.{Contains-nil, Contains-cons_cases, Contains-flat_map_cases, flat_map-same}
 use Rattle.wit_digraph.specs.Relation.{direct, IsAcyclic}
 use Rattle.wit_elaboration.specs.Entries.{Entry, role_of, item_interface, is_instance, is_interface, elaboration_class, of_class, by_class, fresh_entries}

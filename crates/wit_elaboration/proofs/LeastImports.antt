@@ -6,7 +6,7 @@ use Rattle.wit_data.specs.declared.world.World.{World}
 use Rattle.wit_digraph.specs.Relation.{direct, IsPath}
 use Rattle.wit_elaboration.specs.Entries.{Entry, keyed_interfaces}
 use Rattle.wit_elaboration.specs.Elaborated.{elaborated_imports}
-use Rattle.wit_elaboration.specs.Imported.{IsImported}
+use Rattle.wit_elaboration.specs.laws.Imports.{IsImported}
 use Rattle.wit_elaboration.specs.laws.KeptByElaboration.{ImportsAreLeast, HoldsImports}
 use Rattle.wit_elaboration.proofs.Exact.{exact_to, exact_from}
 use Rattle.wit_elaboration.proofs.Roles.{in_order}

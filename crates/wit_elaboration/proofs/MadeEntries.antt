@@ -11,7 +11,8 @@ use Rattle.wit_digraph.specs.Relation.{direct, IsPath, IsAcyclic}
 use Rattle.wit_digraph.specs.PostOrder.{post_order}
 use Rattle.wit_elaboration.specs.Entries.{Entry, Role, Instance, TypeUse, TypeDefinition, FreeFunction, ResourceFunction, role_of, is_interface, key_interface, by_class}
 use Rattle.wit_elaboration.specs.Elaborated.{dependency_of, dependencies_before, inherited_by_import, inherited_by_export, without_span, import_with_needs, import_steps_within, import_steps, export_imports, elaborated_imports, elaborated_exports}
-use Rattle.wit_elaboration.specs.Imported.{IsImported, exported_keys, is_exported}
+use Rattle.wit_elaboration.specs.Imported.{exported_keys, is_exported}
+use Rattle.wit_elaboration.specs.laws.Imports.{IsImported}
 use Rattle.wit_elaboration.specs.laws.KeptByElaboration.{ElaboratedEntries, IsListedWithoutSpan, IsMadeImport, IsMadeExport}
 use Rattle.wit_elaboration.specs.Sound.{IsRoleInRange}
 use Rattle.wit_elaboration.proofs.Classes.{by_class_in}

@@ -7,8 +7,8 @@ use Rattle.wit_data.specs.Uses.{interface_uses}
 use Rattle.wit_data.specs.declared.world.World.{World}
 use Rattle.wit_digraph.specs.Relation.{IsAcyclic}
 use Rattle.wit_elaboration.specs.declared.entries.Lists.{Lists}
-use Rattle.wit_graph_data.specs.declared.error_kind.ResolveErrorKind.{ResolveErrorKind}
 use Rattle.wit_graph_data.specs.declared.graph.Graph.{Graph}
+use Rattle.wit_graph_data.specs.declared.error_kind.ResolveErrorKind.{ResolveErrorKind}
 use Rattle.wit_elaboration.specs.steps.Elaborating.{IsFirstConflict}
 use Rattle.wit_elaboration.specs.Elaboration.{AreElaborated, graph_uses, HasConflictAt, IsConflictError, IsErrorAt}
 use Rattle.wit_elaboration.specs.Entries.{Entry}

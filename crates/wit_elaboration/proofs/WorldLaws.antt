@@ -7,7 +7,8 @@ use Rattle.wit_digraph.specs.facts.MemberFacts.{Contains-flat_map, Contains-flat
 use Rattle.wit_elaboration.specs.Entries.{Entry, role_of, item_interface, key_interface, keyed_interfaces}
 use Rattle.wit_elaboration.specs.Elaborated.{Elaborated, elaborated_imports, elaborated_exports}
 use Rattle.wit_elaboration.specs.laws.ElaborationLaws.{ElaboratesOnce, ImportsAreExact, ImportsKeepOrder, OrderIsFree, SameEntries, DependenciesFirst}
-use Rattle.wit_elaboration.specs.Imported.{Needed, HasTransitiveConflict, IsImported, roots_of}
+use Rattle.wit_elaboration.specs.Imported.{HasTransitiveConflict}
+use Rattle.wit_elaboration.specs.laws.Imports.{Needed, IsImported, roots_of}
 use Rattle.wit_elaboration.proofs.Exact.{exact_to, exact_from}
 use Rattle.wit_elaboration.proofs.ExportsAgain.{exports_again}
 use Rattle.wit_elaboration.proofs.ImportsAgain.{imports_again, imports_first, no_conflict_again}

@@ -6,9 +6,9 @@ use Rattle.wit_elaboration.specs.Elaborated.{with_elaborated_lists}
 use Rattle.wit_elaboration.specs.Elaboration.{graph_uses}
 use Rattle.wit_elaboration.specs.Imported.{HasTransitiveConflict, IsRefusedName}
 use Rattle.wit_elaboration.specs.declared.entries.Lists.{Lists}
+use Rattle.wit_graph_data.specs.declared.graph.Graph.{Graph}
 use Rattle.wit_graph_data.specs.declared.error_kind.ResolveErrorKind.{ResolveErrorKind}
 use Rattle.wit_graph_data.specs.declared.error_kind.ResolveErrorKind.TheVariants.{InvalidTransitiveDependency}
-use Rattle.wit_graph_data.specs.declared.graph.Graph.{Graph}
 
 -- a world with its lists elaborated, over the types and interfaces of a graph
 abbrev pub elaborated_world : Graph → World → World

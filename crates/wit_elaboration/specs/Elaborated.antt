@@ -1,14 +1,13 @@
 -- The elaboration of a world: its imports with all that they and the exports need, and its exports
 -- in the order of their uses.
 -- Source: `elaborate_world` of wit-parser 0.263.0.
-use Rattle.std.specs.Prelude.{ℕ, ◌≡◌, zero, suc, Bool, not, List, [], ◌∷◌, ◌++◌, None, map, filter, length, slice_get, if◌then◌else◌}
-use Rattle.std.specs.List.{flat_map}
+use Rattle.std.specs.Prelude.{ℕ, ◌≡◌, zero, suc, Bool, not, List, [], ◌∷◌, ◌++◌, None, map, filter, length, slice_get, if◌then◌else◌, flat_map}
 use Rattle.std.specs.Option.{option_map_or}
 use Rattle.wit_data.specs.declared.stability.Stability.TheVariants as stability
 use Rattle.wit_data.specs.declared.types.TypeDef.{TypeDef}
+use Rattle.wit_data.specs.declared.world.World.{World}
 use Rattle.wit_data.specs.declared.world.WorldItem.{WorldItem}
 use Rattle.wit_data.specs.declared.world.WorldItem.TheVariants as item
-use Rattle.wit_data.specs.declared.world.World.{World}
 use Rattle.wit_data.specs.declared.world.WorldKey.TheVariants.{Interface}
 pub use Rattle.wit_elaboration.specs.declared.entries.InheritedData.{InheritedData}
 use Rattle.wit_digraph.specs.Relation.{direct}

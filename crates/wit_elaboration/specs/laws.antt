@@ -1,2 +1,3 @@
 pub mod ElaborationLaws
+pub mod Imports
 pub mod KeptByElaboration

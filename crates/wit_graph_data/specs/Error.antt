@@ -3,8 +3,8 @@ use Rattle.std.specs.Prelude.{ℕ, Option, None}
 use Rattle.wit_sources.specs.declared.source_map.MapFault.{MapFault}
 use Rattle.wit_sources.specs.declared.source_map.MapFault.TheVariants as fault
 use Rattle.wit_graph_data.specs.declared.cause.Cause.{Cause}
-use Rattle.wit_graph_data.specs.declared.cause.Cause.TheVariants.{GateWithoutVersion, GateUnreleased, Excluded, ExcludedOwner, TypeNotDefined, NotAResource, BorrowInResult, RenameUnmatched, NotStronglyUnique, NoGetter, LabelClash, NameTaken, TypeExported, InterfaceCycle, TypeCycle, MergeMismatch, UpgradeMismatch, WorldSelection, Other}
 use Rattle.wit_graph_data.specs.declared.error_kind.ResolveErrorKind.{ResolveErrorKind}
+use Rattle.wit_graph_data.specs.declared.cause.Cause.TheVariants.{GateWithoutVersion, GateUnreleased, Excluded, ExcludedOwner, TypeNotDefined, NotAResource, BorrowInResult, RenameUnmatched, NotStronglyUnique, NoGetter, LabelClash, NameTaken, TypeExported, InterfaceCycle, TypeCycle, MergeMismatch, UpgradeMismatch, WorldSelection, Other}
 use Rattle.wit_graph_data.specs.declared.error_kind.ResolveErrorKind.TheVariants.{PackageNotFound, WorldNotFound, InterfaceNotFound, InvalidTransitiveDependency, DuplicatePackage, PackageCycle, ItemShadowing, StabilityMismatch, Semantic, OffsetOverflow, OutOfMemory}
 
 -- the number of a cause, 0 for one that has none

@@ -1,11 +1,10 @@
 -- The texts of errors, as wit-parser 0.263.0 writes them, but for those of a stability mismatch, of
 -- positions that would be too large, and of want of memory, which are this library's own.
-use Rattle.std.specs.Prelude.{ℕ, List, [], ◌∷◌, ◌++◌, Option, Some, None, codes}
-use Rattle.std.specs.List.{flat_map}
+use Rattle.std.specs.Prelude.{ℕ, List, [], ◌∷◌, ◌++◌, Option, Some, None, codes, flat_map}
 use Rattle.semver.specs.Identifiers.{parts_text}
 use Rattle.wit_values.specs.Version.{Parts}
-use Rattle.wit_data.specs.PackageName.{package_name_text}
-use Rattle.wit_data.specs.declared.package_name.PackageName.{PackageName}
+use Rattle.wit_names.specs.PackageName.{package_name_text}
+use Rattle.wit_names.specs.declared.package_name.PackageName.{PackageName}
 use Rattle.wit_data.specs.declared.stability.Stability.{Stability}
 use Rattle.wit_data.specs.declared.stability.Stability.TheVariants.{Unknown, Stable, Unstable}
 use Rattle.wit_graph_data.specs.declared.error_kind.ResolveErrorKind.{ResolveErrorKind}

@@ -1,11 +1,11 @@
 -- The texts that name things of a graph from outside.
 -- Source: `key_interface`, `id_of_name` and `name_world_key` of wit-parser 0.263.0; the component model's
 -- interface names.
-use Rattle.std.specs.Prelude.{ℕ, List, [], ◌∷◌, ◌++◌, Option, slice_get, option_and_then, unwrap_or}
-use Rattle.std.specs.Option.{option_map, option_map_or}
-use Rattle.wit_data.specs.PackageName.{version_suffix}
+use Rattle.std.specs.Prelude.{ℕ, List, [], ◌∷◌, ◌++◌, Option, slice_get, option_and_then, unwrap_or, option_map}
+use Rattle.std.specs.Option.{option_map_or}
+use Rattle.wit_names.specs.PackageName.{version_suffix}
 use Rattle.wit_data.specs.declared.interface.Interface.{Interface}
-use Rattle.wit_data.specs.declared.package_name.PackageName.{PackageName}
+use Rattle.wit_names.specs.declared.package_name.PackageName.{PackageName}
 use Rattle.wit_data.specs.declared.world.WorldKey.{WorldKey}
 use Rattle.wit_data.specs.declared.world.WorldKey.TheVariants as key
 use Rattle.wit_graph_data.specs.declared.graph.Package.{Package}

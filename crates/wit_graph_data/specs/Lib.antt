@@ -1,4 +1,5 @@
 pub mod Error
+pub mod ErrorLoan
 pub mod ErrorText
 pub mod IdText
 pub mod Queries
@@ -6,4 +7,3 @@ pub mod Relations
 pub mod RenderedText
 pub mod examples
 pub mod facts
-pub mod steps

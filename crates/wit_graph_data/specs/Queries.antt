@@ -2,30 +2,34 @@
 -- Source: the questions of the same names of wit-parser 0.263.0, whose documentation says what they answer;
 -- canonical interface names in the component model's explainer. In which order futures and streams come is
 -- a rule of this project.
-use Rattle.std.specs.Prelude.{◌≡◌, ℕ, Bool, true, false, List, [], ◌∷◌, ◌++◌, map, filter, length, slice_get, Option, None, Some, option_and_then, unwrap_or}
-use Rattle.std.specs.List.{flat_map, list_all, range_with_len}
-use Rattle.std.specs.Option.{option_map, option_map_or}
+use Rattle.std.specs.Prelude.{◌≡◌, ℕ, Bool, true, false, List, [], ◌∷◌, ◌++◌, ◌&&◌, map, filter, length, slice_get, Option, None, Some, option_and_then, unwrap_or, if◌then◌else◌, flat_map, option_map}
+use Rattle.std.specs.List.{list_all, range_with_len}
+use Rattle.std.specs.Option.{option_map_or}
 use Rattle.wit_values.specs.Version.{Parts}
 use Rattle.wit_digraph.specs.Relation.{Reaches, direct}
 use Rattle.wit_digraph.specs.PostOrder.{first_of_each, post_order}
 use Rattle.wit_data.specs.Each.{SomeAt}
-use Rattle.wit_data.specs.Reference.{named_option, named_type, referred}
-use Rattle.wit_data.specs.Track.{track_suffix, track_text}
+use Rattle.wit_data.specs.Kind.{KindPart, kind_parts, variant_of}
+use Rattle.wit_data.specs.Reference.{named_option, named_type, referred_in}
+use Rattle.wit_names.specs.Track.{track_suffix, track_text}
 use Rattle.wit_data.specs.Uses.{uses_of}
 use Rattle.wit_data.specs.declared.function.Function.{Function}
-use Rattle.wit_data.specs.declared.function.Param.{Param}
 use Rattle.wit_data.specs.declared.interface.Interface.{Interface}
-use Rattle.wit_data.specs.declared.package_name.PackageName.{PackageName}
-use Rattle.wit_data.specs.declared.types.Field.{Field}
+use Rattle.wit_names.specs.declared.package_name.PackageName.{PackageName}
+use Rattle.wit_data.specs.declared.function.Param.{Param}
+use Rattle.wit_data.specs.declared.kind.PartRole.{PartRole}
 use Rattle.wit_data.specs.declared.types.TypeDef.{TypeDef}
 use Rattle.wit_data.specs.declared.types.TypeDefKind.{TypeDefKind}
-use Rattle.wit_data.specs.declared.types.TypeDefKind.TheVariants as kind
 use Rattle.wit_data.specs.declared.types.Type_.{Type_}
-use Rattle.wit_data.specs.declared.types.Type_.TheVariants as type
+use Rattle.wit_data.specs.declared.kind.Variant.{Variant}
 use Rattle.wit_data.specs.declared.world.World.{World}
 use Rattle.wit_data.specs.declared.world.WorldItem.{WorldItem}
-use Rattle.wit_data.specs.declared.world.WorldItem.TheVariants as item
 use Rattle.wit_data.specs.declared.world.WorldKey.{WorldKey}
+use Rattle.wit_data.specs.declared.kind.PartRole.TheVariants.{Argument}
+use Rattle.wit_data.specs.declared.kind.Variant.TheVariants as variants
+use Rattle.wit_data.specs.declared.types.TypeDefKind.TheVariants as kind
+use Rattle.wit_data.specs.declared.types.Type_.TheVariants as type
+use Rattle.wit_data.specs.declared.world.WorldItem.TheVariants as item
 use Rattle.wit_data.specs.declared.world.WorldKey.TheVariants as key
 use Rattle.wit_graph_data.specs.Relations.{package_uses}
 use Rattle.wit_graph_data.specs.declared.graph.Package.{Package}
@@ -113,19 +117,32 @@ abbrev pub is_number_or_listed : Type_ → Bool
 is_number_or_listed (type.Id t) = true
 is_number_or_listed other = is_number other
 
--- the kind is a handle, or has numbers and types of the list as parts, all of them at fixed places
-abbrev pub has_fixed_parts : TypeDefKind → Bool
-has_fixed_parts (kind.Handle handle) = true
-has_fixed_parts (kind.Type_ ty) = is_number_or_listed ty
-has_fixed_parts (kind.FixedLengthList ty len) = is_number_or_listed ty
-has_fixed_parts (kind.Record fields) = list_all (λ (f : Field). is_number_or_listed f.ty) fields
-has_fixed_parts (kind.Tuple types) = list_all is_number_or_listed types
-has_fixed_parts _ = false
+-- do kinds of a variant have all their parts at fixed places? A handle is a number
+abbrev pub has_fixed_layout : Variant → Bool
+has_fixed_layout variants.Own = true
+has_fixed_layout variants.Borrow = true
+has_fixed_layout variants.Alias = true
+has_fixed_layout variants.FixedLengthList = true
+has_fixed_layout variants.Record = true
+has_fixed_layout variants.Tuple = true
+has_fixed_layout _ = false
 
--- what the values of a kind hold: a handle and a resource hold nothing more
+-- do values of a kind hold those of its parts in a role? A handle holds nothing more
+abbrev pub is_held : PartRole → Bool
+is_held Argument = false
+is_held _ = true
+
+-- a part that values hold is a number or a type of the list
+abbrev pub is_fixed_part : KindPart → Bool
+is_fixed_part p = if is_held p.role then option_map_or is_number_or_listed p.ty false else true
+
+-- the kind has numbers and types of the list as parts, all of them at fixed places
+abbrev pub has_fixed_parts : TypeDefKind → Bool
+has_fixed_parts k = has_fixed_layout (variant_of k) && list_all is_fixed_part (kind_parts k)
+
+-- what the values of a kind hold
 abbrev pub content_types : TypeDefKind → List ℕ
-content_types (kind.Handle handle) = []
-content_types other = referred other
+content_types k = referred_in is_held k
 
 -- as adjacency lists: list t has what the values of type t hold
 abbrev pub type_contents : List TypeDef → List (List ℕ)

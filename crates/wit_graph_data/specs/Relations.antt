@@ -3,8 +3,8 @@
 -- A graph has three relations, each as rows: `uses_of` says which interfaces an interface uses,
 -- `type_references` which types a type refers to, and `package_uses` which packages a package depends on.
 -- Source: `package_direct_deps` of wit-parser 0.263.0.
-use Rattle.std.specs.Prelude.{ℕ, ◌==◌, List, [], ◌++◌, map, Option, None, Some, slice_get, option_and_then, if◌then◌else◌}
-use Rattle.std.specs.List.{filter_map, flat_map, enumerate_from}
+use Rattle.std.specs.Prelude.{ℕ, ◌==◌, List, [], ◌++◌, map, Option, None, Some, slice_get, option_and_then, if◌then◌else◌, filter_map, flat_map}
+use Rattle.std.specs.List.{enumerate_from}
 use Rattle.std.specs.Option.{option_map_or}
 use Rattle.wit_digraph.specs.Relation.{direct}
 use Rattle.wit_data.specs.Uses.{interface_uses, type_interface_dep}
@@ -12,8 +12,8 @@ use Rattle.wit_data.specs.declared.interface.Interface.{Interface}
 use Rattle.wit_data.specs.declared.types.TypeDef.{TypeDef}
 use Rattle.wit_data.specs.declared.world.World.{World}
 use Rattle.wit_data.specs.declared.world.WorldItem.{WorldItem}
-use Rattle.wit_data.specs.declared.world.WorldItem.TheVariants as item
 use Rattle.wit_data.specs.declared.world.WorldKey.{WorldKey}
+use Rattle.wit_data.specs.declared.world.WorldItem.TheVariants as item
 use Rattle.wit_graph_data.specs.declared.graph.Package.{Package}
 
 -- the interface that an entry of a world names: the interface that it is, or of a type use the interface

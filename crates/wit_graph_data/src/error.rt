@@ -1,7 +1,7 @@
 //! The error of a resolve graph.
 ghost use Rattle.std.specs.Prelude.{◌≡◌, Some, string_bytes};
 ghost use Rattle.std.specs.Borrow.{sem};
-ghost use Rattle.wit_graph_data.specs.steps.ErrorLoan.{LendsKind};
+ghost use Rattle.wit_graph_data.specs.ErrorLoan.{LendsKind};
 ghost use Rattle.wit_graph_data.specs.Error.{error_number, map_fault_kind};
 ghost use Rattle.wit_graph_data.specs.ErrorText.{kind_text};
 ghost use Rattle.wit_graph_data.specs.declared.error_kind.ResolveErrorKind.TheVariants as kinds;

@@ -1,6 +1,6 @@
 //! What is asked of a graph.
 ghost use Rattle.std.specs.Prelude.{◌≡◌, IfOk, IfErr, Some, string_bytes};
-ghost use Rattle.wit_data.specs.PackageName.{version_suffix};
+ghost use Rattle.wit_names.specs.PackageName.{version_suffix};
 ghost use Rattle.std.specs.Option.{option_map};
 ghost use Rattle.wit_graph_data.specs.declared.error_kind.ResolveErrorKind.TheVariants.{OutOfMemory};
 ghost use Rattle.wit_graph_data.specs.IdText.{id_text, id_text_in, interface_id_at, key_text};

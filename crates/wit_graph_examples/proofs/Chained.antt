@@ -14,7 +14,7 @@ use Rattle.wit_graph_data.specs.declared.error_kind.ResolveErrorKind.TheVariants
 use Rattle.wit_graph_data.specs.declared.graph.Package.{Package}
 use Rattle.wit_graph_theory.specs.facts.OptionFacts.{some_same}
 use Rattle.wit_graph_theory.specs.examples.TestFacts.{one_of_two, only_one}
-use Rattle.wit_transform.specs.TransformCause.{ExportizeCause, HasNameTaken, HasTypeAt, export_conflict, exportized_name_taken, type_exported, type_exported_text}
+use Rattle.wit_transform.specs.TransformCause.{ExportizeCause, HasNameTaken, export_conflict, exportized_name_taken, not_exported, type_exported_text}
 use Rattle.wit_transform.specs.examples.TransformExamples.{a, b}
 use Rattle.wit_transform.specs.Transformed.{exportized}
 use Rattle.wit_graph_examples.proofs.TakenNames.{not_taken}
@@ -48,40 +48,31 @@ refused_c = (key.Interface 2, (a ∷ [], c, [], refl, a_safe, c_leads, refl), re
 
 -- ---- what else could be told
 
-no_type_there : (label : List ℕ) → HasTypeAt (a ∷ c ∷ []) label → ⊥
-no_type_there label has = elim (one_of_two a c _ has.2) [
-  | inl same ↦ let keys = ap (λ (e : Entry). e.0) same in cc
-  | inr same ↦ let keys = ap (λ (e : Entry). e.0) same in cc
-]
-
 x_is_free : (home : Package) → HasNameTaken chain_with_k 0 world_w (codes "x") home → ⊥
 x_is_free home taken = not_taken chain_with_k 0 0 world_w (codes "x") _ home refl refl refl taken
-
-k_there : HasTypeAt (a ∷ c ∷ k ∷ []) (codes "k")
-k_there = (3, None, Contains-there a k (c ∷ k ∷ []) (Contains-there c k (k ∷ []) (Contains-here k [])))
 
 no_type_told : (world : World) (label : List ℕ) → world_w ≡ world
     → ExportizeCause chain_with_k 0 world (exportized (ends_and false) (Some (codes "x")) world) (Semantic None (type_exported_text label) TypeExported) → ⊥
 no_type_told world label same cause =
     elim (subst (λ (x : World). ExportizeCause chain_with_k 0 x (exportized (ends_and false) (Some (codes "x")) x) (Semantic None (type_exported_text label) TypeExported)) (sym same) cause) [
-      | export_conflict name free types conflict refused is ↦ cc
+      | export_conflict name free listed conflict refused is ↦ cc
       | exportized_name_taken home taken is ↦ cc
-      | type_exported other has is ↦ no_type_there other has
+      | not_exported is ↦ let never : None ≡ Some (Semantic None (type_exported_text label) TypeExported) = is in cc
     ]
 
 no_conflict_told : (world : World) (span : OptionalSpan) (name : List ℕ) → world_w ≡ world
     → ExportizeCause chain_with_k 0 world (exportized (ends_and true) (Some (codes "x")) world) (InvalidTransitiveDependency span name) → ⊥
 no_conflict_told world span name same cause =
     elim (subst (λ (x : World). ExportizeCause chain_with_k 0 x (exportized (ends_and true) (Some (codes "x")) x) (InvalidTransitiveDependency span name)) (sym same) cause) [
-      | export_conflict n free types conflict refused is ↦ types (codes "k") k_there
+      | export_conflict n free listed conflict refused is ↦ let never : Some (Semantic None (type_exported_text (codes "k")) TypeExported) ≡ None = listed in cc
       | exportized_name_taken home taken is ↦ cc
-      | type_exported label has is ↦ cc
+      | not_exported is ↦ let kinds : Semantic None (type_exported_text (codes "k")) TypeExported ≡ InvalidTransitiveDependency span name = some_same _ _ is in cc
     ]
 
 pub conflicts_are : ExamplesOfConflictsBesideTypes
 conflicts_are = record {
-  conflict = (world_w, refl, export_conflict (codes "foo:bar/c") x_is_free no_type_there ends_conflict refused_c refl);
+  conflict = (world_w, refl, export_conflict (codes "foo:bar/c") x_is_free refl ends_conflict refused_c refl);
   no_type = λ label cause. no_type_told cause.0 label (some_same _ _ cause.1) cause.2;
-  type_exported = (world_w, refl, type_exported (codes "k") k_there refl);
+  type_exported = (world_w, refl, not_exported refl);
   type_before = λ span name cause. no_conflict_told cause.0 span name (some_same _ _ cause.1) cause.2;
 }

@@ -16,13 +16,13 @@ use Rattle.wit_elaboration.specs.Entries.{Entry}
 use Rattle.wit_elaboration.specs.Imported.{HasTransitiveConflict}
 use Rattle.wit_graph_data.specs.examples.Samples.{foo_bar_of, world_of}
 use Rattle.wit_graph_data.specs.declared.cause.Cause.TheVariants.{NameTaken}
-use Rattle.wit_graph_data.specs.declared.error_kind.ResolveErrorKind.{ResolveErrorKind}
-use Rattle.wit_graph_data.specs.declared.error_kind.ResolveErrorKind.TheVariants.{Semantic}
 use Rattle.wit_graph_data.specs.declared.graph.Graph.{Graph}
 use Rattle.wit_graph_data.specs.declared.graph.Package.{Package}
+use Rattle.wit_graph_data.specs.declared.error_kind.ResolveErrorKind.{ResolveErrorKind}
+use Rattle.wit_graph_data.specs.declared.error_kind.ResolveErrorKind.TheVariants.{Semantic}
 use Rattle.wit_graph_theory.specs.facts.OptionFacts.{some_same}
 use Rattle.wit_graph_theory.specs.examples.TestFacts.{all_are, implied, implies, only_one}
-use Rattle.wit_transform.specs.TransformCause.{ExportizeCause, HasNameTaken, HasTypeAt, ImportizeCause, export_conflict, exportized_name_taken, importized_name_taken, label_clash, name_taken_text, type_exported}
+use Rattle.wit_transform.specs.TransformCause.{ExportizeCause, HasNameTaken, ImportizeCause, export_conflict, exportized_name_taken, importized_name_taken, label_clash, name_taken_text, not_exported}
 use Rattle.wit_transform.specs.examples.TransformExamples.{a}
 use Rattle.wit_transform.specs.Transformed.{exportized, importized}
 use Rattle.wit_graph_examples.specs.TransformCauses.{ExamplesOfNamesInUse, of_w, w_imports_a}
@@ -75,19 +75,16 @@ second_importizes world error same cause =
       | importized_name_taken home taken is ↦ not_taken of_w 2 1 w_of_second (codes "w") _ home refl refl refl taken
     ]
 
--- a alone is in no conflict, and no type
+-- a alone is in no conflict
 no_conflict : HasTransitiveConflict (graph_uses of_w) (a ∷ []) → ⊥
 no_conflict conflict = Contains-nil (subst (λ (i : ℕ). Contains (direct (graph_uses of_w) i) conflict.1) (sym (only_one 0 conflict.0 conflict.2)) conflict.3)
-
-no_type : (label : List ℕ) → HasTypeAt (a ∷ []) label → ⊥
-no_type label has = let keys = ap (λ (e : Entry). e.0) (only_one a _ has.2) in cc
 
 exportizes : (world : World) (error : ResolveErrorKind) → w_imports_a ≡ world → ExportizeCause of_w 0 world (exportized (true ∷ []) (Some v) world) error → ⊥
 exportizes world error same cause =
     elim (subst (λ (x : World). ExportizeCause of_w 0 x (exportized (true ∷ []) (Some v) x) error) (sym same) cause) [
-      | export_conflict name free types conflict refused is ↦ no_conflict conflict
+      | export_conflict name free listed conflict refused is ↦ no_conflict conflict
       | exportized_name_taken home taken is ↦ v_is_free home taken
-      | type_exported label has is ↦ no_type label has
+      | not_exported is ↦ let never : None ≡ Some error = is in cc
     ]
 
 -- u is taken by world 1

@@ -2,9 +2,9 @@
 use Rattle.std.specs.Prelude.{◌≡◌, ◌≢◌, ℕ, List, [], ◌∷◌, Some, None, codes}
 use Rattle.wit_data.specs.declared.interface.Interface.{Interface}
 use Rattle.wit_data.specs.declared.types.TypeDef.{TypeDef}
+use Rattle.wit_data.specs.declared.world.World.{World}
 use Rattle.wit_data.specs.declared.types.TypeDefKind.TheVariants as kind
 use Rattle.wit_data.specs.declared.types.Type_.TheVariants as type
-use Rattle.wit_data.specs.declared.world.World.{World}
 use Rattle.wit_graph_data.specs.Queries.{interface_direct_deps, topological_packages}
 use Rattle.wit_graph_data.specs.examples.Samples.{entry_of, interface_of, no_docs, type_in, world_of}
 use Rattle.wit_graph_data.specs.declared.graph.Package.{Package}

@@ -1,8 +1,8 @@
 -- Versions that are on one track and versions that aren't, and what their texts aren't.
 use Rattle.std.specs.Prelude.{◌≡◌, ◌≢◌, ℕ, [], None, Some, codes}
 use Rattle.wit_values.specs.Version.{Parts}
-use Rattle.wit_data.specs.Track.{track_by, track_of, track_suffix, track_text}
-use Rattle.wit_data.specs.declared.track.TrackRule.TheVariants.{Published, WithPrereleases}
+use Rattle.wit_names.specs.Track.{track_by, track_of, track_suffix, track_text}
+use Rattle.wit_names.specs.declared.track.TrackRule.TheVariants.{Published, WithPrereleases}
 
 -- a release
 abbrev pub release : ℕ → ℕ → ℕ → Parts

@@ -4,10 +4,10 @@ use Rattle.std.proofs.Common.{◌≡◌, ◌∙◌, ℕ, List, [], Option, None,
 use Rattle.std.specs.Option.{option_map_or}
 use Rattle.wit_values.specs.Table.{HasDistinctKeys}
 use Rattle.wit_data.specs.Each.{SomeAt}
-use Rattle.wit_data.specs.UsePath.{IsKebabName, IsUsePath, use_path_of}
-use Rattle.wit_data.proofs.UsePathGrammar.{use_path_of-grammar}
-use Rattle.wit_data.specs.declared.package_name.PackageName.{PackageName}
-use Rattle.wit_data.specs.declared.use_path.ParsedUsePath.TheVariants as path
+use Rattle.wit_names.specs.UsePath.{IsKebabName, IsUsePath, use_path_of}
+use Rattle.wit_names.proofs.UsePathGrammar.{use_path_of-grammar}
+use Rattle.wit_names.specs.declared.package_name.PackageName.{PackageName}
+use Rattle.wit_names.specs.declared.use_path.ParsedUsePath.TheVariants as path
 use Rattle.wit_elaboration.specs.Valid.{IsValid}
 use Rattle.wit_graph_data.specs.IdText.{id_text, id_text_in, interface_id_at, interface_id_text}
 use Rattle.wit_graph_data.specs.declared.graph.Graph.{Graph}

@@ -1,6 +1,6 @@
 -- A source that leaves things out: what comes in, with its lists cut to what is selected. A package with
 -- gates is this source, and so is a graph of which everything is selected.
-use Rattle.std.specs.Prelude.{◌≡◌, ℕ, ◌<◌, Bool, true, List, [], map, filter, length, nat_lt, None, Some, Contains, slice_get}
+use Rattle.std.specs.Prelude.{◌≡◌, ℕ, ◌<◌, Bool, true, List, [], map, length, nat_lt, None, Some, Contains, slice_get}
 use Rattle.wit_data.specs.Each.{Each, EachAt, SomeAt}
 use Rattle.wit_data.specs.Entries.{Entry}
 use Rattle.wit_data.specs.Ownership.{world_types}
@@ -9,27 +9,15 @@ use Rattle.wit_data.specs.declared.function.Function.{Function}
 use Rattle.wit_data.specs.declared.interface.Interface.{Interface}
 use Rattle.wit_data.specs.declared.types.TypeDef.{TypeDef}
 use Rattle.wit_data.specs.declared.types.TypeOwner.{TypeOwner}
-use Rattle.wit_data.specs.declared.types.TypeOwner.TheVariants as owner
 use Rattle.wit_data.specs.declared.world.World.{World}
 use Rattle.wit_data.specs.declared.world.WorldItem.{WorldItem}
+use Rattle.wit_data.specs.declared.types.TypeOwner.TheVariants as owner
 use Rattle.wit_data.specs.declared.world.WorldItem.TheVariants as item
 use Rattle.wit_graph_data.specs.declared.graph.Graph.{Graph}
 use Rattle.wit_graph_theory.specs.facts.Good.{IsGoodExport, IsGoodImport, IsGoodInterface, IsGoodType}
-use Rattle.wit_graph_theory.specs.Image.{Maps, identity}
-use Rattle.wit_graph_theory.specs.Kept.{KeptIds}
+use Rattle.wit_remap_spec.specs.Image.{Maps, identity}
+use Rattle.wit_remap_spec.specs.Kept.{KeptIds, cut_interface, cut_world}
 use Rattle.wit_graph_theory.specs.steps.Sources.{Source}
-
-abbrev pub cut_interface : KeptIds → Interface → Interface
-cut_interface kept interface = record interface {
-  types = filter (λ (e : List ℕ × ℕ). kept.types e.1) interface.types;
-  functions = filter (λ (e : List ℕ × Function). kept.functions e.1) interface.functions;
-}
-
-abbrev pub cut_world : KeptIds → World → World
-cut_world kept world = record world {
-  imports = filter (λ (e : Entry). kept.items e.1) world.imports;
-  exports = filter (λ (e : Entry). kept.items e.1) world.exports;
-}
 
 abbrev pub cut_source : KeptIds → List TypeDef → List Interface → List World → Maps → Source
 cut_source kept types interfaces worlds m = record {

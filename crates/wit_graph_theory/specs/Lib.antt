@@ -1,8 +1,4 @@
-pub mod AllElaborated
 pub mod Cut
-pub mod FunctionMismatch
-pub mod Image
-pub mod Kept
 pub mod Operations
 pub mod examples
 pub mod facts

@@ -1,10 +1,10 @@
 -- The sources of each operation.
-use Rattle.std.specs.Prelude.{ℕ, zero, suc, List, nat_eq, Some, if◌then◌else◌}
+use Rattle.std.specs.Prelude.{ℕ, zero, suc}
 use Rattle.wit_data.specs.declared.unresolved.UnresolvedPackage.{UnresolvedPackage}
 use Rattle.wit_graph_data.specs.declared.graph.Graph.{Graph}
 use Rattle.wit_graph_theory.specs.Cut.{cut_source, graph_source, mapped_source}
-use Rattle.wit_graph_theory.specs.Image.{Maps}
-use Rattle.wit_graph_theory.specs.Kept.{KeptIds}
+use Rattle.wit_remap_spec.specs.Image.{Maps}
+use Rattle.wit_remap_spec.specs.Kept.{KeptIds}
 use Rattle.wit_graph_theory.specs.steps.Sources.{Source}
 
 -- adding a package: the graph, and what is selected of the package. Foreign interfaces and types are selected (they go
@@ -17,19 +17,6 @@ add_sources kept g u m (suc k) = cut_source kept u.types u.interfaces u.worlds m
 abbrev pub merge_sources : Graph → Graph → Maps → ℕ → Source
 merge_sources g other m zero = graph_source g
 merge_sources g other m (suc k) = mapped_source other m
-
--- the maps of an include of world `from` into world `into` of package `home`: copies for what is copied,
--- plain values (no `own` is made), labels renamed
-abbrev pub include_maps : (ℕ → ℕ) → (ℕ → ℕ) → (List ℕ → List ℕ) → ℕ → ℕ → ℕ → Maps
-include_maps types interfaces renamed from into home = record {
-  types = types;
-  values = types;
-  interfaces = interfaces;
-  worlds = λ w. if nat_eq w from then into else w;
-  home = λ p. Some home;
-  labels = λ w name. if nat_eq w from then renamed name else name;
-  offset = 0;
-}
 
 -- finishing a world of a package: the graph so far, of which what belongs to finished worlds is selected; the
 -- package, of which this world does; and each of its includes, the graph so far under the maps of the copies,

@@ -3,10 +3,8 @@ use Rattle.std.proofs.Common.{◌≡◌, ◌∙◌, ℕ, Bool, true, false, cond
 use Rattle.std.proofs.lemmas.Bool.{cond-true, cond-false}
 use Rattle.std.proofs.lemmas.List.{append_assoc, drop_all, take_all}
 use Rattle.std.specs.Cmp.Lexicographic.{nat_list_eq_equiv}
-use Rattle.std.specs.Prelude.{◌==◌, unwrap_or}
-use Rattle.std.specs.List.{concat, before_first, cons_option, filter_map, position_or_len}
-use Rattle.std.specs.Option.{option_map}
-use Rattle.std.specs.Str.{bytes_eq}
+use Rattle.std.specs.Prelude.{◌==◌, unwrap_or, filter_map, option_map, bytes_eq}
+use Rattle.std.specs.List.{concat, before_first, cons_option, position_or_len}
 use Rattle.wit_data.specs.declared.world.IncludeName.{IncludeName}
 use Rattle.wit_labels.specs.steps.FirstRenamings.{is_of}
 use Rattle.wit_labels.specs.Groups.{begins_group, groups_of, rest_of}

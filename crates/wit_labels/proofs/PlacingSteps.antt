@@ -6,18 +6,18 @@ use Rattle.std.proofs.lemmas.List.{append-nil, append_assoc, length-map, length-
 use Rattle.std.proofs.lemmas.List.Elements.{Contains-append_cases, Contains-get_or, filter-append, filter_map-append}
 use Rattle.std.proofs.lemmas.List.FromFn.{length-enumerate_from, length-range_with_len}
 use Rattle.std.proofs.lemmas.List.Quantifiers.{position-Some}
-use Rattle.std.specs.Prelude.{filter, nat_lt, position}
-use Rattle.std.specs.List.{AllByRecursion, AllZip, IsDistinct, cons_option, enumerate_from, flat_map, range_with_len}
+use Rattle.std.specs.Prelude.{filter, nat_lt, position, flat_map, option_and_then}
+use Rattle.std.specs.List.{AllByRecursion, AllZip, IsDistinct, cons_option, enumerate_from, range_with_len}
 use Rattle.std.specs.Map.{keys_of, lookup}
-use Rattle.std.specs.Option.{option_and_then, option_eq}
+use Rattle.std.specs.Option.{option_eq}
 use Rattle.wit_values.specs.facts.Lists.{key_at, lookup-before, map-next}
 use Rattle.wit_digraph.specs.facts.MemberFacts.{Contains-cons_cases, Contains-flat_map_cases, Contains-here, Contains-nil, Contains-there}
 use Rattle.wit_data.specs.Entries.{Entry}
 use Rattle.wit_data.specs.facts.WorldKeyFacts.{key_laws}
 use Rattle.wit_data.specs.contracts.world.WorldKeyPartialEq.TheImpl.{eq-value}
 use Rattle.wit_data.specs.declared.world.WorldItem.{WorldItem}
-use Rattle.wit_data.specs.declared.world.WorldItem.TheVariants as item
 use Rattle.wit_data.specs.declared.world.WorldKey.{WorldKey}
+use Rattle.wit_data.specs.declared.world.WorldItem.TheVariants as item
 use Rattle.wit_data.specs.declared.world.WorldKey.TheVariants as key
 use Rattle.wit_labels.specs.steps.Placing.{getters_of, order_after_getters, stand_at, waiters, waits_for}
 use Rattle.wit_labels.specs.Setters.{after, indexed_entries, is_under, later_getter, placed, waiting_setters, wanted_getter}

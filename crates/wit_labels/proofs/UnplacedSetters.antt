@@ -1,7 +1,7 @@
 -- Where no entry is a setter nothing is moved.
 use Rattle.std.proofs.Common.{◌≡◌, ℕ, suc, ◌+◌, List, [], ◌∷◌, ◌++◌, Bool, true, false, Option, Some, None, refl, ap, is_some, nat_eq, cond, map}
-use Rattle.std.specs.Prelude.{◌↔◌, IsTrue, filter, not}
-use Rattle.std.specs.List.{enumerate_from, flat_map}
+use Rattle.std.specs.Prelude.{◌↔◌, IsTrue, filter, not, flat_map}
+use Rattle.std.specs.List.{enumerate_from}
 use Rattle.std.specs.Option.{option_eq}
 use Rattle.wit_data.specs.Each.{Each}
 use Rattle.wit_data.specs.Entries.{Entry}

@@ -1,9 +1,8 @@
 -- How an `include` renames labels. A label may begin with groups in brackets, as `[method]r.f`; what follows
 -- them is a name, or a resource and a name with a dot between them.
 -- Source: `rename` of wit-parser 0.263.0; the component names of the component model.
-use Rattle.std.specs.Prelude.{ℕ, ◌==◌, ◌++◌, List, length, drop, slice_get, Option, None, Some, unwrap_or, if◌then◌else◌}
-use Rattle.std.specs.List.{filter_map, concat, before_first}
-use Rattle.std.specs.Str.{bytes_eq}
+use Rattle.std.specs.Prelude.{ℕ, ◌==◌, ◌++◌, List, length, drop, slice_get, Option, None, Some, unwrap_or, if◌then◌else◌, filter_map, bytes_eq}
+use Rattle.std.specs.List.{concat, before_first}
 use Rattle.wit_data.specs.declared.world.IncludeName.{IncludeName}
 use Rattle.wit_labels.specs.Groups.{begins_group, groups_of, rest_of}
 

@@ -1,15 +1,14 @@
 -- Where setters stand in a list of a world: beside their getters.
 -- Source: getters and setters on the WIT page of the component model; `process_world_includes` of wit-parser
 -- 0.263.0. That a setter is told by its label is a rule of this project.
-use Rattle.std.specs.Prelude.{◌≡◌, ℕ, ◌&&◌, Bool, not, false, List, [], ◌∷◌, ◌++◌, map, length, drop, filter, nat_eq, nat_lt, codes, Contains, Option, Some, None, is_some, position, slice_get, if◌then◌else◌}
-use Rattle.std.specs.List.{list_any, flat_map, enumerate_from, starts_with}
-use Rattle.std.specs.Option.{option_and_then, option_eq}
+use Rattle.std.specs.Prelude.{◌≡◌, ℕ, ◌&&◌, Bool, not, false, List, [], ◌∷◌, ◌++◌, map, length, drop, filter, nat_eq, nat_lt, codes, Contains, Option, Some, None, is_some, position, slice_get, if◌then◌else◌, flat_map, option_and_then, bytes_eq}
+use Rattle.std.specs.List.{list_any, enumerate_from, starts_with}
+use Rattle.std.specs.Option.{option_eq}
 use Rattle.std.specs.Map.{keys_of}
-use Rattle.std.specs.Str.{bytes_eq}
 use Rattle.wit_data.specs.Entries.{Entry}
 use Rattle.wit_data.specs.declared.world.WorldItem.{WorldItem}
-use Rattle.wit_data.specs.declared.world.WorldItem.TheVariants as item
 use Rattle.wit_data.specs.declared.world.WorldKey.{WorldKey}
+use Rattle.wit_data.specs.declared.world.WorldItem.TheVariants as item
 use Rattle.wit_data.specs.declared.world.WorldKey.TheVariants as key
 use Rattle.wit_labels.specs.Groups.{groups_of}
 

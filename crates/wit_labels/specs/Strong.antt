@@ -1,9 +1,8 @@
 -- Labels of one list of a world that are not strongly unique.
 -- Source: strongly-unique names on the WIT page of the component model; `validate_world_strongly_unique_names`
 -- of wit-parser 0.263.0. What makes two labels alike is a rule of this project.
-use Rattle.std.specs.Prelude.{◌≡◌, ℕ, ◌<◌, List, Option, Some, None, slice_get, codes, if◌then◌else◌}
-use Rattle.std.specs.List.{filter_map}
-use Rattle.std.specs.Str.{bytes_eq, str_to_ascii_lowercase}
+use Rattle.std.specs.Prelude.{◌≡◌, ℕ, ◌<◌, List, Option, Some, None, slice_get, codes, if◌then◌else◌, filter_map, bytes_eq}
+use Rattle.std.specs.Str.{str_to_ascii_lowercase}
 use Rattle.wit_data.specs.declared.world.WorldKey.{WorldKey}
 use Rattle.wit_data.specs.declared.world.WorldKey.TheVariants as key
 use Rattle.wit_labels.specs.Groups.{groups_of, rest_of}

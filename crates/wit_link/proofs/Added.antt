@@ -4,21 +4,22 @@ use Rattle.std.proofs.lemmas.List.FromFn.{get_or-map-range_with_len, length-map-
 use Rattle.std.proofs.lemmas.Option.{slice_get-get_or, slice_get_within}
 use Rattle.std.specs.Map.{lookup}
 use Rattle.wit_sources.specs.Span.{moved_by}
-use Rattle.wit_data.specs.PackageOrder.{same_package}
+use Rattle.wit_names.specs.PackageOrder.{same_package}
 use Rattle.wit_data.specs.Shape.{IsShaped}
 use Rattle.wit_data.specs.declared.world.World.{World}
 use Rattle.wit_data.specs.declared.world.WorldInclude.{WorldInclude}
 use Rattle.wit_graph_data.specs.declared.graph.Graph.{Graph}
 use Rattle.wit_graph_data.specs.declared.error_kind.ResolveErrorKind.{ResolveErrorKind}
 use Rattle.wit_graph_data.specs.declared.error_kind.ResolveErrorKind.TheVariants.{OffsetOverflow, OutOfMemory}
-use Rattle.wit_graph_theory.specs.Image.{world_image}
+use Rattle.wit_remap_spec.specs.Image.{world_image}
 use Rattle.wit_graph_theory.specs.facts.ListFacts.{contained_at, place_of}
 use Rattle.wit_elaboration.proofs.Filters.{Contains-filter}
 use Rattle.wit_link_spec.specs.Addition.{Addition, active_includes, active_world_id, addition_maps, own_worlds, remapped_world}
 use Rattle.wit_link_spec.specs.steps.AdditionRefs.{new_ids_of}
 use Rattle.wit_link_spec.specs.Cause.{AdditionIsAccepted, IsCause, borrow_in_result_15, duplicate_5, excluded_11, excluded_owner_12, gate_unreleased_10, gate_without_version_9, interface_not_found_3, not_a_resource_14, of_world, offset_overflow_27, package_not_found_1, type_not_defined_13, world_not_found_2}
 use Rattle.wit_link_spec.specs.Gates.{include_is_active}
-use Rattle.wit_link_spec.specs.Pushed.{placed_include, placed_includes, pushed}
+use Rattle.wit_link_spec.specs.Pushed.{placed_include, pushed}
+use Rattle.wit_link_spec.specs.facts.Linked.{placed_includes}
 use Rattle.wit_link_spec.specs.WorldReasons.{WorldIsAccepted}
 use Rattle.wit_link_spec.specs.facts.PassedFacts.{has_image}
 use Rattle.wit_link_spec.specs.Reasons.{HasPackage, IsResolved}

@@ -9,13 +9,14 @@ use Rattle.wit_data.specs.declared.world.World.{World}
 use Rattle.wit_data.specs.declared.world.WorldInclude.{WorldInclude}
 use Rattle.wit_elaboration.specs.Valid.{IsValid}
 use Rattle.wit_graph_data.specs.Error.{NoCause}
+use Rattle.wit_graph_data.specs.declared.graph.Graph.{Graph}
 use Rattle.wit_graph_data.specs.declared.error_kind.ResolveErrorKind.{ResolveErrorKind}
 use Rattle.wit_graph_data.specs.declared.error_kind.ResolveErrorKind.TheVariants.{OutOfMemory}
-use Rattle.wit_graph_data.specs.declared.graph.Graph.{Graph}
 use Rattle.wit_graph_theory.specs.facts.ListFacts.{from_map}
 use Rattle.wit_link_spec.specs.Addition.{Addition, own_worlds}
 use Rattle.wit_link_spec.specs.Cause.{IsCause, IsReached}
-use Rattle.wit_link_spec.specs.Pushed.{placed_includes, pushed, with_parts, with_world, with_worlds}
+use Rattle.wit_link_spec.specs.Pushed.{pushed, with_parts, with_world, with_worlds}
+use Rattle.wit_link_spec.specs.facts.Linked.{placed_includes}
 use Rattle.wit_link_spec.specs.Reasons.{IsResolved}
 use Rattle.wit_link_spec.specs.WorldReasons.{AtWorld, WorldIsAccepted}
 use Rattle.wit_link_spec.specs.facts.WorldCauseFacts.{cause_world}

@@ -7,10 +7,10 @@ use Rattle.wit_data.specs.declared.types.TypeDef.{TypeDef}
 use Rattle.wit_data.specs.declared.unresolved.UnresolvedPackage.{UnresolvedPackage}
 use Rattle.wit_data.specs.declared.unresolved.UnresolvedPackageGroup.{UnresolvedPackageGroup}
 use Rattle.wit_graph_data.specs.Error.{NoCause}
-use Rattle.wit_graph_data.specs.declared.error_kind.ResolveErrorKind.{ResolveErrorKind}
-use Rattle.wit_graph_data.specs.declared.error_kind.ResolveErrorKind.TheVariants.{OffsetOverflow}
 use Rattle.wit_graph_data.specs.declared.features.Features.{Features}
 use Rattle.wit_graph_data.specs.declared.graph.Graph.{Graph}
+use Rattle.wit_graph_data.specs.declared.error_kind.ResolveErrorKind.{ResolveErrorKind}
+use Rattle.wit_graph_data.specs.declared.error_kind.ResolveErrorKind.TheVariants.{OffsetOverflow}
 use Rattle.wit_link_order.specs.GroupOrder.{AreSorted, IsSortCause, Unresolved}
 use Rattle.wit_link_resources.specs.steps.Leading.{AreRight}
 use Rattle.wit_link_spec.specs.Addition.{Addition}

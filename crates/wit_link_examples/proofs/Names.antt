@@ -4,7 +4,7 @@ use Rattle.std.proofs.lemmas.Bool.{false≢true}
 use Rattle.std.specs.Prelude.{codes}
 use Rattle.wit_values.specs.facts.Lists.{differ}
 use Rattle.wit_digraph.specs.PostOrder.{post_order, post_order_within}
-use Rattle.wit_data.specs.declared.package_name.PackageName.{PackageName}
+use Rattle.wit_names.specs.declared.package_name.PackageName.{PackageName}
 use Rattle.wit_elaboration.specs.examples.Examples.{empty_graph}
 use Rattle.wit_graph_data.specs.examples.Samples.{foo_bar, sample}
 use Rattle.wit_graph_theory.specs.facts.OptionFacts.{some_same}

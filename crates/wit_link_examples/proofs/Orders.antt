@@ -6,10 +6,10 @@ use Rattle.std.specs.Prelude.{IsSortedByKey}
 use Rattle.std.specs.Option.{option_cmp}
 use Rattle.wit_digraph.specs.Relation.{IsPath, direct}
 use Rattle.wit_digraph.specs.PostOrder.{first_of_each, post_order, post_order_within}
-use Rattle.wit_data.specs.PackageOrder.{package_cmp}
+use Rattle.wit_names.specs.PackageOrder.{package_cmp}
 use Rattle.wit_sources.specs.Span.{end_of, moved_by}
 use Rattle.wit_data.specs.Each.{SomeAt}
-use Rattle.wit_data.specs.declared.package_name.PackageName.{PackageName}
+use Rattle.wit_names.specs.declared.package_name.PackageName.{PackageName}
 use Rattle.wit_data.specs.declared.stability.Stability.TheVariants.{Unknown}
 use Rattle.wit_graph_data.specs.examples.Samples.{foo_bar}
 use Rattle.wit_graph_data.specs.declared.error_kind.ResolveErrorKind.{ResolveErrorKind}

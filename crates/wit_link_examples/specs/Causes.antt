@@ -1,19 +1,19 @@
 -- Small packages that are refused for what they are or for what they name, and packages that just lack the
 -- reason, whatever is told.
 use Rattle.std.specs.Prelude.{◌≡◌, ℕ, List, [], ◌∷◌, Some, None, codes}
-use Rattle.wit_data.specs.declared.package_name.PackageName.{PackageName}
+use Rattle.wit_names.specs.declared.package_name.PackageName.{PackageName}
 use Rattle.wit_data.specs.declared.stability.Stability.{Stability}
+use Rattle.wit_data.specs.declared.unresolved.UnresolvedPackage.{UnresolvedPackage}
 use Rattle.wit_data.specs.declared.stability.Stability.TheVariants.{Unknown, Stable}
 use Rattle.wit_data.specs.declared.types.Handle.TheVariants as handle
 use Rattle.wit_data.specs.declared.types.TypeDefKind.TheVariants as kind
 use Rattle.wit_data.specs.declared.types.Type_.TheVariants as type
-use Rattle.wit_data.specs.declared.unresolved.UnresolvedPackage.{UnresolvedPackage}
 use Rattle.wit_elaboration.specs.examples.Examples.{empty_graph}
 use Rattle.wit_graph_data.specs.examples.Samples.{foo_bar, function_of, interface_of, sample, type_in, unnamed}
 use Rattle.wit_graph_data.specs.declared.cause.Cause.TheVariants as cause
+use Rattle.wit_graph_data.specs.declared.graph.Graph.{Graph}
 use Rattle.wit_graph_data.specs.declared.error_kind.ResolveErrorKind.{ResolveErrorKind}
 use Rattle.wit_graph_data.specs.declared.error_kind.ResolveErrorKind.TheVariants.{PackageNotFound, WorldNotFound, InterfaceNotFound, DuplicatePackage, Semantic, OffsetOverflow, OutOfMemory}
-use Rattle.wit_graph_data.specs.declared.graph.Graph.{Graph}
 use Rattle.wit_link_spec.specs.Addition.{Addition}
 use Rattle.wit_link_spec.specs.Cause.{IsCause}
 use Rattle.wit_link_spec.specs.Gates.{OptionalSpan}

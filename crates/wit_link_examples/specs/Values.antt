@@ -2,19 +2,20 @@
 use Rattle.std.specs.Prelude.{◌≡◌, true, false, List, [], ◌∷◌, Some, None, codes}
 use Rattle.wit_data.specs.declared.stability.Stability.TheVariants.{Unknown}
 use Rattle.wit_data.specs.declared.types.Field.{Field}
-use Rattle.wit_data.specs.declared.types.Handle.TheVariants as handle
 use Rattle.wit_data.specs.declared.types.TypeDef.{TypeDef}
-use Rattle.wit_data.specs.declared.types.TypeDefKind.TheVariants as kind
 use Rattle.wit_data.specs.declared.types.Type_.{Type_}
+use Rattle.wit_data.specs.declared.unresolved.UnresolvedPackage.{UnresolvedPackage}
+use Rattle.wit_data.specs.declared.types.Handle.TheVariants as handle
+use Rattle.wit_data.specs.declared.types.TypeDefKind.TheVariants as kind
 use Rattle.wit_data.specs.declared.types.Type_.TheVariants as type
 use Rattle.wit_data.specs.declared.unresolved.AstItem.TheVariants as named
-use Rattle.wit_data.specs.declared.unresolved.UnresolvedPackage.{UnresolvedPackage}
 use Rattle.wit_graph_data.specs.examples.Samples.{foo_bar, function_of, interface_of, no_docs, sample, type_in, unnamed}
 use Rattle.wit_graph_data.specs.declared.graph.Graph.{Graph}
-use Rattle.wit_graph_theory.specs.Image.{kind_image, value_image}
-use Rattle.wit_link_spec.specs.Addition.{Addition, addition_maps, remapped_type, remapped_value, value_needs_own}
+use Rattle.wit_remap_spec.specs.Image.{kind_image, value_image}
+use Rattle.wit_link_spec.specs.Addition.{Addition, addition_maps, remapped_type, remap_of_addition}
 use Rattle.wit_link_spec.specs.Pushed.{pushed}
 use Rattle.wit_link_spec.specs.Resources.{leads_to_resource, value_positions}
+use Rattle.wit_link_spec.specs.ValueRemap.{needs_own, value_id}
 use Rattle.wit_link_examples.specs.Packages.{adding, bare, loose_interface, main_name, no_features}
 
 -- resource r, s another name of it, t a number, and an `own` of s
@@ -67,10 +68,10 @@ pub record ExamplesOfValues : Type 0 where
   -- the foreign t goes to that of foo:bar; s and p to the next ids; a value of s to an `own` behind them
   pub foreign : remapped_type add_holding 0 ≡ 0
   pub stays : remapped_type add_holding 1 ≡ 2
-  pub becomes_own : remapped_value add_holding 1 ≡ 4
-  pub other_stays : remapped_value add_holding 2 ≡ 3
+  pub becomes_own : value_id (remap_of_addition add_holding) 1 ≡ 4
+  pub other_stays : value_id (remap_of_addition add_holding) 2 ≡ 3
   -- t itself stands at no value position
-  pub not_asked_for : value_needs_own add_holding 0 ≡ false
+  pub not_asked_for : needs_own (remap_of_addition add_holding) 0 ≡ false
   pub primitive : value_image (addition_maps add_holding) type.U8 ≡ type.U8
   pub alias_stays : kind_image (addition_maps add_holding) (kind.Type_ (type.Id 1)) ≡ kind.Type_ (type.Id 2)
   pub handle_stays : kind_image (addition_maps add_holding) (kind.Handle (handle.Borrow 1)) ≡ kind.Handle (handle.Borrow 2)
@@ -86,4 +87,4 @@ pub record ExamplesOfValues : Type 0 where
   pub foreign_value : (pushed (adding no_features with_resource taking_foreign)).types
       ≡ type_in 0 (codes "t") kind.Resource ∷ type_in 1 (codes "t") (kind.Type_ (type.Id 0)) ∷ unnamed (kind.Handle (handle.Own 0)) ∷ []
   -- the value isn't the alias itself
-  pub apart : remapped_value add_holding 1 ≡ remapped_type add_holding 1 → ⊥
+  pub apart : value_id (remap_of_addition add_holding) 1 ≡ remapped_type add_holding 1 → ⊥

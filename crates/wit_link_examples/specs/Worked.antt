@@ -2,16 +2,16 @@
 use Rattle.std.specs.Prelude.{◌≡◌, ℕ, List, [], ◌∷◌, ◌++◌, Some, None, codes}
 use Rattle.wit_data.specs.Entries.{Entry}
 use Rattle.wit_data.specs.declared.function.FunctionKind.{FunctionKind}
-use Rattle.wit_data.specs.declared.function.FunctionKind.TheVariants as function
 use Rattle.wit_data.specs.declared.interface.Interface.{Interface}
+use Rattle.wit_data.specs.declared.types.TypeDef.{TypeDef}
+use Rattle.wit_data.specs.declared.unresolved.UnresolvedPackage.{UnresolvedPackage}
+use Rattle.wit_data.specs.declared.world.World.{World}
+use Rattle.wit_data.specs.declared.function.FunctionKind.TheVariants as function
 use Rattle.wit_data.specs.declared.stability.Stability.TheVariants.{Unknown}
 use Rattle.wit_data.specs.declared.types.Handle.TheVariants as handle
-use Rattle.wit_data.specs.declared.types.TypeDef.{TypeDef}
 use Rattle.wit_data.specs.declared.types.TypeDefKind.TheVariants as kind
 use Rattle.wit_data.specs.declared.types.TypeOwner.TheVariants as owner
 use Rattle.wit_data.specs.declared.types.Type_.TheVariants as type
-use Rattle.wit_data.specs.declared.unresolved.UnresolvedPackage.{UnresolvedPackage}
-use Rattle.wit_data.specs.declared.world.World.{World}
 use Rattle.wit_data.specs.declared.world.WorldItem.TheVariants as item
 use Rattle.wit_data.specs.declared.world.WorldKey.TheVariants as key
 use Rattle.wit_elaboration.specs.examples.Examples.{empty_graph}

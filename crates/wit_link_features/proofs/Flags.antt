@@ -1,25 +1,25 @@
 -- The flags of what is active.
 use Rattle.std.proofs.Common.{◌≡◌, ◌∙◌, ◌<◌, ◌≤◌, ◌||◌, ◌&&◌, ℕ, zero, suc, ◌+◌, Bool, true, false, not, if◌then◌else◌, List, [], ◌∷◌, ◌++◌, inl, inr, length, map, take, Option, None, Some, eqb, nat_eq, slice_get, slice_set, refl, sym, ap, subst, arith, Contains}
-use Rattle.std.specs.Prelude.{nat_lt, unwrap_or}
+use Rattle.std.specs.Prelude.{nat_lt, unwrap_or, flat_map}
 use Rattle.std.proofs.lemmas.Bool.{cases_lt, eqb-false, eqb-true, le-ltb, lt-ltb, ltb-false}
 use Rattle.std.proofs.lemmas.List.{length-set}
 use Rattle.std.proofs.lemmas.List.Folds.{list_any-append}
 use Rattle.std.proofs.lemmas.List.FromFn.{fill_by_all, length-map-range_with_len}
 use Rattle.std.proofs.lemmas.Option.{get_or_from_slice_get, slice_get_within}
-use Rattle.std.specs.List.{flat_map, list_any, range_with_len}
+use Rattle.std.specs.List.{list_any, range_with_len}
 use Rattle.std.specs.Option.{option_map_or}
 use Rattle.wit_values.specs.facts.Lists.{slice_get-set, take-next_at}
 use Rattle.wit_data.specs.Each.{Each}
 use Rattle.wit_data.specs.facts.EachFacts.{flat_map-next}
 use Rattle.wit_data.specs.Foreign.{ForeignItem, ForeignItems, IsNameOnly, IsNameOnlyInterface, IsNameOnlyWorld, interface_id, world_id}
 use Rattle.wit_data.specs.Shape.{IsShaped}
-use Rattle.wit_data.specs.declared.interface.Interface.{Interface}
-use Rattle.wit_data.specs.declared.package_name.PackageName.{PackageName}
-use Rattle.wit_data.specs.declared.stability.Stability.{Stability}
 use Rattle.wit_data.specs.declared.unresolved.AstItem.{AstItem}
-use Rattle.wit_data.specs.declared.unresolved.AstItem.TheVariants as named
+use Rattle.wit_data.specs.declared.interface.Interface.{Interface}
+use Rattle.wit_names.specs.declared.package_name.PackageName.{PackageName}
+use Rattle.wit_data.specs.declared.stability.Stability.{Stability}
 use Rattle.wit_data.specs.declared.unresolved.UnresolvedPackage.{UnresolvedPackage}
 use Rattle.wit_data.specs.declared.world.World.{World}
+use Rattle.wit_data.specs.declared.unresolved.AstItem.TheVariants as named
 use Rattle.wit_graph_data.specs.declared.features.Features.{Features}
 use Rattle.wit_graph_theory.specs.facts.ListFacts.{found_at, place_of}
 use Rattle.wit_link_spec.specs.Gates.{foreign_gates, foreign_items, interface_is_active, is_active, is_foreign_interface, is_foreign_world, some_active, type_is_active, world_is_active}

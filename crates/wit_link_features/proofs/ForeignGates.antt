@@ -1,43 +1,20 @@
 -- The gates of what is named of other packages: those of the one item that names it.
-use Rattle.std.proofs.Common.{◌≡◌, ◌∙◌, ℕ, Bool, true, false, if◌then◌else◌, List, [], ◌∷◌, ◌++◌, ◌||◌, inl, inr, eqb, nat_eq, refl, sym, ap, subst, Contains}
-use Rattle.std.proofs.lemmas.Bool.{cases_Bool, eq-eqb, eqb-true, false≢true}
+use Rattle.std.proofs.Common.{◌≡◌, ◌∙◌, ℕ, Bool, true, false, if◌then◌else◌, List, [], ◌∷◌, ◌++◌, inl, inr, eqb, nat_eq, refl, sym, ap, subst, Contains}
+use Rattle.std.proofs.lemmas.Bool.{eq-eqb, false≢true}
 use Rattle.std.proofs.lemmas.Grind.{flat_map-append}
 use Rattle.std.proofs.lemmas.List.{append-nil}
 use Rattle.std.proofs.lemmas.List.Elements.{Contains-append_left, Contains-append_right}
 use Rattle.std.specs.List.{IsDistinct, flat_map, list_any}
 use Rattle.wit_values.specs.facts.Lists.{AllByRecursion-at}
-use Rattle.wit_digraph.specs.facts.MemberFacts.{Contains-cons_cases, Contains-flat_map, Contains-flat_map_cases, Contains-here, Contains-nil, Contains-there}
+use Rattle.wit_digraph.specs.facts.FreshFacts.{any_from_contains, contains_from_any, no_any_from}
+use Rattle.wit_digraph.specs.facts.MemberFacts.{Contains-cons_cases, Contains-flat_map, Contains-flat_map_cases, Contains-nil}
 use Rattle.wit_data.specs.Each.{Each}
 use Rattle.wit_data.specs.Foreign.{ForeignItem, ForeignItems}
-use Rattle.wit_data.specs.declared.package_name.PackageName.{PackageName}
-use Rattle.wit_data.specs.declared.stability.Stability.{Stability}
 use Rattle.wit_data.specs.declared.unresolved.AstItem.{AstItem}
+use Rattle.wit_names.specs.declared.package_name.PackageName.{PackageName}
+use Rattle.wit_data.specs.declared.stability.Stability.{Stability}
 use Rattle.wit_graph_theory.specs.facts.ListFacts.{contained_at, place_of}
 use Rattle.wit_link_spec.specs.Gates.{foreign_gates, foreign_items}
-
--- ---- members
-
-pub any_member : (i : ℕ) (ids : List ℕ) → list_any (nat_eq i) ids ≡ true → Contains ids i
-any_member i [] holds = cc
-any_member i (x ∷ xs) holds = by (eqb i x) refl holds (any_member i xs)
-  where
-    by : (b : Bool) → eqb i x ≡ b → (b || list_any (nat_eq i) xs) ≡ true → (list_any (nat_eq i) xs ≡ true → Contains xs i) → Contains (x ∷ xs) i
-    by true is h rest = subst (Contains (x ∷ xs)) (sym (eqb-true i x is)) (Contains-here x xs)
-    by false is h rest = Contains-there x i xs (rest h)
-
-pub member_any : (i : ℕ) (ids : List ℕ) → Contains ids i → list_any (nat_eq i) ids ≡ true
-member_any i [] has = absurd (Contains-nil has)
-member_any i (x ∷ xs) has = elim (Contains-cons_cases x i xs has) [
-  | inl same ↦ ap (λ (b : Bool). b || list_any (nat_eq i) xs) (eq-eqb i x (sym same))
-  | inr there ↦ by (eqb i x) (member_any i xs there)
-]
-  where
-    by : (b : Bool) → list_any (nat_eq i) xs ≡ true → (b || list_any (nat_eq i) xs) ≡ true
-    by true h = refl
-    by false h = h
-
-pub no_member : (i : ℕ) (ids : List ℕ) → (Contains ids i → ⊥) → list_any (nat_eq i) ids ≡ false
-no_member i ids none = elim (cases_Bool (list_any (nat_eq i) ids)) [ inl found ↦ absurd (none (any_member i ids found)) | inr missing ↦ missing ]
 
 -- what stands in two parts of a list stands there twice
 apart : (xs ys : List ℕ) (i : ℕ) → IsDistinct nat_eq (xs ++ ys) → Contains xs i → Contains ys i → ⊥
@@ -82,10 +59,10 @@ module _ (id : AstItem → List ℕ) where
   part i item = if list_any (nat_eq i) (id item.1.0) then item.1.1 else []
 
   part-yes : (i : ℕ) (item : ForeignItem) → Contains (id item.1.0) i → part i item ≡ item.1.1
-  part-yes i item has = ap (λ (b : Bool). if b then item.1.1 else []) (member_any i (id item.1.0) has)
+  part-yes i item has = ap (λ (b : Bool). if b then item.1.1 else []) (any_from_contains i (id item.1.0) has)
 
   part-no : (i : ℕ) (item : ForeignItem) → (Contains (id item.1.0) i → ⊥) → part i item ≡ []
-  part-no i item none = ap (λ (b : Bool). if b then item.1.1 else []) (no_member i (id item.1.0) none)
+  part-no i item none = ap (λ (b : Bool). if b then item.1.1 else []) (no_any_from i (id item.1.0) none)
 
   none-named : (i : ℕ) (items : List ForeignItem) → (Contains (ids items) i → ⊥) → flat_map (part i) items ≡ []
   none-named i [] none = refl
@@ -129,7 +106,7 @@ module _ (id : AstItem → List ℕ) where
       (from.0, from.1.0, by from.0.1.0 (list_any (nat_eq i) (id from.0.1.0)) refl from.0.1.1 from.1.1)
     where
       by : (item : AstItem) (b : Bool) → list_any (nat_eq i) (id item) ≡ b → (notes : List Stability) → Contains (if b then notes else []) note → Contains (id item) i
-      by item true is notes h = any_member i (id item) is
+      by item true is notes h = contains_from_any i (id item) is
       by item false is notes h = absurd (Contains-nil h)
 
   -- what isn't named has none

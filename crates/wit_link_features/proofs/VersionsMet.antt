@@ -14,18 +14,18 @@ use Rattle.wit_data.specs.Each.{Each, EachAt}
 use Rattle.wit_data.specs.Entries.{Entry}
 use Rattle.wit_data.specs.Foreign.{AreFirst, ForeignItem, ForeignItems, IsNameOnly, IsNameOnlyInterface, IsNameOnlyWorld, foreign_interfaces, foreign_worlds, interface_id, world_id}
 use Rattle.wit_data.specs.Stability.{IsStable}
-use Rattle.wit_data.specs.declared.interface.Interface.{Interface}
-use Rattle.wit_data.specs.declared.package_name.PackageName.{PackageName}
-use Rattle.wit_data.specs.declared.stability.Stability.{Stability}
-use Rattle.wit_data.specs.declared.stability.Stability.TheVariants.{Unknown, Stable, Unstable}
-use Rattle.wit_data.specs.declared.types.TypeDef.{TypeDef}
 use Rattle.wit_data.specs.declared.unresolved.AstItem.{AstItem}
-use Rattle.wit_data.specs.declared.unresolved.AstItem.TheVariants as named
+use Rattle.wit_data.specs.declared.interface.Interface.{Interface}
+use Rattle.wit_names.specs.declared.package_name.PackageName.{PackageName}
+use Rattle.wit_data.specs.declared.stability.Stability.{Stability}
+use Rattle.wit_data.specs.declared.types.TypeDef.{TypeDef}
 use Rattle.wit_data.specs.declared.world.World.{World}
+use Rattle.wit_data.specs.declared.stability.Stability.TheVariants.{Unknown, Stable, Unstable}
+use Rattle.wit_data.specs.declared.unresolved.AstItem.TheVariants as named
 use Rattle.wit_graph_data.specs.declared.cause.Cause.TheVariants as cause
+use Rattle.wit_graph_data.specs.declared.features.Features.{Features}
 use Rattle.wit_graph_data.specs.declared.error_kind.ResolveErrorKind.{ResolveErrorKind}
 use Rattle.wit_graph_data.specs.declared.error_kind.ResolveErrorKind.TheVariants.{Semantic}
-use Rattle.wit_graph_data.specs.declared.features.Features.{Features}
 use Rattle.wit_graph_theory.specs.facts.ListFacts.{contained_at, found_at, place_of}
 use Rattle.wit_link_spec.specs.Cause.{IsCause, gate_unreleased_10, gate_without_version_9}
 use Rattle.wit_link_spec.specs.CauseText.{gate_unreleased_text, gate_without_version_text}
@@ -172,30 +172,25 @@ asked-notes {X} P features stability id deps things i x note distinct foreign ow
     ]
 
 -- an own thing's note is asked
-first-asked : (features : Features) (own : Stability) → Contains (asked_gates features (own ∷ [])) own
-first-asked features own = Contains-here own (take (position_or_len (is_active features) (own ∷ [])) [])
+own-asked : {X : Type 0} (features : Features) (stability : X → Stability) (id : AstItem → List ℕ) (deps : ForeignItems) (things : List X) (i : ℕ) (x : X) → slice_get things i ≡ Some x → length (named_ids id deps) ≤ i
+    → Contains (asked_gates features (if nat_lt i (length (named_ids id deps)) then foreign_gates id deps i else option_map_or (λ (y : X). stability y ∷ []) (slice_get things i) [])) (stability x)
+own-asked {X} features stability id deps things i x at own =
+    let notes : (if nat_lt i (length (named_ids id deps)) then foreign_gates id deps i else option_map_or (λ (y : X). stability y ∷ []) (slice_get things i) []) ≡ stability x ∷ [] =
+    ap (λ (b : Bool). if b then foreign_gates id deps i else option_map_or (λ (y : X). stability y ∷ []) (slice_get things i) []) (le-ltb i (length (named_ids id deps)) own)
+    ∙ ap (λ (o : Option X). option_map_or (λ (y : X). stability y ∷ []) o []) at in
+    subst (λ (l : List Stability). Contains (asked_gates features l) (stability x)) (sym notes) (Contains-here (stability x) (take (position_or_len (is_active features) (stability x ∷ [])) []))
 
 pub own-interface-asked : (checker : Checker) (i : ℕ) (interface : Interface) → slice_get checker.adding.unresolved.now.interfaces i ≡ Some interface
     → length (foreign_interfaces checker.adding.unresolved.now.foreign_deps) ≤ i → Asks checker interface.stability interface.span
 own-interface-asked checker i interface at own =
-    let features = checker.adding.features.now in
     let u = checker.adding.unresolved.now in
-    let notes : interface_gates u i ≡ interface.stability ∷ [] =
-    ap (λ (b : Bool). if b then foreign_gates interface_id u.foreign_deps i else option_map_or (λ (x : Interface). x.stability ∷ []) (slice_get u.interfaces i) [])
-    (le-ltb i (length (foreign_interfaces u.foreign_deps)) own)
-    ∙ ap (λ (o : Option Interface). option_map_or (λ (x : Interface). x.stability ∷ []) o []) at in
-    of_interface i interface interface.stability at (subst (λ (l : List Stability). Contains (asked_gates features l) interface.stability) (sym notes) (first-asked features interface.stability))
+    of_interface i interface interface.stability at (own-asked checker.adding.features.now (λ (x : Interface). x.stability) interface_id u.foreign_deps u.interfaces i interface at own)
 
 pub own-world-asked : (checker : Checker) (w : ℕ) (world : World) → slice_get checker.adding.unresolved.now.worlds w ≡ Some world
     → length (foreign_worlds checker.adding.unresolved.now.foreign_deps) ≤ w → Asks checker world.stability world.span
 own-world-asked checker w world at own =
-    let features = checker.adding.features.now in
     let u = checker.adding.unresolved.now in
-    let notes : world_gates u w ≡ world.stability ∷ [] =
-    ap (λ (b : Bool). if b then foreign_gates world_id u.foreign_deps w else option_map_or (λ (x : World). x.stability ∷ []) (slice_get u.worlds w) [])
-    (le-ltb w (length (foreign_worlds u.foreign_deps)) own)
-    ∙ ap (λ (o : Option World). option_map_or (λ (x : World). x.stability ∷ []) o []) at in
-    of_world w world world.stability at (subst (λ (l : List Stability). Contains (asked_gates features l) world.stability) (sym notes) (first-asked features world.stability))
+    of_world w world world.stability at (own-asked checker.adding.features.now (λ (x : World). x.stability) world_id u.foreign_deps u.worlds w world at own)
 
 -- ---- all gates of a package
 

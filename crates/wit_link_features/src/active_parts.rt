@@ -4,7 +4,7 @@ ghost use Rattle.std.specs.List.{range_with_len};
 ghost use Rattle.wit_data.specs.Each.{Each};
 ghost use Rattle.wit_data.specs.Foreign.{ForeignItem};
 ghost use Rattle.wit_data.specs.Shape.{IsShaped};
-ghost use Rattle.wit_data.specs.declared.package_name.PackageName.{PackageName};
+ghost use Rattle.wit_names.specs.declared.package_name.PackageName.{PackageName};
 ghost use Rattle.wit_link_spec.specs.steps.AdditionRefs.{activity_of, addition_of};
 ghost use Rattle.wit_link_spec.specs.Gates.{foreign_items, some_active, type_is_active};
 ghost use Rattle.wit_link_features.specs.steps.FeatureSteps.{HasFlag, IsMarked, own_activity, own_interface_flag, own_world_flag, with_item};

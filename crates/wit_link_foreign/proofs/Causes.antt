@@ -6,28 +6,28 @@ use Rattle.std.specs.Prelude.{◌≢◌}
 use Rattle.wit_digraph.specs.facts.MemberFacts.{Contains-nil}
 use Rattle.wit_data.specs.facts.EachFacts.{nil_from_length}
 use Rattle.wit_data.specs.Foreign.{ForeignItem}
-use Rattle.wit_data.specs.facts.PackageNameFacts.{own_name, same_name}
-use Rattle.wit_data.specs.PackageOrder.{same_package}
+use Rattle.wit_names.specs.facts.PackageNameFacts.{own_name, same_name}
+use Rattle.wit_names.specs.PackageOrder.{same_package}
+use Rattle.wit_data.specs.declared.unresolved.AstItem.{AstItem}
 use Rattle.wit_data.specs.declared.interface.Interface.{Interface}
-use Rattle.wit_data.specs.declared.package_name.PackageName.{PackageName}
+use Rattle.wit_names.specs.declared.package_name.PackageName.{PackageName}
 use Rattle.wit_data.specs.declared.stability.Stability.{Stability}
 use Rattle.wit_data.specs.declared.types.TypeDef.{TypeDef}
-use Rattle.wit_data.specs.declared.types.TypeOwner.TheVariants as owner
-use Rattle.wit_data.specs.declared.unresolved.AstItem.{AstItem}
-use Rattle.wit_data.specs.declared.unresolved.AstItem.TheVariants as item
 use Rattle.wit_data.specs.declared.world.World.{World}
+use Rattle.wit_data.specs.declared.types.TypeOwner.TheVariants as owner
+use Rattle.wit_data.specs.declared.unresolved.AstItem.TheVariants as item
 use Rattle.wit_sources.specs.Span.{moved_by}
 use Rattle.wit_graph_data.specs.declared.cause.Cause.TheVariants.{TypeNotDefined}
-use Rattle.wit_graph_data.specs.declared.error_kind.ResolveErrorKind.TheVariants.{InterfaceNotFound, PackageNotFound, Semantic, WorldNotFound}
-use Rattle.wit_graph_theory.specs.facts.ListFacts.{contained_at, some_at}
+use Rattle.wit_graph_data.specs.declared.error_kind.ResolveErrorKind.TheVariants.{PackageNotFound, Semantic}
+use Rattle.wit_graph_theory.specs.facts.ListFacts.{contained_at, found_at, some_at}
 use Rattle.wit_link_spec.specs.Addition.{Addition}
 use Rattle.wit_link_spec.specs.Cause.{IsCause, interface_not_found_3, package_not_found_1, type_not_defined_13, world_not_found_2}
 use Rattle.wit_link_spec.specs.CauseText.{type_not_defined_text}
 use Rattle.wit_link_spec.specs.facts.ForeignFound.{named_into}
-use Rattle.wit_link_spec.specs.Gates.{OptionalSpan, interface_is_active, type_is_active, world_is_active}
-use Rattle.wit_link_spec.specs.Lookup.{foreign_interface_id, interface_type, is_foreign_type, named_items}
+use Rattle.wit_link_spec.specs.Gates.{OptionalSpan, interface_is_active, type_is_active}
+use Rattle.wit_link_spec.specs.Lookup.{foreign_interface_id, interface_type, is_foreign_type}
 use Rattle.wit_link_spec.specs.Reasons.{known_packages}
-use Rattle.wit_link_foreign.specs.steps.ForeignItems.{ArePackagesThere, AreTypesThere, NamesItem, IsHome, IsTypeThere, interface_in, world_in}
+use Rattle.wit_link_foreign.specs.steps.ForeignItems.{ArePackagesThere, AreTypesThere, IsHome, IsItemAt, IsTypeThere, NamesItem, interface_in, item_in, named_is_active, not_found, world_in}
 
 not_there : {X : Type 0} (o : Option X) → o ≡ None → is_some o ≡ true → ⊥
 not_there None none some = cc
@@ -50,12 +50,12 @@ package_missing a at name items s there some none other span =
       known_are = refl;
     })
 
--- 3
-pub interface_missing : (a : Addition) (name : PackageName) (home : Option ℕ) (requested : List ℕ) (i : ℕ) (interface : Interface) → NamesItem a name home requested (item.Interface i)
-    → interface_is_active a.features a.unresolved i ≡ true → interface_in a.graph home requested ≡ None → slice_get a.unresolved.interfaces i ≡ Some interface
-    → IsCause a (InterfaceNotFound (moved_by a.offset interface.span) requested name)
-interface_missing a name home requested i interface named active none at =
-    interface_not_found_3 (moved_by a.offset interface.span) requested name
+-- 2, 3
+pub item_missing : (a : Addition) (name : PackageName) (home : Option ℕ) (requested : List ℕ) (it : AstItem) (s : OptionalSpan) → NamesItem a name home requested it → named_is_active a it ≡ true
+    → item_in a.graph home requested it ≡ None → IsItemAt a.unresolved it s → IsCause a (not_found it (moved_by a.offset s) requested name)
+item_missing a name home requested (item.Interface i) s named active none at =
+    let there = found_at (λ (interface : Interface). s ≡ interface.span) a.unresolved.interfaces i at in
+    interface_not_found_3 (moved_by a.offset s) requested name
     (record {
       at = named.at;
       i = i;
@@ -64,15 +64,11 @@ interface_missing a name home requested i interface named active none at =
       active = active;
       has_package = named.has_package;
       absent = ap (λ (h : Option ℕ). interface_in a.graph h requested) (sym named.home_is) ∙ none;
-      span_is = some_at (λ (x : Interface). moved_by a.offset interface.span ≡ moved_by a.offset x.span) a.unresolved.interfaces i interface at refl;
+      span_is = some_at (λ (interface : Interface). moved_by a.offset s ≡ moved_by a.offset interface.span) a.unresolved.interfaces i there.0 there.1 (ap (moved_by a.offset) there.2);
     })
-
--- 2
-pub world_missing : (a : Addition) (name : PackageName) (home : Option ℕ) (requested : List ℕ) (w : ℕ) (world : World) → NamesItem a name home requested (item.World w)
-    → world_is_active a.features a.unresolved w ≡ true → world_in a.graph home requested ≡ None → slice_get a.unresolved.worlds w ≡ Some world
-    → IsCause a (WorldNotFound (moved_by a.offset world.span) requested name)
-world_missing a name home requested w world named active none at =
-    world_not_found_2 (moved_by a.offset world.span) requested name
+item_missing a name home requested (item.World w) s named active none at =
+    let there = found_at (λ (world : World). s ≡ world.span) a.unresolved.worlds w at in
+    world_not_found_2 (moved_by a.offset s) requested name
     (record {
       at = named.at;
       w = w;
@@ -81,7 +77,7 @@ world_missing a name home requested w world named active none at =
       active = active;
       has_package = named.has_package;
       absent = ap (λ (h : Option ℕ). world_in a.graph h requested) (sym named.home_is) ∙ none;
-      span_is = some_at (λ (x : World). moved_by a.offset world.span ≡ moved_by a.offset x.span) a.unresolved.worlds w world at refl;
+      span_is = some_at (λ (world : World). moved_by a.offset s ≡ moved_by a.offset world.span) a.unresolved.worlds w there.0 there.1 (ap (moved_by a.offset) there.2);
     })
 
 -- 13
@@ -165,14 +161,14 @@ no_home a place name items there other none empty = record {
 }
 
 -- an item of a package that is there
-pub is_named : (a : Addition) (place : ℕ) (name : PackageName) (items : List ForeignItem) (home : Option ℕ) (index : ℕ) (requested : List ℕ) (what : AstItem × List Stability) (it : AstItem)
-    → IsHome a place name items home → slice_get items index ≡ Some (requested, what) → what.0 ≡ it → NamesItem a name home requested it
-is_named a place name items home index requested what it is at kind =
+pub is_named : (a : Addition) (place : ℕ) (name : PackageName) (items : List ForeignItem) (home : Option ℕ) (index : ℕ) (requested : List ℕ) (what : AstItem × List Stability) → IsHome a place name items home
+    → slice_get items index ≡ Some (requested, what) → NamesItem a name home requested what.0
+is_named a place name items home index requested what is at =
     let has : Contains items (requested, what) = contained_at items index (requested, what) at in
     record {
       at = place;
       notes = what.1;
-      names = subst (λ (k : AstItem). Contains (named_items a.unresolved.foreign_deps) (place, name, (requested, (k, what.1)))) kind (named_into a.unresolved.foreign_deps place name items (requested, what) is.is has);
+      names = named_into a.unresolved.foreign_deps place name items (requested, what) is.is has;
       home_is = is.found;
       has_package = is.there (λ empty. Contains-nil (subst (λ (l : List ForeignItem). Contains l (requested, what)) empty has));
     }

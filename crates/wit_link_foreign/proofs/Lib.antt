@@ -1,4 +1,5 @@
 pub mod Assembled
+pub mod Assigned
 pub mod Causes
 pub mod Firsts
 pub mod FoundLists

@@ -7,8 +7,8 @@ use Rattle.std.proofs.lemmas.List.FromFn.{length-enumerate_from}
 use Rattle.wit_values.specs.facts.Lists.{map-next}
 use Rattle.wit_data.specs.facts.EachFacts.{flat_map-next}
 use Rattle.wit_data.specs.Foreign.{ForeignItem, ForeignItems}
-use Rattle.wit_data.specs.declared.package_name.PackageName.{PackageName}
 use Rattle.wit_data.specs.declared.unresolved.AstItem.{AstItem}
+use Rattle.wit_names.specs.declared.package_name.PackageName.{PackageName}
 use Rattle.wit_link_spec.specs.Lookup.{named_items}
 use Rattle.wit_link_foreign.specs.steps.ForeignItems.{NamedItem, named_before, named_of}
 

@@ -1,17 +1,15 @@
 //! The interfaces and worlds that a package names of other packages, found in the graph.
-ghost use Rattle.std.specs.Prelude.{◌≡◌, ◌≢◌, ◌⊎◌, ◌<◌, ◌+◌, IfErr, IfOk, None, OnOk, length, map, true};
+ghost use Rattle.std.specs.Prelude.{◌≡◌, ◌⊎◌, ◌<◌, ◌+◌, IfErr, IfOk, None, OnOk, false, is_some, length, map};
 ghost use Rattle.std.specs.List.{range_with_len};
 ghost use Rattle.wit_graph_data.specs.declared.error_kind.ResolveErrorKind.TheVariants.{OutOfMemory};
 ghost use Rattle.wit_data.specs.Shape.{IsShaped};
-ghost use Rattle.wit_data.specs.declared.unresolved.AstItem.TheVariants as item;
 ghost use Rattle.wit_link_spec.specs.steps.AdditionRefs.{activity_of, addition_of};
 ghost use Rattle.wit_link_spec.specs.Cause.{IsCause};
-ghost use Rattle.wit_link_spec.specs.Gates.{interface_is_active, world_is_active};
 ghost use Rattle.wit_link_spec.specs.Lookup.{named_items};
-ghost use Rattle.wit_link_foreign.specs.steps.ForeignItems.{ArePackagesThere, AreThere, NamesItem, found_among, interface_in, named_before, world_in};
+ghost use Rattle.wit_link_foreign.specs.steps.ForeignItems.{ArePackagesThere, AreThere, HasEntryFor, NamesItem, found_among, interface_in, item_in, named_before, named_is_active, with_item, world_in};
 
 use crate::packages::{Home, find_home};
-use crate::refusal::{interface_not_found, world_not_found};
+use crate::refusal::item_not_found;
 use std::alloc::{AllocError, Global};
 use wit_data::{AstItem, InterfaceId, Items, PackageId, WorldId};
 use wit_graph_data::{Graph, ResolveResult};
@@ -81,66 +79,69 @@ fn find_named(
     let home = find_home(alloc, adding, place)?;
     for index in 0..home.items.len() {
         let (requested, (item, _)) = home.items.entry_at(index);
-        match *item {
-            AstItem::Interface(id) => {
-                let there = find_interface(alloc, adding, activity, &home, requested, id)?;
-                found.interfaces.set(id.index(), there);
-            }
-            AstItem::World(id) => {
-                let there = find_world(alloc, adding, activity, &home, requested, id)?;
-                found.worlds.set(id.index(), there);
-            }
+        if !find_item(adding.graph, &home, requested, item, found) {
+            check_inactive(alloc, adding, activity, &home, requested, item)?;
         }
     }
     Ok(())
 }
 
-/// Finds an interface. Refused where one that is active isn't there.
-fn find_interface(
-    alloc: Global,
-    adding: &AdditionRef<'_>,
-    activity: &Activity,
+/// Finds an item of a package and notes where it is. Tells whether it is there.
+fn find_item(
+    graph: &Graph,
     home: &Home<'_>,
     requested: &str,
-    id: InterfaceId,
-) -> ResolveResult<Option<InterfaceId>>
-    requires shaped { IsShaped adding.now.unresolved.now }
-    requires activity { activity.now ≡ activity_of (addition_of adding.now) }
-    requires named { NamesItem (addition_of adding.now) home.now.name.now home.now.id requested.now (item.Interface id) }
-    ensures found { IfOk result (λ there. there ≡ interface_in adding.now.graph.now home.now.id requested.now) }
-    ensures there { IfOk result (λ there. interface_is_active adding.now.features.now adding.now.unresolved.now id ≡ true → there ≢ None) }
-    ensures cause { IfErr result (λ kind. (kind ≡ OutOfMemory) ⊎ IsCause (addition_of adding.now) kind) }
+    item: &AstItem,
+    found: &mut Found,
+) -> bool
+    requires { HasEntryFor found.old item.now }
+    ensures found { found.new ≡ with_item found.old item.now (item_in graph.now home.now.id requested.now item.now) }
+    ensures there { result ≡ is_some (item_in graph.now home.now.id requested.now item.now) }
 {
-    let there = interface_of(adding.graph, home.id, requested);
-    if there.is_none() && *activity.interfaces.at(id.index()) {
-        let span = adding.unresolved.interfaces.at(id.index()).span;
-        return Err(interface_not_found(alloc, adding, span, requested, home.name)?);
+    match *item {
+        AstItem::Interface(id) => {
+            let there = interface_of(graph, home.id, requested);
+            let is_there = there.is_some();
+            found.interfaces.set(id.index(), there);
+            is_there
+        }
+        AstItem::World(id) => {
+            let there = world_of(graph, home.id, requested);
+            let is_there = there.is_some();
+            found.worlds.set(id.index(), there);
+            is_there
+        }
     }
-    Ok(there)
 }
 
-/// Finds a world. Refused where one that is active isn't there.
-fn find_world(
+/// Refuses an item that isn't there, if it is active.
+fn check_inactive(
     alloc: Global,
     adding: &AdditionRef<'_>,
     activity: &Activity,
     home: &Home<'_>,
     requested: &str,
-    id: WorldId,
-) -> ResolveResult<Option<WorldId>>
+    item: &AstItem,
+) -> ResolveResult<()>
     requires shaped { IsShaped adding.now.unresolved.now }
     requires activity { activity.now ≡ activity_of (addition_of adding.now) }
-    requires named { NamesItem (addition_of adding.now) home.now.name.now home.now.id requested.now (item.World id) }
-    ensures found { IfOk result (λ there. there ≡ world_in adding.now.graph.now home.now.id requested.now) }
-    ensures there { IfOk result (λ there. world_is_active adding.now.features.now adding.now.unresolved.now id ≡ true → there ≢ None) }
+    requires named { NamesItem (addition_of adding.now) home.now.name.now home.now.id requested.now item.now }
+    requires absent { item_in adding.now.graph.now home.now.id requested.now item.now ≡ None }
+    ensures inactive { OnOk result (named_is_active (addition_of adding.now) item.now ≡ false) }
     ensures cause { IfErr result (λ kind. (kind ≡ OutOfMemory) ⊎ IsCause (addition_of adding.now) kind) }
 {
-    let there = world_of(adding.graph, home.id, requested);
-    if there.is_none() && *activity.worlds.at(id.index()) {
-        let span = adding.unresolved.worlds.at(id.index()).span;
-        return Err(world_not_found(alloc, adding, span, requested, home.name)?);
+    let active = match *item {
+        AstItem::Interface(id) => *activity.interfaces.at(id.index()),
+        AstItem::World(id) => *activity.worlds.at(id.index()),
+    };
+    if !active {
+        return Ok(());
     }
-    Ok(there)
+    let span = match *item {
+        AstItem::Interface(id) => adding.unresolved.interfaces.at(id.index()).span,
+        AstItem::World(id) => adding.unresolved.worlds.at(id.index()).span,
+    };
+    Err(item_not_found(alloc, adding, item, span, requested, home.name)?)
 }
 
 /// The interface of this name in a package, if there is one.

@@ -7,7 +7,7 @@ ghost use Rattle.wit_link_spec.specs.Cause.{IsCause};
 ghost use Rattle.wit_link_spec.specs.steps.Passed.{IsAllFound};
 
 use crate::foreign::find_foreign;
-use crate::new_ids::{interface_ids, world_ids};
+use crate::new_ids::assign_ids;
 use crate::types::type_ids;
 use std::alloc::Global;
 use wit_graph_data::ResolveResult;
@@ -31,8 +31,18 @@ pub fn places(alloc: Global, adding: &AdditionRef<'_>, activity: &Activity) -> R
 {
     let found = find_foreign(alloc, adding, activity)?;
     let types = type_ids(alloc, adding, activity, &found)?;
-    let interfaces = interface_ids(alloc, adding, activity, &found)?;
-    let worlds = world_ids(alloc, adding, activity, &found)?;
+    let interfaces = assign_ids(
+        alloc,
+        &activity.interfaces,
+        &found.interfaces,
+        adding.graph.interfaces.len(),
+    )?;
+    let worlds = assign_ids(
+        alloc,
+        &activity.worlds,
+        &found.worlds,
+        adding.graph.worlds.len(),
+    )?;
     Ok(NewIds {
         types,
         interfaces,

@@ -1,64 +1,31 @@
 //! Where the interfaces and worlds of a package go. All that is of other packages and is active has been found,
 //! so what is active and isn't found is the package's own.
-ghost use Rattle.std.specs.Prelude.{◌≡◌, IfOk, OnOk, length, map};
-ghost use Rattle.std.specs.List.{range_with_len};
-ghost use Rattle.wit_data.specs.Shape.{IsShaped};
-ghost use Rattle.wit_link_spec.specs.Addition.{active_interface_id, active_world_id};
-ghost use Rattle.wit_link_spec.specs.steps.AdditionRefs.{activity_of, addition_of};
-ghost use Rattle.wit_link_spec.specs.Lookup.{named_items};
+ghost use Rattle.std.specs.Prelude.{◌≡◌, IfOk, OnOk, length};
 ghost use Rattle.wit_link_spec.specs.facts.RankFacts.{after};
-ghost use Rattle.wit_link_foreign.specs.steps.ForeignItems.{AreThere, found_among, goes, has_new_id};
+ghost use Rattle.wit_link_foreign.specs.steps.ForeignItems.{assigned_ids, goes, has_new_id};
 
-use crate::foreign::Found;
 use std::alloc::{AllocError, Global};
-use wit_data::{Id, InterfaceId, Items, WorldId};
-use wit_link_spec::{Activity, AdditionRef};
+use wit_data::{Id, Items, TryClone};
 
-/// Where the interfaces go: what is active goes to what is found of it, or, if it is the package's own, to the
-/// next id.
-pub(crate) fn interface_ids(
+/// Where the things of one sort go, by which are active and what is found of each: what is active goes to what is
+/// found of it, or, if it is the package's own, to the next id. The ids begin at `first`.
+pub(crate) fn assign_ids<S>(
     alloc: Global,
-    adding: &AdditionRef<'_>,
-    activity: &Activity,
-    found: &Found,
-) -> Result<Items<Option<InterfaceId>>, AllocError>
-    requires shaped { IsShaped adding.now.unresolved.now }
-    requires activity { activity.now ≡ activity_of (addition_of adding.now) }
-    requires found { found.now ≡ found_among (addition_of adding.now) (named_items adding.now.unresolved.now.foreign_deps) }
-    requires there { AreThere (addition_of adding.now) (named_items adding.now.unresolved.now.foreign_deps) }
-    ensures { IfOk result (λ places. places ≡ map (active_interface_id (addition_of adding.now)) (range_with_len 0 (length adding.now.unresolved.now.interfaces))) }
+    active: &Items<bool>,
+    found: &Items<Option<Id<S>>>,
+    first: usize,
+) -> Result<Items<Option<Id<S>>>, AllocError>
+    requires { length active.now ≡ length found.now }
+    ensures { IfOk result (λ ids. ids ≡ assigned_ids first active.now found.now) }
 {
-    let mut places = Items::new(alloc);
-    let mut next = adding.graph.interfaces.len();
-    for i in 0..adding.unresolved.interfaces.len() {
-        let active = *activity.interfaces.at(i);
-        let there = *found.interfaces.at(i);
-        places.push(next_new_id(active, there, &mut next)?)?;
+    let mut ids = Items::new(alloc);
+    let mut next = first;
+    for index in 0..found.len() {
+        let is_active = *active.at(index);
+        let there = found.at(index).try_clone()?;
+        ids.push(next_new_id(is_active, there, &mut next)?)?;
     }
-    Ok(places)
-}
-
-/// Where the worlds go.
-pub(crate) fn world_ids(
-    alloc: Global,
-    adding: &AdditionRef<'_>,
-    activity: &Activity,
-    found: &Found,
-) -> Result<Items<Option<WorldId>>, AllocError>
-    requires shaped { IsShaped adding.now.unresolved.now }
-    requires activity { activity.now ≡ activity_of (addition_of adding.now) }
-    requires found { found.now ≡ found_among (addition_of adding.now) (named_items adding.now.unresolved.now.foreign_deps) }
-    requires there { AreThere (addition_of adding.now) (named_items adding.now.unresolved.now.foreign_deps) }
-    ensures { IfOk result (λ places. places ≡ map (active_world_id (addition_of adding.now)) (range_with_len 0 (length adding.now.unresolved.now.worlds))) }
-{
-    let mut places = Items::new(alloc);
-    let mut next = adding.graph.worlds.len();
-    for w in 0..adding.unresolved.worlds.len() {
-        let active = *activity.worlds.at(w);
-        let there = *found.worlds.at(w);
-        places.push(next_new_id(active, there, &mut next)?)?;
-    }
-    Ok(places)
+    Ok(ids)
 }
 
 /// Where one thing goes: nowhere if it isn't active, to what is found of it, or to the next id, which is then

@@ -3,13 +3,14 @@ ghost use Rattle.std.specs.Prelude.{◌≡◌, IfOk};
 ghost use Rattle.std.specs.Map.{keys_of};
 ghost use Rattle.wit_sources.specs.Span.{moved_by};
 ghost use Rattle.wit_graph_data.specs.declared.cause.Cause.TheVariants.{TypeNotDefined};
-ghost use Rattle.wit_graph_data.specs.declared.error_kind.ResolveErrorKind.TheVariants.{InterfaceNotFound, PackageNotFound, Semantic, WorldNotFound};
+ghost use Rattle.wit_graph_data.specs.declared.error_kind.ResolveErrorKind.TheVariants.{PackageNotFound, Semantic};
 ghost use Rattle.wit_link_spec.specs.steps.AdditionRefs.{addition_of};
 ghost use Rattle.wit_link_spec.specs.CauseText.{type_not_defined_text};
 ghost use Rattle.wit_link_spec.specs.Reasons.{known_packages};
+ghost use Rattle.wit_link_foreign.specs.steps.ForeignItems.{not_found};
 
 use std::alloc::{AllocError, Global};
-use wit_data::{Items, PackageName, Span, Text, TryClone};
+use wit_data::{AstItem, Items, PackageName, Span, Text, TryClone};
 use wit_graph_data::{Cause, ResolveError, ResolveErrorKind};
 use wit_link_spec::AdditionRef;
 
@@ -33,46 +34,33 @@ pub(crate) fn package_not_found(
     .into())
 }
 
-/// 2: a world isn't in its package.
-pub(crate) fn world_not_found(
+/// 2 and 3: a world or an interface isn't in its package.
+pub(crate) fn item_not_found(
     alloc: Global,
     adding: &AdditionRef<'_>,
+    item: &AstItem,
     span: Span,
     requested: &str,
     home: &PackageName,
 ) -> Result<ResolveError, AllocError>
-    ensures { IfOk result (λ e. e ≡ WorldNotFound (moved_by adding.now.offset span) requested.now home.now) }
+    ensures { IfOk result (λ e. e ≡ not_found item.now (moved_by adding.now.offset span) requested.now home.now) }
 {
     let span = moved(span, adding.offset)?;
     let requested = Text::try_from_str(alloc, requested)?;
     let package = home.try_clone()?;
-    Ok(ResolveErrorKind::WorldNotFound {
-        span,
-        requested,
-        package,
-    }
-    .into())
-}
-
-/// 3: an interface isn't in its package.
-pub(crate) fn interface_not_found(
-    alloc: Global,
-    adding: &AdditionRef<'_>,
-    span: Span,
-    requested: &str,
-    home: &PackageName,
-) -> Result<ResolveError, AllocError>
-    ensures { IfOk result (λ e. e ≡ InterfaceNotFound (moved_by adding.now.offset span) requested.now home.now) }
-{
-    let span = moved(span, adding.offset)?;
-    let requested = Text::try_from_str(alloc, requested)?;
-    let package = home.try_clone()?;
-    Ok(ResolveErrorKind::InterfaceNotFound {
-        span,
-        requested,
-        package,
-    }
-    .into())
+    let kind = match *item {
+        AstItem::Interface(_) => ResolveErrorKind::InterfaceNotFound {
+            span,
+            requested,
+            package,
+        },
+        AstItem::World(_) => ResolveErrorKind::WorldNotFound {
+            span,
+            requested,
+            package,
+        },
+    };
+    Ok(kind.into())
 }
 
 /// 13: a type isn't in its interface.

@@ -10,9 +10,9 @@ use Rattle.wit_elaboration.specs.Elaboration.{IsConflictError, graph_uses}
 use Rattle.wit_elaboration.specs.Imported.{HasTransitiveConflict}
 use Rattle.wit_graph_data.specs.Error.{NoCause}
 use Rattle.wit_graph_data.specs.declared.cause.Cause.TheVariants as cause
+use Rattle.wit_graph_data.specs.declared.graph.Graph.{Graph}
 use Rattle.wit_graph_data.specs.declared.error_kind.ResolveErrorKind.{ResolveErrorKind}
 use Rattle.wit_graph_data.specs.declared.error_kind.ResolveErrorKind.TheVariants.{PackageNotFound, WorldNotFound, InterfaceNotFound, InvalidTransitiveDependency, DuplicatePackage, PackageCycle, ItemShadowing, StabilityMismatch, Semantic, OffsetOverflow, OutOfMemory}
-use Rattle.wit_graph_data.specs.declared.graph.Graph.{Graph}
 use Rattle.wit_graph_theory.specs.facts.ListFacts.{contained_at, same_at}
 use Rattle.wit_labels.specs.Setters.{HaveGetters, IsSetter, LacksGetterAt, getter_label, placed}
 use Rattle.wit_labels.specs.Strong.{AreStronglyUnique, Clashes}

@@ -5,17 +5,17 @@ use Rattle.std.specs.Map.{lookup}
 use Rattle.std.specs.Option.{option_map_or}
 use Rattle.wit_data.specs.Entries.{Entry, IsExport}
 use Rattle.wit_data.specs.declared.interface.Interface.{Interface}
-use Rattle.wit_data.specs.declared.stability.Stability.TheVariants.{Unknown, Stable, Unstable}
 use Rattle.wit_data.specs.declared.world.World.{World}
 use Rattle.wit_data.specs.declared.world.WorldInclude.{WorldInclude}
 use Rattle.wit_data.specs.declared.world.WorldItem.{WorldItem}
-use Rattle.wit_data.specs.declared.world.WorldItem.TheVariants as item
 use Rattle.wit_data.specs.declared.world.WorldKey.{WorldKey}
+use Rattle.wit_data.specs.declared.stability.Stability.TheVariants.{Unknown, Stable, Unstable}
+use Rattle.wit_data.specs.declared.world.WorldItem.TheVariants as item
 use Rattle.wit_data.specs.declared.world.WorldKey.TheVariants as key
 use Rattle.wit_elaboration.specs.Entries as graph
 use Rattle.wit_elaboration.specs.Entries.{item_interface}
 use Rattle.wit_elaboration.specs.Sound.{IsUnderOwnKey}
-use Rattle.wit_graph_theory.specs.Image.{Maps, entry_image}
+use Rattle.wit_remap_spec.specs.Image.{Maps, entry_image}
 use Rattle.wit_link_spec.specs.Include.{PartiallyLinked, copy_maps, has_key, is_other_package, joined_entries, joined_entry, joined_item, new_item}
 use Rattle.wit_link_include.specs.steps.Included.{CanBeIncluded, HaveOwnKeys, with_one}
 use Rattle.wit_link_include.specs.facts.SeveralFacts.{none_is, some_is}

@@ -10,9 +10,9 @@ use Rattle.wit_elaboration.specs.Elaboration.{graph_uses}
 use Rattle.wit_elaboration.specs.Sound.{HasSoundEntries}
 use Rattle.wit_labels.specs.Setters.{placed}
 use Rattle.wit_graph_data.specs.Error.{NoCause}
+use Rattle.wit_graph_data.specs.declared.graph.Graph.{Graph}
 use Rattle.wit_graph_data.specs.declared.error_kind.ResolveErrorKind.{ResolveErrorKind}
 use Rattle.wit_graph_data.specs.declared.error_kind.ResolveErrorKind.TheVariants.{OutOfMemory}
-use Rattle.wit_graph_data.specs.declared.graph.Graph.{Graph}
 use Rattle.wit_graph_theory.specs.facts.ListFacts.{same_at}
 use Rattle.wit_link_spec.specs.Include.{PartiallyLinked, lists_of, with_entry_lists}
 use Rattle.wit_link_spec.specs.Pushed.{with_finished}

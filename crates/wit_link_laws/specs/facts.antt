@@ -41,4 +41,5 @@ pub mod TableFacts
 pub mod Truth
 pub mod TypesCome
 pub mod ValidFacts
+pub mod ValueRemapFacts
 pub mod WorldTables

@@ -5,16 +5,16 @@ use Rattle.std.proofs.lemmas.List.{length-map, get_or-map}
 use Rattle.std.proofs.lemmas.List.Elements.{Contains-get_or}
 use Rattle.std.proofs.lemmas.List.Sorted.{Contains-permutation, IsPermutation-map, IsPermutation-sym}
 use Rattle.std.proofs.lemmas.Map.Views.{Contains-from_lookup}
-use Rattle.std.specs.Prelude.{Err, IfOk, IsSorted, IsSortedByKey, Ok, Result, nat_lt, position}
+use Rattle.std.specs.Prelude.{Err, IfOk, IsSorted, IsSortedByKey, Ok, Result, nat_lt, position, option_map}
 use Rattle.std.specs.List.{IsDistinct, enumerate_from, position_or_len, range_with_len}
 use Rattle.std.specs.Map.{keys_of, lookup, values_of}
-use Rattle.std.specs.Option.{option_cmp, option_map}
+use Rattle.std.specs.Option.{option_cmp}
 use Rattle.std.specs.Ordering.{is_lt}
 use Rattle.wit_values.specs.facts.Lists.{AllByRecursion-at}
-use Rattle.wit_data.specs.PackageOrder.{package_cmp, same_package}
-use Rattle.wit_data.specs.declared.package_name.PackageName.{PackageName}
+use Rattle.wit_names.specs.PackageOrder.{package_cmp, same_package}
+use Rattle.wit_names.specs.declared.package_name.PackageName.{PackageName}
 use Rattle.wit_link_order.specs.steps.GroupOrderSteps.{AreByName, indices_of_names}
-use Rattle.wit_data.specs.facts.PackageNameFacts.{own_name, same_name}
+use Rattle.wit_names.specs.facts.PackageNameFacts.{own_name, same_name}
 
 abbrev Named : Type 0
 Named = PackageName × ℕ

@@ -5,9 +5,8 @@ use Rattle.std.proofs.lemmas.List.{get_or_past, length-map}
 use Rattle.std.proofs.lemmas.List.Elements.{All-contains, Contains-get_or, filter_map-append}
 use Rattle.std.proofs.lemmas.List.Quantifiers.{position-Some}
 use Rattle.std.proofs.lemmas.List.Sorted.{All-permutation}
-use Rattle.std.specs.Option.{option_to_list}
-use Rattle.std.specs.Prelude.{position}
-use Rattle.std.specs.List.{IsDistinct, cons_option, filter_map, flat_map, range_with_len}
+use Rattle.std.specs.Prelude.{position, option_to_list, filter_map, flat_map}
+use Rattle.std.specs.List.{IsDistinct, cons_option, range_with_len}
 use Rattle.std.specs.Map.{keys_of}
 use Rattle.wit_digraph.specs.Cycles.{IsOnCycle}
 use Rattle.wit_digraph.specs.facts.FreshFacts.{IsDistinct-fresh, fresh_in}
@@ -16,11 +15,11 @@ use Rattle.wit_digraph.specs.Relation.{IsAcyclic, IsInRange, IsPath, direct}
 use Rattle.wit_digraph.specs.facts.PostOrderFacts.{Reaches-from_post_order}
 use Rattle.wit_digraph.specs.PostOrder.{first_of_each, post_order}
 use Rattle.wit_data.specs.Foreign.{ForeignItem}
-use Rattle.wit_data.specs.PackageOrder.{same_package}
-use Rattle.wit_data.specs.declared.package_name.PackageName.{PackageName}
+use Rattle.wit_names.specs.PackageOrder.{same_package}
+use Rattle.wit_names.specs.declared.package_name.PackageName.{PackageName}
 use Rattle.wit_data.specs.declared.unresolved.UnresolvedPackage.{UnresolvedPackage}
 use Rattle.wit_link_order.proofs.NameOrders.{apart, keys-places, lookup-places, roots-all, roots-by_name}
-use Rattle.wit_data.specs.facts.PackageNameFacts.{own_name, same_name}
+use Rattle.wit_names.specs.facts.PackageNameFacts.{own_name, same_name}
 use Rattle.wit_link_order.specs.facts.RangeFacts.{range-below}
 use Rattle.wit_link_order.specs.GroupOrder.{IsGroupOrder, Unresolved, group_deps, group_uses, names_of}
 use Rattle.wit_link_order.specs.steps.GroupOrderSteps.{AreByName, IsOrdered, found_deps, indices_of_names}

@@ -6,7 +6,7 @@ use Rattle.wit_digraph.specs.Cycles.{IsOnCycle}
 use Rattle.wit_data.specs.Each.{SomeAt}
 use Rattle.wit_data.specs.Foreign.{ForeignItem}
 use Rattle.wit_sources.specs.Span.{moved_by}
-use Rattle.wit_data.specs.declared.package_name.PackageName.{PackageName}
+use Rattle.wit_names.specs.declared.package_name.PackageName.{PackageName}
 use Rattle.wit_graph_data.specs.declared.error_kind.ResolveErrorKind.{ResolveErrorKind}
 use Rattle.wit_graph_data.specs.declared.error_kind.ResolveErrorKind.TheVariants as kind
 use Rattle.wit_link_order.proofs.Orders.{depends, no_cycle, slice_get-map, within_at}

@@ -1,18 +1,18 @@
 -- Packages that are added together: which depend on which, in which order they are added, and why they
 -- can't be put in an order.
 -- Source: `sort_unresolved_packages` and `visit` of wit-parser 0.263.0.
-use Rattle.std.specs.Prelude.{◌≡◌, ◌⊎◌, ◌≤◌, ◌<◌, ◌^◌, ℕ, List, map, length, slice_get, Some, IsPermutation, IsSortedByKey, position}
-use Rattle.std.specs.List.{AllZip, filter_map, flat_map, range_with_len}
+use Rattle.std.specs.Prelude.{◌≡◌, ◌⊎◌, ◌≤◌, ◌<◌, ◌^◌, ℕ, List, map, length, slice_get, Some, IsPermutation, IsSortedByKey, position, filter_map, flat_map}
+use Rattle.std.specs.List.{AllZip, range_with_len}
 use Rattle.std.specs.Option.{option_cmp}
 use Rattle.wit_digraph.specs.Cycles.{IsOnCycle}
 use Rattle.wit_digraph.specs.Relation.{Reaches}
 use Rattle.wit_digraph.specs.PostOrder.{first_of_each, post_order}
 use Rattle.wit_data.specs.Each.{Each, SomeAt}
 use Rattle.wit_data.specs.Foreign.{ForeignItem}
-use Rattle.wit_data.specs.PackageOrder.{package_cmp, same_package}
+use Rattle.wit_names.specs.PackageOrder.{package_cmp, same_package}
 use Rattle.wit_sources.specs.Span.{moved_by}
 pub use Rattle.wit_sources.specs.Span.{OptionalSpan}
-use Rattle.wit_data.specs.declared.package_name.PackageName.{PackageName}
+use Rattle.wit_names.specs.declared.package_name.PackageName.{PackageName}
 use Rattle.wit_data.specs.declared.unresolved.UnresolvedPackage.{UnresolvedPackage}
 use Rattle.wit_graph_data.specs.declared.error_kind.ResolveErrorKind.{ResolveErrorKind}
 use Rattle.wit_graph_data.specs.declared.error_kind.ResolveErrorKind.TheVariants.{DuplicatePackage, PackageCycle, OffsetOverflow}

@@ -13,12 +13,11 @@ use Rattle.wit_digraph.specs.Relation.{IsAcyclic, direct}
 use Rattle.wit_digraph.specs.facts.PostOrderFacts.{post_order_is, uses_ind}
 use Rattle.wit_digraph.specs.PostOrder.{post_order}
 use Rattle.wit_data.specs.Reference.{type_references}
-use Rattle.wit_data.specs.Uses.{alias_target}
+use Rattle.wit_data.specs.Uses.{alias_target, alias_rows}
 use Rattle.wit_data.specs.declared.types.TypeDef.{TypeDef}
 use Rattle.wit_data.specs.declared.types.TypeDefKind.{TypeDefKind}
 use Rattle.wit_data.specs.declared.types.TypeDefKind.TheVariants as kind
 use Rattle.wit_graph_theory.specs.facts.ListFacts.{at_map, get_at}
-use Rattle.wit_graph_theory.specs.steps.Sources.{alias_rows}
 use Rattle.wit_link_spec.specs.Resources.{is_resource, is_resource_kind, leads_to_resource}
 use Rattle.wit_link_resources.proofs.Rows.{alias_acyclic}
 
@@ -26,20 +25,7 @@ use Rattle.wit_link_resources.proofs.Rows.{alias_acyclic}
 alias_is_none : (k : TypeDefKind) (u : ℕ) → alias_target k ≡ Some u → is_resource_kind k ≡ false
 alias_is_none (kind.Type_ ty) u is = refl
 alias_is_none kind.Resource u is = cc
-alias_is_none (kind.Record fields) u is = refl
-alias_is_none (kind.Handle handle) u is = refl
-alias_is_none (kind.Flags flags) u is = refl
-alias_is_none (kind.Tuple types) u is = refl
-alias_is_none (kind.Variant cases) u is = refl
-alias_is_none (kind.Enum cases) u is = refl
-alias_is_none (kind.Option ty) u is = refl
-alias_is_none (kind.Result_ ok err) u is = refl
-alias_is_none (kind.List ty) u is = refl
-alias_is_none (kind.Map k v) u is = refl
-alias_is_none (kind.FixedLengthList ty len) u is = refl
-alias_is_none (kind.Future ty) u is = refl
-alias_is_none (kind.Stream ty) u is = refl
-alias_is_none kind.Unknown u is = refl
+alias_is_none other u is = refl
 
 or_none : (b c : Bool) → c ≡ false → b || c ≡ b
 or_none true c none = refl

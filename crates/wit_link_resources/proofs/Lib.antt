@@ -1,14 +1,17 @@
 mod ActiveOnes
+mod AdditionComes
 mod Flags
+mod Gathered
+pub mod IncomingLeads
 mod Inserting
 pub mod Leads
 mod MayHold
 pub mod MetTypes
-pub mod Needing
-mod Positions
-pub mod Ranges
-pub mod Rows
+mod OwnFunctions
+mod Ranges
+mod Ranks
+mod Rows
 mod Searching
 mod Tells
-mod Wanting
+mod Ways
 mod Where

@@ -3,13 +3,12 @@ use Rattle.std.proofs.Common.{ℕ, List, option_to_list, Contains}
 use Rattle.wit_digraph.specs.facts.MemberFacts.{Contains-nil}
 use Rattle.wit_digraph.specs.Relation.{IsAcyclic}
 use Rattle.wit_data.specs.Reference.{referred, type_references}
-use Rattle.wit_data.specs.Uses.{alias_target}
+use Rattle.wit_data.specs.Uses.{alias_target, alias_rows}
 use Rattle.wit_data.specs.declared.types.TypeDef.{TypeDef}
 use Rattle.wit_data.specs.declared.types.TypeDefKind.{TypeDefKind}
 use Rattle.wit_data.specs.declared.types.TypeDefKind.TheVariants as kind
 use Rattle.wit_data.specs.declared.types.Type_.TheVariants as type
 use Rattle.wit_graph_data.specs.facts.ContentFacts.{rows_acyclic}
-use Rattle.wit_graph_theory.specs.steps.Sources.{alias_rows}
 
 alias_among : (k : TypeDefKind) (t : ℕ) → Contains (option_to_list (alias_target k)) t → Contains (referred k) t
 alias_among (kind.Type_ (type.Id u)) t has = has

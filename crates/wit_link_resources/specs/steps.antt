@@ -1,3 +1,4 @@
 pub mod Active
 pub mod Borrows
+pub mod IncomingTypes
 pub mod Leading

@@ -1,35 +1,32 @@
-//! Which types stand at value positions of what is active.
+//! Which types stand at value positions of what comes into a graph.
 ghost use Rattle.std.specs.Prelude.{◌≡◌, ◌++◌, ◌<◌, All, IfOk, OnOk, length, map, nat_eq};
 ghost use Rattle.std.specs.List.{flat_map, list_any, range_with_len};
-ghost use Rattle.wit_data.specs.Shape.{IsShaped};
-ghost use Rattle.wit_link_spec.specs.steps.AdditionRefs.{activity_of, addition_of};
-ghost use Rattle.wit_link_spec.specs.Reasons.{IsResolved};
+ghost use Rattle.wit_data.specs.declared.types.TypeDef.{TypeDef};
 ghost use Rattle.wit_link_spec.specs.Resources.{signature_positions, value_positions};
-ghost use Rattle.wit_link_resources.specs.steps.Active.{gathered_positions, is_asked, positions_of_type};
+ghost use Rattle.wit_link_spec.specs.Selected.{selected};
+ghost use Rattle.wit_link_resources.specs.steps.Active.{seen};
+ghost use Rattle.wit_link_resources.specs.steps.IncomingTypes.{new_of, positions_of};
 
-use crate::functions::active_functions;
+use crate::incoming::Incoming;
 use std::alloc::{AllocError, Global};
-use wit_data::{Function, Items, TypeDefKind, TypeId, push_type, referred};
-use wit_link_spec::{Activity, AdditionRef};
+use wit_data::{Function, Items, PartRole, TypeDefKind, TypeId, part_role, push_type, referred};
 
-/// For each type of the package, whether it stands at a value position of what is active.
+/// For each type that comes, whether it stands at a value position of a new type or of one of these functions.
 pub(crate) fn asked(
     alloc: Global,
-    adding: &AdditionRef<'_>,
-    activity: &Activity,
+    incoming: &Incoming<'_>,
+    functions: &[&Function],
 ) -> Result<Items<bool>, AllocError>
-    requires shaped { IsShaped adding.now.unresolved.now }
-    requires activity { activity.now ≡ activity_of (addition_of adding.now) }
-    requires image { IsResolved (addition_of adding.now) }
-    ensures { IfOk result (λ asked. asked ≡ map (is_asked (addition_of adding.now)) (range_with_len 0 (length adding.now.unresolved.now.types))) }
+    requires { All (λ t. t < length incoming.now.types.now) (positions_of incoming.now (seen functions.now)) }
+    ensures { IfOk result (λ asked. asked ≡ map (λ t. list_any (nat_eq t) (positions_of incoming.now (seen functions.now))) (range_with_len 0 (length incoming.now.types.now))) }
 {
-    let ids = positions(alloc, adding, activity)?;
-    marked(alloc, adding.unresolved.types.len(), ids.as_slice())
+    let ids = positions(alloc, incoming, functions)?;
+    marked(alloc, incoming.types.len(), ids.as_slice())
 }
 
 /// A flag for each of so many types, whether it is among these, which are all below the count. The
 /// only error is want of memory.
-pub fn marked(alloc: Global, count: usize, ids: &[TypeId]) -> Result<Items<bool>, AllocError>
+fn marked(alloc: Global, count: usize, ids: &[TypeId]) -> Result<Items<bool>, AllocError>
     requires { All (λ id. id < count) ids.now }
     ensures { IfOk result (λ marks. marks ≡ map (λ t. list_any (nat_eq t) ids.now) (range_with_len 0 count)) }
 {
@@ -40,37 +37,33 @@ pub fn marked(alloc: Global, count: usize, ids: &[TypeId]) -> Result<Items<bool>
     Ok(marks)
 }
 
-/// The types at the value positions of what is active, those of types first.
+/// The types at the value positions of new types, then of functions.
 fn positions(
     alloc: Global,
-    adding: &AdditionRef<'_>,
-    activity: &Activity,
+    incoming: &Incoming<'_>,
+    functions: &[&Function],
 ) -> Result<Items<TypeId>, AllocError>
-    requires { activity.now ≡ activity_of (addition_of adding.now) }
-    ensures { IfOk result (λ ids. ids ≡ gathered_positions (addition_of adding.now)) }
+    ensures { IfOk result (λ ids. ids ≡ positions_of incoming.now (seen functions.now)) }
 {
     let mut ids = Items::new(alloc);
-    push_types(alloc, &mut ids, adding, activity)?;
-    let functions = active_functions(alloc, adding, activity)?;
-    for function in &functions {
+    push_types(alloc, &mut ids, incoming)?;
+    for function in functions {
         push_signature(&mut ids, function)?;
     }
     Ok(ids)
 }
 
-/// Adds those of types.
+/// Adds those of new types.
 fn push_types(
     alloc: Global,
     ids: &mut Items<TypeId>,
-    adding: &AdditionRef<'_>,
-    activity: &Activity,
+    incoming: &Incoming<'_>,
 ) -> Result<(), AllocError>
-    requires { activity.now ≡ activity_of (addition_of adding.now) }
-    ensures { OnOk result (ids.new ≡ ids.old ++ flat_map (positions_of_type (addition_of adding.now)) (range_with_len 0 (length adding.now.unresolved.now.types))) }
+    ensures { OnOk result (ids.new ≡ ids.old ++ flat_map (λ (def : TypeDef). value_positions def.kind) (selected (new_of incoming.now) incoming.now.types.now)) }
 {
-    for place in 0..adding.unresolved.types.len() {
-        if *activity.types.at(place) {
-            ids.append(value_positions(alloc, &adding.unresolved.types.at(place).kind)?)?;
+    for index in 0..incoming.types.len() {
+        if incoming.is_new(index) {
+            ids.append(value_positions(alloc, &incoming.types.at(index).kind)?)?;
         }
     }
     Ok(())
@@ -80,12 +73,12 @@ fn push_types(
 /// names. The only error is want of memory.
 ///
 /// Source: `update_typedef` of wit-parser 0.263.0.
-pub fn value_positions(alloc: Global, kind: &TypeDefKind) -> Result<Items<TypeId>, AllocError>
+fn value_positions(alloc: Global, kind: &TypeDefKind) -> Result<Items<TypeId>, AllocError>
     ensures { IfOk result (λ ids. ids ≡ value_positions kind.now) }
 {
-    match kind {
-        TypeDefKind::Handle(_) | TypeDefKind::Type_(_) => Ok(Items::new(alloc)),
-        _ => referred(alloc, kind),
+    match part_role(kind) {
+        PartRole::Value => referred(alloc, kind),
+        _ => Ok(Items::new(alloc)),
     }
 }
 
@@ -93,7 +86,7 @@ pub fn value_positions(alloc: Global, kind: &TypeDefKind) -> Result<Items<TypeId
 /// Where there is no memory, some of them may have been added.
 ///
 /// Source: `update_function` of wit-parser 0.263.0.
-pub fn push_signature(ids: &mut Items<TypeId>, function: &Function) -> Result<(), AllocError>
+fn push_signature(ids: &mut Items<TypeId>, function: &Function) -> Result<(), AllocError>
     ensures { OnOk result (ids.new ≡ ids.old ++ signature_positions function.now) }
 {
     for param in function.params.as_slice() {

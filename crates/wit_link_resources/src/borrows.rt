@@ -13,7 +13,7 @@ ghost use Rattle.wit_link_resources.specs.steps.Borrows.{AreFreeOfUnresolved, Ar
 
 use indexmap::IndexSet;
 use std::alloc::{AllocError, Global};
-use wit_data::{Handle, Items, TypeDef, TypeDefKind, TypeId, referred};
+use wit_data::{Handle, Items, PartRole, TypeDef, TypeDefKind, TypeId, part_role, referred};
 use wit_link_spec::{AdditionRef, NewIds};
 
 /// Types that are known to hold no borrow, as places: of the package, and of the graph.
@@ -46,8 +46,8 @@ fn is_borrow(kind: &TypeDefKind) -> bool
 fn push_held(alloc: Global, stack: &mut Items<usize>, kind: &TypeDefKind) -> Result<(), AllocError>
     ensures { OnOk result (stack.new ≡ stack.old ++ content_types kind.now) }
 {
-    match kind {
-        TypeDefKind::Handle(_) => Ok(()),
+    match part_role(kind) {
+        PartRole::Argument => Ok(()),
         _ => push_places(stack, referred(alloc, kind)?.as_slice()),
     }
 }

@@ -1,111 +1,134 @@
-//! Which types lead to a resource by aliases.
-ghost use Rattle.std.specs.Prelude.{◌≡◌, ◌<◌, IfOk, length, map, take};
-ghost use Rattle.std.specs.List.{range_with_len};
-ghost use Rattle.wit_data.specs.Shape.{IsShaped};
-ghost use Rattle.wit_elaboration.specs.Valid.{IsValid};
-ghost use Rattle.wit_link_spec.specs.steps.AdditionRefs.{addition_of, new_ids_of};
-ghost use Rattle.wit_link_spec.specs.Reasons.{IsResolved};
+//! Which types that come into a graph lead to a resource there.
+ghost use Rattle.std.specs.Prelude.{◌≡◌, ◌<◌, ℕ, List, IfOk, None, OnOk, Some, length, slice_get, take, true};
+ghost use Rattle.wit_data.specs.Uses.{alias_target};
+ghost use Rattle.wit_data.specs.declared.function.Function.{Function};
+ghost use Rattle.wit_data.specs.declared.types.TypeDef.{TypeDef};
 ghost use Rattle.wit_link_spec.specs.Resources.{is_resource_kind};
-ghost use Rattle.wit_link_resources.specs.steps.Leading.{AreRight, AreWanted, TargetIsKnown, WantsTargets, leads_if_wanted, leads_there};
+ghost use Rattle.wit_link_spec.specs.ValueRemap.{ValueRemap};
+ghost use Rattle.wit_link_resources.specs.steps.IncomingTypes.{AreTold, CanComeIn, EndsWay, IsRemap, IsRemapped, NamesNext, leads_in, new_of};
+ghost use Rattle.wit_link_resources.specs.steps.Leading.{AreRight};
 
+use crate::incoming::Incoming;
 use crate::met::leads_to_resource;
-use std::alloc::{AllocError, Global};
-use wit_data::{Items, TypeDefKind, TypeId, alias_target};
-use wit_link_spec::{AdditionRef, NewIds};
+use std::alloc::AllocError;
+use wit_data::{Items, TypeDefKind, TypeId};
 use wit_values::Table;
 
 /// Whether a type of this kind is a resource.
-pub fn is_resource(kind: &TypeDefKind) -> bool
+pub(crate) fn is_resource(kind: &TypeDefKind) -> bool
     ensures { result ≡ is_resource_kind kind.now }
 {
     matches!(kind, TypeDefKind::Resource)
 }
 
-/// The types that are asked for, and with each alias the type that it names: enough to tell which of those lead to a
-/// resource. An alias names an earlier type, so one pass from the last type to the first finds them.
-pub(crate) fn wanted(
-    alloc: Global,
-    adding: &AdditionRef<'_>,
-    asked: &Items<bool>,
-) -> Result<Items<bool>, AllocError>
-    requires shaped { IsShaped adding.now.unresolved.now }
-    requires long { length asked.now ≡ length adding.now.unresolved.now.types }
-    ensures { IfOk result (AreWanted adding.now.unresolved.now.types asked.now 0) }
-{
-    let mut wanted = Items::from_vec(asked.as_slice().to_vec(alloc)?);
-    for place in (0..adding.unresolved.types.len()).rev() {
-        if *wanted.at(place) {
-            if let Some(target) = alias_target(&adding.unresolved.types.at(place).kind) {
-                wanted.set(target.index(), true);
-            }
-        }
-    }
-    Ok(wanted)
-}
-
-/// For each type of the package, whether it is wanted, is active and leads to a resource where it goes. What isn't
-/// wanted isn't looked at. What is met of the graph on the way is noted.
+/// Whether a type that comes leads to a resource by aliases where it goes. What is told of it is noted for all on its
+/// way, for those of the graph behind what was met: so none is gone over twice.
 #[tactic(auto, using(crate::proofs::MetTypes::begins_same, crate::proofs::MetTypes::begins_then))]
-pub(crate) fn leading(
-    alloc: Global,
-    adding: &AdditionRef<'_>,
-    places: &NewIds,
+pub(crate) fn leads(
+    incoming: &Incoming<'_>,
     met: &mut Table<TypeId, bool>,
-    wanted: &Items<bool>,
-) -> Result<Items<bool>, AllocError>
-    requires shaped { IsShaped adding.now.unresolved.now }
-    requires valid { IsValid adding.now.graph.now }
-    requires places { places.now ≡ new_ids_of (addition_of adding.now) }
-    requires image { IsResolved (addition_of adding.now) }
-    requires long { length wanted.now ≡ length adding.now.unresolved.now.types }
-    requires closed { WantsTargets adding.now.unresolved.now.types 0 wanted.now }
-    requires met { AreRight adding.now.graph.now.types met.old }
-    ensures met { AreRight adding.now.graph.now.types met.new }
-    ensures begins { take (length met.old) met.new ≡ met.old }
-    ensures leading { IfOk result (λ leading. leading ≡ map (leads_if_wanted (addition_of adding.now) wanted.now) (range_with_len 0 (length adding.now.unresolved.now.types))) }
-{
-    let mut leading = Items::new(alloc);
-    for place in 0..adding.unresolved.types.len() {
-        let leads = if *wanted.at(place) {
-            leads_there(adding, places, met, &leading, place)?
-        } else {
-            false
-        };
-        leading.push(leads)?;
-    }
-    Ok(leading)
-}
-
-/// The same of one type that is wanted, where it is known of what it names as an alias, and of the types of the graph
-/// that were met.
-#[tactic(auto, using(crate::proofs::MetTypes::begins_same, crate::proofs::MetTypes::begins_then))]
-fn leads_there(
-    adding: &AdditionRef<'_>,
-    places: &NewIds,
-    met: &mut Table<TypeId, bool>,
-    earlier: &Items<bool>,
-    place: usize,
+    known: &mut Items<Option<bool>>,
+    index: usize,
 ) -> Result<bool, AllocError>
-    requires shaped { IsShaped adding.now.unresolved.now }
-    requires valid { IsValid adding.now.graph.now }
-    requires places { places.now ≡ new_ids_of (addition_of adding.now) }
-    requires image { IsResolved (addition_of adding.now) }
-    requires there { place < length adding.now.unresolved.now.types }
-    requires earlier { TargetIsKnown (addition_of adding.now) earlier.now place }
-    requires met { AreRight adding.now.graph.now.types met.old }
-    ensures leads { IfOk result (λ leads. leads ≡ leads_there (addition_of adding.now) place) }
-    ensures met { AreRight adding.now.graph.now.types met.new }
+    requires can { CanComeIn incoming.now }
+    requires long { length known.old ≡ length incoming.now.types.now }
+    requires remapped { IsRemapped incoming.now.ids.now index }
+    requires met { AreRight incoming.now.graph_types.now met.old }
+    ensures leads { IfOk result (λ leads. (functions : List Function) (r : ValueRemap) → IsRemap incoming.now functions r → AreTold r known.old → leads_in r index ≡ leads) }
+    ensures long { length known.new ≡ length incoming.now.types.now }
+    ensures told { OnOk result ((functions : List Function) (r : ValueRemap) → IsRemap incoming.now functions r → AreTold r known.old → AreTold r known.new) }
+    ensures met { AreRight incoming.now.graph_types.now met.new }
     ensures begins { take (length met.old) met.new ≡ met.old }
 {
-    let Some(id) = *places.types.at(place) else {
-        return Ok(false);
-    };
-    if place < adding.unresolved.unknown_type_spans.len() {
-        return leads_to_resource(adding.graph.types.as_slice(), met, id);
+    let end = end_of_way(incoming, known, index);
+    let leads = leads_at_end(incoming, met, known, end)?;
+    note_way(incoming, known, index, leads);
+    Ok(leads)
+}
+
+/// The first type on the way along aliases of which something is known, or the last that is new, or that of the graph.
+fn end_of_way(incoming: &Incoming<'_>, known: &Items<Option<bool>>, index: usize) -> usize
+    requires can { CanComeIn incoming.now }
+    requires long { length known.now ≡ length incoming.now.types.now }
+    requires remapped { IsRemapped incoming.now.ids.now index }
+    ensures remapped { IsRemapped incoming.now.ids.now result }
+    ensures same { (functions : List Function) (r : ValueRemap) → IsRemap incoming.now functions r → leads_in r index ≡ leads_in r result }
+    ensures end { EndsWay incoming.now known.now result }
+{
+    let mut current = index;
+    while let Some(target) = next(incoming, known, current) {
+        current = target.index();
     }
-    let kind = &adding.unresolved.types.at(place).kind;
-    Ok(match alias_target(kind) {
-        Some(target) => *earlier.at(target.index()),
-        None => is_resource(kind),
-    })
+    current
+}
+
+/// The same of one at the end of a way.
+fn leads_at_end(
+    incoming: &Incoming<'_>,
+    met: &mut Table<TypeId, bool>,
+    known: &Items<Option<bool>>,
+    index: usize,
+) -> Result<bool, AllocError>
+    requires can { CanComeIn incoming.now }
+    requires long { length known.now ≡ length incoming.now.types.now }
+    requires remapped { IsRemapped incoming.now.ids.now index }
+    requires end { EndsWay incoming.now known.now index }
+    requires met { AreRight incoming.now.graph_types.now met.old }
+    ensures leads { IfOk result (λ leads. (functions : List Function) (r : ValueRemap) → IsRemap incoming.now functions r → AreTold r known.now → leads_in r index ≡ leads) }
+    ensures met { AreRight incoming.now.graph_types.now met.new }
+    ensures begins { take (length met.old) met.new ≡ met.old }
+{
+    match *known.at(index) {
+        Some(leads) => Ok(leads),
+        None => leads_unknown(incoming, met, index),
+    }
+}
+
+/// The same of one of which nothing is known: a new one that is no alias, or one that goes to a type of the graph.
+fn leads_unknown(
+    incoming: &Incoming<'_>,
+    met: &mut Table<TypeId, bool>,
+    index: usize,
+) -> Result<bool, AllocError>
+    requires can { CanComeIn incoming.now }
+    requires remapped { IsRemapped incoming.now.ids.now index }
+    requires end { new_of incoming.now index ≡ true → (def : TypeDef) → slice_get incoming.now.types.now index ≡ Some def → alias_target def.kind ≡ None }
+    requires met { AreRight incoming.now.graph_types.now met.old }
+    ensures leads { IfOk result (λ leads. (functions : List Function) (r : ValueRemap) → IsRemap incoming.now functions r → leads_in r index ≡ leads) }
+    ensures met { AreRight incoming.now.graph_types.now met.new }
+    ensures begins { take (length met.old) met.new ≡ met.old }
+{
+    match incoming.in_graph(index) {
+        Some(id) => leads_to_resource(incoming.graph_types.as_slice(), met, id),
+        None => Ok(is_resource(&incoming.types.at(index).kind)),
+    }
+}
+
+/// Notes whether a type leads to a resource, for it and for all on its way of which nothing is known.
+fn note_way(incoming: &Incoming<'_>, known: &mut Items<Option<bool>>, index: usize, leads: bool)
+    requires can { CanComeIn incoming.now }
+    requires long { length known.old ≡ length incoming.now.types.now }
+    requires remapped { IsRemapped incoming.now.ids.now index }
+    ensures long { length known.new ≡ length incoming.now.types.now }
+    ensures told { (functions : List Function) (r : ValueRemap) → IsRemap incoming.now functions r → AreTold r known.old → leads_in r index ≡ leads → AreTold r known.new }
+{
+    let mut current = index;
+    while let Some(target) = next(incoming, known, current) {
+        known.set(current, Some(leads));
+        current = target.index();
+    }
+    known.set(current, Some(leads));
+}
+
+/// The next type on the way: what a new one names as an alias, if nothing is known of it.
+fn next(incoming: &Incoming<'_>, known: &Items<Option<bool>>, index: usize) -> Option<TypeId>
+    requires long { length known.now ≡ length incoming.now.types.now }
+    requires there { index < length incoming.now.types.now }
+    ensures some { (target : ℕ) → result ≡ Some target → NamesNext incoming.now known.now index target }
+    ensures none { result ≡ None → EndsWay incoming.now known.now index }
+{
+    match *known.at(index) {
+        Some(_) => None,
+        None => incoming.new_alias(index),
+    }
 }

@@ -1,10 +1,12 @@
-//! Resources of a package that is added: which types lead to one, which values become an `own`, which types have
-//! to be one, and which results hold a borrow.
+//! Resources of what comes into a graph: which types lead to one and which values become an `own`; and of a package
+//! that is added which types have to be one, and which results hold a borrow.
 #![tactic(auto)]
 
+mod adding;
 mod asked;
 mod borrows;
 mod functions;
+mod incoming;
 mod leading;
 mod met;
 mod owning;
@@ -12,9 +14,9 @@ mod refusal;
 mod required;
 mod results;
 
-pub use crate::asked::{marked, push_signature, value_positions};
+pub use crate::adding::values;
 pub use crate::borrows::holds_borrow;
-pub use crate::leading::is_resource;
-pub use crate::owning::{own_of, type_place, values};
+pub use crate::incoming::Incoming;
+pub use crate::owning::remapped_values;
 pub use crate::required::check_resources;
 pub use crate::results::{check_results, result_type};

@@ -1,37 +1,20 @@
 -- What an addition is made of, what of its package is active, and what its things are remapped to: the things of other
 -- packages to those of the graph that they name, its own to the next ids, in their order.
-use Rattle.std.specs.Prelude.{ℕ, ◌+◌, ◌&&◌, Bool, not, List, [], ◌++◌, map, filter, length, nat_eq, Option, None, Some, unwrap_or, if◌then◌else◌, zero, suc}
-use Rattle.std.specs.List.{enumerate_from, flat_map, list_any, range_with_len}
-use Rattle.wit_data.specs.Entries.{Entry}
+use Rattle.std.specs.Prelude.{ℕ, ◌+◌, ◌&&◌, Bool, not, List, ◌++◌, map, filter, length, Option, None, Some, unwrap_or, if◌then◌else◌, flat_map}
 use Rattle.wit_data.specs.declared.function.Function.{Function}
 use Rattle.wit_data.specs.declared.interface.Interface.{Interface}
 use Rattle.wit_data.specs.declared.types.TypeDef.{TypeDef}
 use Rattle.wit_data.specs.declared.unresolved.UnresolvedPackage.{UnresolvedPackage}
 use Rattle.wit_data.specs.declared.world.World.{World}
 use Rattle.wit_data.specs.declared.world.WorldInclude.{WorldInclude}
-use Rattle.wit_data.specs.declared.world.WorldItem.{WorldItem}
-use Rattle.wit_data.specs.declared.world.WorldItem.TheVariants as item
 use Rattle.wit_graph_data.specs.declared.features.Features.{Features}
 use Rattle.wit_graph_data.specs.declared.graph.Graph.{Graph}
-use Rattle.wit_graph_theory.specs.Cut.{cut_interface, cut_world}
-use Rattle.wit_graph_theory.specs.Image.{Maps, type_image}
-use Rattle.wit_graph_theory.specs.Kept.{KeptIds}
+use Rattle.wit_remap_spec.specs.Kept.{KeptIds, cut_interface, cut_world}
+use Rattle.wit_remap_spec.specs.Image.{Maps}
 use Rattle.wit_link_spec.specs.Gates.{is_foreign_interface, is_foreign_world, function_is_active, include_is_active, interface_is_active, item_is_active, type_is_active, world_is_active}
 use Rattle.wit_link_spec.specs.Lookup.{foreign_interface_id, foreign_type_id, foreign_world_id, is_foreign_type}
-use Rattle.wit_link_spec.specs.Resources.{leads_to_resource, own_of, signature_positions, value_positions}
-
--- how many places before place i are active
-abbrev pub rank : (ℕ → Bool) → ℕ → ℕ
-rank kept zero = zero
-rank kept (suc i) = if kept i then suc (rank kept i) else rank kept i
-
--- what stands at the places that are active, each with its place
-abbrev pub selected_with_index : {X : Type 0} → (ℕ → Bool) → List X → List (ℕ × X)
-selected_with_index kept xs = filter (λ e. kept e.0) (enumerate_from 0 xs)
-
--- what stands at the places that are active
-abbrev pub selected : {X : Type 0} → (ℕ → Bool) → List X → List X
-selected kept xs = map (λ e. e.1) (selected_with_index kept xs)
+use Rattle.wit_link_spec.specs.ValueRemap.{ValueRemap, maps_with_owns, world_functions}
+pub use Rattle.wit_link_spec.specs.Selected.{rank, selected, selected_with_index}
 
 -- an unresolved package to be added to a graph, under features, its spans to move by an offset
 pub record Addition : Type 0 where
@@ -128,37 +111,17 @@ maps_without_owns a = record {
   offset = a.offset;
 }
 
--- ---- the `own`s of values
+-- ---- where values become an `own`
 
--- the types of the graph and those that are added, before values ask for `own`s: which of them lead to
--- resources is seen here already
-abbrev pub types_without_owns : Addition → List TypeDef
-types_without_owns a = a.graph.types ++ map (type_image (maps_without_owns a)) (own_types a)
+-- the functions that are added: of the package's own active interfaces, then of its worlds
+abbrev pub own_functions : Addition → List Function
+own_functions a =
+    flat_map (λ (interface : Interface). map (λ (e : List ℕ × Function). e.1) interface.functions) (own_interfaces a) ++ flat_map (λ (e : ℕ × World). world_functions e.1) (own_worlds a)
 
--- the types at the value positions of what is active
-abbrev pub function_positions : WorldItem → List ℕ
-function_positions (item.Interface i stability docs span external_id) = []
-function_positions (item.Function f) = signature_positions f
-function_positions (item.Type_ t span) = []
-
-abbrev pub positions : Addition → List ℕ
-positions a =
-    flat_map (λ (def : TypeDef). value_positions def.kind) (own_types a)
-    ++ (flat_map (λ (interface : Interface). flat_map (λ (e : List ℕ × Function). signature_positions e.1) interface.functions) (own_interfaces a)
-    ++ flat_map (λ (e : ℕ × World). flat_map (λ (entry : Entry). function_positions entry.1) (e.1.imports ++ e.1.exports)) (own_worlds a))
-
--- does a value ask for an `own` of type t of the package?
-abbrev pub value_needs_own : Addition → ℕ → Bool
-value_needs_own a t = list_any (nat_eq t) (positions a) && leads_to_resource (types_without_owns a) (remapped_type a t)
-
--- what a type is remapped to at a value position: to its `own` where it needs one. The `own`s stand behind the types of
--- the package, in the order of the types that they are of
-abbrev pub remapped_value : Addition → ℕ → ℕ
-remapped_value a t = if value_needs_own a t then length a.graph.types + length (own_types a) + rank (value_needs_own a) t else remapped_type a t
-
-abbrev pub owns_of_addition : Addition → List TypeDef
-owns_of_addition a = map (λ t. own_of (remapped_type a t)) (filter (value_needs_own a) (range_with_len 0 (length a.unresolved.types)))
+-- what comes into the graph, as values ask for `own`s
+abbrev pub remap_of_addition : Addition → ValueRemap
+remap_of_addition a = record { graph_types = a.graph.types; new_types = own_types a; new_functions = own_functions a; count = length a.unresolved.types; ids = maps_without_owns a }
 
 -- what ids are remapped to
 abbrev pub addition_maps : Addition → Maps
-addition_maps a = record (maps_without_owns a) { values = remapped_value a }
+addition_maps a = maps_with_owns (remap_of_addition a)

@@ -2,25 +2,19 @@
 -- cause is refused, and one that is refused, but for want of memory, has the cause that it tells. Those that lie in a
 -- world (4, 7, 8, 16, 17, 18) have a table of their own, `IsCauseAtWorld`; the first world that has one tells it.
 use Rattle.std.specs.Prelude.{◌<◌, ℕ, List}
-use Rattle.wit_data.specs.declared.package_name.PackageName.{PackageName}
+use Rattle.wit_names.specs.declared.package_name.PackageName.{PackageName}
 use Rattle.wit_graph_data.specs.Error.{NoCause}
 use Rattle.wit_graph_data.specs.declared.cause.Cause.TheVariants as cause
 use Rattle.wit_graph_data.specs.declared.error_kind.ResolveErrorKind.{ResolveErrorKind}
 use Rattle.wit_graph_data.specs.declared.error_kind.ResolveErrorKind.TheVariants.{PackageNotFound, WorldNotFound, InterfaceNotFound, DuplicatePackage, Semantic, OffsetOverflow}
 use Rattle.wit_link_spec.specs.Addition.{Addition}
 use Rattle.wit_link_spec.specs.Gates.{OptionalSpan}
-use Rattle.wit_link_spec.specs.Reasons.{AdditionOverflows, ForeignTypeMissing, HasExcludedOwner, IsDuplicate, IsNoResource, IsResolved, IsUnreleased, LacksInterface, LacksPackage, LacksVersion, LacksWorld, RefersToExcluded, ReturnsBorrow}
-use Rattle.wit_link_spec.specs.WorldReasons.{IncludeIsAccepted, IsCauseAtWorld, WorldIsAccepted}
+use Rattle.wit_link_spec.specs.Reasons.{AdditionOverflows, ForeignTypeMissing, HasExcludedOwner, IsDuplicate, IsNoResource, IsUnreleased, LacksInterface, LacksPackage, LacksVersion, LacksWorld, RefersToExcluded, ReturnsBorrow}
+use Rattle.wit_link_spec.specs.WorldReasons.{IsCauseAtWorld, WorldIsAccepted}
 
 -- every world before world k is accepted
 abbrev pub IsReached : Addition → ℕ → Type 0
 IsReached a k = (i : ℕ) → i < k → WorldIsAccepted a i
-
--- the package has an image, every world before world k is accepted, and so is every include of world k before include j
-pub record IncludeIsReached (a : Addition) (k j : ℕ) : Type 0 where
-  pub has_image : IsResolved a
-  pub worlds : IsReached a k
-  pub includes : (i : ℕ) → i < j → IncludeIsAccepted a k i
 
 pub data IsCause (a : Addition) : ResolveErrorKind → Type 0 where
   package_not_found_1 : (span : OptionalSpan) (requested : PackageName) (known : List PackageName) → LacksPackage a span requested known → IsCause a (PackageNotFound span requested known)

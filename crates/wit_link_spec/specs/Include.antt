@@ -2,30 +2,29 @@
 -- as copies with fresh ids, so that no two worlds have a type or an interface without a name in common.
 -- Source: the WIT page of the component model, "include"; `resolve_include` of wit-parser 0.263.0. What is
 -- copied is a rule of this project.
-use Rattle.std.specs.Prelude.{◌≡◌, ◌⊎◌, ℕ, ◌+◌, ◌&&◌, ◌||◌, Bool, not, true, false, List, [], ◌∷◌, ◌++◌, codes, map, filter, length, nat_eq, is_some, slice_get, Option, Some, if◌then◌else◌}
-use Rattle.std.specs.List.{flat_map, list_any}
+use Rattle.std.specs.Prelude.{◌≡◌, ◌⊎◌, ℕ, ◌+◌, ◌&&◌, ◌||◌, Bool, not, true, false, List, [], ◌∷◌, ◌++◌, codes, map, filter, length, nat_eq, is_some, slice_get, Option, Some, if◌then◌else◌, flat_map}
+use Rattle.std.specs.List.{list_any}
 use Rattle.std.specs.Map.{lookup}
 use Rattle.std.specs.Option.{option_eq, option_map_or}
 use Rattle.wit_digraph.specs.PostOrder.{post_order}
 use Rattle.wit_data.specs.Entries.{Entry, interfaces_in_worlds, is_unnamed}
 use Rattle.wit_data.specs.Reference.{function_references, type_references}
 use Rattle.wit_data.specs.declared.function.Function.{Function}
+use Rattle.wit_data.specs.declared.world.IncludeName.{IncludeName}
 use Rattle.wit_data.specs.declared.interface.Interface.{Interface}
 use Rattle.wit_data.specs.declared.stability.Stability.{Stability}
-use Rattle.wit_data.specs.declared.stability.Stability.TheVariants.{Unknown, Stable}
 use Rattle.wit_data.specs.declared.types.TypeDef.{TypeDef}
 use Rattle.wit_data.specs.declared.types.TypeOwner.{TypeOwner}
-use Rattle.wit_data.specs.declared.types.TypeOwner.TheVariants as owner
-use Rattle.wit_data.specs.declared.world.IncludeName.{IncludeName}
 use Rattle.wit_data.specs.declared.world.World.{World}
 use Rattle.wit_data.specs.declared.world.WorldItem.{WorldItem}
-use Rattle.wit_data.specs.declared.world.WorldItem.TheVariants as item
 use Rattle.wit_data.specs.declared.world.WorldKey.{WorldKey}
+use Rattle.wit_data.specs.declared.stability.Stability.TheVariants.{Unknown, Stable}
+use Rattle.wit_data.specs.declared.types.TypeOwner.TheVariants as owner
+use Rattle.wit_data.specs.declared.world.WorldItem.TheVariants as item
 use Rattle.wit_data.specs.declared.world.WorldKey.TheVariants as key
 use Rattle.wit_elaboration.specs.Entries.{same_key}
 use Rattle.wit_graph_data.specs.declared.graph.Graph.{Graph}
-use Rattle.wit_graph_theory.specs.Image.{Maps, entry_image, interface_image, type_image}
-use Rattle.wit_graph_theory.specs.Operations.{include_maps}
+use Rattle.wit_remap_spec.specs.Image.{Maps, entry_image, include_maps, interface_image, type_image}
 use Rattle.wit_link_spec.specs.Addition.{rank, selected}
 use Rattle.wit_labels.specs.Rename.{renamed_label}
 

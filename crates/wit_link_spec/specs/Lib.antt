@@ -9,7 +9,9 @@ pub mod Lookup
 pub mod Pushed
 pub mod Reasons
 pub mod Resources
+pub mod Selected
 pub mod Spans
+pub mod ValueRemap
 pub mod WorldReasons
 pub mod facts
 pub mod steps

@@ -2,8 +2,7 @@
 -- Everything of the graph stays at its ids. Behind it come the images of what is active, the `own`s that
 -- values ask for, and, world by world, the copies of its includes and the world, elaborated.
 -- Source: `append` of wit-parser 0.263.0.
-use Rattle.std.specs.Prelude.{ℕ, List, [], ◌∷◌, ◌++◌, map, filter_map, fold, take, length}
-use Rattle.std.specs.Option.{option_map}
+use Rattle.std.specs.Prelude.{ℕ, List, [], ◌∷◌, ◌++◌, map, filter_map, fold, take, length, option_map}
 use Rattle.wit_sources.specs.Span.{moved_by}
 use Rattle.wit_data.specs.declared.interface.Interface.{Interface}
 use Rattle.wit_data.specs.declared.world.World.{World}
@@ -11,9 +10,10 @@ use Rattle.wit_data.specs.declared.world.WorldInclude.{WorldInclude}
 use Rattle.wit_elaboration.specs.AllWorlds.{elaborated_world}
 use Rattle.wit_graph_data.specs.declared.graph.Graph.{Graph}
 use Rattle.wit_graph_data.specs.declared.graph.Package.{Package}
-use Rattle.wit_graph_theory.specs.Image.{interface_image, type_image, world_image}
-use Rattle.wit_link_spec.specs.Addition.{Addition, active_includes, addition_maps, own_interface, own_interfaces, own_types, own_world, own_worlds, owns_of_addition, remapped_interface, remapped_world, selected_with_index}
+use Rattle.wit_remap_spec.specs.Image.{interface_image, world_image}
+use Rattle.wit_link_spec.specs.Addition.{Addition, active_includes, addition_maps, own_interface, own_interfaces, own_world, own_worlds, remap_of_addition, remapped_interface, remapped_world, selected_with_index}
 use Rattle.wit_link_spec.specs.Include.{EntryLists, PartiallyLinked, lists_of, with_entry_lists, with_include_of}
+use Rattle.wit_link_spec.specs.ValueRemap.{types_behind}
 use Rattle.wit_labels.specs.Setters.{placed}
 
 -- ---- the package
@@ -30,7 +30,7 @@ new_package a = record {
 -- the graph with the package's types and interfaces, before its worlds
 abbrev pub with_parts : Addition → Graph
 with_parts a = record {
-  types = a.graph.types ++ (map (type_image (addition_maps a)) (own_types a) ++ owns_of_addition a);
+  types = a.graph.types ++ types_behind (remap_of_addition a);
   interfaces = a.graph.interfaces ++ map (interface_image (addition_maps a)) (own_interfaces a);
   worlds = a.graph.worlds;
   packages = a.graph.packages ++ new_package a ∷ [];
@@ -39,12 +39,9 @@ with_parts a = record {
 
 -- ---- its worlds
 
--- an include of the package with the id and the span that it has in the graph, and the active ones of a world
+-- an include of the package with the id and the span that it has in the graph
 abbrev pub placed_include : Addition → WorldInclude → WorldInclude
 placed_include a include = record include { id = remapped_world a include.id; span = moved_by a.offset include.span }
-
-abbrev pub placed_includes : Addition → World → List WorldInclude
-placed_includes a world = map (placed_include a) (active_includes a world)
 
 -- one include more of the world that comes next
 abbrev pub with_include : Addition → ℕ → PartiallyLinked → WorldInclude → PartiallyLinked
@@ -73,10 +70,6 @@ with_finished g world = record g { worlds = g.worlds ++ finished_world g world �
 -- world w of the package with these lists, before it is finished
 abbrev pub unfinished_world : Addition → ℕ → World → EntryLists → World
 unfinished_world a w world lists = with_entry_lists (world_image (addition_maps a) w world) lists
-
--- world w of the package behind its includes, finished
-abbrev pub linked_world : Addition → ℕ → World → PartiallyLinked → World
-linked_world a w world b = finished_world b.graph (unfinished_world a w world b.lists)
 
 -- the graph with one world more
 abbrev pub with_world : Addition → Graph → ℕ × World → Graph

@@ -1,17 +1,12 @@
 -- All the spans of an unresolved package.
-use Rattle.std.specs.Prelude.{ℕ, List, [], ◌∷◌, ◌++◌, map}
-use Rattle.std.specs.List.{flat_map}
+use Rattle.std.specs.Prelude.{ℕ, List, [], ◌∷◌, ◌++◌, map, flat_map, option_to_list}
 use Rattle.wit_data.specs.Entries.{Entry}
+use Rattle.wit_data.specs.Kind.{KindPart, kind_parts}
 use Rattle.wit_data.specs.declared.function.Function.{Function}
-use Rattle.wit_data.specs.declared.function.Param.{Param}
 use Rattle.wit_data.specs.declared.interface.Interface.{Interface}
-use Rattle.wit_data.specs.declared.types.Case.{Case}
-use Rattle.wit_data.specs.declared.types.EnumCase.{EnumCase}
-use Rattle.wit_data.specs.declared.types.Field.{Field}
-use Rattle.wit_data.specs.declared.types.Flag.{Flag}
+use Rattle.wit_data.specs.declared.function.Param.{Param}
 use Rattle.wit_data.specs.declared.types.TypeDef.{TypeDef}
 use Rattle.wit_data.specs.declared.types.TypeDefKind.{TypeDefKind}
-use Rattle.wit_data.specs.declared.types.TypeDefKind.TheVariants as kind
 use Rattle.wit_data.specs.declared.unresolved.UnresolvedPackage.{UnresolvedPackage}
 use Rattle.wit_data.specs.declared.world.World.{World}
 use Rattle.wit_data.specs.declared.world.WorldInclude.{WorldInclude}
@@ -21,11 +16,7 @@ use Rattle.wit_link_spec.specs.Gates.{OptionalSpan}
 
 -- those of the fields, cases and flags of a kind
 abbrev pub kind_spans : TypeDefKind → List OptionalSpan
-kind_spans (kind.Record fields) = map (λ (f : Field). f.span) fields
-kind_spans (kind.Variant cases) = map (λ (c : Case). c.span) cases
-kind_spans (kind.Flags flags) = map (λ (f : Flag). f.span) flags
-kind_spans (kind.Enum cases) = map (λ (c : EnumCase). c.span) cases
-kind_spans other = []
+kind_spans k = flat_map (λ (p : KindPart). option_to_list p.span) (kind_parts k)
 
 -- those of a type and of its parts
 abbrev pub type_spans : TypeDef → List OptionalSpan

@@ -3,6 +3,8 @@ pub mod ApartFacts
 pub mod ClosedCut
 pub mod FlagFacts
 pub mod ForeignFound
+pub mod Linked
+pub mod NewFacts
 pub mod OwnThingFacts
 pub mod PassedFacts
 pub mod PositionFacts

@@ -1,2 +1,3 @@
 pub mod AdditionRefs
+pub mod NewThings
 pub mod Passed

@@ -6,15 +6,16 @@ use Rattle.wit_data.specs.declared.function.Function.{Function}
 use Rattle.wit_data.specs.declared.interface.Interface.{Interface}
 use Rattle.wit_data.specs.declared.types.TypeDef.{TypeDef}
 use Rattle.wit_data.specs.declared.world.WorldItem.{WorldItem}
-use Rattle.wit_data.specs.declared.world.WorldItem.TheVariants as item
 use Rattle.wit_data.specs.declared.world.WorldKey.{WorldKey}
+use Rattle.wit_data.specs.declared.world.WorldItem.TheVariants as item
 use Rattle.wit_data.specs.declared.world.WorldKey.TheVariants as key
-use Rattle.wit_graph_theory.specs.Image.{entry_image, function_image, interface_image, item_image, key_image, type_image}
+use Rattle.wit_remap_spec.specs.Image.{entry_image, function_image, interface_image, item_image, key_image, type_image}
 use Rattle.wit_link_spec.specs.facts.RangeFacts.{range-at}
+use Rattle.wit_link_spec.specs.ValueRemap.{value_id}
 use Rattle.wit_remap.specs.steps.Movers.{goes, id_or, maps_of}
 use Rattle.wit_remap.specs.declared.mover.Mover.{Mover}
 use Rattle.wit_merge_spec.specs.Matches.{GraphMerge}
-use Rattle.wit_merge_spec.specs.Remapped.{merge_maps, merged_interface, merged_package, merged_type, merged_value, merged_world}
+use Rattle.wit_merge_spec.specs.Remapped.{merge_maps, merged_interface, merged_package, merged_type, merged_world, remap_of_merge}
 use Rattle.wit_merge.specs.steps.Joined.{EntryWithin, FunctionMoves, InterfaceMoves, TypeMoves}
 use Rattle.wit_merge.specs.steps.UnionSteps.{CanUnite, merging_of}
 use Rattle.wit_merge.specs.declared.union_plan.UnionPlan.{UnionPlan}
@@ -38,8 +39,8 @@ module _ (u : UnionPlan) (ready : CanUnite u) where
   pub worlds_go : (x : ℕ) → x < length u.other.now.worlds → goes u.merge_remap.now.places.worlds x ≡ merged_world m x
   worlds_go x below = goes_there u.merge_remap.now.places.worlds (merged_world m) (length u.other.now.worlds) x (λ j. (ready.merge_remap j).places.worlds) below
 
-  values_go : (x : ℕ) → x < length u.other.now.types → unwrap_or (slice_get u.values.now x) x ≡ merged_value m x
-  values_go x below = ap (λ (l : List ℕ). unwrap_or (slice_get l x) x) ready.values ∙ ap (λ (o : Option ℕ). unwrap_or o x) (range-at (merged_value m) (length u.other.now.types) x below)
+  values_go : (x : ℕ) → x < length u.other.now.types → unwrap_or (slice_get u.values.now x) x ≡ value_id (remap_of_merge m) x
+  values_go x below = ap (λ (l : List ℕ). unwrap_or (slice_get l x) x) ready.values ∙ ap (λ (o : Option ℕ). unwrap_or o x) (range-at (value_id (remap_of_merge m)) (length u.other.now.types) x below)
 
   module _ (mv : Mover) (places : mv.places.now ≡ u.merge_remap.now.places) (values : mv.values.now ≡ u.values.now) (offset : mv.offset ≡ u.offset) where
     agrees : Agree (maps_of mv) (merge_maps m) (length u.other.now.types) (length u.other.now.interfaces) (length u.other.now.worlds)

@@ -5,14 +5,13 @@ mod Elaborates
 mod IdTexts
 mod Left
 mod MatchedThings
+mod MergeComes
 mod Movable
 mod MovedNames
 mod NamesStay
 mod Numbered
 mod Outcome
-mod PlainTypes
 mod Positions
 mod Returning
 mod SameImages
 mod UnitedIs
-mod Ways

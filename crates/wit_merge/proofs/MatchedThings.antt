@@ -7,11 +7,11 @@ use Rattle.std.specs.Option.{option_map, option_map_or}
 use Rattle.wit_data.specs.Entries.{Entry}
 use Rattle.wit_data.specs.facts.WorldKeyFacts.{key_is, same_key}
 use Rattle.wit_data.specs.declared.world.WorldItem.{WorldItem}
-use Rattle.wit_data.specs.declared.world.WorldItem.TheVariants as item
 use Rattle.wit_data.specs.declared.world.WorldKey.{WorldKey}
+use Rattle.wit_data.specs.declared.world.WorldItem.TheVariants as item
 use Rattle.wit_data.specs.declared.world.WorldKey.TheVariants as key
 use Rattle.wit_elaboration.specs.Valid.{IsValid}
-use Rattle.wit_graph_theory.specs.Image.{entry_image, item_image}
+use Rattle.wit_remap_spec.specs.Image.{entry_image, item_image}
 use Rattle.wit_link_spec.specs.Include.{joined_entry, joined_item}
 use Rattle.wit_merge_spec.specs.United.{is_under_id}
 use Rattle.wit_merge_spec.specs.Matches.{GraphMerge, counterpart_interface}

@@ -13,11 +13,11 @@ use Rattle.wit_data.specs.Reference.{function_references}
 use Rattle.wit_data.specs.declared.interface.Interface.{Interface}
 use Rattle.wit_data.specs.declared.types.TypeDef.{TypeDef}
 use Rattle.wit_data.specs.declared.types.TypeOwner.{TypeOwner}
-use Rattle.wit_data.specs.declared.types.TypeOwner.TheVariants as owner
 use Rattle.wit_data.specs.declared.world.World.{World}
 use Rattle.wit_data.specs.declared.world.WorldItem.{WorldItem}
-use Rattle.wit_data.specs.declared.world.WorldItem.TheVariants as item
 use Rattle.wit_data.specs.declared.world.WorldKey.{WorldKey}
+use Rattle.wit_data.specs.declared.types.TypeOwner.TheVariants as owner
+use Rattle.wit_data.specs.declared.world.WorldItem.TheVariants as item
 use Rattle.wit_data.specs.declared.world.WorldKey.TheVariants as key
 use Rattle.wit_elaboration.specs.Valid.{IsValid}
 use Rattle.wit_graph_data.specs.declared.graph.Graph.{Graph}
@@ -26,7 +26,7 @@ use Rattle.wit_graph_theory.specs.Cut.{mapped_source}
 use Rattle.wit_graph_theory.specs.facts.Good.{IsGoodInterface, IsGoodPackage}
 use Rattle.wit_graph_theory.specs.facts.GoodIsValid.{good_things}
 use Rattle.wit_graph_theory.specs.facts.GraphSource.{mapped_is_good}
-use Rattle.wit_graph_theory.specs.Image.{identity}
+use Rattle.wit_remap_spec.specs.Image.{identity}
 use Rattle.wit_graph_theory.specs.facts.ListFacts.{found_at, place_of}
 use Rattle.wit_graph_theory.specs.steps.Sources.{IsGoodSource, OwnerIsActive, Source}
 use Rattle.wit_merge_spec.specs.United.{joined_graph, joined_package, united, with_interface, with_package}
@@ -114,7 +114,7 @@ module _ (u : UnionPlan) (ready : CanUnite u) where
           fits = ready.fits.of_interfaces i interface at;
         }
 
-  pub interfaces_join : (i i' : ℕ) (from into : Interface) → slice_get other.interfaces i ≡ Some from → counterpart_interface m i ≡ Some i' → slice_get u.graph.now.interfaces i' ≡ Some into → InterfaceJoins m (i, from) into
+  pub interfaces_join : (i i' : ℕ) (from into : Interface) → slice_get other.interfaces i ≡ Some from → counterpart_interface m i ≡ Some i' → slice_get u.graph.now.interfaces i' ≡ Some into → InterfaceJoins m from into
   interfaces_join i i' from into from_at found into_at =
       let at : slice_get (joined_graph m).interfaces i' ≡ Some (with_interface m from into) = old_interface_at m i' into into_at ∙ ap (λ (x : Interface). Some x) (with_counterpart m ready.valid ready.valid_other i i' from into from_at found) in
       let is : IsGoodInterface (joined_graph m).types i' (with_interface m from into) = (joined_good m ready.valid ready.valid_other ready.one).interfaces_are i' (with_interface m from into) at refl in
@@ -171,7 +171,7 @@ module _ (u : UnionPlan) (ready : CanUnite u) where
           (worlds_there e has, ap (λ (o : Option ℕ). not (is_some o)) none);
     }
 
-  pub packages_join : (p p' : ℕ) (from into : Package) → slice_get other.packages p ≡ Some from → counterpart_package m p ≡ Some p' → slice_get u.graph.now.packages p' ≡ Some into → PackageJoins m (p, from) into
+  pub packages_join : (p p' : ℕ) (from into : Package) → slice_get other.packages p ≡ Some from → counterpart_package m p ≡ Some p' → slice_get u.graph.now.packages p' ≡ Some into → PackageJoins m from into
   packages_join p p' from into from_at found into_at =
       let joined : joined_package m (p', into) ≡ with_package m from into =
       ap (λ (o : Option (ℕ × Package)). option_map_or (λ (e : ℕ × Package). with_package m e.1 into) o into)
@@ -237,8 +237,8 @@ module _ (u : UnionPlan) (ready : CanUnite u) where
         fits = (ready.fits.of_worlds w world at).entries;
       }
 
-  pub worlds_join : (p : ℕ × World) (w' : ℕ) (into : World) → slice_get u.graph.now.worlds w' ≡ Some into → WorldJoins m p into
-  worlds_join p w' into at = record {
+  pub worlds_join : (w' : ℕ) (into : World) → slice_get u.graph.now.worlds w' ≡ Some into → WorldJoins m into
+  worlds_join w' into at = record {
     imports_apart = ready.valid.well_formed.worlds.distinct_imports w' into at;
     exports_apart = ready.valid.well_formed.worlds.distinct_exports w' into at;
     imports = λ e has. (imports_within u.graph.now ready.valid w' into at e has).key;

@@ -1,33 +1,27 @@
 -- The types that functions that move, and value positions of what moves, name are there.
-use Rattle.std.proofs.Common.{◌≡◌, ◌∙◌, inl, inr, ℕ, ◌<◌, length, map, option_to_list, Some, get_or, slice_get, ap, arith, Contains, All}
+use Rattle.std.proofs.Common.{◌≡◌, ◌∙◌, inl, inr, ℕ, ◌<◌, length, option_to_list, Some, slice_get, ap, arith, Contains}
 use Rattle.std.specs.List.{flat_map}
 use Rattle.std.proofs.lemmas.List.{length-map}
-use Rattle.std.proofs.lemmas.List.Elements.{All-contains, Contains-append_cases, Contains-append_right, Contains-get_or}
-use Rattle.wit_digraph.specs.facts.MemberFacts.{Contains-flat_map_cases, Contains-nil}
+use Rattle.std.proofs.lemmas.List.Elements.{All-contains, Contains-append_cases, Contains-append_right}
+use Rattle.wit_digraph.specs.facts.MemberFacts.{Contains-flat_map_cases}
 use Rattle.wit_digraph.specs.Relation.{direct}
 use Rattle.wit_data.specs.Function.{resource_of}
 use Rattle.wit_data.specs.Reference.{function_references, referred, type_references}
+use Rattle.wit_data.specs.facts.ReferenceFacts.{in_referred}
 use Rattle.wit_data.specs.declared.function.Function.{Function}
 use Rattle.wit_data.specs.declared.types.TypeDef.{TypeDef}
-use Rattle.wit_data.specs.declared.types.TypeDefKind.{TypeDefKind}
-use Rattle.wit_data.specs.declared.types.TypeDefKind.TheVariants as kind
 use Rattle.wit_elaboration.specs.Valid.{IsValid}
 use Rattle.wit_graph_data.specs.declared.graph.Graph.{Graph}
 use Rattle.wit_graph_theory.specs.facts.ListFacts.{from_map, in_row, place_of}
 use Rattle.wit_link_spec.specs.facts.RankFacts.{selected_with_index-from}
 use Rattle.wit_link_spec.specs.Addition.{selected_with_index}
-use Rattle.wit_link_spec.specs.Resources.{signature_positions, value_positions}
+use Rattle.wit_link_spec.specs.Resources.{is_value, signature_positions, value_positions}
+use Rattle.wit_link_spec.specs.ValueRemap.{positions}
 use Rattle.wit_merge_spec.specs.Matches.{GraphMerge}
-use Rattle.wit_merge_spec.specs.Remapped.{moved_functions, moved_types, moves_type, positions}
+use Rattle.wit_merge_spec.specs.Remapped.{moved_functions, moved_types, moves_type, remap_of_merge}
 use Rattle.wit_merge_laws.specs.facts.FunctionsThere.{moved_refers}
 
--- a value position of a kind is a reference of it
-position_referred : (k : TypeDefKind) (t : ℕ) → Contains (value_positions k) t → Contains (referred k) t
-position_referred (kind.Handle handle) t has = absurd (Contains-nil has)
-position_referred (kind.Type_ ty) t has = absurd (Contains-nil has)
-position_referred other t has = has
-
--- so is one of a function
+-- a value position of a function is a reference of it
 signature_referred : (f : Function) (t : ℕ) → Contains (signature_positions f) t → Contains (function_references f) t
 signature_referred f t has = Contains-append_right (option_to_list (resource_of f.kind)) (signature_positions f) t has
 
@@ -49,7 +43,7 @@ module _ (m : GraphMerge) (valid : IsValid m.other) where
       let is = selected_with_index-from (moves_type m) m.other.types place.0 taken_from.0 taken_from.1 in
       let def : TypeDef = from.0 in
       let at : slice_get m.other.types taken_from.0.0 ≡ Some def = is.0 ∙ ap Some taken_from.2 in
-      references_there m.other valid taken_from.0.0 def at t (position_referred def.kind t from.1.1)
+      references_there m.other valid taken_from.0.0 def at t (in_referred is_value def.kind t from.1.1)
 
   function_there : (t : ℕ) → Contains (flat_map signature_positions (moved_functions m)) t → t < length m.other.types
   function_there t has =
@@ -57,10 +51,9 @@ module _ (m : GraphMerge) (valid : IsValid m.other) where
       moved_refers m valid from.0 from.1.0 t (signature_referred from.0 t from.1.1)
 
   -- what stands at a value position is there
-  pub positions_there : All (λ t. t < length m.other.types) (positions m)
-  positions_there k d below =
-      let t : ℕ = get_or (positions m) k d in
-      elim (Contains-append_cases (flat_map (λ (def : TypeDef). value_positions def.kind) (moved_types m)) (flat_map signature_positions (moved_functions m)) t (Contains-get_or (positions m) k d below)) [
+  pub position_there : (t : ℕ) → Contains (positions (remap_of_merge m)) t → t < length m.other.types
+  position_there t has =
+      elim (Contains-append_cases (flat_map (λ (def : TypeDef). value_positions def.kind) (moved_types m)) (flat_map signature_positions (moved_functions m)) t has) [
         | inl of_type ↦ type_there t of_type
         | inr of_function ↦ function_there t of_function
       ]

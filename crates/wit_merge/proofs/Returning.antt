@@ -8,21 +8,22 @@ use Rattle.wit_data.specs.Function.{resource_of}
 use Rattle.wit_data.specs.Reference.{named_option, named_type}
 use Rattle.wit_data.specs.declared.function.Function.{Function}
 use Rattle.wit_data.specs.declared.function.Param.{Param}
-use Rattle.wit_data.specs.declared.types.Handle.TheVariants.{Own}
 use Rattle.wit_data.specs.declared.types.TypeDef.{TypeDef}
+use Rattle.wit_data.specs.declared.types.Type_.{Type_}
+use Rattle.wit_data.specs.declared.types.Handle.TheVariants.{Own}
 use Rattle.wit_data.specs.declared.types.TypeDefKind.TheVariants as kind
 use Rattle.wit_data.specs.declared.types.TypeOwner.TheVariants as owner
-use Rattle.wit_data.specs.declared.types.Type_.{Type_}
 use Rattle.wit_data.specs.declared.types.Type_.TheVariants as type
 use Rattle.wit_elaboration.specs.Valid.{IsValid}
-use Rattle.wit_graph_theory.specs.Image.{Maps, function_image, value_image}
+use Rattle.wit_remap_spec.specs.Image.{Maps, function_image, value_image}
 use Rattle.wit_graph_theory.specs.facts.ListFacts.{found_at, get_at}
 use Rattle.wit_graph_theory.specs.steps.Sources.{Stands}
 use Rattle.wit_link_spec.specs.CauseText.{borrow_text}
 use Rattle.wit_link_spec.specs.Reasons.{HoldsBorrow}
 use Rattle.wit_link_spec.specs.Resources.{signature_positions}
+use Rattle.wit_link_spec.specs.ValueRemap.{value_id}
 use Rattle.wit_merge_spec.specs.Matches.{GraphMerge}
-use Rattle.wit_merge_spec.specs.Remapped.{merge_maps, merged_type, merged_value, moved_functions}
+use Rattle.wit_merge_spec.specs.Remapped.{merge_maps, merged_type, moved_functions, remap_of_merge}
 use Rattle.wit_merge_spec.specs.Cause.{MergeReturnsBorrow}
 use Rattle.wit_merge_spec.specs.United.{joined_graph}
 use Rattle.wit_merge_laws.specs.facts.TypesStand.{type_stands, values_stand}
@@ -39,8 +40,8 @@ option_image maps (Some (type.Id t)) = refl
 option_image maps (Some other) = refl
 
 -- the type that a function returns, where it goes
-returned_one : (m : GraphMerge) (f : Function) (o : Option ℕ) (t : ℕ) → option_to_list o ≡ named_option f.result_ → o ≡ Some t → named_option (function_image (merge_maps m) f).result_ ≡ merged_value m t ∷ []
-returned_one m f o t is some = option_image (merge_maps m) f.result_ ∙ (ap (map (merged_value m)) (sym is) ∙ ap (λ (x : Option ℕ). map (merged_value m) (option_to_list x)) some)
+returned_one : (m : GraphMerge) (f : Function) (o : Option ℕ) (t : ℕ) → option_to_list o ≡ named_option f.result_ → o ≡ Some t → named_option (function_image (merge_maps m) f).result_ ≡ value_id (remap_of_merge m) t ∷ []
+returned_one m f o t is some = option_image (merge_maps m) f.result_ ∙ (ap (map (value_id (remap_of_merge m))) (sym is) ∙ ap (λ (x : Option ℕ). map (value_id (remap_of_merge m)) (option_to_list x)) some)
 
 module _ (m : GraphMerge) (valid : IsValid m.graph) (valid_other : IsValid m.other) where
   -- what a function that moves returns is there
@@ -52,7 +53,7 @@ module _ (m : GraphMerge) (valid : IsValid m.graph) (valid_other : IsValid m.oth
       moved_refers m valid_other f moved t (Contains-append_right (option_to_list (resource_of f.kind)) (signature_positions f) t (Contains-append_right values (named_option f.result_) t has))
 
   -- and where a value of it goes there is a type
-  pub value_there : (t : ℕ) → t < length m.other.types → merged_value m t < length (joined_graph m).types
+  pub value_there : (t : ℕ) → t < length m.other.types → value_id (remap_of_merge m) t < length (joined_graph m).types
   value_there t within =
       let def = get_at m.other.types t within in
       elim (values_stand m valid valid_other t def.0 def.1) [
@@ -60,19 +61,19 @@ module _ (m : GraphMerge) (valid : IsValid m.graph) (valid_other : IsValid m.oth
             let found = found_at (Stands (merge_maps m) def.0) (joined_graph m).types (merged_type m t) (type_stands m valid valid_other t def.0 def.1) in
             subst (λ (x : ℕ). x < length (joined_graph m).types) (sym same) (slice_get_within (joined_graph m).types (merged_type m t) found.0 found.1)
         | inr own ↦
-            let found = found_at (λ (there : TypeDef). (there.name ≡ None) × (there.owner ≡ owner.None) × (there.kind ≡ kind.Handle (Own (merged_type m t)))) (joined_graph m).types (merged_value m t) own.1 in
-            slice_get_within (joined_graph m).types (merged_value m t) found.0 found.1
+            let found = found_at (λ (there : TypeDef). (there.name ≡ None) × (there.owner ≡ owner.None) × (there.kind ≡ kind.Handle (Own (merged_type m t)))) (joined_graph m).types (value_id (remap_of_merge m) t) own.1 in
+            slice_get_within (joined_graph m).types (value_id (remap_of_merge m) t) found.0 found.1
       ]
 
 -- ---- what is told of one function
 
-module _ (m : GraphMerge) (f : Function) (o : Option ℕ) (t place : ℕ) (types : List TypeDef) (is : option_to_list o ≡ named_option f.result_) (some : o ≡ Some t) (place_is : place ≡ merged_value m t)
+module _ (m : GraphMerge) (f : Function) (o : Option ℕ) (t place : ℕ) (types : List TypeDef) (is : option_to_list o ≡ named_option f.result_) (some : o ≡ Some t) (place_is : place ≡ value_id (remap_of_merge m) t)
     (types_are : types ≡ (joined_graph m).types) where
   -- one whose type holds none returns none
   pub returns_free : (HoldsBorrow types place → ⊥) → ReturnsFree m f
   returns_free free = record {
     none = λ t' has holds.
-        let same : place ≡ t' = place_is ∙ one_of (merged_value m t) t' (subst (λ (ids : List ℕ). Contains ids t') (returned_one m f o t is some) has) in
+        let same : place ≡ t' = place_is ∙ one_of (value_id (remap_of_merge m) t) t' (subst (λ (ids : List ℕ). Contains ids t') (returned_one m f o t is some) has) in
         free (subst (λ (x : ℕ). HoldsBorrow types x) (sym same) (subst (λ (ts : List TypeDef). HoldsBorrow ts t') (sym types_are) holds));
   }
 
@@ -80,9 +81,9 @@ module _ (m : GraphMerge) (f : Function) (o : Option ℕ) (t place : ℕ) (types
   pub returns_borrow : Contains (moved_functions m) f → HoldsBorrow types place → MergeReturnsBorrow m (borrow_text f.name)
   returns_borrow moved holds = record {
     f = f;
-    t' = merged_value m t;
+    t' = value_id (remap_of_merge m) t;
     moved = moved;
-    result_is = subst (λ (ids : List ℕ). Contains ids (merged_value m t)) (sym (returned_one m f o t is some)) (Contains-here (merged_value m t) []);
+    result_is = subst (λ (ids : List ℕ). Contains ids (value_id (remap_of_merge m) t)) (sym (returned_one m f o t is some)) (Contains-here (value_id (remap_of_merge m) t) []);
     holds = subst (λ (x : ℕ). HoldsBorrow (joined_graph m).types x) place_is (subst (λ (ts : List TypeDef). HoldsBorrow ts place) types_are holds);
     message_is = refl;
   }

@@ -2,34 +2,33 @@
 use Rattle.std.proofs.Common.{◌≡◌, ℕ, ◌<◌, List, [], ◌∷◌, ◌++◌, map, Option, None, Some, option_map, option_to_list, refl, ap, Contains}
 use Rattle.std.proofs.lemmas.List.Elements.{Contains-append_left, Contains-append_right}
 use Rattle.std.specs.List.{flat_map}
-use Rattle.wit_digraph.specs.facts.MemberFacts.{Contains-here, Contains-there}
+use Rattle.wit_digraph.specs.facts.MemberFacts.{Contains-flat_map, Contains-here, Contains-there}
 use Rattle.wit_data.specs.Entries.{Entry}
 use Rattle.wit_data.specs.Function.{resource_of}
+use Rattle.wit_data.specs.Kind.{KindPart, kind_parts, map_part, map_type}
+use Rattle.wit_data.specs.facts.KindFacts.{kind_same as kinds_same}
 use Rattle.wit_data.specs.Reference.{function_references, named_option, named_type, referred}
 use Rattle.wit_data.specs.declared.function.Function.{Function}
 use Rattle.wit_data.specs.declared.function.FunctionKind.{FunctionKind}
-use Rattle.wit_data.specs.declared.function.FunctionKind.TheVariants.{Freestanding, AsyncFreestanding, Method, AsyncMethod, Static, AsyncStatic, Constructor, Getter, Setter, MethodGetter, MethodSetter, StaticGetter, StaticSetter}
-use Rattle.wit_data.specs.declared.function.Param.{Param}
 use Rattle.wit_data.specs.declared.interface.Interface.{Interface}
-use Rattle.wit_data.specs.declared.types.Case.{Case}
-use Rattle.wit_data.specs.declared.types.EnumCase.{EnumCase}
-use Rattle.wit_data.specs.declared.types.Field.{Field}
-use Rattle.wit_data.specs.declared.types.Flag.{Flag}
-use Rattle.wit_data.specs.declared.types.Handle.TheVariants.{Own, Borrow}
+use Rattle.wit_data.specs.declared.function.Param.{Param}
+use Rattle.wit_data.specs.declared.kind.PartRole.{PartRole}
 use Rattle.wit_data.specs.declared.types.TypeDef.{TypeDef}
 use Rattle.wit_data.specs.declared.types.TypeDefKind.{TypeDefKind}
-use Rattle.wit_data.specs.declared.types.TypeDefKind.TheVariants as kind
 use Rattle.wit_data.specs.declared.types.TypeOwner.{TypeOwner}
-use Rattle.wit_data.specs.declared.types.TypeOwner.TheVariants as owner
 use Rattle.wit_data.specs.declared.types.Type_.{Type_}
-use Rattle.wit_data.specs.declared.types.Type_.TheVariants as type
 use Rattle.wit_data.specs.declared.world.WorldItem.{WorldItem}
-use Rattle.wit_data.specs.declared.world.WorldItem.TheVariants as item
 use Rattle.wit_data.specs.declared.world.WorldKey.{WorldKey}
+use Rattle.wit_data.specs.declared.function.FunctionKind.TheVariants.{Freestanding, AsyncFreestanding, Method, AsyncMethod, Static, AsyncStatic, Constructor, Getter, Setter, MethodGetter, MethodSetter, StaticGetter, StaticSetter}
+use Rattle.wit_data.specs.declared.kind.PartRole.TheVariants.{Value}
+use Rattle.wit_data.specs.declared.types.TypeOwner.TheVariants as owner
+use Rattle.wit_data.specs.declared.types.Type_.TheVariants as type
+use Rattle.wit_data.specs.declared.world.WorldItem.TheVariants as item
 use Rattle.wit_data.specs.declared.world.WorldKey.TheVariants as key
 use Rattle.wit_sources.specs.Span.{moved_by}
+use Rattle.wit_graph_theory.specs.facts.ListFacts.{contained_at}
 use Rattle.wit_merge.specs.steps.Joined.{EntryWithin, ItemWithin, KeyWithin, OwnerWithin, Within}
-use Rattle.wit_graph_theory.specs.Image.{Maps, case_image, entry_image, enum_case_image, field_image, flag_image, function_image, function_kind_image, interface_image, item_image, key_image, kind_image, name_image, owner_image, param_image, target_image, type_image, value_image}
+use Rattle.wit_remap_spec.specs.Image.{Maps, entry_image, function_image, function_kind_image, interface_image, item_image, key_image, kind_image, name_image, owner_image, param_image, role_remap, type_image, value_image}
 
 -- maps that send the first so many types, interfaces and worlds to the same places
 pub record Agree (a b : Maps) (types interfaces worlds : ℕ) : Type 0 where
@@ -66,44 +65,25 @@ module _ (a b : Maps) (types interfaces worlds : ℕ) (agree : Agree a b types i
   option_same None within = refl
   option_same (Some ty) within = ap (λ (y : Type_). Some y) (value_same ty within)
 
-  target_same : (ty : Type_) → Within types (named_type ty) → target_image a ty ≡ target_image b ty
-  target_same (type.Id x) within = ap (λ (y : ℕ). type.Id y) (agree.of_types x (within x (Contains-here x [])))
-  target_same other within = refl
-
   span_same : (span : Option (ℕ × ℕ)) → moved_by a.offset span ≡ moved_by b.offset span
   span_same span = ap (λ (n : ℕ). moved_by n span) agree.of_offset
 
-  field_same : (f : Field) → Within types (named_type f.ty) → field_image a f ≡ field_image b f
-  field_same f within = λ j. record f { ty = value_same f.ty within j; span = span_same f.span j }
+  role_same : (role : PartRole) (x : ℕ) → x < types → role_remap a role x ≡ role_remap b role x
+  role_same Value x below = agree.of_values x below
+  role_same other x below = agree.of_types x below
 
-  case_same : (c : Case) → Within types (named_option c.ty) → case_image a c ≡ case_image b c
-  case_same c within = λ j. record c { ty = option_same c.ty within j; span = span_same c.span j }
+  type_part_same : (role : PartRole) (o : Option Type_) → Within types (named_option o) → option_map (map_type (role_remap a role)) o ≡ option_map (map_type (role_remap b role)) o
+  type_part_same role None within = refl
+  type_part_same role (Some (type.Id x)) within = ap (λ (y : ℕ). Some (type.Id y)) (role_same role x (within x (Contains-here x [])))
+  type_part_same role (Some other) within = refl
 
-  flag_same : (f : Flag) → flag_image a f ≡ flag_image b f
-  flag_same f = λ j. record f { span = span_same f.span j }
-
-  enum_same : (c : EnumCase) → enum_case_image a c ≡ enum_case_image b c
-  enum_same c = λ j. record c { span = span_same c.span j }
+  part_same : (p : KindPart) → Within types (named_option p.ty) → map_part (role_remap a) (moved_by a.offset) p ≡ map_part (role_remap b) (moved_by b.offset) p
+  part_same p within = λ j. record p { ty = type_part_same p.role p.ty within j; span = option_map (moved_by (agree.of_offset j)) p.span }
 
   kind_same : (k : TypeDefKind) → Within types (referred k) → kind_image a k ≡ kind_image b k
-  kind_same (kind.Record fields) within = ap (λ (fs : List Field). kind.Record fs) (mapped_same types (field_image a) (field_image b) (λ (f : Field). named_type f.ty) field_same fields within)
-  kind_same kind.Resource within = refl
-  kind_same (kind.Handle (Own t)) within = ap (λ (y : ℕ). kind.Handle (Own y)) (agree.of_types t (within t (Contains-here t [])))
-  kind_same (kind.Handle (Borrow t)) within = ap (λ (y : ℕ). kind.Handle (Borrow y)) (agree.of_types t (within t (Contains-here t [])))
-  kind_same (kind.Flags flags) within = ap (λ (fs : List Flag). kind.Flags fs) (each_same (flag_image a) (flag_image b) flags (λ f has. flag_same f))
-  kind_same (kind.Tuple parts) within = ap (λ (ts : List Type_). kind.Tuple ts) (mapped_same types (value_image a) (value_image b) named_type value_same parts within)
-  kind_same (kind.Variant cases) within = ap (λ (cs : List Case). kind.Variant cs) (mapped_same types (case_image a) (case_image b) (λ (c : Case). named_option c.ty) case_same cases within)
-  kind_same (kind.Enum cases) within = ap (λ (cs : List EnumCase). kind.Enum cs) (each_same (enum_case_image a) (enum_case_image b) cases (λ c has. enum_same c))
-  kind_same (kind.Option ty) within = ap (λ (y : Type_). kind.Option y) (value_same ty within)
-  kind_same (kind.Result_ ok err) within =
-      λ j. kind.Result_ (option_same ok (left_within types (named_option ok) (named_option err) within) j) (option_same err (right_within types (named_option ok) (named_option err) within) j)
-  kind_same (kind.List ty) within = ap (λ (y : Type_). kind.List y) (value_same ty within)
-  kind_same (kind.Map k v) within = λ j. kind.Map (value_same k (left_within types (named_type k) (named_type v) within) j) (value_same v (right_within types (named_type k) (named_type v) within) j)
-  kind_same (kind.FixedLengthList ty len) within = ap (λ (y : Type_). kind.FixedLengthList y len) (value_same ty within)
-  kind_same (kind.Future ty) within = ap (λ (y : Option Type_). kind.Future y) (option_same ty within)
-  kind_same (kind.Stream ty) within = ap (λ (y : Option Type_). kind.Stream y) (option_same ty within)
-  kind_same (kind.Type_ ty) within = ap (λ (y : Type_). kind.Type_ y) (target_same ty within)
-  kind_same kind.Unknown within = refl
+  kind_same k within =
+      kinds_same (role_remap a) (role_remap b) (moved_by a.offset) (moved_by b.offset) k
+      (λ i p at. part_same p (λ x has. within x (Contains-flat_map (λ (q : KindPart). named_option q.ty) (kind_parts k) p x (contained_at (kind_parts k) i p at) has)))
 
   owner_same : (of : TypeOwner) → OwnerWithin interfaces worlds of → owner_image a of ≡ owner_image b of
   owner_same (owner.World w) within = ap (λ (y : ℕ). owner.World y) (agree.of_worlds w within)

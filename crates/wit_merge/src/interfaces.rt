@@ -1,6 +1,6 @@
 //! The interfaces of two graphs as one.
 ghost use Rattle.std.specs.Prelude.{◌≡◌, ◌++◌, IfOk, OnOk};
-ghost use Rattle.wit_graph_theory.specs.Image.{function_image};
+ghost use Rattle.wit_remap_spec.specs.Image.{function_image, interface_image};
 ghost use Rattle.wit_merge_spec.specs.Remapped.{merge_maps};
 ghost use Rattle.wit_merge_spec.specs.United.{joined_graph};
 ghost use Rattle.wit_merge.specs.steps.Joined.{FunctionMoves, FunctionsMove, brought_matched, functions_image};
@@ -18,11 +18,10 @@ use wit_remap::Place;
 /// One that moves takes its place; one that stays gets what the other brings behind what it has, and the stability of
 /// the other is joined to its own.
 impl Part for Interface {
-    ghost use Rattle.wit_graph_theory.specs.Image.{interface_image};
     ghost use Rattle.wit_merge_spec.specs.United.{with_interface};
     ghost use Rattle.wit_merge.specs.steps.Joined.{InterfaceJoins, InterfaceMoves};
 
-    ghost can_move = { λ m e. InterfaceMoves m e.1 };
+    ghost can_move = { InterfaceMoves };
 
     ghost image = { λ m e. interface_image (merge_maps m) e.1 };
 
@@ -30,24 +29,13 @@ impl Part for Interface {
 
     ghost union = { λ m p into. with_interface m p.1 into };
 
-    fn moved(
-        &self,
-        _alloc: Global,
-        uniting: &UnionPlan<'_>,
-        _place: usize,
-    ) -> Result<Interface, AllocError> {
+    fn moved(&self, uniting: &UnionPlan<'_>) -> Result<Interface, AllocError> {
         let mut moved = self.try_clone()?;
         moved.place(&uniting.mover(self.package));
         Ok(moved)
     }
 
-    fn joined(
-        &self,
-        _alloc: Global,
-        uniting: &UnionPlan<'_>,
-        _place: usize,
-        from: &Interface,
-    ) -> Result<Interface, AllocError> {
+    fn joined(&self, uniting: &UnionPlan<'_>, from: &Interface) -> Result<Interface, AllocError> {
         let mut joined = self.try_clone()?;
         let found = &uniting.matches.types;
         push_moved(

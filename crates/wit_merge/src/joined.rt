@@ -1,8 +1,9 @@
 //! The two graphs as one, as they are listed.
 ghost use Rattle.std.specs.Prelude.{◌≡◌, IfOk};
-ghost use Rattle.wit_merge_spec.specs.Remapped.{owns_of_merge};
 ghost use Rattle.wit_merge_spec.specs.United.{joined_graph};
 ghost use Rattle.wit_merge.specs.steps.UnionSteps.{CanUnite, merging_of};
+ghost use Rattle.wit_merge_spec.specs.Remapped.{remap_of_merge};
+ghost use Rattle.wit_link_spec.specs.ValueRemap.{owns as owns_of};
 
 use crate::interfaces::joined_interfaces;
 use crate::packages::{joined_names, joined_packages};
@@ -20,7 +21,7 @@ pub(crate) fn joined_graph(
     owns: Items<TypeDef>,
 ) -> Result<Graph, AllocError>
     requires ready { CanUnite uniting.now }
-    requires owns { owns ≡ owns_of_merge (merging_of uniting.now) }
+    requires owns { owns ≡ owns_of (remap_of_merge (merging_of uniting.now)) }
     ensures { IfOk result (λ joined. joined ≡ joined_graph (merging_of uniting.now)) }
 {
     let types = joined_types(alloc, uniting, owns)?;

@@ -2,12 +2,10 @@
 #![tactic(auto)]
 
 mod agreement;
-mod asked;
 mod counterparts;
 mod functions;
 mod interfaces;
 mod joined;
-mod leading;
 mod names;
 mod owning;
 mod packages;

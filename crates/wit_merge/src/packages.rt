@@ -17,7 +17,7 @@ impl Part for Package {
     ghost use Rattle.wit_merge_spec.specs.United.{package_image, with_package};
     ghost use Rattle.wit_merge.specs.steps.Joined.{PackageJoins, PackageMoves};
 
-    ghost can_move = { λ m e. PackageMoves m e.1 };
+    ghost can_move = { PackageMoves };
 
     ghost image = { λ m e. package_image m e.1 };
 
@@ -25,12 +25,8 @@ impl Part for Package {
 
     ghost union = { λ m p into. with_package m p.1 into };
 
-    fn moved(
-        &self,
-        alloc: Global,
-        uniting: &UnionPlan<'_>,
-        _place: usize,
-    ) -> Result<Package, AllocError> {
+    fn moved(&self, uniting: &UnionPlan<'_>) -> Result<Package, AllocError> {
+        let alloc = self.interfaces.allocator();
         let mut moved = Package {
             name: self.name.try_clone()?,
             docs: self.docs.try_clone()?,
@@ -41,13 +37,7 @@ impl Part for Package {
         Ok(moved)
     }
 
-    fn joined(
-        &self,
-        _alloc: Global,
-        uniting: &UnionPlan<'_>,
-        _place: usize,
-        from: &Package,
-    ) -> Result<Package, AllocError> {
+    fn joined(&self, uniting: &UnionPlan<'_>, from: &Package) -> Result<Package, AllocError> {
         let mut joined = self.try_clone()?;
         push_tables(uniting, &mut joined, from)?;
         Ok(joined)

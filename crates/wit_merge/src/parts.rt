@@ -15,40 +15,29 @@ use wit_data::{Id, Items, TryClone};
 
 /// What stands in a list of a graph.
 pub(crate) trait Part: TryClone + Drop {
-    /// What is asked of one that moves, which comes with its place.
-    ghost can_move: { GraphMerge → ℕ × Self → Type 0 };
+    /// What is asked of one that moves.
+    ghost can_move: { GraphMerge → Self → Type 0 };
 
-    /// What becomes of one that moves.
+    /// What becomes of one that moves, which comes with its index.
     ghost image: { GraphMerge → ℕ × Self → Self };
 
-    /// What is asked of two, of which the first comes with its place.
-    ghost can_join: { GraphMerge → ℕ × Self → Self → Type 0 };
+    /// What is asked of two.
+    ghost can_join: { GraphMerge → Self → Self → Type 0 };
 
-    /// What is made of two.
+    /// What is made of two, of which the first comes with its index.
     ghost union: { GraphMerge → ℕ × Self → Self → Self };
 
-    /// A copy as it comes to be where it goes; it stands at a place of the other graph.
-    fn moved(
-        &self,
-        alloc: Global,
-        uniting: &UnionPlan<'_>,
-        place: usize,
-    ) -> Result<Self, AllocError>
+    /// A copy as it comes to be where it goes, at whatever index of the other graph it stands.
+    fn moved(&self, uniting: &UnionPlan<'_>) -> Result<Self, AllocError>
         requires ready { CanUnite uniting.now }
-        requires can { can_move (merging_of uniting.now) (place, self.now) }
-        ensures { IfOk result (λ made. made ≡ image (merging_of uniting.now) (place, self.now)) };
+        requires can { can_move (merging_of uniting.now) self.now }
+        ensures { IfOk result (λ made. (index : ℕ) → made ≡ image (merging_of uniting.now) (index, self.now)) };
 
-    /// A copy with another joined to it, which stands at a place of the other graph.
-    fn joined(
-        &self,
-        alloc: Global,
-        uniting: &UnionPlan<'_>,
-        place: usize,
-        from: &Self,
-    ) -> Result<Self, AllocError>
+    /// A copy with another joined to it, at whatever index of the other graph that stands.
+    fn joined(&self, uniting: &UnionPlan<'_>, from: &Self) -> Result<Self, AllocError>
         requires ready { CanUnite uniting.now }
-        requires can { can_join (merging_of uniting.now) (place, from.now) self.now }
-        ensures { IfOk result (λ made. made ≡ union (merging_of uniting.now) (place, from.now) self.now) };
+        requires can { can_join (merging_of uniting.now) from.now self.now }
+        ensures { IfOk result (λ made. (index : ℕ) → made ≡ union (merging_of uniting.now) (index, from.now) self.now) };
 }
 
 /// Copies of the things of a graph, each with the one joined to it that is matched with it, if one is; and behind them
@@ -62,8 +51,8 @@ pub(crate) fn joined_list<S, T: Part>(
 ) -> Result<Items<T>, AllocError>
     requires ready { CanUnite uniting.now }
     requires long { length found.now ≡ length others.now }
-    requires joining { (x x' : ℕ) (from into : T) → slice_get others.now x ≡ Some from → get_or found.now x None ≡ Some x' → slice_get ours.now x' ≡ Some into → T.can_join (merging_of uniting.now) (x, from) into }
-    requires moving { (x : ℕ) (from : T) → slice_get others.now x ≡ Some from → moves found.now x ≡ true → T.can_move (merging_of uniting.now) (x, from) }
+    requires joining { (x x' : ℕ) (from into : T) → slice_get others.now x ≡ Some from → get_or found.now x None ≡ Some x' → slice_get ours.now x' ≡ Some into → T.can_join (merging_of uniting.now) from into }
+    requires moving { (x : ℕ) (from : T) → slice_get others.now x ≡ Some from → moves found.now x ≡ true → T.can_move (merging_of uniting.now) from }
     ensures { IfOk result (λ made. made ≡ map (λ (e : ℕ × T). option_map_or (λ (p : ℕ × T). T.union (merging_of uniting.now) p e.1) (counterpart_of (λ x. get_or found.now x None) others.now e.0) e.1) (enumerate_from 0 ours.now) ++ map (T.image (merging_of uniting.now)) (selected_with_index (moves found.now) others.now)) }
 {
     let mut made = join_all(alloc, uniting, found, others, ours)?;
@@ -81,7 +70,7 @@ fn join_all<S, T: Part>(
 ) -> Result<Items<T>, AllocError>
     requires ready { CanUnite uniting.now }
     requires long { length found.now ≡ length others.now }
-    requires can { (x x' : ℕ) (from into : T) → slice_get others.now x ≡ Some from → get_or found.now x None ≡ Some x' → slice_get ours.now x' ≡ Some into → T.can_join (merging_of uniting.now) (x, from) into }
+    requires can { (x x' : ℕ) (from into : T) → slice_get others.now x ≡ Some from → get_or found.now x None ≡ Some x' → slice_get ours.now x' ≡ Some into → T.can_join (merging_of uniting.now) from into }
     ensures { IfOk result (λ made. made ≡ map (λ (e : ℕ × T). option_map_or (λ (p : ℕ × T). T.union (merging_of uniting.now) p e.1) (counterpart_of (λ x. get_or found.now x None) others.now e.0) e.1) (enumerate_from 0 ours.now)) }
 {
     let counterparts = counterparts(alloc, found, ours.len())?;
@@ -89,26 +78,25 @@ fn join_all<S, T: Part>(
     for index in 0..ours.len() {
         let into = ours.at(index);
         let place = *counterparts.at(index);
-        made.push(join_one(alloc, uniting, others, place, into)?)?;
+        made.push(join_one(uniting, others, place, into)?)?;
     }
     Ok(made)
 }
 
 /// A copy of a thing, with the one at a place joined to it, if there is one.
 fn join_one<T: Part>(
-    alloc: Global,
     uniting: &UnionPlan<'_>,
     others: &Items<T>,
     place: Option<usize>,
     into: &T,
 ) -> Result<T, AllocError>
     requires ready { CanUnite uniting.now }
-    requires can { (x : ℕ) (from : T) → place ≡ Some x → slice_get others.now x ≡ Some from → T.can_join (merging_of uniting.now) (x, from) into.now }
+    requires can { (x : ℕ) (from : T) → place ≡ Some x → slice_get others.now x ≡ Some from → T.can_join (merging_of uniting.now) from into.now }
     ensures { IfOk result (λ made. made ≡ option_map_or (λ (p : ℕ × T). T.union (merging_of uniting.now) p into.now) (placed_at others.now place) into.now) }
 {
     match place {
         Some(place) => match others.get(place) {
-            Some(from) => into.joined(alloc, uniting, place, from),
+            Some(from) => into.joined(uniting, from),
             None => into.try_clone(),
         },
         None => into.try_clone(),
@@ -123,13 +111,13 @@ fn move_all<S, T: Part>(
     others: &Items<T>,
 ) -> Result<Items<T>, AllocError>
     requires ready { CanUnite uniting.now }
-    requires can { (x : ℕ) (from : T) → slice_get others.now x ≡ Some from → moves found.now x ≡ true → T.can_move (merging_of uniting.now) (x, from) }
+    requires can { (x : ℕ) (from : T) → slice_get others.now x ≡ Some from → moves found.now x ≡ true → T.can_move (merging_of uniting.now) from }
     ensures { IfOk result (λ made. made ≡ map (T.image (merging_of uniting.now)) (selected_with_index (moves found.now) others.now)) }
 {
     let mut made = Items::new(alloc);
     for index in 0..others.len() {
         if moves(found, index) {
-            made.push(others.at(index).moved(alloc, uniting, index)?)?;
+            made.push(others.at(index).moved(uniting)?)?;
         }
     }
     Ok(made)

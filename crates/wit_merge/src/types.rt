@@ -1,8 +1,9 @@
 //! The types of two graphs as one.
 ghost use Rattle.std.specs.Prelude.{◌≡◌, IfOk};
-ghost use Rattle.wit_merge_spec.specs.Remapped.{owns_of_merge};
 ghost use Rattle.wit_merge_spec.specs.United.{joined_graph};
 ghost use Rattle.wit_merge.specs.steps.UnionSteps.{CanUnite, merging_of};
+ghost use Rattle.wit_merge_spec.specs.Remapped.{remap_of_merge};
+ghost use Rattle.wit_link_spec.specs.ValueRemap.{owns as owns_of};
 
 use crate::parts::{Part, joined_list};
 use crate::stabilities::join_stability;
@@ -13,37 +14,26 @@ use wit_remap::Place;
 
 /// One that moves takes its place; to one that stays the stability of the other is joined.
 impl Part for TypeDef {
-    ghost use Rattle.wit_graph_theory.specs.Image.{type_image};
+    ghost use Rattle.wit_remap_spec.specs.Image.{type_image};
     ghost use Rattle.wit_merge_spec.specs.United.{with_type};
     ghost use Rattle.wit_merge_spec.specs.Remapped.{merge_maps};
     ghost use Rattle.wit_merge.specs.steps.Joined.{TypeMoves};
 
-    ghost can_move = { λ m e. TypeMoves m e.1 };
+    ghost can_move = { TypeMoves };
 
     ghost image = { λ m e. type_image (merge_maps m) e.1 };
 
-    ghost can_join = { λ m p into. Unit {0} };
+    ghost can_join = { λ m from into. Unit {0} };
 
     ghost union = { λ m p into. with_type p.1 into };
 
-    fn moved(
-        &self,
-        _alloc: Global,
-        uniting: &UnionPlan<'_>,
-        _place: usize,
-    ) -> Result<TypeDef, AllocError> {
+    fn moved(&self, uniting: &UnionPlan<'_>) -> Result<TypeDef, AllocError> {
         let mut moved = self.try_clone()?;
         moved.place(&uniting.mover(None));
         Ok(moved)
     }
 
-    fn joined(
-        &self,
-        _alloc: Global,
-        _uniting: &UnionPlan<'_>,
-        _place: usize,
-        from: &TypeDef,
-    ) -> Result<TypeDef, AllocError> {
+    fn joined(&self, _uniting: &UnionPlan<'_>, from: &TypeDef) -> Result<TypeDef, AllocError> {
         let mut joined = self.try_clone()?;
         join_stability(&mut joined.stability, &from.stability)?;
         Ok(joined)
@@ -58,7 +48,7 @@ pub(crate) fn joined_types(
     owns: Items<TypeDef>,
 ) -> Result<Items<TypeDef>, AllocError>
     requires ready { CanUnite uniting.now }
-    requires owns { owns ≡ owns_of_merge (merging_of uniting.now) }
+    requires owns { owns ≡ owns_of (remap_of_merge (merging_of uniting.now)) }
     ensures { IfOk result (λ types. types ≡ (joined_graph (merging_of uniting.now)).types) }
 {
     let found = &uniting.matches.types;

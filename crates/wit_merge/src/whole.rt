@@ -121,7 +121,7 @@ fn as_listed(
     let Values {
         places: value_ids,
         owns,
-    } = values(alloc, graph, other, matches, merge_remap, offset)?;
+    } = values(alloc, graph, other, matches, merge_remap)?;
     let counterparts = counterparts(alloc, &matches.interfaces, graph.interfaces.len())?;
     let uniting = UnionPlan {
         graph,

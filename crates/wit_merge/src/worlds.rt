@@ -17,26 +17,22 @@ use wit_remap::{Moves, placed_entries};
 /// One that moves takes its place; to one that stays, and to what it holds under the keys of interfaces, the
 /// stabilities of the other are joined.
 impl Part for World {
-    ghost use Rattle.wit_graph_theory.specs.Image.{world_image};
+    ghost use Rattle.wit_remap_spec.specs.Image.{world_image};
     ghost use Rattle.wit_merge_spec.specs.United.{with_world};
     ghost use Rattle.wit_merge_spec.specs.Remapped.{merge_maps};
     ghost use Rattle.wit_merge.specs.steps.Joined.{WorldJoins, WorldMoves};
 
-    ghost can_move = { λ m e. WorldMoves m e.1 };
+    ghost can_move = { WorldMoves };
 
     ghost image = { λ m e. world_image (merge_maps m) e.0 e.1 };
 
-    ghost can_join = { WorldJoins };
+    ghost can_join = { λ m from into. WorldJoins m into };
 
     ghost union = { with_world };
 
-    fn moved(
-        &self,
-        alloc: Global,
-        uniting: &UnionPlan<'_>,
-        _place: usize,
-    ) -> Result<World, AllocError> {
+    fn moved(&self, uniting: &UnionPlan<'_>) -> Result<World, AllocError> {
         let mover = uniting.mover(self.package);
+        let alloc = self.imports.allocator();
         let mut moved = self.try_clone()?;
         let imports = mem::replace(&mut moved.imports, Table::new(alloc));
         let imports = placed_entries(alloc, &mover, imports)?;
@@ -49,15 +45,9 @@ impl Part for World {
         Ok(moved)
     }
 
-    fn joined(
-        &self,
-        alloc: Global,
-        uniting: &UnionPlan<'_>,
-        _place: usize,
-        from: &World,
-    ) -> Result<World, AllocError> {
-        let imports = joined_entries(alloc, uniting, &from.imports, &self.imports)?;
-        let exports = joined_entries(alloc, uniting, &from.exports, &self.exports)?;
+    fn joined(&self, uniting: &UnionPlan<'_>, from: &World) -> Result<World, AllocError> {
+        let imports = joined_entries(uniting, &from.imports, &self.imports)?;
+        let exports = joined_entries(uniting, &from.exports, &self.exports)?;
         let mut joined = self.try_clone()?;
         joined.imports = imports;
         joined.exports = exports;
@@ -69,7 +59,6 @@ impl Part for World {
 /// Copies of entries of a world, each with the stability joined to it of what stands under its key in the world that is
 /// matched.
 fn joined_entries(
-    alloc: Global,
     uniting: &UnionPlan<'_>,
     from: &Table<WorldKey, WorldItem>,
     into: &Table<WorldKey, WorldItem>,
@@ -77,7 +66,7 @@ fn joined_entries(
     requires { HasDistinctKeys into.now }
     ensures { IfOk result (λ joined. joined ≡ map (entry_joined uniting.now.counterparts.now from.now) into.now) }
 {
-    let mut joined = Table::new(alloc);
+    let mut joined = Table::new(into.allocator());
     for (key, item) in into.iter() {
         let item = joined_item(item, stability_under(uniting.counterparts, from, key))?;
         joined.push(key.try_clone()?, item)?;

@@ -7,15 +7,15 @@ use Rattle.wit_digraph.specs.facts.MemberFacts.{Contains-nil}
 use Rattle.wit_digraph.specs.PostOrder.{post_order, post_order_within}
 use Rattle.wit_data.specs.Entries.{Entry}
 use Rattle.wit_data.specs.declared.function.Function.{Function}
-use Rattle.wit_data.specs.declared.function.FunctionKind.TheVariants as function
 use Rattle.wit_data.specs.declared.interface.Interface.{Interface}
+use Rattle.wit_data.specs.declared.function.FunctionKind.TheVariants as function
 use Rattle.wit_data.specs.declared.types.Type_.TheVariants as type
 use Rattle.wit_data.specs.declared.world.WorldItem.TheVariants as item
 use Rattle.wit_data.specs.declared.world.WorldKey.TheVariants as key
 use Rattle.wit_graph_data.specs.examples.Samples.{entry_of, foo_bar, function_of, instance}
 use Rattle.wit_graph_data.specs.declared.cause.Cause.TheVariants as cause
 use Rattle.wit_graph_data.specs.declared.error_kind.ResolveErrorKind.TheVariants.{Semantic}
-use Rattle.wit_graph_theory.specs.FunctionMismatch.{FunctionMismatch, HaveFunctionMismatch, function_mismatch_text, kinds_differ, parameter_counts_differ, parameter_names_differ, parameter_types_differ, result_counts_differ, results_differ}
+use Rattle.wit_remap_spec.specs.FunctionMismatch.{FunctionMismatch, HaveFunctionMismatch, function_mismatch_text, kinds_differ, parameter_counts_differ, parameter_names_differ, parameter_types_differ, result_counts_differ, results_differ}
 use Rattle.wit_graph_theory.specs.examples.TestFacts.{none_some}
 use Rattle.wit_merge_spec.specs.Agreement.{EntriesDiffer, StructuresDiffer}
 use Rattle.wit_merge_spec.specs.Agreement as mismatch
@@ -25,7 +25,7 @@ use Rattle.wit_merge_spec.specs.Matches.{GraphMerge, TypePair, type_pairs}
 use Rattle.wit_merge_spec.specs.MismatchText.{linked, part_links, side_word, type_link}
 use Rattle.wit_merge_structure.specs.facts.DifferenceFacts.{first_here}
 use Rattle.wit_merge_structure.specs.Structure.{Feature, here, named, names, structure, structure_within, variant}
-use Rattle.wit_merge_structure.specs.declared.kinds.Variant.TheVariants as variants
+use Rattle.wit_data.specs.declared.kind.Variant.TheVariants as variants
 use Rattle.wit_merge_examples.proofs.Passing.{differs_in_nothing}
 use Rattle.wit_merge_examples.specs.Graphs.{merge_of_graphs, record_x, resource_t, taking}
 use Rattle.wit_merge_examples.specs.Refusals.{ExamplesOfMismatches, holding, importing, naming, returning, taking_x}

@@ -8,18 +8,18 @@ use Rattle.std.specs.Option.{option_eq, option_map_or}
 use Rattle.std.specs.Str.{bytes_eq}
 use Rattle.wit_digraph.specs.facts.MemberFacts.{Contains-cons_cases, Contains-here, Contains-nil}
 use Rattle.wit_digraph.specs.Relation.{direct}
-use Rattle.wit_data.specs.Entries.{Entry, item_interface}
+use Rattle.wit_data.specs.Entries.{Entry, item_interface, entries_of}
 use Rattle.wit_data.specs.Reference.{named_option}
 use Rattle.wit_data.specs.declared.function.Function.{Function}
 use Rattle.wit_data.specs.declared.interface.Interface.{Interface}
 use Rattle.wit_data.specs.declared.stability.Stability.{Stability}
-use Rattle.wit_data.specs.declared.stability.Stability.TheVariants.{Unknown, Stable, Unstable}
-use Rattle.wit_data.specs.declared.types.Handle.TheVariants.{Borrow, Own}
 use Rattle.wit_data.specs.declared.types.TypeDef.{TypeDef}
 use Rattle.wit_data.specs.declared.types.TypeDefKind.{TypeDefKind}
-use Rattle.wit_data.specs.declared.types.TypeDefKind.TheVariants as kind
 use Rattle.wit_data.specs.declared.world.World.{World}
 use Rattle.wit_data.specs.declared.world.WorldItem.{WorldItem}
+use Rattle.wit_data.specs.declared.stability.Stability.TheVariants.{Unknown, Stable, Unstable}
+use Rattle.wit_data.specs.declared.types.Handle.TheVariants.{Borrow, Own}
+use Rattle.wit_data.specs.declared.types.TypeDefKind.TheVariants as kind
 use Rattle.wit_data.specs.declared.world.WorldItem.TheVariants as item
 use Rattle.wit_data.specs.declared.world.WorldKey.TheVariants as key
 use Rattle.wit_elaboration.specs.Elaboration.{graph_uses}
@@ -28,11 +28,10 @@ use Rattle.wit_graph_data.specs.Queries.{type_contents}
 use Rattle.wit_graph_data.specs.declared.cause.Cause.TheVariants as cause
 use Rattle.wit_graph_data.specs.declared.error_kind.ResolveErrorKind.TheVariants.{Semantic}
 use Rattle.wit_graph_theory.specs.examples.AgreementFacts.{functions_pass, interfaces_accepted}
-use Rattle.wit_graph_theory.specs.AllElaborated.{HasWorldInConflict, graph_package_uses}
-use Rattle.wit_graph_theory.specs.FunctionMismatch.{HaveFunctionMismatch}
-use Rattle.wit_graph_theory.specs.Image.{function_image}
+use Rattle.wit_elaboration.specs.AllElaborated.{HasWorldInConflict, graph_package_uses}
+use Rattle.wit_remap_spec.specs.FunctionMismatch.{HaveFunctionMismatch}
+use Rattle.wit_remap_spec.specs.Image.{function_image}
 use Rattle.wit_graph_theory.specs.facts.ListFacts.{contained_at, found_at}
-use Rattle.wit_graph_theory.specs.steps.UnnamedOnce.{entries_of}
 use Rattle.wit_graph_theory.specs.examples.TestFacts.{all_are, all_at, all_uses, at_are, falls, implied, implies, is_empty, no_cycle, none_some, nothing_in, some_passes}
 use Rattle.wit_link_spec.specs.Gates.{OptionalSpan}
 use Rattle.wit_link_spec.specs.Reasons.{HoldsBorrow}
@@ -230,21 +229,7 @@ joined_accepted m all from into c = join from into (by from into c.joined) c.apa
 abbrev is_borrow : TypeDefKind → Bool
 is_borrow (kind.Handle (Borrow r)) = true
 is_borrow (kind.Handle (Own r)) = false
-is_borrow (kind.Record fields) = false
-is_borrow kind.Resource = false
-is_borrow (kind.Flags flags) = false
-is_borrow (kind.Tuple types) = false
-is_borrow (kind.Variant cases) = false
-is_borrow (kind.Enum cases) = false
-is_borrow (kind.Option ty) = false
-is_borrow (kind.Result_ ok err) = false
-is_borrow (kind.List ty) = false
-is_borrow (kind.Map k v) = false
-is_borrow (kind.FixedLengthList ty len) = false
-is_borrow (kind.Future ty) = false
-is_borrow (kind.Stream ty) = false
-is_borrow (kind.Type_ ty) = false
-is_borrow kind.Unknown = false
+is_borrow _ = false
 
 -- the type is there, holds nothing and is no borrow
 abbrev holds_none : List TypeDef → ℕ → Bool

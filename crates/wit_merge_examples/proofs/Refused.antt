@@ -5,7 +5,7 @@ use Rattle.wit_digraph.specs.Relation.{direct}
 use Rattle.wit_digraph.specs.PostOrder.{post_order, post_order_within}
 use Rattle.wit_data.specs.Entries.{Entry}
 use Rattle.wit_data.specs.Reference.{type_references}
-use Rattle.wit_data.specs.declared.package_name.PackageName.{PackageName}
+use Rattle.wit_names.specs.declared.package_name.PackageName.{PackageName}
 use Rattle.wit_data.specs.declared.world.WorldKey.TheVariants as key
 use Rattle.wit_elaboration.specs.Elaboration.{graph_uses}
 use Rattle.wit_elaboration.specs.Entries.{item_interface}
@@ -13,7 +13,7 @@ use Rattle.wit_elaboration.specs.Imported.{IsEntryInConflict}
 use Rattle.wit_graph_data.specs.examples.Samples.{entry_of}
 use Rattle.wit_graph_data.specs.declared.cause.Cause.TheVariants as cause
 use Rattle.wit_graph_data.specs.declared.error_kind.ResolveErrorKind.TheVariants.{InvalidTransitiveDependency, OffsetOverflow, OutOfMemory, PackageCycle, Semantic}
-use Rattle.wit_graph_theory.specs.AllElaborated.{DependsOnItself, HasWorldInConflict, UsesItself}
+use Rattle.wit_elaboration.specs.AllElaborated.{DependsOnItself, HasWorldInConflict, UsesItself}
 use Rattle.wit_graph_theory.specs.examples.TestFacts.{no_cycle, none_in, only_one}
 use Rattle.wit_link_spec.specs.Gates.{OptionalSpan}
 use Rattle.wit_merge_spec.specs.Cause.{IsMergeCause}

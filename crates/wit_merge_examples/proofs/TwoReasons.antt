@@ -5,7 +5,7 @@ use Rattle.wit_values.specs.facts.Lists.{differ}
 use Rattle.wit_digraph.specs.Relation.{direct}
 use Rattle.wit_digraph.specs.PostOrder.{post_order, post_order_within}
 use Rattle.wit_data.specs.Reference.{type_references}
-use Rattle.wit_data.specs.declared.package_name.PackageName.{PackageName}
+use Rattle.wit_names.specs.declared.package_name.PackageName.{PackageName}
 use Rattle.wit_data.specs.declared.world.WorldKey.TheVariants as key
 use Rattle.wit_elaboration.specs.Elaboration.{graph_uses}
 use Rattle.wit_elaboration.specs.Entries.{Entry}
@@ -13,8 +13,8 @@ use Rattle.wit_elaboration.specs.Imported.{HasTransitiveConflict, IsEntryInConfl
 use Rattle.wit_graph_data.specs.examples.Samples.{entry_of}
 use Rattle.wit_graph_data.specs.declared.cause.Cause.TheVariants as cause
 use Rattle.wit_graph_data.specs.declared.error_kind.ResolveErrorKind.TheVariants.{InvalidTransitiveDependency, PackageCycle, Semantic}
-use Rattle.wit_graph_theory.specs.AllElaborated.{HasWorldInConflict, UsesItself}
-use Rattle.wit_graph_theory.specs.FunctionMismatch.{FunctionMismatch, parameter_names_differ}
+use Rattle.wit_elaboration.specs.AllElaborated.{HasWorldInConflict, UsesItself}
+use Rattle.wit_remap_spec.specs.FunctionMismatch.{FunctionMismatch, parameter_names_differ}
 use Rattle.wit_graph_theory.specs.examples.TestFacts.{no_cycle, none_in, one_of_two, only_one}
 use Rattle.wit_link_spec.specs.Gates.{OptionalSpan}
 use Rattle.wit_merge_spec.specs.Agreement.{GraphsDiffer}

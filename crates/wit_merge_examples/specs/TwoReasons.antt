@@ -1,7 +1,7 @@
 -- Two reasons at once: which of them are told beside one another, and which one spoils the other.
 use Rattle.std.specs.Prelude.{ℕ, List, [], ◌∷◌, Some, None, codes}
 use Rattle.wit_data.specs.declared.function.Function.{Function}
-use Rattle.wit_data.specs.declared.package_name.PackageName.{PackageName}
+use Rattle.wit_names.specs.declared.package_name.PackageName.{PackageName}
 use Rattle.wit_data.specs.declared.stability.Stability.{Stability}
 use Rattle.wit_data.specs.declared.types.Handle.TheVariants as handle
 use Rattle.wit_data.specs.declared.types.Type_.TheVariants as type
@@ -11,7 +11,7 @@ use Rattle.wit_graph_data.specs.examples.Samples.{entry_of, foo_bar_of, interfac
 use Rattle.wit_graph_data.specs.declared.cause.Cause.TheVariants as cause
 use Rattle.wit_graph_data.specs.declared.error_kind.ResolveErrorKind.TheVariants.{InvalidTransitiveDependency, OffsetOverflow, PackageCycle, Semantic, StabilityMismatch}
 use Rattle.wit_graph_data.specs.declared.graph.Graph.{Graph}
-use Rattle.wit_graph_theory.specs.AllElaborated.{DependsOnItself, UsesItself}
+use Rattle.wit_elaboration.specs.AllElaborated.{DependsOnItself, UsesItself}
 use Rattle.wit_link_spec.specs.Gates.{OptionalSpan}
 use Rattle.wit_merge_spec.specs.Cause.{IsMergeCause, MergeReturnsBorrow}
 use Rattle.wit_merge_spec.specs.Matches.{GraphMerge}

@@ -4,13 +4,13 @@ use Rattle.std.proofs.lemmas.Option.{slice_get_within}
 use Rattle.std.proofs.lemmas.Bool.{false≢true}
 use Rattle.std.proofs.lemmas.List.Elements.{Contains-append_right}
 use Rattle.wit_data.specs.Entries.{Entry, item_interface}
-use Rattle.wit_data.specs.PackageName.{package_name_text}
+use Rattle.wit_names.specs.PackageName.{package_name_text}
 use Rattle.wit_data.specs.declared.interface.Interface.{Interface}
-use Rattle.wit_data.specs.declared.package_name.PackageName.{PackageName}
+use Rattle.wit_names.specs.declared.package_name.PackageName.{PackageName}
 use Rattle.wit_data.specs.declared.world.WorldItem.{WorldItem}
 use Rattle.wit_digraph.specs.facts.MemberFacts.{Contains-here}
 use Rattle.wit_graph_data.specs.declared.graph.Package.{Package}
-use Rattle.wit_graph_theory.specs.FunctionMismatch.{HaveFunctionMismatch}
+use Rattle.wit_remap_spec.specs.FunctionMismatch.{HaveFunctionMismatch}
 use Rattle.wit_graph_theory.specs.facts.ListFacts.{contained_at, place_of}
 use Rattle.wit_graph_theory.specs.facts.OptionFacts.{some_parts, some_same, some_whole}
 use Rattle.wit_merge_spec.specs.Agreement as agreement

@@ -7,11 +7,11 @@ use Rattle.std.specs.Str.{bytes_eq}
 use Rattle.wit_values.specs.Table.{HasDistinctKeys}
 use Rattle.wit_data.specs.Entries.{Entry}
 use Rattle.wit_data.specs.Ownership.{entry_type, world_types}
-use Rattle.wit_data.specs.declared.world.WorldItem.{WorldItem}
-use Rattle.wit_data.specs.declared.world.WorldItem.TheVariants as item
-use Rattle.wit_data.specs.declared.world.WorldKey.{WorldKey}
-use Rattle.wit_data.specs.declared.world.WorldKey.TheVariants as key
 use Rattle.wit_data.specs.declared.world.World.{World}
+use Rattle.wit_data.specs.declared.world.WorldItem.{WorldItem}
+use Rattle.wit_data.specs.declared.world.WorldKey.{WorldKey}
+use Rattle.wit_data.specs.declared.world.WorldItem.TheVariants as item
+use Rattle.wit_data.specs.declared.world.WorldKey.TheVariants as key
 use Rattle.wit_data.specs.contracts.world.WorldKeyPartialEq.TheImpl.{eq-value}
 use Rattle.wit_elaboration.proofs.Keys.{key_eq-same}
 use Rattle.wit_elaboration.specs.Entries.{same_key}

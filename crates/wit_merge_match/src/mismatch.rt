@@ -37,31 +37,22 @@ pub fn find_mismatch(
         other,
         matches,
     };
-    match comparing.interfaces_mismatch(alloc)? {
-        Some(message) => Ok(Some(message)),
-        None => match comparing.worlds_mismatch(alloc)? {
-            Some(message) => Ok(Some(message)),
-            None => comparing.structures_mismatch(alloc),
-        },
+    for index in 0..other.interfaces.len() {
+        match comparing.named_mismatch(alloc, index)? {
+            Some(message) => return Ok(Some(message)),
+            None => {}
+        }
     }
+    for index in 0..other.worlds.len() {
+        match comparing.world_mismatch(alloc, index)? {
+            Some(message) => return Ok(Some(message)),
+            None => {}
+        }
+    }
+    comparing.structures_mismatch(alloc)
 }
 
 impl<'a> MatchedGraphs<'a> {
-    /// What differs in the first interface of a name that disagrees with the one with which it is matched.
-    fn interfaces_mismatch(&self, alloc: Global) -> Result<Option<String>, AllocError>
-        requires { AreKnown self.now }
-        ensures some { IfOk result (λ found. IfSome found (λ message. (i : ℕ) × InterfaceDiffersAt (merging_of self.now) i (string_bytes message))) }
-        ensures none { IfOk result (λ found. IfNone found ((i : ℕ) (message : List ℕ) → InterfaceDiffersAt (merging_of self.now) i message → ⊥)) }
-    {
-        for index in 0..self.other.interfaces.len() {
-            match self.named_mismatch(alloc, index)? {
-                Some(message) => return Ok(Some(message)),
-                None => {}
-            }
-        }
-        Ok(None)
-    }
-
     /// What differs in an interface, if it has a name.
     fn named_mismatch(&self, alloc: Global, index: usize) -> Result<Option<String>, AllocError>
         requires { AreKnown self.now }
@@ -86,21 +77,6 @@ impl<'a> MatchedGraphs<'a> {
             }
             None => Ok(None),
         }
-    }
-
-    /// What differs in the first world that differs from the one with which it is matched.
-    fn worlds_mismatch(&self, alloc: Global) -> Result<Option<String>, AllocError>
-        requires { AreKnown self.now }
-        ensures some { IfOk result (λ found. IfSome found (λ message. (w : ℕ) × WorldDiffersAt (merging_of self.now) w (string_bytes message))) }
-        ensures none { IfOk result (λ found. IfNone found ((w : ℕ) (message : List ℕ) → WorldDiffersAt (merging_of self.now) w message → ⊥)) }
-    {
-        for index in 0..self.other.worlds.len() {
-            match self.world_mismatch(alloc, index)? {
-                Some(message) => return Ok(Some(message)),
-                None => {}
-            }
-        }
-        Ok(None)
     }
 
     /// What differs in a world.

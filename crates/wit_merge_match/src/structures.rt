@@ -1,5 +1,5 @@
 //! What differs in the structure of matched types, in the order in which they are compared.
-ghost use Rattle.std.specs.Prelude.{◌≡◌, ◌∷◌, ◌<◌, [], IfNone, IfOk, IfSome, length, string_bytes};
+ghost use Rattle.std.specs.Prelude.{◌≡◌, ◌∷◌, ◌++◌, ◌<◌, [], IfNone, IfOk, IfSome, length, string_bytes};
 ghost use Rattle.std.specs.List.{flat_map};
 ghost use Rattle.wit_graph_data.specs.Queries.{topological_packages};
 ghost use Rattle.wit_digraph.specs.Relation.{IsAcyclic};
@@ -27,14 +27,11 @@ impl<'a> MatchedGraphs<'a> {
         let order = package_order(alloc, self.other)?;
         let types = &self.matches.types;
         let mut comparison = Comparison::new(alloc, &self.other.types, &self.graph.types, types)?;
-        match self.interfaces_differ(alloc, &mut comparison, &order)? {
-            Some(message) => Ok(Some(message)),
-            None => self.worlds_differ(alloc, &mut comparison, &order),
-        }
+        self.packages_differ(alloc, &mut comparison, &order)
     }
 
-    /// What differs in types of the interfaces of some packages.
-    fn interfaces_differ(
+    /// What differs in types of the interfaces of some packages, and then of their worlds.
+    fn packages_differ(
         &self,
         alloc: Global,
         comparison: &mut Comparison<'_>,
@@ -42,9 +39,8 @@ impl<'a> MatchedGraphs<'a> {
     ) -> Result<Option<String>, AllocError>
         requires comparable { AreComparable self.now }
         requires of { IsOf self.now comparison.old }
-        ensures of { IsOf self.now comparison.new }
-        ensures some { IfOk result (λ found. IfSome found (λ message. FirstMismatch (merging_of self.now) (flat_map (package_interface_pairs (merging_of self.now)) order.now) (string_bytes message))) }
-        ensures none { IfOk result (λ found. IfNone found (NoneDiffer (merging_of self.now) (flat_map (package_interface_pairs (merging_of self.now)) order.now))) }
+        ensures some { IfOk result (λ found. IfSome found (λ message. FirstMismatch (merging_of self.now) (flat_map (package_interface_pairs (merging_of self.now)) order.now ++ flat_map (package_world_pairs (merging_of self.now)) order.now) (string_bytes message))) }
+        ensures none { IfOk result (λ found. IfNone found (NoneDiffer (merging_of self.now) (flat_map (package_interface_pairs (merging_of self.now)) order.now ++ flat_map (package_world_pairs (merging_of self.now)) order.now))) }
     {
         for index in 0..order.len() {
             match self.package_interfaces_differ(alloc, comparison, *order.at(index))? {
@@ -52,22 +48,6 @@ impl<'a> MatchedGraphs<'a> {
                 None => {}
             }
         }
-        Ok(None)
-    }
-
-    /// What differs in types of the worlds of some packages.
-    fn worlds_differ(
-        &self,
-        alloc: Global,
-        comparison: &mut Comparison<'_>,
-        order: &Items<PackageId>,
-    ) -> Result<Option<String>, AllocError>
-        requires comparable { AreComparable self.now }
-        requires of { IsOf self.now comparison.old }
-        ensures of { IsOf self.now comparison.new }
-        ensures some { IfOk result (λ found. IfSome found (λ message. FirstMismatch (merging_of self.now) (flat_map (package_world_pairs (merging_of self.now)) order.now) (string_bytes message))) }
-        ensures none { IfOk result (λ found. IfNone found (NoneDiffer (merging_of self.now) (flat_map (package_world_pairs (merging_of self.now)) order.now))) }
-    {
         for index in 0..order.len() {
             match self.package_worlds_differ(alloc, comparison, *order.at(index))? {
                 Some(message) => return Ok(Some(message)),

@@ -3,13 +3,12 @@
 -- but of types the first alone.
 -- Source: `build_function`, `build_world` and `match_world_item` of wit-parser 0.263.0.
 use Rattle.std.specs.Prelude.{◌≡◌, ◌≢◌, ℕ, Bool, true, false, List, [], ◌∷◌, length, slice_get, None, Some, Contains, codes}
-use Rattle.wit_data.specs.Entries.{Entry, item_interface}
+use Rattle.wit_data.specs.Entries.{Entry, item_interface, entries_of}
 use Rattle.wit_data.specs.declared.world.WorldItem.{WorldItem}
 use Rattle.wit_data.specs.declared.world.WorldItem.TheVariants as item
 use Rattle.wit_graph_data.specs.IdText.{key_text}
 use Rattle.wit_graph_data.specs.declared.graph.Package.{Package}
-use Rattle.wit_graph_theory.specs.FunctionMismatch.{HaveFunctionMismatch}
-use Rattle.wit_graph_theory.specs.steps.UnnamedOnce.{entries_of}
+use Rattle.wit_remap_spec.specs.FunctionMismatch.{HaveFunctionMismatch}
 use Rattle.wit_merge_spec.specs.Matches.{FirstDiffers, GraphMerge, Pair, counterpart_interface, counterpart_item, counterpart_type, counterpart_world, type_pairs}
 use Rattle.wit_merge_spec.specs.MismatchText.{absent_text, entry_count_text, entry_link, linked, other_interface_text, other_sort_text, part_links, side_word}
 use Rattle.wit_merge_structure.specs.Structure.{DifferInStructure}

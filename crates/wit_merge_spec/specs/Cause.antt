@@ -7,20 +7,19 @@
 -- joined (8) and a position that is too large (27) stand beside all others. A cycle of interfaces (22) spoils what
 -- elaboration reads (4), a cycle of packages (6) doesn't.
 -- Source: `merge` of wit-parser 0.263.0.
-use Rattle.std.specs.List.{flat_map}
-use Rattle.std.specs.Prelude.{ℕ, List, None, ◌≡◌, ◌≤◌, ◌+◌, ◌^◌, Bool, ◌++◌, Some, Contains}
+use Rattle.std.specs.Prelude.{ℕ, List, None, ◌≡◌, ◌≤◌, ◌+◌, ◌^◌, Bool, ◌++◌, Some, Contains, flat_map}
 use Rattle.wit_data.specs.Reference.{named_option}
 use Rattle.wit_data.specs.declared.function.Function.{Function}
-use Rattle.wit_data.specs.declared.package_name.PackageName.{PackageName}
+use Rattle.wit_names.specs.declared.package_name.PackageName.{PackageName}
 use Rattle.wit_data.specs.declared.stability.Stability.{Stability}
 use Rattle.wit_graph_data.specs.Error.{NoCause}
 use Rattle.wit_graph_data.specs.declared.cause.Cause.TheVariants as cause
+use Rattle.wit_graph_data.specs.declared.graph.Graph.{Graph}
 use Rattle.wit_graph_data.specs.declared.error_kind.ResolveErrorKind.{ResolveErrorKind}
 use Rattle.wit_graph_data.specs.declared.error_kind.ResolveErrorKind.TheVariants.{InvalidTransitiveDependency, PackageCycle, StabilityMismatch, Semantic, OffsetOverflow}
-use Rattle.wit_graph_data.specs.declared.graph.Graph.{Graph}
-use Rattle.wit_graph_theory.specs.AllElaborated.{DependsOnItself, HasWorldInConflict, UsesItself}
-use Rattle.wit_graph_theory.specs.Image.{function_image}
-use Rattle.wit_graph_theory.specs.steps.UnnamedOnce.{entries_of}
+use Rattle.wit_elaboration.specs.AllElaborated.{DependsOnItself, HasWorldInConflict, UsesItself}
+use Rattle.wit_remap_spec.specs.Image.{function_image}
+use Rattle.wit_data.specs.Entries.{entries_of}
 use Rattle.wit_link_spec.specs.CauseText.{borrow_text}
 use Rattle.wit_link_spec.specs.Gates.{OptionalSpan}
 use Rattle.wit_link_spec.specs.Reasons.{HoldsBorrow}

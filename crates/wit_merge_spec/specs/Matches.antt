@@ -4,28 +4,26 @@
 -- each with what a message says of where they are; of those that differ the first is told.
 -- Source: `MergeMap`, `build_interface` and `match_world_item` of wit-parser 0.263.0; that worlds come after all
 -- interfaces is a rule of this project.
-use Rattle.std.specs.Prelude.{◌≡◌, ℕ, Bool, true, false, List, [], ◌∷◌, ◌++◌, nat_eq, find, slice_get, Option, None, Some, option_and_then, if◌then◌else◌, codes, Contains}
-use Rattle.std.specs.List.{enumerate_from, flat_map}
+use Rattle.std.specs.Prelude.{◌≡◌, ℕ, Bool, true, false, List, [], ◌∷◌, ◌++◌, nat_eq, find, slice_get, Option, None, Some, option_and_then, if◌then◌else◌, codes, Contains, flat_map, option_map, bytes_eq}
+use Rattle.std.specs.List.{enumerate_from}
 use Rattle.std.specs.Map.{lookup}
-use Rattle.std.specs.Option.{option_eq, option_map, option_map_or}
-use Rattle.std.specs.Str.{bytes_eq}
-use Rattle.wit_data.specs.Entries.{Entry, is_unnamed}
+use Rattle.std.specs.Option.{option_eq, option_map_or}
+use Rattle.wit_data.specs.Entries.{Entry, is_unnamed, entries_of}
 use Rattle.wit_data.specs.Ownership.{world_types}
-use Rattle.wit_data.specs.PackageOrder.{same_package}
+use Rattle.wit_names.specs.PackageOrder.{same_package}
 use Rattle.wit_data.specs.declared.interface.Interface.{Interface}
 use Rattle.wit_data.specs.declared.types.TypeDef.{TypeDef}
 use Rattle.wit_data.specs.declared.types.TypeOwner.{TypeOwner}
-use Rattle.wit_data.specs.declared.types.TypeOwner.TheVariants as owner
 use Rattle.wit_data.specs.declared.world.World.{World}
 use Rattle.wit_data.specs.declared.world.WorldItem.{WorldItem}
-use Rattle.wit_data.specs.declared.world.WorldItem.TheVariants as item
 use Rattle.wit_data.specs.declared.world.WorldKey.{WorldKey}
+use Rattle.wit_data.specs.declared.types.TypeOwner.TheVariants as owner
+use Rattle.wit_data.specs.declared.world.WorldItem.TheVariants as item
 use Rattle.wit_data.specs.declared.world.WorldKey.TheVariants as key
 use Rattle.wit_elaboration.specs.Entries.{same_key}
 use Rattle.wit_graph_data.specs.Queries.{topological_packages}
 use Rattle.wit_graph_data.specs.declared.graph.Graph.{Graph}
 use Rattle.wit_graph_data.specs.declared.graph.Package.{Package}
-use Rattle.wit_graph_theory.specs.steps.UnnamedOnce.{entries_of}
 use Rattle.wit_link_spec.specs.Lookup.{interface_type}
 use Rattle.wit_merge_spec.specs.MismatchText.{entry_link, linked, part_links, type_link}
 

@@ -3,8 +3,8 @@
 -- `wit_graph_theory/FunctionMismatch`.
 -- Source: wit-parser 0.263.0.
 use Rattle.std.specs.Prelude.{ℕ, Bool, false, true, List, [], ◌∷◌, ◌++◌, codes}
-use Rattle.wit_data.specs.PackageName.{package_name_text}
-use Rattle.wit_data.specs.declared.package_name.PackageName.{PackageName}
+use Rattle.wit_names.specs.PackageName.{package_name_text}
+use Rattle.wit_names.specs.declared.package_name.PackageName.{PackageName}
 
 -- the links of a chain, and what follows the last
 abbrev pub linked : List (List ℕ) → List ℕ → List ℕ

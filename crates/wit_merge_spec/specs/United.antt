@@ -9,19 +9,20 @@ use Rattle.std.specs.Option.{option_map_or}
 use Rattle.wit_data.specs.Entries.{Entry}
 use Rattle.wit_data.specs.declared.function.Function.{Function}
 use Rattle.wit_data.specs.declared.interface.Interface.{Interface}
-use Rattle.wit_data.specs.declared.package_name.PackageName.{PackageName}
+use Rattle.wit_names.specs.declared.package_name.PackageName.{PackageName}
 use Rattle.wit_data.specs.declared.types.TypeDef.{TypeDef}
 use Rattle.wit_data.specs.declared.world.World.{World}
 use Rattle.wit_data.specs.declared.world.WorldKey.{WorldKey}
 use Rattle.wit_data.specs.declared.world.WorldKey.TheVariants as key
 use Rattle.wit_graph_data.specs.declared.graph.Graph.{Graph}
 use Rattle.wit_graph_data.specs.declared.graph.Package.{Package}
-use Rattle.wit_graph_theory.specs.AllElaborated.{all_elaborated}
-use Rattle.wit_graph_theory.specs.Image.{entry_image, function_image, interface_image, type_image, world_image}
+use Rattle.wit_elaboration.specs.AllElaborated.{all_elaborated}
+use Rattle.wit_remap_spec.specs.Image.{entry_image, function_image, interface_image, world_image}
 use Rattle.wit_link_spec.specs.Include.{joined_entry, joined_stability}
-use Rattle.wit_link_spec.specs.Addition.{selected}
+use Rattle.wit_link_spec.specs.Selected.{selected}
+use Rattle.wit_link_spec.specs.ValueRemap.{types_behind}
 use Rattle.wit_merge_spec.specs.Matches.{GraphMerge, counterpart_interface, counterpart_of, counterpart_package, counterpart_type, counterpart_world}
-use Rattle.wit_merge_spec.specs.Remapped.{brought_functions, brought_types, merge_maps, merged_interface, merged_package, merged_type, merged_world, moved_interfaces, moved_types, moved_worlds, moves_interface, moves_package, moves_world, owns_of_merge}
+use Rattle.wit_merge_spec.specs.Remapped.{brought_functions, brought_types, merge_maps, merged_interface, merged_package, merged_type, merged_world, moved_interfaces, moved_worlds, moves_interface, moves_package, moves_world, remap_of_merge}
 
 -- ---- types
 
@@ -96,7 +97,7 @@ package_image m home = record home {
 -- the two graphs as one, with the lists of worlds as they were listed
 abbrev pub joined_graph : GraphMerge → Graph
 joined_graph m = record {
-  types = map (joined_type m) (enumerate_from 0 m.graph.types) ++ (map (type_image (merge_maps m)) (moved_types m) ++ owns_of_merge m);
+  types = map (joined_type m) (enumerate_from 0 m.graph.types) ++ types_behind (remap_of_merge m);
   interfaces = map (joined_interface m) (enumerate_from 0 m.graph.interfaces) ++ map (interface_image (merge_maps m)) (moved_interfaces m);
   worlds = map (joined_world m) (enumerate_from 0 m.graph.worlds) ++ map (λ (e : ℕ × World). world_image (merge_maps m) e.0 e.1) (moved_worlds m);
   packages = map (joined_package m) (enumerate_from 0 m.graph.packages) ++ map (package_image m) (selected (moves_package m) m.other.packages);

@@ -9,7 +9,7 @@ use Rattle.wit_data.specs.declared.types.Type_.TheVariants as type
 use Rattle.wit_merge_structure.specs.facts.DifferenceFacts.{first_here, one_first, same_no_first}
 use Rattle.wit_merge_structure.specs.examples.Examples.{Differ, ExamplesOfHeads, ExamplesOfParts, ExamplesOfTypes, ExamplesOfVariants, bytes, record_ab, shorts, with_name, without_name}
 use Rattle.wit_merge_structure.specs.Structure.{Content, DifferInStructure, Feature, FirstDifference, absent, difference_text, fixed, named, names, path_text, primitive, structure, structure_within, variant}
-use Rattle.wit_merge_structure.specs.declared.kinds.Variant.TheVariants as variants
+use Rattle.wit_data.specs.declared.kind.Variant.TheVariants as variants
 
 -- a difference at a place of two lists
 at_place : (n : ℕ) (xs ys : List Feature) (x y : Feature) → xs ≡ take n xs ++ (x ∷ drop (suc n) xs) → ys ≡ take n ys ++ (y ∷ drop (suc n) ys) → take n xs ≡ take n ys → (x.content ≡ y.content → ⊥) → FirstDifference xs ys x y

@@ -1,48 +1,46 @@
 -- The parts of kinds by their variants and their names.
-use Rattle.std.proofs.Common.{◌≡◌, ◌∙◌, ℕ, ◌<◌, ◌+◌, zero, suc, Bool, true, false, List, [], ◌∷◌, ◌++◌, length, map, Option, Some, None, slice_get, is_some, unwrap_or, refl, sym, ap, subst, arith, decimal, if◌then◌else◌}
+use Rattle.std.proofs.Common.{◌≡◌, ◌∙◌, ℕ, ◌<◌, ◌+◌, zero, suc, Bool, true, false, List, [], ◌∷◌, ◌++◌, length, map, Option, Some, None, slice_get, is_some, unwrap_or, option_and_then, refl, sym, ap, subst, arith, decimal, if◌then◌else◌}
 use Rattle.std.specs.List.{enumerate_from, range_with_len}
 use Rattle.std.specs.Option.{option_map_or}
 use Rattle.std.proofs.lemmas.Bool.{false≢true}
 use Rattle.std.proofs.lemmas.List.{length-map}
-use Rattle.wit_data.specs.declared.types.Handle.TheVariants as handle
+use Rattle.wit_data.specs.declared.types.Case.{Case}
+use Rattle.wit_data.specs.declared.types.EnumCase.{EnumCase}
+use Rattle.wit_data.specs.declared.types.Field.{Field}
+use Rattle.wit_data.specs.declared.types.Flag.{Flag}
 use Rattle.wit_data.specs.declared.types.TypeDefKind.{TypeDefKind}
-use Rattle.wit_data.specs.declared.types.TypeDefKind.TheVariants as kind
 use Rattle.wit_data.specs.declared.types.Type_.{Type_}
+use Rattle.wit_data.specs.declared.kind.Variant.{Variant}
+use Rattle.wit_data.specs.declared.types.Handle.TheVariants as handle
+use Rattle.wit_data.specs.declared.types.TypeDefKind.TheVariants as kind
 use Rattle.wit_merge_structure.specs.facts.DifferenceFacts.{first_behind, first_here}
-use Rattle.wit_merge_structure.specs.steps.Kinds.{HeadsDiffer, has_names, name_at, plain_step, step_at, steps_of}
-use Rattle.wit_merge_structure.specs.Structure.{Content, Feature, FirstDifference, Part, fixed, fixed_length, head_features, here, names, part, parts_of, variant, variant_of}
+use Rattle.wit_merge_structure.specs.steps.Kinds.{HeadsDiffer, has_names, name_at, step_at, steps_of}
+use Rattle.wit_data.specs.Kind.{KindPart, fixed_length, kind_parts, named_part, part_name, plain_part, plain_step, variant_of}
+use Rattle.wit_data.specs.facts.KindFacts.{plain_read}
+use Rattle.wit_data.specs.declared.kind.PartRole.TheVariants.{Value}
+use Rattle.wit_merge_structure.specs.Structure.{Content, Feature, FirstDifference, fixed, head_features, here, names, variant}
 use Rattle.wit_merge_structure.specs.declared.heads.Ending.TheVariants.{Kinds, Lengths, Names}
-use Rattle.wit_merge_structure.specs.declared.kinds.Variant.{Variant}
-use Rattle.wit_merge_structure.specs.declared.kinds.Variant.TheVariants as variants
+use Rattle.wit_data.specs.declared.kind.Variant.TheVariants as variants
 
 -- ---- parts without names
 
-abbrev tuple_parts : ℕ → List Type_ → List Part
-tuple_parts n types = map (λ (e : ℕ × Type_). part (decimal e.0) (Some e.1)) (enumerate_from n types)
+abbrev tuple_parts : ℕ → List Type_ → List KindPart
+tuple_parts n types = map (λ (e : ℕ × Type_). plain_part Value (decimal e.0) (Some e.1)) (enumerate_from n types)
 
-tuple_steps : (n : ℕ) (types : List Type_) → map (λ (p : Part). p.step) (tuple_parts n types) ≡ map (plain_step variants.Tuple) (range_with_len n (length (tuple_parts n types)))
+tuple_steps : (n : ℕ) (types : List Type_) → map (λ (p : KindPart). p.step) (tuple_parts n types) ≡ map (plain_step variants.Tuple) (range_with_len n (length (tuple_parts n types)))
 tuple_steps n [] = refl
 tuple_steps n (ty ∷ types) = ap (λ (steps : List (List ℕ)). decimal n ∷ steps) (tuple_steps (n + 1) types)
 
 -- what they are called
-steps_plain : (k : TypeDefKind) → has_names (variant_of k) ≡ false → steps_of k ≡ map (plain_step (variant_of k)) (range_with_len 0 (length (parts_of k)))
+steps_plain : (k : TypeDefKind) → has_names (variant_of k) ≡ false → steps_of k ≡ map (plain_step (variant_of k)) (range_with_len 0 (length (kind_parts k)))
 steps_plain (kind.Record fields) plain = absurd (false≢true (sym plain))
-steps_plain kind.Resource plain = refl
 steps_plain (kind.Handle (handle.Own t)) plain = refl
 steps_plain (kind.Handle (handle.Borrow t)) plain = refl
 steps_plain (kind.Flags flags) plain = absurd (false≢true (sym plain))
 steps_plain (kind.Tuple types) plain = tuple_steps 0 types
 steps_plain (kind.Variant cases) plain = absurd (false≢true (sym plain))
 steps_plain (kind.Enum cases) plain = absurd (false≢true (sym plain))
-steps_plain (kind.Option ty) plain = refl
-steps_plain (kind.Result_ ok err) plain = refl
-steps_plain (kind.List ty) plain = refl
-steps_plain (kind.Map key value) plain = refl
-steps_plain (kind.FixedLengthList ty len) plain = refl
-steps_plain (kind.Future ty) plain = refl
-steps_plain (kind.Stream ty) plain = refl
-steps_plain (kind.Type_ ty) plain = refl
-steps_plain kind.Unknown plain = refl
+steps_plain other plain = refl
 
 range_at : (a n i : ℕ) → i < n → slice_get (range_with_len a n) i ≡ Some (a + i)
 range_at a zero i below = absurd (omega (arith, below))
@@ -55,18 +53,37 @@ mapped_at f a (suc n) zero below = ap (λ (k : ℕ). Some (f k)) (omega arith)
 mapped_at f a (suc n) (suc i) below = mapped_at f (a + 1) n i (omega (arith, below)) ∙ ap (λ (k : ℕ). Some (f k)) (omega arith)
 
 -- and one of them
-pub step_plain : (k : TypeDefKind) (i : ℕ) → has_names (variant_of k) ≡ false → i < length (parts_of k) → step_at k i ≡ plain_step (variant_of k) i
+pub step_plain : (k : TypeDefKind) (i : ℕ) → has_names (variant_of k) ≡ false → i < length (kind_parts k) → step_at k i ≡ plain_step (variant_of k) i
 step_plain k i plain below =
     let at : slice_get (steps_of k) i ≡ Some (plain_step (variant_of k) (0 + i)) =
-    ap (λ (steps : List (List ℕ)). slice_get steps i) (steps_plain k plain) ∙ mapped_at (plain_step (variant_of k)) 0 (length (parts_of k)) i below in
+    ap (λ (steps : List (List ℕ)). slice_get steps i) (steps_plain k plain) ∙ mapped_at (plain_step (variant_of k)) 0 (length (kind_parts k)) i below in
     unwrapped (slice_get (steps_of k) i) (plain_step (variant_of k) (0 + i)) at ∙ ap (plain_step (variant_of k)) (omega arith)
   where
     unwrapped : (o : Option (List ℕ)) (step : List ℕ) → o ≡ Some step → unwrap_or o [] ≡ step
     unwrapped o step is = ap (λ (p : Option (List ℕ)). unwrap_or p []) is
 
+-- ---- names
+
+-- parts that have names are called by them
+named_steps : {X : Type 0} (make : X → KindPart) → ((x : X) → part_name (make x) ≡ Some (make x).step) → (xs : List X) (i : ℕ)
+    → option_and_then part_name (slice_get (map make xs) i) ≡ slice_get (map (λ (p : KindPart). p.step) (map make xs)) i
+named_steps make named [] i = refl
+named_steps make named (x ∷ xs) zero = named x
+named_steps make named (x ∷ xs) (suc i) = named_steps make named xs i
+
+-- the variant tells whether parts have names
+name_is : (k : TypeDefKind) (i : ℕ) → name_at k i ≡ (if has_names (variant_of k) then slice_get (steps_of k) i else None)
+name_is (kind.Record fields) i = named_steps (λ (f : Field). named_part f.name (Some f.ty) f.span) (λ f. refl) fields i
+name_is (kind.Flags flags) i = named_steps (λ (f : Flag). named_part f.name None f.span) (λ f. refl) flags i
+name_is (kind.Variant cases) i = named_steps (λ (c : Case). named_part c.name c.ty c.span) (λ c. refl) cases i
+name_is (kind.Enum cases) i = named_steps (λ (c : EnumCase). named_part c.name None c.span) (λ c. refl) cases i
+name_is (kind.Handle (handle.Own t)) i = sym (plain_read part_name (λ role step ty. refl) (kind.Handle (handle.Own t)) (λ xs is. cc) (λ xs is. cc) (λ xs is. cc) (λ xs is. cc) i)
+name_is (kind.Handle (handle.Borrow t)) i = sym (plain_read part_name (λ role step ty. refl) (kind.Handle (handle.Borrow t)) (λ xs is. cc) (λ xs is. cc) (λ xs is. cc) (λ xs is. cc) i)
+name_is other i = sym (plain_read part_name (λ role step ty. refl) other (λ xs is. cc) (λ xs is. cc) (λ xs is. cc) (λ xs is. cc) i)
+
 -- a part with a name is called by it
 pub step_named : (k : TypeDefKind) (i : ℕ) (name : List ℕ) → name_at k i ≡ Some name → step_at k i ≡ name
-step_named k i name is = by (has_names (variant_of k)) is
+step_named k i name is = by (has_names (variant_of k)) (sym (name_is k i) ∙ is)
   where
     by : (b : Bool) → (if b then slice_get (steps_of k) i else None) ≡ Some name → unwrap_or (slice_get (steps_of k) i) [] ≡ name
     by true is = ap (λ (o : Option (List ℕ)). unwrap_or o []) is
@@ -78,11 +95,11 @@ step_there [] i below none = absurd (omega (arith, below))
 step_there (x ∷ xs) zero below none = cc
 step_there (x ∷ xs) (suc i) below none = step_there xs i (omega (arith, below)) none
 
-pub no_name : (k : TypeDefKind) (i : ℕ) → i < length (parts_of k) → name_at k i ≡ None → has_names (variant_of k) ≡ false
-no_name k i below is = by (has_names (variant_of k)) is
+pub no_name : (k : TypeDefKind) (i : ℕ) → i < length (kind_parts k) → name_at k i ≡ None → has_names (variant_of k) ≡ false
+no_name k i below is = by (has_names (variant_of k)) (sym (name_is k i) ∙ is)
   where
     by : (b : Bool) → (if b then slice_get (steps_of k) i else None) ≡ None → b ≡ false
-    by true is = absurd (step_there (steps_of k) i (omega (arith, below, length-map (parts_of k) (λ (p : Part). p.step))) is)
+    by true is = absurd (step_there (steps_of k) i (omega (arith, below, length-map (kind_parts k) (λ (p : KindPart). p.step))) is)
     by false is = refl
 
 -- ---- the same parts
@@ -100,28 +117,30 @@ module _ (k k' : TypeDefKind) (one : variant_of k ≡ variant_of k') where
   -- of kinds with the same steps parts have the same names
   pub same_names : steps_of k ≡ steps_of k' → (i : ℕ) → name_at k i ≡ name_at k' i
   same_names same i =
-      ap (λ (v : Variant). if has_names v then slice_get (steps_of k) i else None) one ∙ ap (λ (steps : List (List ℕ)). if has_names (variant_of k') then slice_get steps i else None) same
+      name_is k i
+      ∙ (ap (λ (v : Variant). if has_names v then slice_get (steps_of k) i else None) one
+      ∙ (ap (λ (steps : List (List ℕ)). if has_names (variant_of k') then slice_get steps i else None) same ∙ sym (name_is k' i)))
 
-  steps_long : (j : TypeDefKind) → length (steps_of j) ≡ length (parts_of j)
-  steps_long j = length-map (parts_of j) (λ (p : Part). p.step)
+  steps_long : (j : TypeDefKind) → length (steps_of j) ≡ length (kind_parts j)
+  steps_long j = length-map (kind_parts j) (λ (p : KindPart). p.step)
 
-  steps_by : (b : Bool) → has_names (variant_of k) ≡ b → length (parts_of k) ≡ length (parts_of k') → ((i : ℕ) → i < length (parts_of k) → name_at k i ≡ name_at k' i) → steps_of k ≡ steps_of k'
+  steps_by : (b : Bool) → has_names (variant_of k) ≡ b → length (kind_parts k) ≡ length (kind_parts k') → ((i : ℕ) → i < length (kind_parts k) → name_at k i ≡ name_at k' i) → steps_of k ≡ steps_of k'
   steps_by true named long each =
       lists_same (steps_of k) (steps_of k') (steps_long k ∙ (long ∙ sym (steps_long k')))
       (λ i below.
-      let from : name_at k i ≡ slice_get (steps_of k) i = ap (λ (b : Bool). if b then slice_get (steps_of k) i else None) named in
-      let into : name_at k' i ≡ slice_get (steps_of k') i = ap (λ (b : Bool). if b then slice_get (steps_of k') i else None) (sym (ap has_names one) ∙ named) in
-      sym from ∙ (each i (omega (arith, below, steps_long k)) ∙ into))
+      let from : (if has_names (variant_of k) then slice_get (steps_of k) i else None) ≡ slice_get (steps_of k) i = ap (λ (b : Bool). if b then slice_get (steps_of k) i else None) named in
+      let into : (if has_names (variant_of k') then slice_get (steps_of k') i else None) ≡ slice_get (steps_of k') i = ap (λ (b : Bool). if b then slice_get (steps_of k') i else None) (sym (ap has_names one) ∙ named) in
+      sym from ∙ ((sym (name_is k i) ∙ (each i (omega (arith, below, steps_long k)) ∙ name_is k' i)) ∙ into))
   steps_by false plain long each =
       steps_plain k plain
-      ∙ (ap (λ (v : Variant). map (plain_step v) (range_with_len 0 (length (parts_of k)))) one
+      ∙ (ap (λ (v : Variant). map (plain_step v) (range_with_len 0 (length (kind_parts k)))) one
       ∙ (ap (λ (n : ℕ). map (plain_step (variant_of k')) (range_with_len 0 n)) long ∙ sym (steps_plain k' (sym (ap has_names one) ∙ plain))))
 
   -- and where as many have the same names, they have the same steps
-  pub same_steps : length (parts_of k) ≡ length (parts_of k') → ((i : ℕ) → i < length (parts_of k) → name_at k i ≡ name_at k' i) → steps_of k ≡ steps_of k'
+  pub same_steps : length (kind_parts k) ≡ length (kind_parts k') → ((i : ℕ) → i < length (kind_parts k) → name_at k i ≡ name_at k' i) → steps_of k ≡ steps_of k'
   same_steps long each = steps_by (has_names (variant_of k)) refl long each
 
-  pub same_count : steps_of k ≡ steps_of k' → length (parts_of k) ≡ length (parts_of k')
+  pub same_count : steps_of k ≡ steps_of k' → length (kind_parts k) ≡ length (kind_parts k')
   same_count same = sym (steps_long k) ∙ (ap (λ (steps : List (List ℕ)). length steps) same ∙ steps_long k')
 
 -- ---- heads
@@ -163,23 +182,9 @@ is_fixed other = false
 
 fixed_by : (k : TypeDefKind) → is_some (fixed_length k) ≡ is_fixed (variant_of k)
 unfolding is_fixed
-fixed_by (kind.Record fields) = refl
-fixed_by kind.Resource = refl
 fixed_by (kind.Handle (handle.Own t)) = refl
 fixed_by (kind.Handle (handle.Borrow t)) = refl
-fixed_by (kind.Flags flags) = refl
-fixed_by (kind.Tuple types) = refl
-fixed_by (kind.Variant cases) = refl
-fixed_by (kind.Enum cases) = refl
-fixed_by (kind.Option ty) = refl
-fixed_by (kind.Result_ ok err) = refl
-fixed_by (kind.List ty) = refl
-fixed_by (kind.Map key value) = refl
-fixed_by (kind.FixedLengthList ty len) = refl
-fixed_by (kind.Future ty) = refl
-fixed_by (kind.Stream ty) = refl
-fixed_by (kind.Type_ ty) = refl
-fixed_by kind.Unknown = refl
+fixed_by other = refl
 
 pub lengths_differ : (k k' : TypeDefKind) → variant_of k ≡ variant_of k' → steps_of k ≡ steps_of k' → (fixed_length k ≡ fixed_length k' → ⊥) → HeadsDiffer k k' Lengths
 lengths_differ k k' one steps apart = by (fixed_length k) (fixed_length k') refl refl

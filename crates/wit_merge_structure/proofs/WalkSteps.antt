@@ -12,13 +12,14 @@ use Rattle.wit_data.specs.Reference.{named_option, referred, type_references}
 use Rattle.wit_data.specs.facts.ReferenceFacts.{length-references, references_at}
 use Rattle.wit_data.specs.declared.types.TypeDef.{TypeDef}
 use Rattle.wit_data.specs.declared.types.TypeDefKind.{TypeDefKind}
-use Rattle.wit_data.specs.declared.types.TypeDefKind.TheVariants as kind
 use Rattle.wit_data.specs.declared.types.Type_.{Type_}
+use Rattle.wit_data.specs.declared.types.TypeDefKind.TheVariants as kind
 use Rattle.wit_data.specs.declared.types.Type_.TheVariants as type
 use Rattle.wit_merge_structure.specs.steps.ComparisonSteps.{AreAtParts, AreSides, AreThere, IsAtPart, frame_step, from_held, from_structure, into_held, into_structure, kind_at, matched_by, path_of}
 use Rattle.wit_merge_structure.specs.facts.DifferenceFacts.{first_behind, first_front, first_within}
 use Rattle.wit_merge_structure.specs.steps.Kinds.{step_at, steps_of}
-use Rattle.wit_merge_structure.specs.Structure.{Content, Feature, FirstDifference, Part, absent, head_features, held_features, here, is_named, kind_features, named, names, part_features, parts_of, structure, within}
+use Rattle.wit_data.specs.Kind.{kind_parts, KindPart}
+use Rattle.wit_merge_structure.specs.Structure.{Content, Feature, FirstDifference, absent, head_features, held_features, here, is_named, kind_features, named, names, part_features, structure, within}
 use Rattle.wit_merge_structure.specs.facts.StructureFacts.{part_refers, structure_at}
 use Rattle.wit_merge_structure.specs.declared.comparison.Sides.{Sides}
 use Rattle.wit_merge_structure.specs.declared.frames.Frame.{Frame}
@@ -82,10 +83,10 @@ module _ (types : List TypeDef) (acyclic : IsAcyclic (type_references types)) wh
       structure_at types matched acyclic t def.0 below def.1 ∙ ap (kind_features types matched (structure types matched)) (sym (kind_is types t def.0 def.1))
 
   -- what a part of a type names is there
-  pub parts_there : (t i : ℕ) (p : Part) → t < length types → slice_get (parts_of (kind_at types t)) i ≡ Some p → AreThere types p.ty
+  pub parts_there : (t i : ℕ) (p : KindPart) → t < length types → slice_get (kind_parts (kind_at types t)) i ≡ Some p → AreThere types p.ty
   parts_there t i p below at u has =
       let def = there_is types t below in
-      let refers : Contains (referred (kind_at types t)) u = part_refers (kind_at types t) p u (contained (parts_of (kind_at types t)) i p at) has in
+      let refers : Contains (referred (kind_at types t)) u = part_refers (kind_at types t) p u (contained (kind_parts (kind_at types t)) i p at) has in
       let row : Contains (direct (type_references types) t) u =
       subst (λ (ids : List ℕ). Contains ids u) (sym (references_at types t def.0 def.1)) (subst (λ (k : TypeDefKind). Contains (referred k) u) (kind_is types t def.0 def.1) refers) in
       omega (arith, All-contains (λ j. j < length (type_references types)) (direct (type_references types) t) u (acyclic.in_range t) row, length-references types)
@@ -107,16 +108,16 @@ module _ (types : List TypeDef) (acyclic : IsAcyclic (type_references types)) wh
 
 module _ (s : Sides) where
   -- the parts of the two types of a frame
-  abbrev from_parts : Frame → List Part
-  from_parts f = parts_of (kind_at s.from.now f.from)
+  abbrev from_parts : Frame → List KindPart
+  from_parts f = kind_parts (kind_at s.from.now f.from)
 
-  abbrev into_parts : Frame → List Part
-  into_parts f = parts_of (kind_at s.into.now f.into)
+  abbrev into_parts : Frame → List KindPart
+  into_parts f = kind_parts (kind_at s.into.now f.into)
 
-  abbrev from_features : Part → List Feature
+  abbrev from_features : KindPart → List Feature
   from_features = part_features s.from.now (matched_by s) (from_structure s)
 
-  abbrev into_features : Part → List Feature
+  abbrev into_features : KindPart → List Feature
   into_features = part_features s.into.now Some (into_structure s)
 
   -- the frame at its next part
@@ -133,8 +134,8 @@ module _ (s : Sides) where
 
   -- the next part of a frame, on both sides
   pub record NextPart (f : Frame) : Type 0 where
-    pub one : Part
-    pub other : Part
+    pub one : KindPart
+    pub other : KindPart
     pub one_is : slice_get (from_parts f) f.next ≡ Some one
     pub other_is : slice_get (into_parts f) f.next ≡ Some other
     pub step : one.step ≡ other.step
@@ -150,12 +151,12 @@ module _ (s : Sides) where
   unfolding names_in
   head_steps k k' same = let both : names (steps_of k) ≡ names (steps_of k') = ap names_in same in cc
 
-  parts_long : (k k' : TypeDefKind) → head_features k ≡ head_features k' → length (parts_of k) ≡ length (parts_of k')
+  parts_long : (k k' : TypeDefKind) → head_features k ≡ head_features k' → length (kind_parts k) ≡ length (kind_parts k')
   parts_long k k' same =
-      sym (length-map (parts_of k) (λ (p : Part). p.step)) ∙ (ap (λ (steps : List (List ℕ)). length steps) (head_steps k k' same) ∙ length-map (parts_of k') (λ (p : Part). p.step))
+      sym (length-map (kind_parts k) (λ (p : KindPart). p.step)) ∙ (ap (λ (steps : List (List ℕ)). length steps) (head_steps k k' same) ∙ length-map (kind_parts k') (λ (p : KindPart). p.step))
 
-  step_of : (k : TypeDefKind) (i : ℕ) (p : Part) → slice_get (parts_of k) i ≡ Some p → slice_get (steps_of k) i ≡ Some p.step
-  step_of k i p at = slice_get-map (λ (q : Part). q.step) (parts_of k) i ∙ ap (λ (o : Option Part). option_map (λ (q : Part). q.step) o) at
+  step_of : (k : TypeDefKind) (i : ℕ) (p : KindPart) → slice_get (kind_parts k) i ≡ Some p → slice_get (steps_of k) i ≡ Some p.step
+  step_of k i p at = slice_get-map (λ (q : KindPart). q.step) (kind_parts k) i ∙ ap (λ (o : Option KindPart). option_map (λ (q : KindPart). q.step) o) at
 
   pub next_part : (f : Frame) → AgreeBefore f → f.next < length (from_parts f) → NextPart f
   next_part f agree more =
@@ -380,7 +381,7 @@ module _ (s : Sides) where
 
   part_left : (f : Frame) (p : NextPart f) → length (flat_map from_features (drop f.next (from_parts f))) ≡ length (from_held s p.one.ty) + length (flat_map from_features (drop (f.next + 1) (from_parts f)))
   part_left f p =
-      ap (λ (l : List Part). length (flat_map from_features l)) (drop_at (from_parts f) f.next p.one p.one_is)
+      ap (λ (l : List KindPart). length (flat_map from_features l)) (drop_at (from_parts f) f.next p.one p.one_is)
       ∙ (length-append (from_features p.one) (flat_map from_features (drop (f.next + 1) (from_parts f)))
       ∙ ap (λ (n : ℕ). n + length (flat_map from_features (drop (f.next + 1) (from_parts f)))) (length-map (from_held s p.one.ty) (within p.one.step)))
 

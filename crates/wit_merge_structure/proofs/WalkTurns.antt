@@ -6,7 +6,8 @@ use Rattle.wit_data.specs.declared.types.Type_.{Type_}
 use Rattle.wit_merge_structure.specs.steps.ComparisonSteps.{AreAtParts, AreSides, AreThere, Compares, DifferHere, from_held, from_structure, into_held, into_structure, kind_at, matched_by, path_of, structure_of}
 use Rattle.wit_merge_structure.specs.facts.DifferenceFacts.{first_front}
 use Rattle.wit_merge_structure.specs.steps.Kinds.{HeadsDiffer, ending_text}
-use Rattle.wit_merge_structure.specs.Structure.{Content, DifferInStructure, Feature, FirstDifference, Part, head_features, here, kind_features, parts_of, path_text}
+use Rattle.wit_data.specs.Kind.{kind_parts, KindPart}
+use Rattle.wit_merge_structure.specs.Structure.{Content, DifferInStructure, Feature, FirstDifference, head_features, here, kind_features, path_text}
 use Rattle.wit_merge_structure.specs.declared.comparison.Held.TheVariants as held
 use Rattle.wit_merge_structure.specs.declared.comparison.Sides.{Sides}
 use Rattle.wit_merge_structure.specs.declared.frames.Frame.{Frame}
@@ -39,11 +40,11 @@ module _ (s : Sides) (sides : AreSides s) (r r' : ℕ) (fs : List Frame) (f : Fr
 
   -- ---- there is a next part
 
-  module _ (def def' : TypeDef) (at : slice_get s.from.now f.from ≡ Some def) (at' : slice_get s.into.now f.into ≡ Some def') (more : f.next < length (parts_of def.kind)) (one other : Option Type_)
-      (one_is : one ≡ option_and_then (λ (p : Part). p.ty) (slice_get (parts_of def.kind) f.next))
-      (other_is : other ≡ option_and_then (λ (p : Part). p.ty) (slice_get (parts_of def'.kind) f.next)) where
-    more_parts : f.next < length (parts_of (kind_at s.from.now f.from))
-    more_parts = subst (λ (k : TypeDefKind). f.next < length (parts_of k)) (sym (kind_is s.from.now f.from def at)) more
+  module _ (def def' : TypeDef) (at : slice_get s.from.now f.from ≡ Some def) (at' : slice_get s.into.now f.into ≡ Some def') (more : f.next < length (kind_parts def.kind)) (one other : Option Type_)
+      (one_is : one ≡ option_and_then (λ (p : KindPart). p.ty) (slice_get (kind_parts def.kind) f.next))
+      (other_is : other ≡ option_and_then (λ (p : KindPart). p.ty) (slice_get (kind_parts def'.kind) f.next)) where
+    more_parts : f.next < length (kind_parts (kind_at s.from.now f.from))
+    more_parts = subst (λ (k : TypeDefKind). f.next < length (kind_parts k)) (sym (kind_is s.from.now f.from def at)) more
 
     next : NextPart s f
     next = next_part s f agree more_parts
@@ -51,12 +52,12 @@ module _ (s : Sides) (sides : AreSides s) (r r' : ℕ) (fs : List Frame) (f : Fr
     one_held : one ≡ next.one.ty
     one_held =
         one_is
-        ∙ (ap (λ (k : TypeDefKind). option_and_then (λ (p : Part). p.ty) (slice_get (parts_of k) f.next)) (sym (kind_is s.from.now f.from def at)) ∙ ap (λ (o : Option Part). option_and_then (λ (p : Part). p.ty) o) next.one_is)
+        ∙ (ap (λ (k : TypeDefKind). option_and_then (λ (p : KindPart). p.ty) (slice_get (kind_parts k) f.next)) (sym (kind_is s.from.now f.from def at)) ∙ ap (λ (o : Option KindPart). option_and_then (λ (p : KindPart). p.ty) o) next.one_is)
 
     other_held : other ≡ next.other.ty
     other_held =
         other_is
-        ∙ (ap (λ (k : TypeDefKind). option_and_then (λ (p : Part). p.ty) (slice_get (parts_of k) f.next)) (sym (kind_is s.into.now f.into def' at')) ∙ ap (λ (o : Option Part). option_and_then (λ (p : Part). p.ty) o) next.other_is)
+        ∙ (ap (λ (k : TypeDefKind). option_and_then (λ (p : KindPart). p.ty) (slice_get (kind_parts k) f.next)) (sym (kind_is s.into.now f.into def' at')) ∙ ap (λ (o : Option KindPart). option_and_then (λ (p : KindPart). p.ty) o) next.other_is)
 
     pub one_there : AreThere s.from.now one
     one_there = subst (λ (o : Option Type_). AreThere s.from.now o) (sym one_held) (parts_there s.from.now sides.from f.from f.next next.one agree.from next.one_is)
@@ -94,9 +95,9 @@ module _ (s : Sides) (sides : AreSides s) (r r' : ℕ) (fs : List Frame) (f : Fr
 
   -- ---- there is none
 
-  module _ (def : TypeDef) (at : slice_get s.from.now f.from ≡ Some def) (none_left : length (parts_of def.kind) ≤ f.next) where
-    done : length (parts_of (kind_at s.from.now f.from)) ≤ f.next
-    done = subst (λ (k : TypeDefKind). length (parts_of k) ≤ f.next) (sym (kind_is s.from.now f.from def at)) none_left
+  module _ (def : TypeDef) (at : slice_get s.from.now f.from ≡ Some def) (none_left : length (kind_parts def.kind) ≤ f.next) where
+    done : length (kind_parts (kind_at s.from.now f.from)) ≤ f.next
+    done = subst (λ (k : TypeDefKind). length (kind_parts k) ≤ f.next) (sym (kind_is s.from.now f.from def at)) none_left
 
     pub turn_done : IsWalking s r r' fs
     turn_done = walk_done s r r' fs f post_order sides done

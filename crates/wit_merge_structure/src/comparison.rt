@@ -14,9 +14,9 @@ ghost use Rattle.wit_data.specs.declared.types.Type_.TheVariants as type;
 use crate::classes::{leader_of, own_classes, unite};
 use crate::frames::Frame;
 use crate::heads::{Ending, head_difference};
-use crate::kinds::{part_count, part_type, step_text};
+use crate::kinds::step_text;
 use std::alloc::{AllocError, Global};
-use wit_data::{Items, Type_, TypeDef, TypeId};
+use wit_data::{Items, Type_, TypeDef, TypeId, part_count, part_type};
 
 /// The types of two graphs, and with which of the second those of the first are matched.
 #[derive(Clone, Copy)]
@@ -277,20 +277,7 @@ fn id_of(ty: Type_) -> Option<TypeId>
 {
     match ty {
         Type_::Id(id) => Some(id),
-        Type_::Bool
-        | Type_::U8
-        | Type_::U16
-        | Type_::U32
-        | Type_::U64
-        | Type_::S8
-        | Type_::S16
-        | Type_::S32
-        | Type_::S64
-        | Type_::F32
-        | Type_::F64
-        | Type_::Char
-        | Type_::String
-        | Type_::ErrorContext => None,
+        _ => None,
     }
 }
 

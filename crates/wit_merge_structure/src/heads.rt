@@ -3,8 +3,8 @@ ghost use Rattle.std.specs.Prelude.{◌≡◌, IfNone, IfSome};
 ghost use Rattle.wit_merge_structure.specs.steps.Kinds.{HeadsDiffer, ending_text};
 ghost use Rattle.wit_merge_structure.specs.Structure.{head_features};
 
-use crate::kinds::{fixed_length, have_same_parts, variant_of};
-use wit_data::TypeDefKind;
+use crate::kinds::have_same_parts;
+use wit_data::{TypeDefKind, fixed_length, variant_of};
 
 /// How two types differ where they first do.
 #[derive(Clone, Copy)]

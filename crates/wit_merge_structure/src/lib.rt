@@ -9,4 +9,3 @@ mod kinds;
 pub mod laws;
 
 pub use crate::comparison::{Comparison, Sides};
-pub use crate::kinds::Variant;

@@ -1,8 +1,7 @@
 -- The names of sources: of each source map, and of the source map of each package.
-use Rattle.std.specs.Prelude.{◌<◌, ℕ, not, List, [], ◌∷◌, filter, map, Option, option_and_then, slice_get, nat_eq}
-use Rattle.std.specs.List.{AllByRecursion, flat_map}
+use Rattle.std.specs.Prelude.{◌<◌, ℕ, not, List, [], ◌∷◌, filter, map, Option, option_and_then, slice_get, nat_eq, flat_map, bytes_eq}
+use Rattle.std.specs.List.{AllByRecursion}
 use Rattle.std.specs.Map.{lookup}
-use Rattle.std.specs.Str.{bytes_eq}
 use Rattle.wit_sources.specs.SourceMap.{Sources, paths_of}
 
 -- the names of each source map, and the place of each package's source map, by the packages' ids in order

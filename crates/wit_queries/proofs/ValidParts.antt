@@ -1,17 +1,23 @@
 -- What the flags of its parts tell of a type.
-use Rattle.std.proofs.Common.{◌≡◌, ℕ, Bool, true, false, refl, List, [], ◌∷◌, ◌⊎◌, inl, inr, sym, subst, Contains}
-use Rattle.std.specs.Prelude.{slice_get, unwrap_or}
-use Rattle.std.specs.List.{flat_map, list_all}
+use Rattle.std.proofs.Common.{◌≡◌, ℕ, ◌+◌, ◌&&◌, Bool, true, false, refl, List, [], ◌∷◌, ◌⊎◌, inl, inr, map, Option, None, Some, sym, ap, subst, Contains, decimal, if◌then◌else◌}
+use Rattle.std.specs.Prelude.{slice_get, unwrap_or, flat_map}
+use Rattle.std.specs.List.{enumerate_from, list_all}
+use Rattle.std.specs.Option.{option_map_or}
 use Rattle.std.proofs.lemmas.Bool.{and_cases, and_from, and_left, and_parts, and_right, false≢true}
-use Rattle.wit_digraph.specs.facts.MemberFacts.{Contains-cons_cases, Contains-flat_map, Contains-flat_map_cases, Contains-here, Contains-nil, Contains-there}
-use Rattle.wit_data.specs.Reference.{named_type}
+use Rattle.std.proofs.lemmas.List.Elements.{Contains-append_cases, Contains-append_left, Contains-append_right}
+use Rattle.wit_digraph.specs.facts.MemberFacts.{Contains-cons_cases, Contains-here, Contains-nil}
+use Rattle.wit_data.specs.Kind.{KindPart, kind_parts, named_part, plain_part, variant_of}
+use Rattle.wit_data.specs.Reference.{named_option, named_type}
+use Rattle.wit_data.specs.declared.kind.PartRole.TheVariants.{Value}
 use Rattle.wit_data.specs.declared.types.Field.{Field}
+use Rattle.wit_data.specs.declared.types.Handle.{Handle}
 use Rattle.wit_data.specs.declared.types.TypeDefKind.{TypeDefKind}
-use Rattle.wit_data.specs.declared.types.TypeDefKind.TheVariants as kind
 use Rattle.wit_data.specs.declared.types.Type_.{Type_}
+use Rattle.wit_data.specs.declared.types.Handle.TheVariants as handle
+use Rattle.wit_data.specs.declared.types.TypeDefKind.TheVariants as kind
 use Rattle.wit_data.specs.declared.types.Type_.TheVariants as type
-use Rattle.wit_graph_data.specs.Queries.{content_types, has_fixed_parts, is_number_or_listed}
-use Rattle.wit_queries.specs.ValidBits.{has_valid_parts, is_valid_by}
+use Rattle.wit_graph_data.specs.Queries.{content_types, has_fixed_layout, has_fixed_parts, is_fixed_part, is_held, is_number_or_listed}
+use Rattle.wit_queries.specs.ValidBits.{has_valid_parts, is_valid_by, is_valid_part}
 
 -- flag u is on
 abbrev pub is_on : List Bool → ℕ → Bool
@@ -75,70 +81,121 @@ unlisted flags type.Char is = inl is
 unlisted flags type.String is = inl is
 unlisted flags type.ErrorContext is = inl is
 
--- the same of the types of several things
-module _ {X : Type 0} (flags : List Bool) (ty : X → Type_) where
-  all_listed : (xs : List X) → list_all (λ x. is_valid_by flags (ty x)) xs ≡ true → list_all (λ x. is_number_or_listed (ty x)) xs ≡ true
+-- the same of a part
+part_listed : (flags : List Bool) (p : KindPart) → is_valid_part flags p ≡ true → is_fixed_part p ≡ true
+part_listed flags p is = by (is_held p.role) p.ty is
+  where
+    by : (held : Bool) (ty : Option Type_) → (if held then option_map_or (is_valid_by flags) ty false else true) ≡ true → (if held then option_map_or is_number_or_listed ty false else true) ≡ true
+    by true None valid = valid
+    by true (Some ty) valid = listed flags ty valid
+    by false ty valid = refl
+
+abbrev part_holds : KindPart → List ℕ
+part_holds p = if is_held p.role then named_option p.ty else []
+
+part_on : (flags : List Bool) (p : KindPart) → is_valid_part flags p ≡ true → (u : ℕ) → Contains (part_holds p) u → is_on flags u ≡ true
+part_on flags p is = by (is_held p.role) p.ty is
+  where
+    by : (held : Bool) (ty : Option Type_) → (if held then option_map_or (is_valid_by flags) ty false else true) ≡ true
+        → (u : ℕ) → Contains (if held then named_option ty else []) u → is_on flags u ≡ true
+    by true None valid u has = absurd (Contains-nil has)
+    by true (Some ty) valid u has = named_on flags ty valid u has
+    by false ty valid u has = absurd (Contains-nil has)
+
+part_off : (flags : List Bool) (p : KindPart) → is_valid_part flags p ≡ false → (is_fixed_part p ≡ false) ⊎ NamesOff flags (part_holds p)
+part_off flags p is = by (is_held p.role) p.ty is
+  where
+    by : (held : Bool) (ty : Option Type_) → (if held then option_map_or (is_valid_by flags) ty false else true) ≡ false
+        → ((if held then option_map_or is_number_or_listed ty false else true) ≡ false) ⊎ NamesOff flags (if held then named_option ty else [])
+    by true None fails = inl refl
+    by true (Some ty) fails = unlisted flags ty fails
+    by false ty fails = absurd (false≢true (sym fails))
+
+-- the same of several parts
+module _ (flags : List Bool) where
+  all_listed : (ps : List KindPart) → list_all (is_valid_part flags) ps ≡ true → list_all is_fixed_part ps ≡ true
   all_listed [] is = refl
-  all_listed (x ∷ xs) is =
-      let both = and_parts (is_valid_by flags (ty x)) (list_all (λ y. is_valid_by flags (ty y)) xs) is in
-      and_from (is_number_or_listed (ty x)) (list_all (λ y. is_number_or_listed (ty y)) xs) (listed flags (ty x) both.0) (all_listed xs both.1)
+  all_listed (p ∷ ps) is =
+      let both = and_parts (is_valid_part flags p) (list_all (is_valid_part flags) ps) is in
+      and_from (is_fixed_part p) (list_all is_fixed_part ps) (part_listed flags p both.0) (all_listed ps both.1)
 
-  all_valid : (xs : List X) (x : X) → list_all (λ y. is_valid_by flags (ty y)) xs ≡ true → Contains xs x → is_valid_by flags (ty x) ≡ true
-  all_valid [] x is has = absurd (Contains-nil has)
-  all_valid (y ∷ ys) x is has =
-      let both = and_parts (is_valid_by flags (ty y)) (list_all (λ z. is_valid_by flags (ty z)) ys) is in
-      elim (Contains-cons_cases y x ys has) [ inl same ↦ subst (λ (z : X). is_valid_by flags (ty z) ≡ true) same both.0 | inr later ↦ all_valid ys x both.1 later ]
+  all_on : (ps : List KindPart) → list_all (is_valid_part flags) ps ≡ true → (u : ℕ) → Contains (flat_map part_holds ps) u → is_on flags u ≡ true
+  all_on [] is u has = absurd (Contains-nil has)
+  all_on (p ∷ ps) is u has =
+      let both = and_parts (is_valid_part flags p) (list_all (is_valid_part flags) ps) is in
+      elim (Contains-append_cases (part_holds p) (flat_map part_holds ps) u has) [ inl here ↦ part_on flags p both.0 u here | inr later ↦ all_on ps both.1 u later ]
 
-  all_on : (xs : List X) → list_all (λ x. is_valid_by flags (ty x)) xs ≡ true → (u : ℕ) → Contains (flat_map (λ x. named_type (ty x)) xs) u → is_on flags u ≡ true
-  all_on xs is u has =
-      let from = Contains-flat_map_cases (λ (x : X). named_type (ty x)) xs u has in
-      named_on flags (ty from.0) (all_valid xs from.0 is from.1.0) u from.1.1
-
-  some_off : (xs : List X) → list_all (λ x. is_valid_by flags (ty x)) xs ≡ false
-      → (list_all (λ x. is_number_or_listed (ty x)) xs ≡ false) ⊎ ((x : X) × (Contains xs x × NamesOff flags (named_type (ty x))))
-  some_off [] is = absurd (false≢true (sym is))
-  some_off (x ∷ xs) is = elim (and_cases (is_valid_by flags (ty x)) (list_all (λ y. is_valid_by flags (ty y)) xs) is) [
-    | inl here ↦ elim (unlisted flags (ty x) here) [
-      | inl fails ↦ inl (and_left (is_number_or_listed (ty x)) (list_all (λ y. is_number_or_listed (ty y)) xs) fails)
-      | inr names ↦ inr (x, (Contains-here x xs, names))
+  any_off : (ps : List KindPart) → list_all (is_valid_part flags) ps ≡ false → (list_all is_fixed_part ps ≡ false) ⊎ NamesOff flags (flat_map part_holds ps)
+  any_off [] is = absurd (false≢true (sym is))
+  any_off (p ∷ ps) is = elim (and_cases (is_valid_part flags p) (list_all (is_valid_part flags) ps) is) [
+    | inl here ↦ elim (part_off flags p here) [
+      | inl fails ↦ inl (and_left (is_fixed_part p) (list_all is_fixed_part ps) fails)
+      | inr names ↦ inr (names.0, (Contains-append_left (part_holds p) (flat_map part_holds ps) names.0 names.1.0, names.1.1))
     ]
-    | inr later ↦ elim (some_off xs later) [
-      | inl fails ↦ inl (and_right (is_number_or_listed (ty x)) (list_all (λ y. is_number_or_listed (ty y)) xs) fails)
-      | inr names ↦ inr (names.0, (Contains-there x names.0 xs names.1.0, names.1.1))
+    | inr later ↦ elim (any_off ps later) [
+      | inl fails ↦ inl (and_right (is_fixed_part p) (list_all is_fixed_part ps) fails)
+      | inr names ↦ inr (names.0, (Contains-append_right (part_holds p) (flat_map part_holds ps) names.0 names.1.0, names.1.1))
     ]
-  ]
-
-  any_off : (xs : List X) → list_all (λ x. is_valid_by flags (ty x)) xs ≡ false
-      → (list_all (λ x. is_number_or_listed (ty x)) xs ≡ false) ⊎ NamesOff flags (flat_map (λ x. named_type (ty x)) xs)
-  any_off xs is = elim (some_off xs is) [
-    | inl other ↦ inl other
-    | inr s ↦ inr (s.1.1.0, (Contains-flat_map (λ (x : X). named_type (ty x)) xs s.0 s.1.1.0 s.1.0 s.1.1.1.0, s.1.1.1.1))
   ]
 
 -- a kind whose parts are valid by the flags has fixed parts,
 pub parts_fixed : (flags : List Bool) (k : TypeDefKind) → has_valid_parts flags k ≡ true → has_fixed_parts k ≡ true
-parts_fixed flags (kind.Handle handle) is = refl
-parts_fixed flags (kind.Type_ ty) is = listed flags ty is
-parts_fixed flags (kind.FixedLengthList ty len) is = listed flags ty is
-parts_fixed flags (kind.Record fields) is = all_listed flags (λ (f : Field). f.ty) fields is
-parts_fixed flags (kind.Tuple types) is = all_listed flags (λ (ty : Type_). ty) types is
-parts_fixed flags other is = is
+parts_fixed flags k is =
+    let both = and_parts (has_fixed_layout (variant_of k)) (list_all (is_valid_part flags) (kind_parts k)) is in
+    and_from (has_fixed_layout (variant_of k)) (list_all is_fixed_part (kind_parts k)) both.0 (all_listed flags (kind_parts k) both.1)
 
 -- and the flag of each type that its values hold is on;
 pub parts_on : (flags : List Bool) (k : TypeDefKind) → has_valid_parts flags k ≡ true → (u : ℕ) → Contains (content_types k) u → is_on flags u ≡ true
-parts_on flags (kind.Handle handle) is u has = absurd (Contains-nil has)
-parts_on flags (kind.Type_ ty) is u has = named_on flags ty is u has
-parts_on flags (kind.FixedLengthList ty len) is u has = named_on flags ty is u has
-parts_on flags (kind.Record fields) is u has = all_on flags (λ (f : Field). f.ty) fields is u has
-parts_on flags (kind.Tuple types) is u has = all_on flags (λ (ty : Type_). ty) types is u has
-parts_on flags other is u has = absurd (false≢true is)
+parts_on flags k is u has = all_on flags (kind_parts k) (and_parts (has_fixed_layout (variant_of k)) (list_all (is_valid_part flags) (kind_parts k)) is).1 u has
 
 -- one whose parts aren't has none, or holds a type whose flag is off
 pub parts_off : (flags : List Bool) (k : TypeDefKind) → has_valid_parts flags k ≡ false
     → (has_fixed_parts k ≡ false) ⊎ ((u : ℕ) × (Contains (content_types k) u × (is_on flags u ≡ false)))
-parts_off flags (kind.Handle handle) is = absurd (false≢true (sym is))
-parts_off flags (kind.Type_ ty) is = unlisted flags ty is
-parts_off flags (kind.FixedLengthList ty len) is = unlisted flags ty is
-parts_off flags (kind.Record fields) is = any_off flags (λ (f : Field). f.ty) fields is
-parts_off flags (kind.Tuple types) is = any_off flags (λ (ty : Type_). ty) types is
-parts_off flags other is = inl is
+parts_off flags k is = elim (and_cases (has_fixed_layout (variant_of k)) (list_all (is_valid_part flags) (kind_parts k)) is) [
+  | inl layout ↦ inl (and_left (has_fixed_layout (variant_of k)) (list_all is_fixed_part (kind_parts k)) layout)
+  | inr some ↦ elim (any_off flags (kind_parts k) some) [
+    | inl fails ↦ inl (and_right (has_fixed_layout (variant_of k)) (list_all is_fixed_part (kind_parts k)) fails)
+    | inr names ↦ inr names
+  ]
+]
+
+-- ---- kind by kind, as the code asks
+
+module _ (flags : List Bool) where
+  abbrev is_valid_kind : TypeDefKind → Bool
+  is_valid_kind (kind.Handle h) = true
+  is_valid_kind (kind.Type_ ty) = is_valid_by flags ty
+  is_valid_kind (kind.FixedLengthList ty len) = is_valid_by flags ty
+  is_valid_kind (kind.Record fields) = list_all (λ (f : Field). is_valid_by flags f.ty) fields
+  is_valid_kind (kind.Tuple types) = list_all (is_valid_by flags) types
+  is_valid_kind _ = false
+
+  alone : (b : Bool) → b ≡ b && true
+  alone true = refl
+  alone false = refl
+
+  fields_valid : (fields : List Field) → list_all (λ (f : Field). is_valid_by flags f.ty) fields ≡ list_all (is_valid_part flags) (map (λ (f : Field). named_part f.name (Some f.ty) f.span) fields)
+  fields_valid [] = refl
+  fields_valid (f ∷ fields) = ap (λ (b : Bool). is_valid_by flags f.ty && b) (fields_valid fields)
+
+  types_valid : (n : ℕ) (types : List Type_) → list_all (is_valid_by flags) types ≡ list_all (is_valid_part flags) (map (λ (e : ℕ × Type_). plain_part Value (decimal e.0) (Some e.1)) (enumerate_from n types))
+  types_valid n [] = refl
+  types_valid n (ty ∷ types) = ap (λ (b : Bool). is_valid_by flags ty && b) (types_valid (n + 1) types)
+
+  pub kind_valid : (k : TypeDefKind) → is_valid_kind k ≡ has_valid_parts flags k
+  kind_valid (kind.Handle (handle.Own t)) = refl
+  kind_valid (kind.Handle (handle.Borrow t)) = refl
+  kind_valid (kind.Type_ ty) = alone (is_valid_by flags ty)
+  kind_valid (kind.FixedLengthList ty len) = alone (is_valid_by flags ty)
+  kind_valid (kind.Record fields) = fields_valid fields
+  kind_valid (kind.Tuple types) = types_valid 0 types
+  kind_valid other = refl
+
+  pub other_valid : (k : TypeDefKind) → ((h : Handle) → k ≡ kind.Handle h → ⊥) → ((ty : Type_) → k ≡ kind.Type_ ty → ⊥) → ((ty : Type_) (len : ℕ) → k ≡ kind.FixedLengthList ty len → ⊥)
+      → ((fields : List Field) → k ≡ kind.Record fields → ⊥) → ((types : List Type_) → k ≡ kind.Tuple types → ⊥) → false ≡ has_valid_parts flags k
+  other_valid (kind.Handle h) no_handle no_alias no_list no_record no_tuple = absurd (no_handle h refl)
+  other_valid (kind.Type_ ty) no_handle no_alias no_list no_record no_tuple = absurd (no_alias ty refl)
+  other_valid (kind.FixedLengthList ty len) no_handle no_alias no_list no_record no_tuple = absurd (no_list ty len refl)
+  other_valid (kind.Record fields) no_handle no_alias no_list no_record no_tuple = absurd (no_record fields refl)
+  other_valid (kind.Tuple types) no_handle no_alias no_list no_record no_tuple = absurd (no_tuple types refl)
+  other_valid other no_handle no_alias no_list no_record no_tuple = refl

@@ -1,6 +1,5 @@
 -- What is left of a listing of interfaces that has come some way.
-use Rattle.std.specs.Prelude.{ℕ, List, [], ◌++◌, Option, filter_map, slice_get, unwrap_or}
-use Rattle.std.specs.List.{flat_map}
+use Rattle.std.specs.Prelude.{ℕ, List, [], ◌++◌, Option, filter_map, slice_get, unwrap_or, flat_map}
 use Rattle.std.specs.Option.{option_map_or}
 use Rattle.wit_data.specs.Uses.{interface_uses}
 use Rattle.wit_data.specs.declared.interface.Interface.{Interface}

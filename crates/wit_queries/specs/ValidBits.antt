@@ -1,15 +1,15 @@
 -- Flags that are kept beside a graph, one for each type: whether all bits are valid. With them the question takes
 -- no walk and no memory.
-use Rattle.std.specs.Prelude.{◌≡◌, ◌<◌, ◌↔◌, ℕ, suc, Bool, true, false, List, [], ◌∷◌, Some, IsTrue, length, slice_get, unwrap_or}
+use Rattle.std.specs.Prelude.{◌≡◌, ◌<◌, ◌↔◌, ℕ, suc, Bool, true, false, List, [], ◌∷◌, ◌&&◌, Some, IsTrue, length, slice_get, unwrap_or, if◌then◌else◌}
 use Rattle.std.specs.List.{list_all}
+use Rattle.std.specs.Option.{option_map_or}
 use Rattle.wit_data.specs.Each.{SomeAt}
-use Rattle.wit_data.specs.declared.types.Field.{Field}
+use Rattle.wit_data.specs.Kind.{KindPart, kind_parts, variant_of}
 use Rattle.wit_data.specs.declared.types.TypeDef.{TypeDef}
 use Rattle.wit_data.specs.declared.types.TypeDefKind.{TypeDefKind}
-use Rattle.wit_data.specs.declared.types.TypeDefKind.TheVariants as kind
 use Rattle.wit_data.specs.declared.types.Type_.{Type_}
 use Rattle.wit_data.specs.declared.types.Type_.TheVariants as type
-use Rattle.wit_graph_data.specs.Queries.{HasAllBitsValid, is_number}
+use Rattle.wit_graph_data.specs.Queries.{HasAllBitsValid, has_fixed_layout, is_held, is_number}
 
 -- each flag that is there says whether all bits of its type are valid
 abbrev pub AreValidBits : List TypeDef → List Bool → Type 0
@@ -25,14 +25,13 @@ abbrev pub is_valid_by : List Bool → Type_ → Bool
 is_valid_by flags (type.Id t) = unwrap_or (slice_get flags t) false
 is_valid_by flags other = is_number other
 
--- a kind is a handle, or has parts at fixed places of which, by the flags, all bits are valid
+-- by the flags, all bits of a part that values hold are valid
+abbrev pub is_valid_part : List Bool → KindPart → Bool
+is_valid_part flags p = if is_held p.role then option_map_or (is_valid_by flags) p.ty false else true
+
+-- a kind has parts at fixed places, of all of which they are
 abbrev pub has_valid_parts : List Bool → TypeDefKind → Bool
-has_valid_parts flags (kind.Handle handle) = true
-has_valid_parts flags (kind.Type_ ty) = is_valid_by flags ty
-has_valid_parts flags (kind.FixedLengthList ty len) = is_valid_by flags ty
-has_valid_parts flags (kind.Record fields) = list_all (λ (f : Field). is_valid_by flags f.ty) fields
-has_valid_parts flags (kind.Tuple types) = list_all (is_valid_by flags) types
-has_valid_parts flags _ = false
+has_valid_parts flags k = has_fixed_layout (variant_of k) && list_all (is_valid_part flags) (kind_parts k)
 
 -- while flags are being set, too many may be on: each flag that is off is right, as not all bits of its type are
 -- valid

@@ -3,15 +3,15 @@ ghost use Rattle.std.specs.Prelude.{◌≡◌, IfOk};
 ghost use Rattle.wit_graph_data.specs.Queries.{content_types, type_contents};
 
 use std::alloc::{AllocError, Global};
-use wit_data::{TypeDef, TypeDefKind, places, referred};
+use wit_data::{PartRole, TypeDef, TypeDefKind, part_role, places, referred};
 use wit_values::Items;
 
 /// What the values of a kind hold, as places.
 fn content_types(alloc: Global, kind: &TypeDefKind) -> Result<Items<usize>, AllocError>
     ensures { IfOk result (λ held. held ≡ content_types kind.now) }
 {
-    match kind {
-        TypeDefKind::Handle(_) => Ok(Items::new(alloc)),
+    match part_role(kind) {
+        PartRole::Argument => Ok(Items::new(alloc)),
         _ => places(alloc, referred(alloc, kind)?.as_slice()),
     }
 }

@@ -86,26 +86,17 @@ fn settle(flags: &mut Items<bool>, types: &[TypeDef], first: usize) -> bool
     settled
 }
 
-/// Whether a kind is a handle, or has parts at fixed places of which, by the flags, all bits are valid.
+/// Whether a kind has its parts at fixed places, and by the flags all bits of those that its values hold are valid.
 fn has_valid_parts(flags: &[bool], kind: &TypeDefKind) -> bool
     ensures { result ≡ has_valid_parts flags.now kind.now }
 {
     match kind {
         TypeDefKind::Handle(_) => true,
-        TypeDefKind::Type_(ty) | TypeDefKind::FixedLengthList(ty, _) => is_valid_by(flags, *ty),
+        TypeDefKind::Type_(ty) => is_valid_by(flags, *ty),
+        TypeDefKind::FixedLengthList(ty, _) => is_valid_by(flags, *ty),
         TypeDefKind::Record { fields } => are_valid_fields(flags, fields.as_slice()),
         TypeDefKind::Tuple { types } => are_valid_types(flags, types.as_slice()),
-        TypeDefKind::Resource
-        | TypeDefKind::Flags { .. }
-        | TypeDefKind::Variant { .. }
-        | TypeDefKind::Enum { .. }
-        | TypeDefKind::Option(_)
-        | TypeDefKind::Result_ { .. }
-        | TypeDefKind::List(_)
-        | TypeDefKind::Map(_, _)
-        | TypeDefKind::Future(_)
-        | TypeDefKind::Stream(_)
-        | TypeDefKind::Unknown => false,
+        _ => false,
     }
 }
 

@@ -7,10 +7,10 @@ use Rattle.wit_values.specs.facts.Lists.{lookup-before}
 use Rattle.wit_data.specs.Entries.{Entry}
 use Rattle.wit_data.specs.facts.WorldKeyFacts.{key_laws, same_key}
 use Rattle.wit_data.specs.declared.world.WorldItem.{WorldItem}
-use Rattle.wit_data.specs.declared.world.WorldItem.TheVariants as item
 use Rattle.wit_data.specs.declared.world.WorldKey.{WorldKey}
+use Rattle.wit_data.specs.declared.world.WorldItem.TheVariants as item
 use Rattle.wit_data.specs.declared.world.WorldKey.TheVariants as key
-use Rattle.wit_graph_theory.specs.Image.{entry_image, item_image, key_image}
+use Rattle.wit_remap_spec.specs.Image.{entry_image, item_image, key_image}
 use Rattle.wit_remap.specs.steps.Fits.{EntriesFit, Fits, ItemFits}
 use Rattle.wit_remap.specs.steps.Movers.{maps_of}
 use Rattle.wit_remap.specs.declared.mover.Mover.{Mover}

@@ -9,12 +9,12 @@ use Rattle.wit_data.specs.Shape.{IsShaped}
 use Rattle.wit_data.specs.facts.WorldKeyFacts.{key_is, same_key}
 use Rattle.wit_data.specs.declared.world.World.{World}
 use Rattle.wit_data.specs.declared.world.WorldItem.{WorldItem}
-use Rattle.wit_data.specs.declared.world.WorldItem.TheVariants as item
 use Rattle.wit_data.specs.declared.world.WorldKey.{WorldKey}
+use Rattle.wit_data.specs.declared.world.WorldItem.TheVariants as item
 use Rattle.wit_data.specs.declared.world.WorldKey.TheVariants as key
 use Rattle.wit_elaboration.specs.Valid.{IsValid}
 use Rattle.wit_graph_theory.specs.Cut.{ItemIsKept}
-use Rattle.wit_graph_theory.specs.Image.{entry_image}
+use Rattle.wit_remap_spec.specs.Image.{entry_image}
 use Rattle.wit_link_spec.specs.Addition.{Addition, active, addition_maps, own_world}
 use Rattle.wit_link_spec.specs.facts.ActivePart.{part}
 use Rattle.wit_link_spec.specs.facts.ApartFacts.{KeyIsActive, keys_apart}

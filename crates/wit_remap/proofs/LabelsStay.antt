@@ -3,7 +3,7 @@ use Rattle.std.proofs.Common.{◌≡◌, ◌∙◌, ℕ, List, [], ◌∷◌, ma
 use Rattle.wit_data.specs.declared.types.TypeDef.{TypeDef}
 use Rattle.wit_data.specs.declared.types.TypeOwner.{TypeOwner}
 use Rattle.wit_data.specs.declared.types.TypeOwner.TheVariants as owner
-use Rattle.wit_graph_theory.specs.Image.{name_image, type_image}
+use Rattle.wit_remap_spec.specs.Image.{name_image, type_image}
 use Rattle.wit_remap.specs.steps.Movers.{maps_of}
 use Rattle.wit_remap.specs.declared.mover.Mover.{Mover}
 

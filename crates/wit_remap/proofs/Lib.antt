@@ -2,6 +2,7 @@ pub mod EntrySteps
 pub mod Firsts
 pub mod Kept
 pub mod KeysApart
+pub mod KindSpans
 pub mod LabelsStay
 pub mod MapsAre
 pub mod NamedFilter
@@ -11,4 +12,3 @@ pub mod Ready
 pub mod Rows
 pub mod SpansFit
 pub mod Turns
-pub mod WhereNew

@@ -5,14 +5,15 @@ use Rattle.wit_data.specs.Shape.{IsShaped}
 use Rattle.wit_data.specs.declared.world.WorldItem.{WorldItem}
 use Rattle.wit_data.specs.declared.world.WorldItem.TheVariants as item
 use Rattle.wit_link_spec.specs.steps.AdditionRefs.{activity_of, new_ids_of, values_of}
-use Rattle.wit_link_spec.specs.Addition.{Addition, active, active_interface_id, active_type_id, active_world_id, addition_maps, own_types, rank, remapped_interface, remapped_type, remapped_value, remapped_world, value_needs_own}
+use Rattle.wit_link_spec.specs.Addition.{Addition, active, active_interface_id, active_type_id, active_world_id, addition_maps, own_types, rank, remapped_interface, remapped_type, remapped_world, remap_of_addition}
 use Rattle.wit_link_spec.specs.Gates.{function_is_active, interface_is_active, item_is_active, type_is_active, world_is_active}
 use Rattle.wit_link_spec.specs.facts.PositionFacts.{needs_active}
 use Rattle.wit_link_spec.specs.Reasons.{IsResolved}
+use Rattle.wit_link_spec.specs.ValueRemap.{needs_own, value_id}
+use Rattle.wit_link_spec.specs.facts.NewFacts.{interface_past, type_past, world_past}
 use Rattle.wit_remap.specs.steps.Movers.{goes, maps_with}
 use Rattle.wit_remap.specs.steps.Parts.{flag, has_item, kept_with}
 use Rattle.wit_remap.proofs.Places.{flag-is, goes-is, values-are}
-use Rattle.wit_remap.proofs.WhereNew.{interface_past, type_past, world_past}
 
 off : {X : Type 0} (b : Bool) (x y : X) → b ≡ false → (if b then x else y) ≡ y
 off true x y h = cc
@@ -32,15 +33,15 @@ module _ (a : Addition) (shaped : IsShaped a.unresolved) (image : IsResolved a) 
   worlds_go = goes-is (active_world_id a) (length a.unresolved.worlds) (λ w past. off (world_is_active a.features a.unresolved w) _ None (world_past a shaped image w past))
 
   -- past the end a type stays, also at a value position
-  value_past : (t : ℕ) → length a.unresolved.types ≤ t → remapped_value a t ≡ t
+  value_past : (t : ℕ) → length a.unresolved.types ≤ t → value_id (remap_of_addition a) t ≡ t
   value_past t past =
       let left = type_past a shaped image t past in
-      let none : value_needs_own a t ≡ false = false_from_ne_true (value_needs_own a t) (λ needs. false≢true (sym left ∙ needs_active a shaped image t needs)) in
+      let none : needs_own (remap_of_addition a) t ≡ false = false_from_ne_true (needs_own (remap_of_addition a) t) (λ needs. false≢true (sym left ∙ needs_active a shaped image t needs)) in
       let stays : remapped_type a t ≡ t = ap (λ (o : Option ℕ). unwrap_or o t) (goes_nowhere t past) in
-      ap (λ (b : Bool). if b then length a.graph.types + length (own_types a) + rank (value_needs_own a) t else remapped_type a t) none ∙ stays
+      ap (λ (b : Bool). if b then length a.graph.types + length (own_types a) + rank (needs_own (remap_of_addition a)) t else remapped_type a t) none ∙ stays
 
-  values_go : remapped_value a ≡ (λ t. unwrap_or (slice_get (values_of a).places t) t)
-  values_go = values-are (remapped_value a) (length a.unresolved.types) value_past
+  values_go : value_id (remap_of_addition a) ≡ (λ t. unwrap_or (slice_get (values_of a).places t) t)
+  values_go = values-are (value_id (remap_of_addition a)) (length a.unresolved.types) value_past
 
   -- the maps of the places are those of the addition
   pub maps_are : maps_with (new_ids_of a) (values_of a).places (length a.graph.packages) a.offset ≡ addition_maps a

@@ -4,7 +4,7 @@ use Rattle.std.specs.List.{range_with_len}
 use Rattle.std.proofs.lemmas.Bool.{cases_lt}
 use Rattle.wit_link_spec.specs.facts.RangeFacts.{range-at, range-past}
 use Rattle.wit_remap.specs.steps.Movers.{goes, id_or}
-use Rattle.wit_remap.specs.steps.Parts.{flag, is_from, is_new}
+use Rattle.wit_remap.specs.steps.Parts.{flag}
 
 module _ {X : Type 0} (f : ℕ → X) where
   -- a place is one of so many or past them
@@ -41,13 +41,3 @@ values-are f n stay = λ j i. sym (each i) j
     each i = in_or_past f n i (unwrap_or (slice_get (map f (range_with_len 0 n)) i) i ≡ f i)
         (λ below. ap (λ (o : Option ℕ). unwrap_or o i) (range-at f n i below))
         (λ past. ap (λ (o : Option ℕ). unwrap_or o i) (range-past f n i past) ∙ sym (stay i past))
-
--- what goes to a new id
-pub new-is : (f : ℕ → Option ℕ) (own : ℕ → Bool) (first n : ℕ) → ((i : ℕ) → n ≤ i → own i ≡ false) → ((i : ℕ) → is_from first (Some (f i)) ≡ own i)
-    → is_new first (map f (range_with_len 0 n)) ≡ own
-new-is f own first n none same = λ j i. each i j
-  where
-    each : (i : ℕ) → is_new first (map f (range_with_len 0 n)) i ≡ own i
-    each i = in_or_past f n i (is_new first (map f (range_with_len 0 n)) i ≡ own i)
-        (λ below. ap (is_from first) (range-at f n i below) ∙ same i)
-        (λ past. ap (is_from first) (range-past f n i past) ∙ sym (none i past))

@@ -5,7 +5,7 @@ use Rattle.std.specs.Map.{keys_of, lookup}
 use Rattle.std.specs.Str.{bytes_eq}
 use Rattle.std.proofs.lemmas.Bool.{lt-ltb}
 use Rattle.wit_data.specs.Foreign.{foreign_interfaces, foreign_worlds}
-use Rattle.wit_data.specs.PackageOrder.{same_package}
+use Rattle.wit_names.specs.PackageOrder.{same_package}
 use Rattle.wit_data.specs.Shape.{IsShaped}
 use Rattle.wit_data.specs.declared.interface.Interface.{Interface}
 use Rattle.wit_data.specs.declared.types.TypeDef.{TypeDef}
@@ -14,25 +14,26 @@ use Rattle.wit_data.specs.declared.world.World.{World}
 use Rattle.wit_elaboration.specs.Valid.{IsValid}
 use Rattle.wit_graph_data.specs.declared.features.Features.{Features}
 use Rattle.wit_graph_data.specs.declared.graph.Graph.{Graph}
-use Rattle.wit_graph_theory.specs.Cut.{cut_interface, cut_world}
-use Rattle.wit_graph_theory.specs.Image.{Maps, interface_image, type_image, world_image}
-use Rattle.wit_graph_theory.specs.Kept.{KeptIds}
+use Rattle.wit_remap_spec.specs.Kept.{KeptIds, cut_interface, cut_world}
+use Rattle.wit_remap_spec.specs.Image.{Maps, interface_image, type_image, world_image}
 use Rattle.wit_link_spec.specs.steps.AdditionRefs.{new_ids_of}
-use Rattle.wit_link_spec.specs.Addition.{Addition, active, addition_maps, own_interface, own_type, own_world, owns_of_addition, selected, selected_with_index}
+use Rattle.wit_link_spec.specs.Addition.{Addition, active, addition_maps, own_interface, own_type, own_world, selected, selected_with_index, remap_of_addition}
 use Rattle.wit_link_spec.specs.Gates.{include_is_active, interface_is_active, world_is_active}
 use Rattle.wit_link_spec.specs.Pushed.{with_parts}
 use Rattle.wit_link_spec.specs.facts.RankFacts.{selected_with_index-from}
 use Rattle.wit_link_spec.specs.Reasons.{AdditionOverflows, IsResolved}
 use Rattle.wit_link_spec.specs.declared.addition.NewIds.{NewIds}
+use Rattle.wit_link_spec.specs.ValueRemap.{owns}
+use Rattle.wit_link_spec.specs.steps.NewThings.{is_new}
+use Rattle.wit_link_spec.specs.facts.NewFacts.{new_interfaces, new_types, new_worlds}
 use Rattle.wit_remap.specs.steps.Added.{CanMoveParts, added_world, added_worlds, interfaces_at, moved_package, moved_parts, placed_world, worlds_at}
 use Rattle.wit_remap.specs.steps.Movers.{maps_with}
-use Rattle.wit_remap.specs.steps.Parts.{is_new, kept_of}
+use Rattle.wit_remap.specs.steps.Parts.{kept_of}
 use Rattle.wit_remap.specs.declared.part.Part.{Part}
 use Rattle.wit_remap.specs.declared.worlds.PlacedWorld.{PlacedWorld}
 use Rattle.wit_remap.proofs.KeysApart.{world_keys_apart}
 use Rattle.wit_remap.proofs.NamesApart.{keys_all, keys_named, names_all, names_differ, names_some}
 use Rattle.wit_remap.proofs.SpansFit.{interfaces_fit, types_fit, worlds_fit}
-use Rattle.wit_remap.proofs.WhereNew.{new_interfaces, new_types, new_worlds}
 
 module _ (a : Addition) (valid : IsValid a.graph) (shaped : IsShaped a.unresolved) (image : IsResolved a) where
   interface_names_apart : IsDistinct bytes_eq (keys_of (interfaces_at (addition_maps a) (selected_with_index (own_interface a) a.unresolved.interfaces)))
@@ -72,10 +73,10 @@ module _ (a : Addition) (valid : IsValid a.graph) (shaped : IsShaped a.unresolve
   }
 
   abbrev graph_of : (ℕ → Bool) → Graph
-  graph_of own = record (moved_parts (new_ids_of a) (addition_maps a) (active a) (owns_of_addition a) a.unresolved a.graph) { types = a.graph.types ++ (map (type_image (addition_maps a)) (selected own a.unresolved.types) ++ owns_of_addition a) }
+  graph_of own = record (moved_parts (new_ids_of a) (addition_maps a) (active a) (owns (remap_of_addition a)) a.unresolved a.graph) { types = a.graph.types ++ (map (type_image (addition_maps a)) (selected own a.unresolved.types) ++ owns (remap_of_addition a)) }
 
   -- the parts that go to new ids are those of the addition
-  pub moved_are : moved_parts (new_ids_of a) (addition_maps a) (active a) (owns_of_addition a) a.unresolved a.graph ≡ with_parts a
+  pub moved_are : moved_parts (new_ids_of a) (addition_maps a) (active a) (owns (remap_of_addition a)) a.unresolved a.graph ≡ with_parts a
   moved_are =
       let types : graph_of (is_new (length a.graph.types) (new_ids_of a).types) ≡ graph_of (own_type a) = ap graph_of (new_types a valid shaped image) in
       let interfaces : graph_with (is_new (length a.graph.interfaces) (new_ids_of a).interfaces) (is_new (length a.graph.worlds) (new_ids_of a).worlds) ≡ graph_with (own_interface a) (is_new (length a.graph.worlds) (new_ids_of a).worlds) =

@@ -7,15 +7,10 @@ use Rattle.wit_digraph.specs.facts.MemberFacts.{Contains-flat_map, Contains-here
 use Rattle.wit_data.specs.Each.{Each}
 use Rattle.wit_data.specs.Entries.{Entry}
 use Rattle.wit_data.specs.declared.function.Function.{Function}
-use Rattle.wit_data.specs.declared.function.Param.{Param}
 use Rattle.wit_data.specs.declared.interface.Interface.{Interface}
-use Rattle.wit_data.specs.declared.types.Case.{Case}
-use Rattle.wit_data.specs.declared.types.EnumCase.{EnumCase}
-use Rattle.wit_data.specs.declared.types.Field.{Field}
-use Rattle.wit_data.specs.declared.types.Flag.{Flag}
+use Rattle.wit_data.specs.declared.function.Param.{Param}
 use Rattle.wit_data.specs.declared.types.TypeDef.{TypeDef}
 use Rattle.wit_data.specs.declared.types.TypeDefKind.{TypeDefKind}
-use Rattle.wit_data.specs.declared.types.TypeDefKind.TheVariants as kind
 use Rattle.wit_data.specs.declared.unresolved.UnresolvedPackage.{UnresolvedPackage}
 use Rattle.wit_data.specs.declared.world.World.{World}
 use Rattle.wit_data.specs.declared.world.WorldInclude.{WorldInclude}
@@ -37,22 +32,7 @@ module _ (offset : ℕ) where
   of_map span xs fit i x at = fit (span x) (Contains-map span xs x (contained_at xs i x at))
 
   kind_fits : (k : TypeDefKind) → AllFit offset (kind_spans k) → KindFits (Fits offset) k
-  kind_fits (kind.Record fields) fit = of_map (λ (f : Field). f.span) fields fit
-  kind_fits kind.Resource fit = tt
-  kind_fits (kind.Handle handle) fit = tt
-  kind_fits (kind.Flags flags) fit = of_map (λ (f : Flag). f.span) flags fit
-  kind_fits (kind.Tuple types) fit = tt
-  kind_fits (kind.Variant cases) fit = of_map (λ (c : Case). c.span) cases fit
-  kind_fits (kind.Enum cases) fit = of_map (λ (c : EnumCase). c.span) cases fit
-  kind_fits (kind.Option ty) fit = tt
-  kind_fits (kind.Result_ ok err) fit = tt
-  kind_fits (kind.List ty) fit = tt
-  kind_fits (kind.Map k v) fit = tt
-  kind_fits (kind.FixedLengthList ty len) fit = tt
-  kind_fits (kind.Future ty) fit = tt
-  kind_fits (kind.Stream ty) fit = tt
-  kind_fits (kind.Type_ ty) fit = tt
-  kind_fits kind.Unknown fit = tt
+  kind_fits k fit i span at = fit span (contained_at (kind_spans k) i span at)
 
   type_fits : (def : TypeDef) → AllFit offset (type_spans def) → TypeFits (Fits offset) def
   type_fits def fit = record {

@@ -1,12 +1,12 @@
 //! Whether the spans of types, interfaces and worlds can be moved.
 ghost use Rattle.std.specs.Prelude.{◌↔◌, ℕ, List, IsTrue};
 ghost use Rattle.wit_data.specs.Each.{Each};
-ghost use Rattle.wit_data.specs.declared.function.Function.{Function};
-ghost use Rattle.wit_data.specs.declared.function.Param.{Param};
 ghost use Rattle.wit_data.specs.declared.types.Case.{Case};
 ghost use Rattle.wit_data.specs.declared.types.EnumCase.{EnumCase};
 ghost use Rattle.wit_data.specs.declared.types.Field.{Field};
 ghost use Rattle.wit_data.specs.declared.types.Flag.{Flag};
+ghost use Rattle.wit_data.specs.declared.function.Function.{Function};
+ghost use Rattle.wit_data.specs.declared.function.Param.{Param};
 ghost use Rattle.wit_data.specs.declared.world.WorldInclude.{WorldInclude};
 ghost use Rattle.wit_remap.specs.steps.Fits.{EntriesFit, Fits, FunctionFits, InterfaceFits, ItemFits, KindFits, PartsFit, TypeFits, WholeWorldFits, WorldFits};
 

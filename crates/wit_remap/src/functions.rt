@@ -1,11 +1,11 @@
 //! Functions and interfaces, at their places.
+ghost use Rattle.wit_remap_spec.specs.Image.{function_image, function_kind_image, interface_image, param_image};
+
 use crate::moves::Moves;
 use crate::place::Place;
 use wit_data::{Function, FunctionKind, Interface, Param};
 
 impl Place for Param {
-    ghost use Rattle.wit_graph_theory.specs.Image.{param_image};
-
     ghost fits = { λ P param. P param.span };
 
     ghost placed = { param_image };
@@ -17,8 +17,6 @@ impl Place for Param {
 }
 
 impl Place for FunctionKind {
-    ghost use Rattle.wit_graph_theory.specs.Image.{function_kind_image};
-
     ghost fits = { λ _ _. Unit {0} };
 
     ghost placed = { function_kind_image };
@@ -43,7 +41,6 @@ impl Place for FunctionKind {
 }
 
 impl Place for Function {
-    ghost use Rattle.wit_graph_theory.specs.Image.{function_image};
     ghost use Rattle.wit_remap.specs.steps.Fits.{FunctionFits};
 
     ghost fits = { FunctionFits };
@@ -59,7 +56,6 @@ impl Place for Function {
 }
 
 impl Place for Interface {
-    ghost use Rattle.wit_graph_theory.specs.Image.{interface_image};
     ghost use Rattle.wit_remap.specs.steps.Fits.{InterfaceFits};
 
     ghost fits = { InterfaceFits };

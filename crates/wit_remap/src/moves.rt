@@ -1,6 +1,6 @@
 //! What things are remapped to, whatever tells it.
 ghost use Rattle.std.specs.Prelude.{◌≡◌, ℕ, Option, Some};
-ghost use Rattle.wit_graph_theory.specs.Image.{Maps};
+ghost use Rattle.wit_remap_spec.specs.Image.{Maps};
 ghost use Rattle.wit_sources.specs.Span.{moved_by};
 
 use wit_data::{InterfaceId, PackageId, Span, TypeId, WorldId};

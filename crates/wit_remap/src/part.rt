@@ -1,11 +1,11 @@
 //! What of a package is active, and what of that is its own.
 ghost use Rattle.std.specs.Prelude.{◌≡◌, IfOk, drop, filter, slice_get};
-ghost use Rattle.std.specs.Option.{option_copied};
 ghost use Rattle.std.specs.Slice.Iter.{iter_rest};
 ghost use Rattle.wit_link_spec.specs.Gates.{include_is_active, is_active};
 ghost use Rattle.wit_link_spec.specs.Addition.{selected, selected_with_index};
-ghost use Rattle.wit_graph_theory.specs.Cut.{cut_interface};
-ghost use Rattle.wit_remap.specs.steps.Parts.{is_from, is_new, kept_of};
+ghost use Rattle.wit_link_spec.specs.steps.NewThings.{is_from, is_new};
+ghost use Rattle.wit_remap_spec.specs.Kept.{cut_interface};
+ghost use Rattle.wit_remap.specs.steps.Parts.{kept_of};
 
 use std::alloc::{AllocError, Global};
 use std::mem;
@@ -14,7 +14,7 @@ use wit_data::{
     WorldKey,
 };
 use wit_graph_data::Features;
-use wit_link_spec::{Activity, is_active};
+use wit_link_spec::{Activity, is_active, is_from, is_new};
 
 /// Which features are on, and what of a package is active for that.
 #[derive(Clone, Copy)]
@@ -114,23 +114,6 @@ impl<'a> Part<'a> {
         );
         Items::from_vec(includes)
     }
-}
-
-/// Whether what a thing is remapped to is an id from the first one on.
-fn is_from<S>(place: Option<&Option<Id<S>>>, first: &Id<S>) -> bool
-    ensures { result ≡ is_from first.now (option_copied place.entry) }
-{
-    match place {
-        Some(Some(id)) => first <= id,
-        _ => false,
-    }
-}
-
-/// Whether what stands at a place goes to an id that isn't there yet.
-fn is_new<S>(places: &[Option<Id<S>>], first: &Id<S>, index: usize) -> bool
-    ensures { result ≡ is_new first.now places.now index }
-{
-    is_from(places.get(index), first)
 }
 
 /// What goes to ids from the first one on.

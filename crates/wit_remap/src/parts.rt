@@ -7,17 +7,18 @@ ghost use Rattle.wit_link_spec.specs.steps.AdditionRefs.{activity_of, new_ids_of
 ghost use Rattle.wit_link_spec.specs.Pushed.{with_parts};
 ghost use Rattle.wit_link_spec.specs.Addition.{selected, selected_with_index};
 ghost use Rattle.wit_link_spec.specs.Reasons.{AdditionOverflows, IsResolved};
+ghost use Rattle.wit_link_spec.specs.steps.NewThings.{is_new};
 ghost use Rattle.wit_elaboration.specs.Valid.{IsValid};
-ghost use Rattle.wit_graph_theory.specs.Cut.{cut_interface};
-ghost use Rattle.wit_graph_theory.specs.Image.{interface_image, type_image};
+ghost use Rattle.wit_remap_spec.specs.Kept.{cut_interface};
+ghost use Rattle.wit_remap_spec.specs.Image.{interface_image, type_image};
 ghost use Rattle.wit_data.specs.Each.{Each};
-ghost use Rattle.wit_data.specs.PackageOrder.{same_package};
+ghost use Rattle.wit_names.specs.PackageOrder.{same_package};
 ghost use Rattle.wit_data.specs.Shape.{IsShaped};
 ghost use Rattle.wit_remap.specs.steps.Added.{CanMoveParts, added_worlds, addition, interfaces_at, moved_parts, placed_world, with_interfaces};
 ghost use Rattle.wit_remap.specs.steps.Fits.{Fits, InterfaceFits, TypeFits};
 ghost use Rattle.wit_remap.specs.Grown.{Grown};
 ghost use Rattle.wit_remap.specs.steps.Movers.{maps_of};
-ghost use Rattle.wit_remap.specs.steps.Parts.{is_new, kept_of};
+ghost use Rattle.wit_remap.specs.steps.Parts.{kept_of};
 
 use crate::mover::Mover;
 use crate::part::{Part, selected, selected_with_index};

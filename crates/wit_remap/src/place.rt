@@ -1,6 +1,6 @@
 //! Images in place: what comes in takes its new ids and moves its spans, and keeps all else.
 ghost use Rattle.std.specs.Prelude.{◌≡◌, ℕ, Option};
-ghost use Rattle.wit_graph_theory.specs.Image.{Maps};
+ghost use Rattle.wit_remap_spec.specs.Image.{Maps};
 
 use crate::moves::Moves;
 use std::mem;

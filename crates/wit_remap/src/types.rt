@@ -1,6 +1,6 @@
 //! Types, at their places.
 ghost use Rattle.std.specs.Prelude.{◌≡◌};
-ghost use Rattle.wit_graph_theory.specs.Image.{target_image};
+ghost use Rattle.wit_remap_spec.specs.Image.{case_image, enum_case_image, field_image, flag_image, handle_image, kind_image, owner_image, target_image, type_image, value_image};
 
 use crate::moves::Moves;
 use crate::place::Place;
@@ -8,8 +8,6 @@ use wit_data::{Case, EnumCase, Field, Flag, Handle, Type_, TypeDef, TypeDefKind,
 
 /// A type at a value position.
 impl Place for Type_ {
-    ghost use Rattle.wit_graph_theory.specs.Image.{value_image};
-
     ghost fits = { λ _ _. Unit {0} };
 
     ghost placed = { value_image };
@@ -31,8 +29,6 @@ fn place_target<M: Moves>(ty: &mut Type_, mover: &M)
 }
 
 impl Place for Field {
-    ghost use Rattle.wit_graph_theory.specs.Image.{field_image};
-
     ghost fits = { λ P f. P f.span };
 
     ghost placed = { field_image };
@@ -44,8 +40,6 @@ impl Place for Field {
 }
 
 impl Place for Case {
-    ghost use Rattle.wit_graph_theory.specs.Image.{case_image};
-
     ghost fits = { λ P c. P c.span };
 
     ghost placed = { case_image };
@@ -57,8 +51,6 @@ impl Place for Case {
 }
 
 impl Place for Flag {
-    ghost use Rattle.wit_graph_theory.specs.Image.{flag_image};
-
     ghost fits = { λ P f. P f.span };
 
     ghost placed = { flag_image };
@@ -69,8 +61,6 @@ impl Place for Flag {
 }
 
 impl Place for EnumCase {
-    ghost use Rattle.wit_graph_theory.specs.Image.{enum_case_image};
-
     ghost fits = { λ P c. P c.span };
 
     ghost placed = { enum_case_image };
@@ -81,8 +71,6 @@ impl Place for EnumCase {
 }
 
 impl Place for Handle {
-    ghost use Rattle.wit_graph_theory.specs.Image.{handle_image};
-
     ghost fits = { λ _ _. Unit {0} };
 
     ghost placed = { handle_image };
@@ -96,8 +84,6 @@ impl Place for Handle {
 }
 
 impl Place for TypeOwner {
-    ghost use Rattle.wit_graph_theory.specs.Image.{owner_image};
-
     ghost fits = { λ _ _. Unit {0} };
 
     ghost placed = { owner_image };
@@ -112,7 +98,6 @@ impl Place for TypeOwner {
 }
 
 impl Place for TypeDefKind {
-    ghost use Rattle.wit_graph_theory.specs.Image.{kind_image};
     ghost use Rattle.wit_remap.specs.steps.Fits.{KindFits};
 
     ghost fits = { KindFits };
@@ -148,7 +133,6 @@ impl Place for TypeDefKind {
 
 /// Its name stays, whatever a label becomes.
 impl Place for TypeDef {
-    ghost use Rattle.wit_graph_theory.specs.Image.{type_image};
     ghost use Rattle.wit_remap.specs.steps.Fits.{TypeFits};
 
     ghost fits = { TypeFits };

@@ -2,7 +2,7 @@
 ghost use Rattle.std.specs.Prelude.{◌≡◌, ℕ, IfOk, map};
 ghost use Rattle.std.specs.List.{IsDistinct};
 ghost use Rattle.std.specs.Map.{keys_of};
-ghost use Rattle.wit_graph_theory.specs.Image.{entry_image, item_image, key_image};
+ghost use Rattle.wit_remap_spec.specs.Image.{entry_image, item_image, key_image};
 ghost use Rattle.wit_data.specs.Each.{Each};
 ghost use Rattle.wit_data.specs.facts.WorldKeyFacts.{same_key};
 ghost use Rattle.wit_remap.specs.steps.Fits.{EntriesFit, Fits, ItemFits, WorldFits};

@@ -7,14 +7,14 @@ use Rattle.std.proofs.lemmas.Map.Views.{Contains-from_lookup}
 use Rattle.std.proofs.lemmas.Option.{slice_get_within}
 use Rattle.std.proofs.lemmas.Slice.Eq.{bytes_eq-Decides}
 use Rattle.wit_digraph.specs.facts.MemberFacts.{Contains-here}
-use Rattle.wit_data.specs.UsePath.{use_path_of}
-use Rattle.wit_data.specs.declared.use_path.ParsedUsePath.{ParsedUsePath}
-use Rattle.wit_data.specs.declared.use_path.ParsedUsePath.TheVariants as path
+use Rattle.wit_names.specs.UsePath.{use_path_of}
+use Rattle.wit_names.specs.declared.use_path.ParsedUsePath.{ParsedUsePath}
 use Rattle.wit_data.specs.declared.world.World.{World}
+use Rattle.wit_names.specs.declared.use_path.ParsedUsePath.TheVariants as path
 use Rattle.wit_elaboration.specs.Valid.{IsValid}
-use Rattle.wit_graph_data.specs.declared.error_kind.ResolveErrorKind.{ResolveErrorKind}
 use Rattle.wit_graph_data.specs.declared.graph.Graph.{Graph}
 use Rattle.wit_graph_data.specs.declared.graph.Package.{Package}
+use Rattle.wit_graph_data.specs.declared.error_kind.ResolveErrorKind.{ResolveErrorKind}
 use Rattle.wit_graph_theory.specs.facts.ListFacts.{found_at, place_of}
 use Rattle.wit_selection.specs.Selection.{Choice, IsSelection, by_path, by_reading, in_named, in_package, named_package, named_world, no_main_text, no_world_text, only_world, selected_world}
 

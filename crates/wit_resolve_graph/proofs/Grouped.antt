@@ -3,9 +3,9 @@ use Rattle.std.proofs.Common.{◌≡◌, ◌∙◌, ◌⊎◌, ◌+◌, ◌<◌,
 use Rattle.std.proofs.lemmas.List.{append-nil, append_assoc, length-map, take_at}
 use Rattle.std.proofs.lemmas.List.FromFn.{get_or-range_with_len, length-range_with_len}
 use Rattle.std.proofs.lemmas.List.Sorted.{Contains-permutation}
-use Rattle.std.specs.List.{AllByRecursion, AllZip, flat_map, range_with_len}
+use Rattle.std.specs.List.{AllByRecursion, AllZip, range_with_len}
 use Rattle.std.specs.Map.{lookup}
-use Rattle.std.specs.Prelude.{is_some}
+use Rattle.std.specs.Prelude.{is_some, flat_map}
 use Rattle.wit_values.specs.facts.Lists.{AllByRecursion-at, lookup-append, lookup-push, slice_get-push}
 use Rattle.wit_digraph.specs.facts.FreshFacts.{fresh_all}
 use Rattle.wit_digraph.specs.facts.MemberFacts.{Contains-cons_cases, Contains-flat_map, Contains-nil}
@@ -14,16 +14,16 @@ use Rattle.wit_digraph.specs.PostOrder.{post_order, post_order_within}
 use Rattle.wit_sources.specs.SourceMap.{AreLaidOut, Sources, moved_file, with_sources}
 use Rattle.wit_sources.specs.Span.{moved_by}
 use Rattle.wit_data.specs.Each.{Each}
-use Rattle.wit_data.specs.facts.PackageNameFacts.{own_name}
-use Rattle.wit_data.specs.PackageOrder.{same_package}
+use Rattle.wit_names.specs.facts.PackageNameFacts.{own_name}
+use Rattle.wit_names.specs.PackageOrder.{same_package}
 use Rattle.wit_data.specs.Shape.{IsGroupShaped, IsShaped}
-use Rattle.wit_data.specs.declared.package_name.PackageName.{PackageName}
+use Rattle.wit_names.specs.declared.package_name.PackageName.{PackageName}
 use Rattle.wit_data.specs.declared.unresolved.UnresolvedPackage.{UnresolvedPackage}
 use Rattle.wit_data.specs.declared.unresolved.UnresolvedPackageGroup.{UnresolvedPackageGroup}
-use Rattle.wit_graph_data.specs.declared.error_kind.ResolveErrorKind.{ResolveErrorKind}
-use Rattle.wit_graph_data.specs.declared.error_kind.ResolveErrorKind.TheVariants.{DuplicatePackage, OffsetOverflow, OutOfMemory}
 use Rattle.wit_graph_data.specs.declared.features.Features.{Features}
 use Rattle.wit_graph_data.specs.declared.graph.Graph.{Graph}
+use Rattle.wit_graph_data.specs.declared.error_kind.ResolveErrorKind.{ResolveErrorKind}
+use Rattle.wit_graph_data.specs.declared.error_kind.ResolveErrorKind.TheVariants.{DuplicatePackage, OffsetOverflow, OutOfMemory}
 use Rattle.wit_graph_theory.specs.facts.ListFacts.{at_map, contained_at, from_map, place_of, some_at}
 use Rattle.wit_link_order.specs.GroupOrder.{AreSorted, IsGroupOrder, IsSortCause, Unresolved, group_deps, group_uses, names_of}
 use Rattle.wit_link_spec.specs.Addition.{own_worlds}

@@ -7,9 +7,9 @@ use Rattle.std.proofs.lemmas.Map.Views.{Contains-from_lookup, IsSome-lookup_from
 use Rattle.std.proofs.lemmas.Option.{slice_get_within}
 use Rattle.std.proofs.lemmas.Slice.Eq.{bytes_eq-Decides}
 use Rattle.wit_digraph.specs.facts.MemberFacts.{Contains-cons_cases, Contains-nil}
-use Rattle.wit_data.specs.facts.PackageNameFacts.{own_name, same_name}
-use Rattle.wit_data.specs.PackageOrder.{same_package}
-use Rattle.wit_data.specs.declared.package_name.PackageName.{PackageName}
+use Rattle.wit_names.specs.facts.PackageNameFacts.{own_name, same_name}
+use Rattle.wit_names.specs.PackageOrder.{same_package}
+use Rattle.wit_names.specs.declared.package_name.PackageName.{PackageName}
 use Rattle.wit_data.specs.declared.world.World.{World}
 use Rattle.wit_elaboration.specs.Valid.{IsValid}
 use Rattle.wit_graph_data.specs.declared.graph.Graph.{Graph}

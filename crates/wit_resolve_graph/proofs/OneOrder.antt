@@ -10,18 +10,19 @@ use Rattle.std.proofs.lemmas.Map.Keys.{IsDistinct-IsPermutation}
 use Rattle.std.specs.Cmp.{IsTotalOrder, nat_eq_equiv, on_total}
 use Rattle.std.proofs.lemmas.Map.Text.{is_eq-slice_cmp}
 use Rattle.std.specs.Cmp.Lexicographic.{options_total}
-use Rattle.std.specs.List.{AllByRecursion, AllZip, IsDistinct, flat_map, range_with_len}
+use Rattle.std.specs.List.{AllByRecursion, AllZip, IsDistinct, range_with_len}
 use Rattle.std.specs.Option.{option_cmp, option_eq}
 use Rattle.std.specs.Ordering.{is_eq, is_lt, ordering_reverse, ordering_then}
-use Rattle.std.specs.Prelude.{IsSortedByKey}
+use Rattle.std.specs.Prelude.{IsSortedByKey, flat_map}
 use Rattle.std.specs.declared.cmp.Ordering.{Ordering}
 use Rattle.std.specs.declared.cmp.Ordering.TheVariants.{Less, Equal, Greater}
-use Rattle.wit_values.specs.Version.{Parts, version_cmp, version_cmp_total, version_eq, version_ties}
+use Rattle.wit_values.specs.Version.{Parts, version_cmp, version_eq}
+use Rattle.wit_values.specs.facts.VersionFacts.{version_cmp_total, version_ties}
 use Rattle.wit_digraph.specs.facts.MemberFacts.{Contains-cons_cases, Contains-here, Contains-nil, Contains-there}
 use Rattle.wit_digraph.specs.PostOrder.{first_of_each, post_order}
-use Rattle.wit_data.specs.facts.PackageNameFacts.{same_name}
-use Rattle.wit_data.specs.PackageOrder.{package_cmp, same_package}
-use Rattle.wit_data.specs.declared.package_name.PackageName.{PackageName}
+use Rattle.wit_names.specs.facts.PackageNameFacts.{same_name}
+use Rattle.wit_names.specs.PackageOrder.{package_cmp, same_package}
+use Rattle.wit_names.specs.declared.package_name.PackageName.{PackageName}
 use Rattle.wit_link_order.specs.GroupOrder.{AreSorted, IsGroupOrder, Unresolved, group_uses, names_of}
 
 -- ---- lists that rise

@@ -5,20 +5,21 @@ use Rattle.std.proofs.lemmas.List.{append-nil}
 use Rattle.wit_values.specs.facts.Lists.{kept-cases, slice_get-append, slice_get-set}
 use Rattle.wit_data.specs.Each.{EachAt, SomeAt}
 use Rattle.wit_graph_data.specs.declared.features.Features.{Features}
+use Rattle.wit_graph_data.specs.declared.graph.Graph.{Graph}
+use Rattle.wit_graph_data.specs.declared.graph.Package.{Package}
 use Rattle.wit_data.specs.declared.interface.Interface.{Interface}
 use Rattle.wit_data.specs.declared.stability.Stability.{Stability}
 use Rattle.wit_data.specs.declared.types.TypeDef.{TypeDef}
 use Rattle.wit_data.specs.declared.types.TypeDefKind.{TypeDefKind}
 use Rattle.wit_data.specs.declared.world.World.{World}
 use Rattle.wit_data.specs.declared.world.WorldInclude.{WorldInclude}
-use Rattle.wit_graph_data.specs.declared.graph.Graph.{Graph}
-use Rattle.wit_graph_data.specs.declared.graph.Package.{Package}
 use Rattle.wit_graph_theory.specs.facts.ListFacts.{found_at, same_at, some_at}
 use Rattle.wit_link_order.specs.GroupOrder.{Unresolved}
 use Rattle.wit_link_spec.specs.Addition.{Addition, active_includes, addition_maps, own_worlds, remapped_world}
 use Rattle.wit_link_spec.specs.Include.{PartiallyLinked, lists_of, with_copies, with_world_included}
-use Rattle.wit_link_spec.specs.Pushed.{linked_world, new_package, pushed, with_all_includes, with_include, with_parts, with_world}
-use Rattle.wit_graph_theory.specs.Image.{Maps, world_image}
+use Rattle.wit_link_spec.specs.Pushed.{new_package, pushed, with_all_includes, with_include, with_parts, with_world}
+use Rattle.wit_link_spec.specs.facts.Linked.{linked_world}
+use Rattle.wit_remap_spec.specs.Image.{Maps, world_image}
 use Rattle.wit_link.specs.Appending.{ArePushed, addition}
 use Rattle.wit_merge_spec.specs.Matches.{GraphMerge}
 use Rattle.wit_merge_spec.specs.facts.Unchanged.{SameHome, SameInterface, SamePackage, SameType}

@@ -2,8 +2,8 @@
 use Rattle.std.specs.Prelude.{[], false}
 use Rattle.wit_graph_data.specs.declared.features.Features.{Features}
 use Rattle.wit_graph_data.specs.declared.graph.Graph.{Graph}
-use Rattle.wit_data.specs.declared.track.TrackRule.{TrackRule}
-use Rattle.wit_data.specs.declared.track.TrackRule.TheVariants.{Published}
+use Rattle.wit_names.specs.declared.track.TrackRule.{TrackRule}
+use Rattle.wit_names.specs.declared.track.TrackRule.TheVariants.{Published}
 use Rattle.wit_sources.specs.SourceMap.{Sources}
 
 pub record State : Type 0 where

@@ -1,20 +1,17 @@
 -- What the commands of a script answer. Between `other` and `merge` commands work on a second graph.
-use Rattle.std.specs.Prelude.{◌≡◌, ◌⊎◌, ℕ, Bool, true, false, List, [], ◌∷◌, ◌++◌, Option, None, Some, Result, Ok, Err, slice_get, option_and_then, codes, MatchOption, String, string_bytes}
+use Rattle.std.specs.Prelude.{◌≡◌, ◌⊎◌, ℕ, Bool, true, false, List, [], ◌∷◌, ◌++◌, Option, None, Some, Result, Ok, Err, slice_get, option_and_then, codes, MatchOption, String, string_bytes, decimal, flat_map, bytes_eq}
 use Rattle.std.specs.declared.alloc.Global.{Global}
-use Rattle.std.specs.Fmt.{decimal}
-use Rattle.std.specs.List.{flat_map}
 use Rattle.std.specs.Map.{lookup}
 use Rattle.std.specs.Option.{option_map_or}
-use Rattle.std.specs.Str.{bytes_eq}
 use Rattle.wit_graph_data.specs.Error.{error_number}
 use Rattle.wit_graph_data.specs.ErrorText.{kind_text}
-use Rattle.wit_graph_data.specs.declared.error_kind.ResolveErrorKind.{ResolveErrorKind}
-use Rattle.wit_graph_data.specs.declared.error_kind.ResolveErrorKind.TheVariants.{OutOfMemory}
 use Rattle.wit_graph_data.specs.declared.graph.Graph.{Graph}
 use Rattle.wit_graph_data.specs.declared.graph.Package.{Package}
-use Rattle.wit_data.specs.PackageName.{package_name_text}
-use Rattle.wit_data.specs.PackageOrder.{same_package}
-use Rattle.wit_data.specs.declared.package_name.PackageName.{PackageName}
+use Rattle.wit_graph_data.specs.declared.error_kind.ResolveErrorKind.{ResolveErrorKind}
+use Rattle.wit_graph_data.specs.declared.error_kind.ResolveErrorKind.TheVariants.{OutOfMemory}
+use Rattle.wit_names.specs.PackageName.{package_name_text}
+use Rattle.wit_names.specs.PackageOrder.{same_package}
+use Rattle.wit_names.specs.declared.package_name.PackageName.{PackageName}
 use Rattle.wit_script_lines.specs.declared.request.Request.{Request}
 use Rattle.wit_script_lines.specs.declared.request.Request.TheVariants as request
 use Rattle.wit_selection.specs.Selection.{IsSelection}

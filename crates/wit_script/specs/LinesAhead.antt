@@ -1,6 +1,5 @@
 -- What the lines of a package mention of other packages, looked at ahead, since what is foreign stands first in a package.
-use Rattle.std.specs.Prelude.{ℕ, ◌+◌, List, [], ◌∷◌, ◌++◌, length, Option, Some, None}
-use Rattle.std.specs.Option.{option_to_list}
+use Rattle.std.specs.Prelude.{ℕ, ◌+◌, List, [], ◌∷◌, ◌++◌, length, Option, Some, None, option_to_list}
 use Rattle.wit_data.specs.declared.stability.Stability.{Stability}
 use Rattle.wit_script_package.specs.Draft.{span_after}
 use Rattle.wit_script_package.specs.Mention.{mentions_of}

@@ -1,7 +1,5 @@
 -- What a script prints.
-use Rattle.std.specs.Prelude.{◌≡◌, ℕ, Bool, true, false, List, ◌++◌, codes}
-use Rattle.std.specs.Fmt.{decimal}
-use Rattle.std.specs.Str.{IsUtf8}
+use Rattle.std.specs.Prelude.{◌≡◌, ℕ, Bool, true, false, List, ◌++◌, codes, decimal, IsUtf8}
 use Rattle.wit_resolve_graph.specs.State.{new_state}
 use Rattle.wit_resolve_graph.specs.Step.{Run}
 use Rattle.wit_script.specs.Answer.{AnswersAll, Chooses, IsChoice, Runs, only_first}

@@ -8,10 +8,10 @@ use Rattle.wit_sources.specs.SourceMap.{Sources}
 use Rattle.wit_sources.specs.declared.source_map.SourceFile.{SourceFile}
 use Rattle.wit_data.specs.declared.interface.Interface.{Interface}
 use Rattle.wit_graph_data.specs.examples.Samples.{foo_bar}
-use Rattle.wit_graph_data.specs.declared.error_kind.ResolveErrorKind.{ResolveErrorKind}
-use Rattle.wit_graph_data.specs.declared.error_kind.ResolveErrorKind.TheVariants.{OffsetOverflow}
 use Rattle.wit_graph_data.specs.declared.features.Features.{Features}
 use Rattle.wit_graph_data.specs.declared.graph.Graph.{Graph}
+use Rattle.wit_graph_data.specs.declared.error_kind.ResolveErrorKind.{ResolveErrorKind}
+use Rattle.wit_graph_data.specs.declared.error_kind.ResolveErrorKind.TheVariants.{OffsetOverflow}
 use Rattle.wit_graph_theory.specs.examples.TestFacts.{feature_of}
 use Rattle.wit_remap.specs.declared.remap.Remap.{Remap}
 use Rattle.wit_merge.specs.Remapped.{remap_of}

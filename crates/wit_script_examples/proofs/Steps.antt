@@ -6,9 +6,9 @@ use Rattle.std.specs.List.{flat_map}
 use Rattle.wit_values.specs.Version.{Parts}
 use Rattle.wit_digraph.specs.facts.MemberFacts.{Contains-cons_cases, Contains-here, Contains-nil, Contains-there}
 use Rattle.wit_data.specs.Each.{SomeAt}
-use Rattle.wit_data.specs.declared.package_name.PackageName.{PackageName}
-use Rattle.wit_data.specs.declared.track.TrackRule.{TrackRule}
-use Rattle.wit_data.specs.declared.track.TrackRule.TheVariants.{Published, WithPrereleases}
+use Rattle.wit_names.specs.declared.package_name.PackageName.{PackageName}
+use Rattle.wit_names.specs.declared.track.TrackRule.{TrackRule}
+use Rattle.wit_names.specs.declared.track.TrackRule.TheVariants.{Published, WithPrereleases}
 use Rattle.wit_graph_data.specs.declared.cause.Cause.TheVariants.{UpgradeMismatch}
 use Rattle.wit_graph_data.specs.declared.error_kind.ResolveErrorKind.TheVariants.{Semantic}
 use Rattle.wit_graph_data.specs.declared.graph.Graph.{Graph}

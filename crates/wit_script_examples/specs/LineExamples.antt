@@ -1,12 +1,12 @@
 -- What lines say by their tokens alone: lines that say something, and near misses that aren't understood.
 use Rattle.std.specs.Prelude.{◌≡◌, ℕ, List, [], ◌∷◌, Some, None, codes}
-use Rattle.wit_data.specs.declared.package_name.PackageName.{PackageName}
+use Rattle.wit_names.specs.declared.package_name.PackageName.{PackageName}
 use Rattle.wit_data.specs.declared.stability.Stability.TheVariants.{Unknown, Unstable}
-use Rattle.wit_data.specs.declared.use_path.ParsedUsePath.TheVariants as path
+use Rattle.wit_names.specs.declared.use_path.ParsedUsePath.TheVariants as path
 use Rattle.wit_script_lines.specs.Statement.{statement_of}
 use Rattle.wit_script_lines.specs.declared.package_line.PackageLine.TheVariants as line
 use Rattle.wit_script_lines.specs.declared.request.Request.TheVariants as request
-use Rattle.wit_data.specs.declared.track.TrackRule.TheVariants as rule
+use Rattle.wit_names.specs.declared.track.TrackRule.TheVariants as rule
 use Rattle.wit_script_lines.specs.declared.statement.Statement.{Statement}
 use Rattle.wit_script_lines.specs.declared.statement.Statement.TheVariants as says
 use Rattle.wit_script_lines.specs.declared.type_text.TypeText.{TypeText}

@@ -2,11 +2,11 @@
 use Rattle.std.specs.Prelude.{◌≡◌, ℕ, List, [], ◌∷◌, Some, None, codes}
 use Rattle.wit_sources.specs.Span.{OptionalSpan}
 use Rattle.wit_data.specs.declared.stability.Stability.{Stability}
-use Rattle.wit_data.specs.declared.track.TrackRule.TheVariants.{WithPrereleases}
+use Rattle.wit_names.specs.declared.track.TrackRule.TheVariants.{WithPrereleases}
 use Rattle.wit_graph_data.specs.examples.Samples.{foo_bar}
+use Rattle.wit_graph_data.specs.declared.graph.Graph.{Graph}
 use Rattle.wit_graph_data.specs.declared.error_kind.ResolveErrorKind.{ResolveErrorKind}
 use Rattle.wit_graph_data.specs.declared.error_kind.ResolveErrorKind.TheVariants.{OffsetOverflow, OutOfMemory, StabilityMismatch}
-use Rattle.wit_graph_data.specs.declared.graph.Graph.{Graph}
 use Rattle.wit_remap.specs.declared.remap.Remap.{Remap}
 use Rattle.wit_resolve_graph.specs.examples.FilesExamples.{ending}
 use Rattle.wit_resolve_graph.specs.State.{State, new_state}

@@ -1,7 +1,7 @@
 -- Steps that set the rule of tracks or merge the imports of a world by it, what a script answers to them, and what they
 -- aren't.
 use Rattle.std.specs.Prelude.{ℕ, List, [], ◌∷◌, None, Some, codes}
-use Rattle.wit_data.specs.declared.track.TrackRule.TheVariants.{WithPrereleases}
+use Rattle.wit_names.specs.declared.track.TrackRule.TheVariants.{WithPrereleases}
 use Rattle.wit_graph_data.specs.declared.cause.Cause.TheVariants.{UpgradeMismatch}
 use Rattle.wit_graph_data.specs.declared.error_kind.ResolveErrorKind.TheVariants.{Semantic}
 use Rattle.wit_graph_data.specs.declared.graph.Graph.{Graph}

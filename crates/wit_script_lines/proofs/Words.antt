@@ -2,9 +2,7 @@
 use Rattle.std.proofs.Common.{◌≡◌, ℕ, ◌+◌, ◌-◌, List, Bor, Option, None, Some, true, false, length, take, drop, nat_eq, codes, sym, subst, refl, ◌≤◌, arith}
 use Rattle.std.proofs.lemmas.Str.Pattern.{ends_text, starts_text}
 use Rattle.std.specs.List.{ends_with, starts_with}
-use Rattle.std.specs.Option.{option_copied}
-use Rattle.std.specs.Prelude.{MatchOption}
-use Rattle.std.specs.Str.{IsCharBoundary}
+use Rattle.std.specs.Prelude.{MatchOption, option_copied, IsCharBoundary}
 use Rattle.std.specs.Str.Pattern.{FindsTextPrefix, FindsTextSuffix}
 use Rattle.wit_script_lines.specs.Token.{after_prefix, before_end}
 

@@ -1,13 +1,12 @@
 -- What a line of a package says by its tokens alone: names with types, functions, whole lines, and the gate that may end
 -- a line, `@since=VERSION` or `@unstable=FEATURE`.
 use Rattle.std.specs.List.{slice_split}
-use Rattle.std.specs.Prelude.{ℕ, List, [], ◌∷◌, Option, Some, None, option_and_then, codes, if◌then◌else◌, ◌==◌, ◌-◌, ◌||◌, Bool, false, length, take, slice_get, is_some}
-use Rattle.std.specs.Option.{option_map, option_map_or}
-use Rattle.std.specs.Str.{bytes_eq}
+use Rattle.std.specs.Prelude.{ℕ, List, [], ◌∷◌, Option, Some, None, option_and_then, codes, if◌then◌else◌, ◌==◌, ◌-◌, ◌||◌, Bool, false, length, take, slice_get, is_some, option_map, bytes_eq}
+use Rattle.std.specs.Option.{option_map_or}
+use Rattle.wit_data.specs.declared.world.IncludeName.{IncludeName}
+use Rattle.wit_names.specs.declared.use_path.ParsedUsePath.{ParsedUsePath}
 use Rattle.wit_data.specs.declared.stability.Stability.{Stability}
 use Rattle.wit_data.specs.declared.stability.Stability.TheVariants.{Unknown, Stable, Unstable}
-use Rattle.wit_data.specs.declared.use_path.ParsedUsePath.{ParsedUsePath}
-use Rattle.wit_data.specs.declared.world.IncludeName.{IncludeName}
 use Rattle.wit_script_lines.specs.Token.{after_prefix, part_of, path_of, split_at, version_of}
 use Rattle.wit_script_lines.specs.TypeText.{type_text_of}
 use Rattle.wit_script_lines.specs.declared.package_line.PackageLine.{PackageLine}

@@ -1,13 +1,11 @@
 -- What a command of a script that brings no package says by its tokens alone.
-use Rattle.std.specs.Prelude.{ℕ, ◌||◌, Bool, List, [], ◌∷◌, Option, Some, None, option_and_then, codes, if◌then◌else◌}
-use Rattle.std.specs.Option.{option_map}
-use Rattle.std.specs.Str.{bytes_eq}
-use Rattle.wit_data.specs.declared.package_name.PackageName.{PackageName}
+use Rattle.std.specs.Prelude.{ℕ, ◌||◌, Bool, List, [], ◌∷◌, Option, Some, None, option_and_then, codes, if◌then◌else◌, option_map, bytes_eq}
+use Rattle.wit_names.specs.declared.package_name.PackageName.{PackageName}
+use Rattle.wit_names.specs.declared.track.TrackRule.{TrackRule}
 use Rattle.wit_script_lines.specs.Token.{package_name_of, part_of}
 use Rattle.wit_script_lines.specs.declared.request.Request.{Request}
 use Rattle.wit_script_lines.specs.declared.request.Request.TheVariants as request
-use Rattle.wit_data.specs.declared.track.TrackRule.{TrackRule}
-use Rattle.wit_data.specs.declared.track.TrackRule.TheVariants as tracks
+use Rattle.wit_names.specs.declared.track.TrackRule.TheVariants as tracks
 
 -- a first token that begins such a command
 abbrev pub is_request : List ℕ → Bool

@@ -1,7 +1,5 @@
 -- What a line of a script says by its tokens alone.
-use Rattle.std.specs.Prelude.{ℕ, List, [], ◌∷◌, Option, Some, None, option_and_then, codes, if◌then◌else◌}
-use Rattle.std.specs.Option.{option_map}
-use Rattle.std.specs.Str.{bytes_eq}
+use Rattle.std.specs.Prelude.{ℕ, List, [], ◌∷◌, Option, Some, None, option_and_then, codes, if◌then◌else◌, option_map, bytes_eq}
 use Rattle.wit_script_lines.specs.PackageLine.{gate_of_line, package_line_by, ungated_of}
 use Rattle.wit_script_lines.specs.Line.{is_comment, tokens_of}
 use Rattle.wit_script_lines.specs.Request.{is_request, request_by}

@@ -1,17 +1,15 @@
 -- What single tokens of a script say.
-use Rattle.std.specs.Prelude.{ℕ, ◌-◌, List, length, take, drop, ◌==◌, nat_eq, nat_lt, Option, Some, None, Result, Ok, Err, option_and_then, codes, if◌then◌else◌}
+use Rattle.std.specs.Prelude.{ℕ, ◌-◌, List, length, take, drop, ◌==◌, nat_eq, nat_lt, Option, Some, None, Result, Ok, Err, option_and_then, codes, if◌then◌else◌, bytes_eq, option_map}
 use Rattle.std.specs.List.{position_or_len, before_first, after_first, list_any, starts_with, ends_with}
-use Rattle.std.specs.Str.{bytes_eq}
-use Rattle.std.specs.Option.{option_map}
 use Rattle.semver.specs.Parse.{version_parts}
 use Rattle.semver.specs.declared.error.Error.{Error}
 use Rattle.wit_values.specs.Version.{Parts}
-use Rattle.wit_data.specs.UsePath.{use_path_of}
-use Rattle.wit_data.specs.declared.package_name.PackageName.{PackageName}
+use Rattle.wit_names.specs.UsePath.{use_path_of}
+use Rattle.wit_names.specs.declared.package_name.PackageName.{PackageName}
+use Rattle.wit_names.specs.declared.use_path.ParsedUsePath.{ParsedUsePath}
 use Rattle.wit_data.specs.declared.types.Type_.{Type_}
 use Rattle.wit_data.specs.declared.types.Type_.TheVariants as type
-use Rattle.wit_data.specs.declared.use_path.ParsedUsePath.{ParsedUsePath}
-use Rattle.wit_data.specs.declared.use_path.ParsedUsePath.TheVariants.{Name}
+use Rattle.wit_names.specs.declared.use_path.ParsedUsePath.TheVariants.{Name}
 
 -- a part of a line, which has at least one byte
 abbrev pub part_of : List ℕ → Option (List ℕ)

@@ -1,6 +1,5 @@
 -- The texts of types: a name, `future`, `stream`, `own<NAME>` or `borrow<NAME>`, or a form around another text.
-use Rattle.std.specs.Prelude.{ℕ, suc, zero, List, [], ◌∷◌, ◌++◌, length, Option, Some, None, codes, if◌then◌else◌}
-use Rattle.std.specs.Str.{bytes_eq}
+use Rattle.std.specs.Prelude.{ℕ, suc, zero, List, [], ◌∷◌, ◌++◌, length, Option, Some, None, codes, if◌then◌else◌, bytes_eq}
 use Rattle.wit_script_lines.specs.Token.{inside}
 use Rattle.wit_script_lines.specs.declared.type_text.TypeText.{TypeText}
 use Rattle.wit_script_lines.specs.declared.type_text.Wrap.{Wrap}

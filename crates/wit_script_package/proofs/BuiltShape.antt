@@ -8,13 +8,13 @@ use Rattle.wit_digraph.specs.facts.EarlierFacts.{IsAcyclic-earlier}
 use Rattle.wit_sources.specs.SourceMap.{Sources}
 use Rattle.wit_data.specs.Entries.{StandOnce, interfaces_in_worlds, is_unnamed}
 use Rattle.wit_data.specs.facts.EachFacts.{SomeAt-is}
-use Rattle.wit_data.specs.PackageName.{package_name_text}
+use Rattle.wit_names.specs.PackageName.{package_name_text}
 use Rattle.wit_data.specs.Shape.{IsGroupShaped, IsShaped}
 use Rattle.wit_data.specs.Uses.{interface_uses, type_interface_dep, uses_of}
 use Rattle.wit_data.specs.declared.interface.Interface.{Interface}
 use Rattle.wit_data.specs.declared.types.TypeDef.{TypeDef}
-use Rattle.wit_data.specs.declared.types.TypeOwner.TheVariants as owner
 use Rattle.wit_data.specs.declared.unresolved.UnresolvedPackageGroup.{UnresolvedPackageGroup}
+use Rattle.wit_data.specs.declared.types.TypeOwner.TheVariants as owner
 use Rattle.wit_script_package.specs.steps.Built.{IsBuilt}
 use Rattle.wit_script_package.specs.steps.Built.IsBuilt.{first_line, next_line}
 use Rattle.wit_script_package.specs.Draft.{as_group, group_with, one_file}

@@ -1,10 +1,10 @@
 -- Keys of worlds that are there.
 use Rattle.std.proofs.Common.{◌≡◌, ℕ, List, Some, slice_get, ap, ◌∙◌}
 use Rattle.std.specs.Map.{lookup}
+use Rattle.wit_data.specs.declared.world.World.{World}
 use Rattle.wit_data.specs.declared.world.WorldItem.{WorldItem}
 use Rattle.wit_data.specs.declared.world.WorldKey.TheVariants as key
 use Rattle.std.specs.Option.{option_and_then}
-use Rattle.wit_data.specs.declared.world.World.{World}
 use Rattle.wit_script_package.specs.Naming.{same_key, type_item, world_type_at}
 use Rattle.wit_script_package.specs.declared.draft.Draft.{Draft}
 

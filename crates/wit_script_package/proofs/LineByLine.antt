@@ -8,25 +8,29 @@ use Rattle.wit_data.specs.Each.{Each, SomeAt}
 use Rattle.wit_data.specs.facts.EachFacts.{SomeAt-is, SomeAt-of}
 use Rattle.wit_data.specs.Entries.{IsExport, IsImport}
 use Rattle.wit_data.specs.Foreign.{ForeignItem, IsNameOnly, IsNameOnlyInterface}
-use Rattle.wit_data.specs.Ownership.{IsNamed, IsNamedInterface, IsOwn, IsTypeOf, UsesOwn, parts}
-use Rattle.wit_data.specs.PackageOrder.{same_package}
+use Rattle.wit_data.specs.Ownership.{IsNamed, IsNamedInterface, IsOwn, IsTypeOf, UsesOwn, is_no_target, parts}
+use Rattle.wit_data.specs.facts.KindFacts.{roles_are}
+use Rattle.wit_data.specs.facts.ReferenceFacts.{all_referred, record_refers}
+use Rattle.wit_names.specs.PackageOrder.{same_package}
 use Rattle.wit_data.specs.Reference.{named_type, referred}
 use Rattle.wit_data.specs.Uses.{alias_target, other_owner}
-use Rattle.wit_data.specs.declared.function.Function.{Function}
-use Rattle.wit_data.specs.declared.interface.Interface.{Interface}
-use Rattle.wit_data.specs.declared.stability.Stability.{Stability}
+use Rattle.wit_data.specs.declared.unresolved.AstItem.{AstItem}
 use Rattle.wit_data.specs.declared.types.Field.{Field}
+use Rattle.wit_data.specs.declared.function.Function.{Function}
+use Rattle.wit_data.specs.declared.world.IncludeName.{IncludeName}
+use Rattle.wit_data.specs.declared.interface.Interface.{Interface}
+use Rattle.wit_names.specs.declared.use_path.ParsedUsePath.{ParsedUsePath}
+use Rattle.wit_data.specs.declared.stability.Stability.{Stability}
 use Rattle.wit_data.specs.declared.types.TypeDef.{TypeDef}
 use Rattle.wit_data.specs.declared.types.TypeDefKind.{TypeDefKind}
-use Rattle.wit_data.specs.declared.types.TypeDefKind.TheVariants as kind
 use Rattle.wit_data.specs.declared.types.TypeOwner.{TypeOwner}
+use Rattle.wit_data.specs.declared.kind.PartRole.TheVariants.{Value}
+use Rattle.wit_data.specs.declared.types.Handle.TheVariants as handle
+use Rattle.wit_data.specs.declared.types.TypeDefKind.TheVariants as kind
 use Rattle.wit_data.specs.declared.types.TypeOwner.TheVariants as owner
 use Rattle.wit_data.specs.declared.types.Type_.TheVariants as type
-use Rattle.wit_data.specs.declared.unresolved.AstItem.{AstItem}
 use Rattle.wit_data.specs.declared.unresolved.AstItem.TheVariants as foreign
-use Rattle.wit_data.specs.declared.use_path.ParsedUsePath.{ParsedUsePath}
-use Rattle.wit_data.specs.declared.use_path.ParsedUsePath.TheVariants as path
-use Rattle.wit_data.specs.declared.world.IncludeName.{IncludeName}
+use Rattle.wit_names.specs.declared.use_path.ParsedUsePath.TheVariants as path
 use Rattle.wit_data.specs.declared.world.WorldItem.TheVariants as item
 use Rattle.wit_data.specs.declared.world.WorldKey.TheVariants as key
 use Rattle.wit_script_lines.specs.declared.package_line.PackageLine.{PackageLine}
@@ -57,7 +61,9 @@ other_owner_self owner.None = refl
 
 parts_own : (P : ℕ → Type 0) (k : TypeDefKind) → Each P (referred k) → Each P (parts k)
 parts_own P (kind.Type_ ty) each = Each-nil P
-parts_own P other each = each
+parts_own P (kind.Handle (handle.Own t)) each = each
+parts_own P (kind.Handle (handle.Borrow t)) each = each
+parts_own P other each = subst (Each P) (sym (all_referred is_no_target other Value (roles_are other) refl)) each
 
 module _ (p : Draft) (sound : IsSound p) where
   -- what lines make
@@ -89,11 +95,14 @@ module _ (p : Draft) (sound : IsSound p) where
   record-named : (fields : List Field) → AreOwn p (flat_map (λ (f : Field). named_type f.ty) fields) → IsNamedKind (things p) (open_owner p) (kind.Record fields)
   record-named fields own = record {
     known = λ is. cc;
-    earlier = λ i id at. (own i id at).there;
+    earlier = λ i id at. (refers i id at).there;
     alias = tt;
-    own = own;
+    own = parts_own (IsOwn p.types (open_owner p)) (kind.Record fields) refers;
     uses = λ f target j named owned is at dep. cc;
   }
+    where
+      refers : AreOwn p (referred (kind.Record fields))
+      refers = subst (AreOwn p) (sym (record_refers fields)) own
 
   open_from : (o w : Option ℕ) (g : ℕ) → owner_by o w ≡ owner.Interface g → o ≡ Some g
   open_from (Some at) w g is = cc

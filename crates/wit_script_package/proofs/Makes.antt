@@ -6,29 +6,30 @@ use Rattle.wit_values.specs.facts.Lists.{slice_get-push}
 use Rattle.wit_data.specs.Each.{Each, SomeAt}
 use Rattle.wit_data.specs.Function.{resource_of}
 use Rattle.wit_data.specs.facts.EachFacts.{SomeAt-is, SomeAt-of}
+use Rattle.wit_data.specs.facts.KindFacts.{names_same}
 use Rattle.wit_data.specs.facts.WorldKeyFacts.{key_is, same_key}
 use Rattle.wit_data.specs.Entries.{IsImport}
 use Rattle.wit_data.specs.Ownership.{IsOwn, IsPlain, IsTypeOf, UsesOwn}
 use Rattle.wit_data.specs.Reference.{named_option, named_type, referred}
 use Rattle.wit_data.specs.Uses.{alias_target}
+use Rattle.wit_data.specs.declared.types.Field.{Field}
 use Rattle.wit_data.specs.declared.function.Function.{Function}
 use Rattle.wit_data.specs.declared.function.FunctionKind.{FunctionKind}
-use Rattle.wit_data.specs.declared.function.FunctionKind.TheVariants as role
-use Rattle.wit_data.specs.declared.function.Param.{Param}
 use Rattle.wit_data.specs.declared.interface.Interface.{Interface}
-use Rattle.wit_data.specs.declared.types.Field.{Field}
-use Rattle.wit_data.specs.declared.types.Handle.TheVariants as handle
+use Rattle.wit_data.specs.declared.function.Param.{Param}
 use Rattle.wit_data.specs.declared.types.TypeDef.{TypeDef}
 use Rattle.wit_data.specs.declared.types.TypeDefKind.{TypeDefKind}
-use Rattle.wit_data.specs.declared.types.TypeDefKind.TheVariants as kind
 use Rattle.wit_data.specs.declared.types.TypeOwner.{TypeOwner}
-use Rattle.wit_data.specs.declared.types.TypeOwner.TheVariants as owner
 use Rattle.wit_data.specs.declared.types.Type_.{Type_}
-use Rattle.wit_data.specs.declared.types.Type_.TheVariants as type
 use Rattle.wit_data.specs.declared.world.World.{World}
 use Rattle.wit_data.specs.declared.world.WorldItem.{WorldItem}
-use Rattle.wit_data.specs.declared.world.WorldItem.TheVariants as item
 use Rattle.wit_data.specs.declared.world.WorldKey.{WorldKey}
+use Rattle.wit_data.specs.declared.function.FunctionKind.TheVariants as role
+use Rattle.wit_data.specs.declared.types.Handle.TheVariants as handle
+use Rattle.wit_data.specs.declared.types.TypeDefKind.TheVariants as kind
+use Rattle.wit_data.specs.declared.types.TypeOwner.TheVariants as owner
+use Rattle.wit_data.specs.declared.types.Type_.TheVariants as type
+use Rattle.wit_data.specs.declared.world.WorldItem.TheVariants as item
 use Rattle.wit_data.specs.declared.world.WorldKey.TheVariants as key
 use Rattle.wit_script_lines.specs.Token.{after_prefix, primitive_of, split_at}
 use Rattle.wit_script_lines.specs.declared.signature.Signature.{Signature}
@@ -165,7 +166,7 @@ module _ (p : Draft) (sound : IsSound p) where
   primitive-made ty none = record {
     known = λ is. cc;
     no_resource = λ is. cc;
-    own = subst (AreOwn p) (sym none) (Each-nil (IsOwn p.types (open_owner p)));
+    own = subst (AreOwn p) (sym none ∙ names_same (kind.Type_ ty)) (Each-nil (IsOwn p.types (open_owner p)));
     alias = rw (no_target ty none) tt;
   }
 
@@ -300,17 +301,17 @@ of-made p sound k here made =
     elim (view p here k made.no_resource) [
       | alias ty is ↦
           subst (λ (m : Type_ × Draft). MadeType p m) (sym (ap (λ (l : TypeDefKind). type_of p l here) is))
-          (adds-nothing p sound, subst (λ (l : TypeDefKind). AreOwn p (referred l)) is made.own)
+          (adds-nothing p sound, subst (AreOwn p) (ap referred is ∙ sym (names_same (kind.Type_ ty))) made.own)
       | plain holds is ↦
           let adds = unnamed-adds p sound k here holds made in
           subst (λ (m : Type_ × Draft). MadeType p m) (sym is) (adds.0, one_own (with_type p (type_with None k owner.None here)) (length p.types) adds.1)
     ]
 
 around-made : (q : Draft) (form : Wrap) (ty : Type_) → AreOwn q (named_type ty) → IsMadeKind q (around form ty)
-around-made q wrap.List ty own = record { known = λ h. cc; no_resource = λ h. cc; own = own; alias = tt }
-around-made q wrap.Option ty own = record { known = λ h. cc; no_resource = λ h. cc; own = own; alias = tt }
-around-made q wrap.Future ty own = record { known = λ h. cc; no_resource = λ h. cc; own = own; alias = tt }
-around-made q wrap.Stream ty own = record { known = λ h. cc; no_resource = λ h. cc; own = own; alias = tt }
+around-made q wrap.List ty own = record { known = λ h. cc; no_resource = λ h. cc; own = subst (AreOwn q) (names_same (kind.List ty)) own; alias = tt }
+around-made q wrap.Option ty own = record { known = λ h. cc; no_resource = λ h. cc; own = subst (AreOwn q) (names_same (kind.Option ty)) own; alias = tt }
+around-made q wrap.Future ty own = record { known = λ h. cc; no_resource = λ h. cc; own = subst (AreOwn q) (names_same (kind.Future (Some ty))) own; alias = tt }
+around-made q wrap.Stream ty own = record { known = λ h. cc; no_resource = λ h. cc; own = subst (AreOwn q) (names_same (kind.Stream (Some ty))) own; alias = tt }
 
 pub forms-made : (p : Draft) → IsSound p → (forms : List Wrap) (k : TypeDefKind) (here : LineContext) → IsMadeKind p k → Made p (forms_made p forms k here)
 forms-made p sound [] k here made = (adds-nothing p sound, made)

@@ -2,10 +2,10 @@
 use Rattle.std.proofs.Common.{◌≡◌, ◌||◌, ◌&&◌, ◌==◌, not, ◌-◌, ◌+◌, ℕ, zero, suc, Bool, true, false, cond, List, [], ◌∷◌, Option, None, Some, codes, length, take, drop, filter, slice_get, refl, ap, sym, subst, ◌∙◌, bytes_eq, nat_lt}
 use Rattle.std.specs.List.{AllByRecursion, after_first, before_first, list_any, onto_first, position_or_len, slice_split}
 use Rattle.std.specs.Option.{option_and_then, option_map}
-use Rattle.wit_data.specs.UsePath.{use_path_of}
+use Rattle.wit_names.specs.UsePath.{use_path_of}
+use Rattle.wit_names.specs.declared.use_path.ParsedUsePath.{ParsedUsePath}
 use Rattle.wit_data.specs.declared.stability.Stability.{Stability}
-use Rattle.wit_data.specs.declared.use_path.ParsedUsePath.{ParsedUsePath}
-use Rattle.wit_data.specs.declared.use_path.ParsedUsePath.TheVariants as path
+use Rattle.wit_names.specs.declared.use_path.ParsedUsePath.TheVariants as path
 use Rattle.wit_script_lines.specs.Line.{tokens_of}
 use Rattle.wit_script_lines.specs.PackageLine.{each_of, entry_by, entry_tokens, gate_of_line, has_gate, include_line_of, named_line_of, package_line_by, record_line_of, rename_of, signed_line_of, type_line_of, typed_name_of, ungated_of, use_line_of, use_line_with}
 use Rattle.wit_script_lines.specs.Statement.{gated_line_by, statement_of, statement_of_tokens}

@@ -13,21 +13,21 @@ use Rattle.wit_data.specs.Entries.{IsExport, IsImport, ItemUsesOwn}
 use Rattle.wit_data.specs.Foreign.{ForeignItem, ForeignItems, IsForeign, IsNameOnly, IsNameOnlyInterface, IsNameOnlyWorld, foreign_interfaces, foreign_worlds, interface_id, world_id}
 use Rattle.wit_data.specs.Ownership.{UsesOwn}
 use Rattle.wit_data.specs.Shape.{interface_names, world_names}
+use Rattle.wit_data.specs.declared.unresolved.AstItem.{AstItem}
 use Rattle.wit_data.specs.declared.function.Function.{Function}
 use Rattle.wit_data.specs.declared.interface.Interface.{Interface}
-use Rattle.wit_data.specs.declared.package_name.PackageName.{PackageName}
+use Rattle.wit_names.specs.declared.package_name.PackageName.{PackageName}
 use Rattle.wit_data.specs.declared.types.TypeDef.{TypeDef}
 use Rattle.wit_data.specs.declared.types.TypeDefKind.{TypeDefKind}
-use Rattle.wit_data.specs.declared.types.TypeDefKind.TheVariants as kind
 use Rattle.wit_data.specs.declared.types.TypeOwner.{TypeOwner}
-use Rattle.wit_data.specs.declared.types.TypeOwner.TheVariants as owner
-use Rattle.wit_data.specs.declared.unresolved.AstItem.{AstItem}
-use Rattle.wit_data.specs.declared.unresolved.AstItem.TheVariants as item
 use Rattle.wit_data.specs.declared.world.World.{World}
 use Rattle.wit_data.specs.declared.world.WorldInclude.{WorldInclude}
 use Rattle.wit_data.specs.declared.world.WorldItem.{WorldItem}
-use Rattle.wit_data.specs.declared.world.WorldItem.TheVariants as entry
 use Rattle.wit_data.specs.declared.world.WorldKey.{WorldKey}
+use Rattle.wit_data.specs.declared.types.TypeDefKind.TheVariants as kind
+use Rattle.wit_data.specs.declared.types.TypeOwner.TheVariants as owner
+use Rattle.wit_data.specs.declared.unresolved.AstItem.TheVariants as item
+use Rattle.wit_data.specs.declared.world.WorldItem.TheVariants as entry
 use Rattle.wit_data.specs.declared.world.WorldKey.TheVariants as key
 use Rattle.wit_script_package.specs.Adding.{empty_interface, empty_world, type_with, with_export, with_export_at, with_export_in, with_function, with_function_at, with_function_in, with_import, with_import_at, with_import_in, with_include, with_include_at, with_interface, with_interface_type, with_named_in, with_type, with_type_name, with_type_name_in, with_world, with_world_type}
 use Rattle.wit_script_package.specs.Naming.{OptionalSpan, last_place, open_interface, open_interface_index, open_world, open_world_index, same_key}

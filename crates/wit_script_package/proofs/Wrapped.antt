@@ -1,8 +1,8 @@
 -- Forms that are made from the innermost one on.
 use Rattle.std.proofs.Common.{◌≡◌, ℕ, ◌+◌, ◌<◌, List, [], ◌∷◌, ◌++◌, length, take, get_or, refl, ap, ◌∙◌}
 use Rattle.std.proofs.lemmas.Grind.{take_at_read}
-use Rattle.wit_data.specs.declared.types.Type_.{Type_}
 use Rattle.wit_data.specs.declared.types.TypeDefKind.{TypeDefKind}
+use Rattle.wit_data.specs.declared.types.Type_.{Type_}
 use Rattle.wit_script_lines.specs.declared.type_text.Wrap.{Wrap}
 use Rattle.wit_script_package.specs.Making.{around, around_made, forms_made, type_of}
 use Rattle.wit_script_package.specs.declared.draft.Draft.{Draft}

@@ -1,22 +1,21 @@
 -- What a line adds to the interfaces, worlds and types of a package.
-use Rattle.std.specs.Prelude.{ℕ, List, [], ◌∷◌, ◌++◌, length, is_some, slice_get, slice_set, Option, Some, None, option_and_then, if◌then◌else◌}
+use Rattle.std.specs.Prelude.{ℕ, List, [], ◌∷◌, ◌++◌, length, is_some, slice_get, slice_set, Option, Some, None, option_and_then, if◌then◌else◌, option_map, bytes_eq}
 use Rattle.std.specs.Map.{lookup}
-use Rattle.std.specs.Option.{option_map, option_map_or}
-use Rattle.std.specs.Str.{bytes_eq}
+use Rattle.std.specs.Option.{option_map_or}
 use Rattle.wit_data.specs.New.{new_interface, new_type, new_world}
 use Rattle.wit_data.specs.declared.function.Function.{Function}
 use Rattle.wit_data.specs.declared.interface.Interface.{Interface}
-use Rattle.wit_data.specs.declared.types.Type_.TheVariants as type
 use Rattle.wit_data.specs.declared.types.TypeDef.{TypeDef}
 use Rattle.wit_data.specs.declared.types.TypeDefKind.{TypeDefKind}
-use Rattle.wit_data.specs.declared.types.TypeDefKind.TheVariants as kind
 use Rattle.wit_data.specs.declared.types.TypeOwner.{TypeOwner}
-use Rattle.wit_data.specs.declared.types.TypeOwner.TheVariants as owner
 use Rattle.wit_data.specs.declared.world.World.{World}
 use Rattle.wit_data.specs.declared.world.WorldInclude.{WorldInclude}
 use Rattle.wit_data.specs.declared.world.WorldItem.{WorldItem}
-use Rattle.wit_data.specs.declared.world.WorldItem.TheVariants as item
 use Rattle.wit_data.specs.declared.world.WorldKey.{WorldKey}
+use Rattle.wit_data.specs.declared.types.Type_.TheVariants as type
+use Rattle.wit_data.specs.declared.types.TypeDefKind.TheVariants as kind
+use Rattle.wit_data.specs.declared.types.TypeOwner.TheVariants as owner
+use Rattle.wit_data.specs.declared.world.WorldItem.TheVariants as item
 use Rattle.wit_data.specs.declared.world.WorldKey.TheVariants as key
 use Rattle.wit_script_package.specs.Naming.{open_interface, open_world, same_key}
 use Rattle.wit_script_package.specs.declared.draft.Draft.{Draft}

@@ -1,9 +1,8 @@
 -- A package of which some lines are read.
-use Rattle.std.specs.Prelude.{ℕ, ◌+◌, List, [], ◌∷◌, ◌++◌, length, map, nat_le, Option, Some, None, if◌then◌else◌}
-use Rattle.std.specs.Option.{option_map}
-use Rattle.wit_data.specs.PackageName.{package_name_text}
+use Rattle.std.specs.Prelude.{ℕ, ◌+◌, List, [], ◌∷◌, ◌++◌, length, map, nat_le, Option, Some, None, if◌then◌else◌, option_map}
+use Rattle.wit_names.specs.PackageName.{package_name_text}
 use Rattle.wit_sources.specs.SourceMap.{Sources, with_file}
-use Rattle.wit_data.specs.declared.package_name.PackageName.{PackageName}
+use Rattle.wit_names.specs.declared.package_name.PackageName.{PackageName}
 use Rattle.wit_data.specs.declared.unresolved.UnresolvedPackageGroup.{UnresolvedPackageGroup}
 use Rattle.wit_script_lines.specs.Line.{content_start_of, content_end_of}
 use Rattle.wit_script_package.specs.Mention.{first_interfaces, first_types, first_worlds, foreign_interface, foreign_of, foreign_type, foreign_world, known_mentions, type_id_of}

@@ -1,20 +1,19 @@
 -- What the lines of a package mention of other packages, and what the package knows of it. What is foreign stands first
 -- in the lists of a package, in the order of its first mention.
-use Rattle.std.specs.Prelude.{◌≡◌, ℕ, ◌&&◌, ◌||◌, codes, not, Bool, true, false, List, [], ◌∷◌, map, filter, Option, Some, None, if◌then◌else◌}
+use Rattle.std.specs.Prelude.{◌≡◌, ℕ, ◌&&◌, ◌||◌, codes, not, Bool, true, false, List, [], ◌∷◌, map, filter, Option, Some, None, if◌then◌else◌, bytes_eq}
 use Rattle.std.specs.List.{position_or_len}
-use Rattle.std.specs.Str.{bytes_eq}
 use Rattle.wit_data.specs.Foreign.{ForeignItem, ForeignItems}
-use Rattle.wit_data.specs.PackageOrder.{same_package}
+use Rattle.wit_names.specs.PackageOrder.{same_package}
 use Rattle.wit_data.specs.declared.interface.Interface.{Interface}
+use Rattle.wit_names.specs.declared.use_path.ParsedUsePath.{ParsedUsePath}
 use Rattle.wit_data.specs.declared.stability.Stability.{Stability}
-use Rattle.wit_data.specs.declared.stability.Stability.TheVariants.{Unknown}
 use Rattle.wit_data.specs.declared.types.TypeDef.{TypeDef}
+use Rattle.wit_data.specs.declared.world.World.{World}
+use Rattle.wit_data.specs.declared.stability.Stability.TheVariants.{Unknown}
 use Rattle.wit_data.specs.declared.types.TypeDefKind.TheVariants as kind
 use Rattle.wit_data.specs.declared.types.TypeOwner.TheVariants as owner
 use Rattle.wit_data.specs.declared.unresolved.AstItem.TheVariants as item
-use Rattle.wit_data.specs.declared.use_path.ParsedUsePath.{ParsedUsePath}
-use Rattle.wit_data.specs.declared.use_path.ParsedUsePath.TheVariants as path
-use Rattle.wit_data.specs.declared.world.World.{World}
+use Rattle.wit_names.specs.declared.use_path.ParsedUsePath.TheVariants as path
 use Rattle.wit_script_lines.specs.declared.package_line.PackageLine.{PackageLine}
 use Rattle.wit_script_lines.specs.declared.package_line.PackageLine.TheVariants as says
 use Rattle.wit_script_lines.specs.declared.statement.Statement.{Statement}

@@ -1,20 +1,18 @@
 -- What the names in the lines of a package name.
-use Rattle.std.specs.Prelude.{ℕ, ◌-◌, ◌==◌, List, length, slice_get, Option, Some, None, option_and_then, if◌then◌else◌}
+use Rattle.std.specs.Prelude.{ℕ, ◌-◌, ◌==◌, List, length, slice_get, Option, Some, None, option_and_then, if◌then◌else◌, option_map, bytes_eq}
 use Rattle.std.specs.Map.{lookup}
-use Rattle.std.specs.Option.{option_map}
-use Rattle.std.specs.Str.{bytes_eq}
-use Rattle.wit_data.specs.PackageOrder.{same_package}
+use Rattle.wit_names.specs.PackageOrder.{same_package}
+use Rattle.wit_data.specs.declared.unresolved.AstItem.{AstItem}
 use Rattle.wit_data.specs.declared.interface.Interface.{Interface}
-use Rattle.wit_data.specs.declared.package_name.PackageName.{PackageName}
+use Rattle.wit_names.specs.declared.package_name.PackageName.{PackageName}
+use Rattle.wit_names.specs.declared.use_path.ParsedUsePath.{ParsedUsePath}
 use Rattle.wit_data.specs.declared.stability.Stability.{Stability}
 use Rattle.wit_data.specs.declared.types.Type_.{Type_}
-use Rattle.wit_data.specs.declared.types.Type_.TheVariants as type
-use Rattle.wit_data.specs.declared.unresolved.AstItem.{AstItem}
-use Rattle.wit_data.specs.declared.unresolved.AstItem.TheVariants as foreign
-use Rattle.wit_data.specs.declared.use_path.ParsedUsePath.{ParsedUsePath}
-use Rattle.wit_data.specs.declared.use_path.ParsedUsePath.TheVariants as path
 use Rattle.wit_data.specs.declared.world.World.{World}
 use Rattle.wit_data.specs.declared.world.WorldItem.{WorldItem}
+use Rattle.wit_data.specs.declared.types.Type_.TheVariants as type
+use Rattle.wit_data.specs.declared.unresolved.AstItem.TheVariants as foreign
+use Rattle.wit_names.specs.declared.use_path.ParsedUsePath.TheVariants as path
 use Rattle.wit_data.specs.declared.world.WorldItem.TheVariants as item
 use Rattle.wit_data.specs.declared.world.WorldKey.TheVariants as key
 pub use Rattle.wit_data.specs.facts.WorldKeyFacts.{same_key}

@@ -1,8 +1,7 @@
 -- What the groups that lead a function's name make of it: `[constructor]`, `[method]`, `[static]`, `[get]`, `[set]`, and
 -- `[method]` or `[static]` followed by `[get]` or `[set]`. What follows them has at least one byte, and doesn't begin with
 -- a `[` once more.
-use Rattle.std.specs.Prelude.{ℕ, ◌==◌, not, Bool, false, List, [], ◌∷◌, Option, Some, None, option_and_then, codes, if◌then◌else◌}
-use Rattle.std.specs.Option.{option_map}
+use Rattle.std.specs.Prelude.{ℕ, ◌==◌, not, Bool, false, List, [], ◌∷◌, Option, Some, None, option_and_then, codes, if◌then◌else◌, option_map}
 use Rattle.wit_data.specs.declared.function.FunctionKind.{FunctionKind}
 use Rattle.wit_data.specs.declared.function.FunctionKind.TheVariants as role
 use Rattle.wit_script_lines.specs.Token.{after_prefix, split_at}

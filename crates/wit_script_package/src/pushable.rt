@@ -2,7 +2,7 @@
 ghost use Rattle.std.specs.Prelude.{◌↔◌, IfSome, IsTrue};
 ghost use Rattle.wit_data.specs.Each.{Each, EachAt};
 ghost use Rattle.wit_data.specs.Entries.{IncludesEarlier};
-ghost use Rattle.wit_data.specs.UsePath.{IsKebabName};
+ghost use Rattle.wit_names.specs.UsePath.{IsKebabName};
 ghost use Rattle.wit_data.specs.declared.interface.Interface.{Interface};
 ghost use Rattle.wit_data.specs.declared.world.World.{World};
 ghost use Rattle.wit_script_package.specs.steps.Pushable.{IsPushable};

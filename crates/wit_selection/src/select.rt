@@ -1,7 +1,7 @@
 //! The choice of a world by its name.
 ghost use Rattle.std.specs.Prelude.{◌≡◌, ◌⊎◌, ◌≤◌, ◌<◌, ◌+◌, ◌^◌, IfSome, ◌∷◌, [], length, drop, slice_get, None, Some, IfErr, IfOk, MatchOption, string_bytes};
 ghost use Rattle.std.specs.Option.{option_copied};
-ghost use Rattle.wit_data.specs.UsePath.{use_path_of};
+ghost use Rattle.wit_names.specs.UsePath.{use_path_of};
 ghost use Rattle.wit_graph_data.specs.declared.error_kind.ResolveErrorKind.TheVariants as kinds;
 ghost use Rattle.wit_selection.specs.Selection.{IsSelectionResult, IsSelection, selection_error, no_path_text, no_main_text, several_versions_text, several_worlds_text, all_world_lines, package_world_lines, version_part, is_version_of, versions_of, only_version, named_package, named_world, only_world, only_main, in_package, by_path};
 

@@ -10,12 +10,12 @@ use Rattle.wit_data.specs.Entries.{IsExport, IsImport}
 use Rattle.wit_data.specs.Ownership.{IsNamed}
 use Rattle.wit_data.specs.Uses.{type_interface_dep}
 use Rattle.wit_data.specs.declared.interface.Interface.{Interface}
-use Rattle.wit_data.specs.declared.track.TrackRule.{TrackRule}
+use Rattle.wit_names.specs.declared.track.TrackRule.{TrackRule}
 use Rattle.wit_data.specs.declared.types.TypeDef.{TypeDef}
 use Rattle.wit_data.specs.declared.world.World.{World}
 use Rattle.wit_data.specs.declared.world.WorldItem.{WorldItem}
-use Rattle.wit_data.specs.declared.world.WorldItem.TheVariants as item
 use Rattle.wit_data.specs.declared.world.WorldKey.{WorldKey}
+use Rattle.wit_data.specs.declared.world.WorldItem.TheVariants as item
 use Rattle.wit_data.specs.declared.world.WorldKey.TheVariants as key
 use Rattle.wit_elaboration.proofs.Filters.{Contains-filter}
 use Rattle.wit_elaboration.specs.Entries.{Entry, keyed_interfaces}

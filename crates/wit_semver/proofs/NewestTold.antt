@@ -11,12 +11,13 @@ use Rattle.std.specs.declared.cmp.Ordering.TheVariants.{Less, Equal, Greater}
 use Rattle.std.proofs.lemmas.Bool.{and_parts, false_from_ne_true, false≢true}
 use Rattle.std.proofs.lemmas.List.Elements.{Contains-append_cases, Contains-append_left, Contains-append_right}
 use Rattle.std.proofs.lemmas.Slice.Eq.{bytes_eq-Decides}
-use Rattle.wit_values.specs.Version.{version_cmp, version_cmp_total}
+use Rattle.wit_values.specs.Version.{version_cmp}
+use Rattle.wit_values.specs.facts.VersionFacts.{version_cmp_total}
 use Rattle.wit_digraph.specs.facts.FreshFacts.{any_from_contains}
 use Rattle.wit_digraph.specs.facts.MemberFacts.{Contains-cons_cases, Contains-here, Contains-nil}
-use Rattle.wit_data.specs.facts.PackageNameFacts.{same_package-Decides}
-use Rattle.wit_data.specs.PackageOrder.{same_package}
-use Rattle.wit_data.specs.declared.track.TrackRule.{TrackRule}
+use Rattle.wit_names.specs.facts.PackageNameFacts.{same_package-Decides}
+use Rattle.wit_names.specs.PackageOrder.{same_package}
+use Rattle.wit_names.specs.declared.track.TrackRule.{TrackRule}
 use Rattle.wit_elaboration.specs.Valid.{IsValid}
 use Rattle.wit_graph_data.specs.declared.graph.Graph.{Graph}
 use Rattle.wit_semver_spec.specs.Tracks.{Upgrade, Versioned, both, have_one_track, imported, is_below, is_older_than, is_replaced, newest, versioned}

@@ -4,7 +4,7 @@ use Rattle.wit_data.specs.declared.function.FunctionKind.TheVariants as function
 use Rattle.wit_data.specs.declared.function.Param.{Param}
 use Rattle.wit_data.specs.declared.types.Type_.TheVariants as type
 use Rattle.wit_graph_theory.specs.examples.AgreementFacts.{functions_accepted}
-use Rattle.wit_graph_theory.specs.FunctionMismatch.{AreOfOneSort, FunctionMismatch, kinds_differ, parameter_counts_differ, parameter_names_differ, parameter_names_text, parameter_types_differ, result_counts_differ, results_differ}
+use Rattle.wit_remap_spec.specs.FunctionMismatch.{AreOfOneSort, FunctionMismatch, kinds_differ, parameter_counts_differ, parameter_names_differ, parameter_names_text, parameter_types_differ, result_counts_differ, results_differ}
 use Rattle.wit_graph_theory.specs.facts.OptionFacts.{some_same}
 use Rattle.wit_semver_examples.specs.CauseExamples.{ExamplesOfMismatches, f_kind, f_of}
 

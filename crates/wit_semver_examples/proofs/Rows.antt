@@ -1,13 +1,12 @@
 -- The worked rows compute.
 use Rattle.std.proofs.Common.{◌≡◌, ℕ, List, [], length, slice_get, slice_index_or, refl, ap, arith}
-use Rattle.std.specs.List.{flat_map}
 use Rattle.std.specs.Option.{option_map_or}
-use Rattle.std.specs.Prelude.{unwrap_or}
+use Rattle.std.specs.Prelude.{unwrap_or, flat_map}
 use Rattle.semver.specs.Order.{strip_zeros}
 use Rattle.wit_digraph.specs.PostOrder.{post_order, post_order_within}
 use Rattle.wit_data.specs.declared.types.TypeDef.{TypeDef}
-use Rattle.wit_data.specs.Uses.{alias_target}
 use Rattle.wit_data.specs.declared.world.World.{World}
+use Rattle.wit_data.specs.Uses.{alias_target}
 use Rattle.wit_elaboration.specs.Elaborated.{import_steps, import_steps_within}
 use Rattle.wit_elaboration.specs.Entries.{Entry, item_interface}
 use Rattle.wit_graph_data.specs.declared.graph.Graph.{Graph}

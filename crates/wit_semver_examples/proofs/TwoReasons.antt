@@ -5,9 +5,9 @@ use Rattle.std.specs.Prelude.{Option}
 use Rattle.semver.specs.Order.{strip_zeros}
 use Rattle.wit_digraph.specs.Relation.{direct}
 use Rattle.wit_data.specs.Reference.{type_references}
-use Rattle.wit_data.specs.declared.package_name.PackageName.{PackageName}
-use Rattle.wit_data.specs.declared.track.TrackRule.TheVariants.{Published}
+use Rattle.wit_names.specs.declared.package_name.PackageName.{PackageName}
 use Rattle.wit_data.specs.declared.world.World.{World}
+use Rattle.wit_names.specs.declared.track.TrackRule.TheVariants.{Published}
 use Rattle.wit_data.specs.declared.world.WorldKey.TheVariants as key
 use Rattle.wit_elaboration.specs.Elaboration.{graph_uses}
 use Rattle.wit_elaboration.specs.Entries.{Entry}
@@ -15,7 +15,7 @@ use Rattle.wit_elaboration.specs.Imported.{HasTransitiveConflict, IsEntryInConfl
 use Rattle.wit_graph_data.specs.examples.Samples.{entry_of}
 use Rattle.wit_graph_data.specs.declared.cause.Cause.TheVariants.{InterfaceCycle}
 use Rattle.wit_graph_data.specs.declared.error_kind.ResolveErrorKind.TheVariants.{InvalidTransitiveDependency, PackageCycle, Semantic}
-use Rattle.wit_graph_theory.specs.AllElaborated.{DependsOnItself, HasWorldInConflict, RefersToItself, UsesItself}
+use Rattle.wit_elaboration.specs.AllElaborated.{DependsOnItself, HasWorldInConflict, RefersToItself, UsesItself}
 use Rattle.wit_graph_theory.specs.examples.TestFacts.{no_cycle, none_in, one_of_two, only_one}
 use Rattle.wit_semver_spec.specs.Rewritten.{with_new_entries_at}
 use Rattle.wit_semver_spec.specs.TrackCause.{IsComplete, NewestLacksType, UpgradeCause, conflict_4, interface_cycle_22, package_cycle_6, type_cycle_23, type_missing_25}

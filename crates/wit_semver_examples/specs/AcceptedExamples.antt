@@ -1,7 +1,7 @@
 -- Merges by tracks against which no cause holds: all of which it is told what they make, but the three that stand among
 -- the reasons, as what lacks them.
 use Rattle.std.specs.Prelude.{[], ◌∷◌, ◌++◌, None, codes}
-use Rattle.wit_data.specs.declared.track.TrackRule.TheVariants.{Published, WithPrereleases}
+use Rattle.wit_names.specs.declared.track.TrackRule.TheVariants.{Published, WithPrereleases}
 use Rattle.wit_semver_spec.specs.TrackCause.{SemverMergeIsAccepted}
 use Rattle.wit_semver_examples.specs.Releases.{foo_x, keyed, release}
 use Rattle.wit_semver_examples.specs.RewrittenExamples.{major_release, of_three, old_x, patch_release, three, with_release, with_second_name, with_worlds}

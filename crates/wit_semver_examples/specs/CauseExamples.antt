@@ -3,20 +3,20 @@
 use Rattle.std.specs.Prelude.{ℕ, List, [], ◌∷◌, ◌++◌, Some, None, codes}
 use Rattle.wit_data.specs.declared.function.Function.{Function}
 use Rattle.wit_data.specs.declared.function.FunctionKind.{FunctionKind}
-use Rattle.wit_data.specs.declared.function.FunctionKind.TheVariants as function
 use Rattle.wit_data.specs.declared.interface.Interface.{Interface}
-use Rattle.wit_data.specs.declared.package_name.PackageName.{PackageName}
-use Rattle.wit_data.specs.declared.track.TrackRule.TheVariants.{Published, WithPrereleases}
+use Rattle.wit_names.specs.declared.package_name.PackageName.{PackageName}
 use Rattle.wit_data.specs.declared.types.TypeDef.{TypeDef}
 use Rattle.wit_data.specs.declared.types.Type_.{Type_}
+use Rattle.wit_data.specs.declared.function.FunctionKind.TheVariants as function
+use Rattle.wit_names.specs.declared.track.TrackRule.TheVariants.{Published, WithPrereleases}
 use Rattle.wit_data.specs.declared.types.Type_.TheVariants as type
 use Rattle.wit_graph_data.specs.Error.{NoCause}
 use Rattle.wit_graph_data.specs.examples.Samples.{function_of}
 use Rattle.wit_graph_data.specs.declared.cause.Cause.TheVariants.{InterfaceCycle, TypeCycle, UpgradeMismatch}
+use Rattle.wit_graph_data.specs.declared.graph.Graph.{Graph}
 use Rattle.wit_graph_data.specs.declared.error_kind.ResolveErrorKind.{ResolveErrorKind}
 use Rattle.wit_graph_data.specs.declared.error_kind.ResolveErrorKind.TheVariants.{InvalidTransitiveDependency, PackageCycle, Semantic}
-use Rattle.wit_graph_data.specs.declared.graph.Graph.{Graph}
-use Rattle.wit_graph_theory.specs.FunctionMismatch.{FunctionMismatch}
+use Rattle.wit_remap_spec.specs.FunctionMismatch.{FunctionMismatch}
 use Rattle.wit_semver_spec.specs.TrackCause.{IsTrackCause}
 use Rattle.wit_semver_examples.specs.Releases.{Names, alias_in, called, foo_main, foo_x, graph_of, interface_in, keyed, number_in, package_of, release, two, with_function, world_in}
 use Rattle.wit_semver_examples.specs.RewrittenExamples.{first_release, of_three}

@@ -1,7 +1,7 @@
 -- Worked merges of imports by tracks, and what they aren't.
 use Rattle.std.specs.Prelude.{ℕ, ◌≡◌, List, [], ◌∷◌, ◌++◌, codes}
 use Rattle.wit_values.specs.Version.{Parts}
-use Rattle.wit_data.specs.declared.track.TrackRule.TheVariants.{Published, WithPrereleases}
+use Rattle.wit_names.specs.declared.track.TrackRule.TheVariants.{Published, WithPrereleases}
 use Rattle.wit_data.specs.declared.world.World.{World}
 use Rattle.wit_elaboration.specs.Entries.{Entry}
 use Rattle.wit_graph_data.specs.examples.Samples.{labelled_entry}

@@ -1,14 +1,14 @@
 -- Two reasons at once: which of them are told beside one another, and which one spoils the other.
 use Rattle.std.specs.Prelude.{ℕ, List, [], ◌∷◌, Option, None, codes}
-use Rattle.wit_data.specs.declared.package_name.PackageName.{PackageName}
-use Rattle.wit_data.specs.declared.track.TrackRule.TheVariants.{Published}
+use Rattle.wit_names.specs.declared.package_name.PackageName.{PackageName}
 use Rattle.wit_data.specs.declared.types.TypeDef.{TypeDef}
+use Rattle.wit_names.specs.declared.track.TrackRule.TheVariants.{Published}
 use Rattle.wit_elaboration.specs.Elaboration.{graph_uses}
 use Rattle.wit_elaboration.specs.Imported.{HasTransitiveConflict}
 use Rattle.wit_graph_data.specs.declared.cause.Cause.TheVariants.{InterfaceCycle, TypeCycle}
 use Rattle.wit_graph_data.specs.declared.error_kind.ResolveErrorKind.TheVariants.{InvalidTransitiveDependency, PackageCycle, Semantic}
 use Rattle.wit_graph_data.specs.declared.graph.Graph.{Graph}
-use Rattle.wit_graph_theory.specs.AllElaborated.{DependsOnItself, UsesItself}
+use Rattle.wit_elaboration.specs.AllElaborated.{DependsOnItself, UsesItself}
 use Rattle.wit_semver_spec.specs.Rewritten.{with_new_entries}
 use Rattle.wit_semver_examples.specs.CauseExamples.{IsCauseOf, around_main, around_z, exporting, failed, foo_app}
 use Rattle.wit_semver_examples.specs.Releases.{Names, alias_in, called, foo_main, foo_x, interface_in, keyed, number_in, package_of, release, world_in}

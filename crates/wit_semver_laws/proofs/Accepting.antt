@@ -10,15 +10,15 @@ use Rattle.wit_data.specs.Entries.{ExportsAreAllowed, ImportsAreAllowed, IsImpor
 use Rattle.wit_data.specs.Ownership.{AliasesNamed, IsNamed, IsNamedInterface}
 use Rattle.wit_data.specs.Uses.{alias_target, interface_uses, uses_of}
 use Rattle.wit_data.specs.declared.interface.Interface.{Interface}
-use Rattle.wit_data.specs.declared.package_name.PackageName.{PackageName}
-use Rattle.wit_data.specs.declared.track.TrackRule.{TrackRule}
+use Rattle.wit_names.specs.declared.package_name.PackageName.{PackageName}
+use Rattle.wit_names.specs.declared.track.TrackRule.{TrackRule}
 use Rattle.wit_data.specs.declared.types.TypeDef.{TypeDef}
 use Rattle.wit_data.specs.declared.types.TypeOwner.{TypeOwner}
-use Rattle.wit_data.specs.declared.types.TypeOwner.TheVariants as owner
 use Rattle.wit_data.specs.declared.world.World.{World}
 use Rattle.wit_data.specs.declared.world.WorldItem.{WorldItem}
-use Rattle.wit_data.specs.declared.world.WorldItem.TheVariants as item
 use Rattle.wit_data.specs.declared.world.WorldKey.{WorldKey}
+use Rattle.wit_data.specs.declared.types.TypeOwner.TheVariants as owner
+use Rattle.wit_data.specs.declared.world.WorldItem.TheVariants as item
 use Rattle.wit_data.specs.declared.world.WorldKey.TheVariants as key
 use Rattle.wit_elaboration.proofs.Filters.{Contains-filter}
 use Rattle.wit_elaboration.specs.Elaborated.{Elaborated}
@@ -36,7 +36,7 @@ use Rattle.wit_graph_theory.specs.facts.EntryFacts.{key_entry}
 use Rattle.wit_graph_theory.specs.facts.ListFacts.{at_map, contained_at, found_at, place_of, some_at}
 use Rattle.wit_graph_theory.specs.facts.NamedUses.{used_is_named}
 use Rattle.wit_transform.proofs.UnnamedOnceTransformed.{set_split}
-use Rattle.wit_graph_theory.specs.AllElaborated.{DependsOnItself, RefersToItself, UsesItself, all_elaborated, elaborated_world, interface_cycle_text}
+use Rattle.wit_elaboration.specs.AllElaborated.{DependsOnItself, RefersToItself, UsesItself, all_elaborated, elaborated_world, interface_cycle_text}
 use Rattle.wit_graph_theory.specs.facts.OptionFacts.{some_same, some_there}
 use Rattle.wit_semver_spec.specs.Rewritten.{listed_world, new_target, retargeted, rewritten, rewritten_types, with_new_entries_at}
 use Rattle.wit_semver_spec.specs.TrackCause.{IsComplete, SemverMergeIsAccepted, conflict_4, interface_cycle_22, package_cycle_6, type_cycle_23, type_missing_25}

@@ -1,7 +1,7 @@
 -- Each world after the merge is the elaboration of its list.
 use Rattle.std.proofs.Common.{◌≡◌, ◌∙◌, ℕ, Option, Some, slice_get, sym, subst}
 use Rattle.std.specs.Option.{option_map_or}
-use Rattle.wit_data.specs.declared.track.TrackRule.{TrackRule}
+use Rattle.wit_names.specs.declared.track.TrackRule.{TrackRule}
 use Rattle.wit_data.specs.declared.world.World.{World}
 use Rattle.wit_elaboration.specs.Elaborated.{Elaborated}
 use Rattle.wit_elaboration.specs.Elaboration.{graph_uses}
@@ -9,7 +9,7 @@ use Rattle.wit_elaboration.specs.laws.ElaborationLaws.{ConflictsAreRefused}
 use Rattle.wit_elaboration.specs.Valid.{IsValid}
 use Rattle.wit_graph_data.specs.declared.graph.Graph.{Graph}
 use Rattle.wit_graph_theory.specs.facts.ListFacts.{at_map}
-use Rattle.wit_graph_theory.specs.AllElaborated.{all_elaborated, elaborated_world}
+use Rattle.wit_elaboration.specs.AllElaborated.{all_elaborated, elaborated_world}
 use Rattle.wit_semver_spec.specs.Rewritten.{rewritten, with_new_entries, with_new_entries_at}
 use Rattle.wit_semver_spec.specs.TrackCause.{SemverMergeIsAccepted}
 use Rattle.wit_semver_spec.specs.Tracks.{Upgrade}

@@ -3,14 +3,14 @@ use Rattle.std.proofs.Common.{◌≡◌, ◌∙◌, inl, inr, ℕ, Option, None,
 use Rattle.std.specs.Option.{option_map_or}
 use Rattle.wit_data.specs.Each.{EachAt, SomeAt}
 use Rattle.wit_data.specs.Uses.{alias_target}
+use Rattle.wit_names.specs.declared.track.TrackRule.{TrackRule}
 use Rattle.wit_data.specs.declared.types.TypeDef.{TypeDef}
-use Rattle.wit_data.specs.declared.types.TypeOwner.TheVariants as owner
-use Rattle.wit_data.specs.declared.track.TrackRule.{TrackRule}
 use Rattle.wit_data.specs.declared.world.World.{World}
+use Rattle.wit_data.specs.declared.types.TypeOwner.TheVariants as owner
 use Rattle.wit_elaboration.specs.Valid.{IsValid}
 use Rattle.wit_graph_data.specs.declared.graph.Graph.{Graph}
 use Rattle.wit_graph_theory.specs.facts.ListFacts.{at_map, found_at, same_at, some_at}
-use Rattle.wit_graph_theory.specs.AllElaborated.{all_elaborated, elaborated_world}
+use Rattle.wit_elaboration.specs.AllElaborated.{all_elaborated, elaborated_world}
 use Rattle.wit_values.specs.facts.Lists.{kept-cases, slice_get-set}
 use Rattle.wit_semver_spec.specs.Rewritten.{listed_world, new_target, retargeted, rewritten_types, with_new_entries_at}
 use Rattle.wit_semver_spec.specs.TrackCause.{name_of, target_name}

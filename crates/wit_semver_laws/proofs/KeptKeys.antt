@@ -14,12 +14,13 @@ use Rattle.wit_data.specs.declared.interface.Interface.{Interface}
 use Rattle.wit_data.specs.declared.types.TypeDef.{TypeDef}
 use Rattle.wit_data.specs.declared.world.World.{World}
 use Rattle.wit_data.specs.declared.world.WorldItem.{WorldItem}
-use Rattle.wit_data.specs.declared.world.WorldItem.TheVariants as item
 use Rattle.wit_data.specs.declared.world.WorldKey.{WorldKey}
+use Rattle.wit_data.specs.declared.world.WorldItem.TheVariants as item
 use Rattle.wit_data.specs.declared.world.WorldKey.TheVariants as key
 use Rattle.wit_elaboration.proofs.Filters.{Contains-filter, Contains-filtered}
 use Rattle.wit_elaboration.specs.Entries.{Entry, key_interface, keyed_interfaces, item_interface, role_of, type_role}
-use Rattle.wit_elaboration.specs.Imported.{Needed, exported_keys, roots_of}
+use Rattle.wit_elaboration.specs.Imported.{exported_keys}
+use Rattle.wit_elaboration.specs.laws.Imports.{Needed, roots_of}
 use Rattle.wit_elaboration.specs.laws.KeptByElaboration.{HoldsImports, ImportsAreLeast}
 use Rattle.wit_elaboration.specs.Valid.{IsValid}
 use Rattle.wit_graph_theory.specs.facts.DependencyFacts.{filter_map_from, filter_map_into}

@@ -5,13 +5,13 @@ use Rattle.wit_digraph.specs.facts.MemberFacts.{flat_map-same}
 use Rattle.wit_data.specs.Each.{SomeAt}
 use Rattle.wit_data.specs.Entries.{IsImport}
 use Rattle.wit_data.specs.Uses.{alias_target, other_owner, type_interface_dep, uses_of}
-use Rattle.wit_data.specs.declared.track.TrackRule.{TrackRule}
+use Rattle.wit_names.specs.declared.track.TrackRule.{TrackRule}
 use Rattle.wit_data.specs.declared.types.TypeDef.{TypeDef}
-use Rattle.wit_data.specs.declared.types.TypeOwner.TheVariants as owner
 use Rattle.wit_data.specs.declared.world.World.{World}
 use Rattle.wit_data.specs.declared.world.WorldItem.{WorldItem}
-use Rattle.wit_data.specs.declared.world.WorldItem.TheVariants as item
 use Rattle.wit_data.specs.declared.world.WorldKey.{WorldKey}
+use Rattle.wit_data.specs.declared.types.TypeOwner.TheVariants as owner
+use Rattle.wit_data.specs.declared.world.WorldItem.TheVariants as item
 use Rattle.wit_data.specs.declared.world.WorldKey.TheVariants as key
 use Rattle.wit_elaboration.proofs.Filters.{Contains-filter, filter-all, filter-fail, filter-flat_map, filter-pass, filter-same}
 use Rattle.wit_elaboration.specs.Entries.{Entry, by_class, elaboration_class, of_class, role_of, type_role}
@@ -22,7 +22,7 @@ use Rattle.wit_graph_data.specs.declared.graph.Graph.{Graph}
 use Rattle.wit_graph_theory.specs.facts.CutIsGood.{distinct_kept}
 use Rattle.wit_graph_theory.specs.facts.DependencyFacts.{needs_from, needs_into}
 use Rattle.wit_graph_theory.specs.facts.ListFacts.{found_at, place_of, same_at}
-use Rattle.wit_graph_theory.specs.AllElaborated.{elaborated_world}
+use Rattle.wit_elaboration.specs.AllElaborated.{elaborated_world}
 use Rattle.wit_graph_theory.specs.facts.LawsOfElaboration.{LawsOfElaboration}
 use Rattle.wit_graph_theory.specs.facts.OptionFacts.{option_cases}
 use Rattle.wit_semver_spec.specs.Rewritten.{is_replaced_entry, kept_imports, listed_world, new_target, retargeted, rewritten_types, with_new_entries_at}

@@ -5,13 +5,14 @@ use Rattle.std.specs.Map.{keys_of}
 use Rattle.std.specs.Ordering.{is_eq, is_lt, ordering_reverse}
 use Rattle.std.specs.declared.cmp.Ordering.{Ordering}
 use Rattle.std.specs.declared.cmp.Ordering.TheVariants.{Less, Equal, Greater}
-use Rattle.wit_values.specs.Version.{Parts, version_cmp, version_cmp_total, version_ties}
+use Rattle.wit_values.specs.Version.{Parts, version_cmp}
+use Rattle.wit_values.specs.facts.VersionFacts.{version_cmp_total, version_ties}
 use Rattle.wit_data.specs.Each.{SomeAt}
-use Rattle.wit_data.specs.facts.PackageNameFacts.{same_name}
-use Rattle.wit_data.specs.Track.{track_by}
+use Rattle.wit_names.specs.facts.PackageNameFacts.{same_name}
+use Rattle.wit_names.specs.Track.{track_by}
 use Rattle.wit_data.specs.declared.interface.Interface.{Interface}
-use Rattle.wit_data.specs.declared.package_name.PackageName.{PackageName}
-use Rattle.wit_data.specs.declared.track.TrackRule.{TrackRule}
+use Rattle.wit_names.specs.declared.package_name.PackageName.{PackageName}
+use Rattle.wit_names.specs.declared.track.TrackRule.{TrackRule}
 use Rattle.wit_data.specs.declared.world.World.{World}
 use Rattle.wit_data.specs.declared.world.WorldKey.{WorldKey}
 use Rattle.wit_elaboration.specs.Elaborated.{Elaborated}
@@ -22,7 +23,7 @@ use Rattle.wit_digraph.specs.Relation.{IsAcyclic}
 use Rattle.wit_graph_data.specs.declared.graph.Graph.{Graph}
 use Rattle.wit_graph_data.specs.declared.graph.Package.{Package}
 use Rattle.wit_graph_theory.specs.facts.ListFacts.{found_at, place_of, same_at}
-use Rattle.wit_graph_theory.specs.AllElaborated.{elaborated_world}
+use Rattle.wit_elaboration.specs.AllElaborated.{elaborated_world}
 use Rattle.wit_graph_theory.specs.facts.LawsOfElaboration.{LawsOfElaboration}
 use Rattle.wit_graph_theory.specs.facts.OptionFacts.{some_parts}
 use Rattle.wit_semver_spec.specs.Rewritten.{listed_world, rewritten, with_new_entries_at}

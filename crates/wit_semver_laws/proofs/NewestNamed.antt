@@ -8,7 +8,7 @@ use Rattle.wit_data.specs.declared.types.TypeDef.{TypeDef}
 use Rattle.wit_data.specs.declared.world.World.{World}
 use Rattle.wit_graph_data.specs.declared.cause.Cause.TheVariants as cause
 use Rattle.wit_graph_data.specs.declared.error_kind.ResolveErrorKind.TheVariants.{Semantic}
-use Rattle.wit_graph_theory.specs.AllElaborated.{all_elaborated}
+use Rattle.wit_elaboration.specs.AllElaborated.{all_elaborated}
 use Rattle.wit_graph_theory.specs.facts.DependencyFacts.{needs_from}
 use Rattle.wit_graph_theory.specs.facts.ListFacts.{same_at, some_at}
 use Rattle.wit_graph_theory.specs.facts.OptionFacts.{option_cases}

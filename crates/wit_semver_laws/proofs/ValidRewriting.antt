@@ -8,11 +8,11 @@ use Rattle.wit_data.specs.Uses.{uses_of}
 use Rattle.wit_digraph.specs.Relation.{IsAcyclic, direct}
 use Rattle.std.proofs.lemmas.List.Elements.{Contains-get_or}
 use Rattle.wit_graph_theory.specs.facts.RowFacts.{Reaches-join}
-use Rattle.wit_data.specs.declared.track.TrackRule.{TrackRule}
+use Rattle.wit_names.specs.declared.track.TrackRule.{TrackRule}
 use Rattle.wit_data.specs.declared.types.TypeDef.{TypeDef}
 use Rattle.wit_data.specs.declared.types.TypeOwner.{TypeOwner}
-use Rattle.wit_data.specs.declared.types.TypeOwner.TheVariants as owner
 use Rattle.wit_data.specs.declared.world.World.{World}
+use Rattle.wit_data.specs.declared.types.TypeOwner.TheVariants as owner
 use Rattle.wit_elaboration.specs.Elaborated.{Elaborated}
 use Rattle.wit_elaboration.specs.Valid.{IsValid, IsWorldInTable, IsWorldOf}
 use Rattle.wit_graph_data.specs.declared.graph.Graph.{Graph}
@@ -22,7 +22,7 @@ use Rattle.wit_graph_theory.specs.facts.GoodIsValid.{IsValid-from_good, good_thi
 use Rattle.wit_graph_theory.specs.facts.ListFacts.{at_map, found_at, same_at, some_at}
 use Rattle.wit_graph_theory.specs.facts.UnnamedOnceFacts.{StandOnce-from_entries}
 use Rattle.wit_graph_theory.specs.facts.PackageCycleFacts.{acyclic_packages, packages_stay_acyclic}
-use Rattle.wit_graph_theory.specs.AllElaborated.{elaborated_world, graph_package_uses, type_cycle_text}
+use Rattle.wit_elaboration.specs.AllElaborated.{elaborated_world, graph_package_uses, type_cycle_text}
 use Rattle.wit_graph_theory.specs.facts.LawsOfElaboration.{LawsOfElaboration}
 use Rattle.wit_semver_spec.specs.Rewritten.{listed_world, new_target, rewritten, with_new_entries_at}
 use Rattle.wit_semver_spec.specs.TrackCause.{SemverMergeIsAccepted}

@@ -4,14 +4,14 @@ use Rattle.std.specs.List.{list_any}
 use Rattle.wit_values.specs.Table.{HasDistinctKeys}
 use Rattle.wit_digraph.specs.facts.MemberFacts.{Contains-flat_map, Contains-flat_map_cases, Contains-nil}
 use Rattle.wit_digraph.specs.Relation.{IsAcyclic}
-use Rattle.wit_data.specs.Entries.{is_unnamed, item_interface}
+use Rattle.wit_data.specs.Entries.{is_unnamed, item_interface, entries_of}
 use Rattle.wit_data.specs.Ownership.{entry_type, world_types}
 use Rattle.wit_data.specs.declared.interface.Interface.{Interface}
 use Rattle.wit_data.specs.declared.types.TypeDef.{TypeDef}
 use Rattle.wit_data.specs.declared.world.World.{World}
 use Rattle.wit_data.specs.declared.world.WorldItem.{WorldItem}
-use Rattle.wit_data.specs.declared.world.WorldItem.TheVariants as item
 use Rattle.wit_data.specs.declared.world.WorldKey.{WorldKey}
+use Rattle.wit_data.specs.declared.world.WorldItem.TheVariants as item
 use Rattle.wit_data.specs.declared.world.WorldKey.TheVariants as key
 use Rattle.wit_elaboration.proofs.Classes.{in_by_class}
 use Rattle.wit_elaboration.proofs.Filters.{Contains-filter, Contains-filtered}
@@ -29,10 +29,10 @@ use Rattle.wit_graph_theory.specs.facts.GoodIsValid.{good_things}
 use Rattle.wit_graph_theory.specs.facts.GoodWorlds.{dependency_export, dependency_import, same_one, without_span_is_good}
 use Rattle.wit_graph_theory.specs.facts.ListFacts.{Contains-map, contained_at, from_map, place_of, same_at}
 use Rattle.wit_graph_theory.specs.facts.NamedUses.{IsUsed_named}
-use Rattle.wit_graph_theory.specs.steps.UnnamedOnce.{StandsOnceOnly, entries_of}
+use Rattle.wit_graph_theory.specs.steps.UnnamedOnce.{StandsOnceOnly}
 use Rattle.wit_graph_theory.specs.facts.UnnamedOnceCarried.{named_not}
 use Rattle.wit_graph_theory.specs.facts.UnnamedOnceFrom.{StandsOnceOnly-from_once}
-use Rattle.wit_graph_theory.specs.AllElaborated.{all_elaborated, elaborated_world}
+use Rattle.wit_elaboration.specs.AllElaborated.{all_elaborated, elaborated_world}
 use Rattle.wit_graph_theory.specs.facts.ElaboratedCome.{interface_without_span}
 use Rattle.wit_graph_theory.specs.facts.LawsOfElaboration.{LawsOfElaboration}
 use Rattle.wit_semver_spec.specs.Rewritten.{is_replaced_entry, with_new_entries_at}

@@ -2,22 +2,21 @@
 -- its replaced imports no more; what its other entries use of replaced interfaces they use of the newest; then every
 -- world is elaborated. All else is as it was.
 -- Source: `merge_world_imports_based_on_semver` and `update_interface_dep_of_type` of wit-parser 0.263.0.
-use Rattle.std.specs.Prelude.{ℕ, Bool, not, ◌&&◌, List, [], ◌∷◌, ◌++◌, map, filter, filter_map, nat_eq, Option, None, Some, is_some, slice_get, slice_set, option_and_then, if◌then◌else◌}
-use Rattle.std.specs.List.{enumerate_from, flat_map, list_any}
+use Rattle.std.specs.Prelude.{ℕ, Bool, not, ◌&&◌, List, [], ◌∷◌, ◌++◌, map, filter, filter_map, nat_eq, Option, None, Some, is_some, slice_get, slice_set, option_and_then, if◌then◌else◌, flat_map, option_map, bytes_eq}
+use Rattle.std.specs.List.{enumerate_from, list_any}
 use Rattle.std.specs.Map.{lookup}
-use Rattle.std.specs.Option.{option_map, option_map_or}
-use Rattle.std.specs.Str.{bytes_eq}
+use Rattle.std.specs.Option.{option_map_or}
 use Rattle.wit_data.specs.Uses.{alias_target, type_interface_dep}
 use Rattle.wit_data.specs.declared.interface.Interface.{Interface}
-use Rattle.wit_data.specs.declared.track.TrackRule.{TrackRule}
+use Rattle.wit_names.specs.declared.track.TrackRule.{TrackRule}
 use Rattle.wit_data.specs.declared.types.TypeDef.{TypeDef}
+use Rattle.wit_data.specs.declared.world.World.{World}
 use Rattle.wit_data.specs.declared.types.TypeDefKind.TheVariants as kind
 use Rattle.wit_data.specs.declared.types.Type_.TheVariants as type
-use Rattle.wit_data.specs.declared.world.World.{World}
 use Rattle.wit_data.specs.declared.world.WorldItem.TheVariants as item
 use Rattle.wit_elaboration.specs.Entries.{Entry, key_interface}
 use Rattle.wit_graph_data.specs.declared.graph.Graph.{Graph}
-use Rattle.wit_graph_theory.specs.AllElaborated.{all_elaborated}
+use Rattle.wit_elaboration.specs.AllElaborated.{all_elaborated}
 use Rattle.wit_semver_spec.specs.Tracks.{Upgrade, imported, is_replaced, newest}
 
 -- ---- the world's list

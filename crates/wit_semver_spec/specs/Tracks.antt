@@ -3,16 +3,15 @@
 -- Source: `semver_track` and `merge_world_imports_based_on_semver` of wit-parser 0.263.0; which versions are on one
 -- track is told by SemVer 2.0.0 and by the rule of tracks.
 use Rattle.std.specs.List.{list_any}
-use Rattle.std.specs.Prelude.{ℕ, Bool, false, ◌&&◌, List, Option, None, Some, slice_get, option_and_then, not, [], ◌∷◌, filter, nat_eq}
-use Rattle.std.specs.Option.{option_map, option_map_or}
+use Rattle.std.specs.Prelude.{ℕ, Bool, false, ◌&&◌, List, Option, None, Some, slice_get, option_and_then, not, [], ◌∷◌, filter, nat_eq, option_map, bytes_eq}
+use Rattle.std.specs.Option.{option_map_or}
 use Rattle.std.specs.Ordering.{is_lt}
-use Rattle.std.specs.Str.{bytes_eq}
 use Rattle.wit_values.specs.Version.{Parts, version_cmp}
-use Rattle.wit_data.specs.PackageOrder.{same_package}
-use Rattle.wit_data.specs.Track.{track_by}
+use Rattle.wit_names.specs.PackageOrder.{same_package}
+use Rattle.wit_names.specs.Track.{track_by}
 use Rattle.wit_data.specs.declared.interface.Interface.{Interface}
-use Rattle.wit_data.specs.declared.package_name.PackageName.{PackageName}
-use Rattle.wit_data.specs.declared.track.TrackRule.{TrackRule}
+use Rattle.wit_names.specs.declared.package_name.PackageName.{PackageName}
+use Rattle.wit_names.specs.declared.track.TrackRule.{TrackRule}
 use Rattle.wit_data.specs.declared.world.World.{World}
 use Rattle.wit_graph_data.specs.declared.graph.Graph.{Graph}
 use Rattle.wit_graph_data.specs.declared.graph.Package.{Package}

@@ -2,9 +2,7 @@
 use Rattle.std.proofs.Common.{◌≡◌, ℕ, ◌<◌, Bool, true, false, List, [], ◌∷◌, ◌++◌, map, length, get_or, take, Some, slice_get, option_map, subst, sym, ap, ◌∙◌, arith, length-take}
 use Rattle.std.specs.Borrow.{Bor}
 use Rattle.std.specs.Cmp.Lexicographic.{nat_list_eq_equiv}
-use Rattle.std.specs.Str.{bytes_eq}
-use Rattle.std.specs.Prelude.{Contains, ◌≢◌}
-use Rattle.std.specs.Bool.{Decides}
+use Rattle.std.specs.Prelude.{Contains, ◌≢◌, bytes_eq, Decides}
 use Rattle.std.specs.List.{IsDistinct, list_any, take-map}
 use Rattle.std.proofs.lemmas.List.{get_or-take}
 use Rattle.std.proofs.lemmas.List.Elements.{Contains-get_or}

@@ -1,4 +1,5 @@
 pub mod Distinct
+mod KeptToOwn
 pub mod Telling
 pub mod TypesListed
 pub mod Unnamed

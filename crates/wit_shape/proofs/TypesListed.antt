@@ -8,8 +8,8 @@ use Rattle.wit_digraph.specs.facts.MemberFacts.{Contains-nil, Contains-here, Con
 use Rattle.wit_data.specs.Ownership.{IsTypeItem, entry_type}
 use Rattle.wit_data.specs.facts.WorldKeyFacts.{key_is, key_laws, same_key}
 use Rattle.wit_data.specs.declared.world.WorldItem.{WorldItem}
-use Rattle.wit_data.specs.declared.world.WorldItem.TheVariants as item
 use Rattle.wit_data.specs.declared.world.WorldKey.{WorldKey}
+use Rattle.wit_data.specs.declared.world.WorldItem.TheVariants as item
 use Rattle.wit_data.specs.declared.world.WorldKey.TheVariants as key
 
 -- an entry that lists a type

@@ -3,7 +3,7 @@ ghost use Rattle.wit_data.specs.Each.{Each};
 ghost use Rattle.wit_data.specs.Foreign.{ForeignItem};
 ghost use Rattle.wit_data.specs.Shape.{KeysDiffer};
 ghost use Rattle.wit_data.specs.declared.interface.Interface.{Interface};
-ghost use Rattle.wit_data.specs.declared.package_name.PackageName.{PackageName};
+ghost use Rattle.wit_names.specs.declared.package_name.PackageName.{PackageName};
 ghost use Rattle.wit_data.specs.declared.world.World.{World};
 ghost use Rattle.std.specs.Prelude.{List};
 ghost use Rattle.wit_values.specs.Table.{HasDistinctKeys};

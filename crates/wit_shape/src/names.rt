@@ -7,7 +7,7 @@ ghost use Rattle.std.specs.Str.{bytes_eq};
 ghost use Rattle.wit_data.specs.Each.{Each};
 ghost use Rattle.wit_data.specs.Foreign.{foreign_interfaces, foreign_worlds};
 ghost use Rattle.wit_data.specs.Shape.{HasForeign, HasNames, interface_names, world_names};
-ghost use Rattle.wit_data.specs.UsePath.{IsKebabName};
+ghost use Rattle.wit_names.specs.UsePath.{IsKebabName};
 ghost use Rattle.wit_data.specs.declared.interface.Interface.{Interface};
 ghost use Rattle.wit_data.specs.declared.world.World.{World};
 

@@ -13,8 +13,9 @@ ghost use Rattle.wit_digraph.specs.Relation.{IsAcyclic};
 use crate::named_owners::{NamedOwners, is_own, shown_by_each};
 use std::alloc::{AllocError, Global};
 use wit_data::{
-    Function, Interface, InterfaceId, TypeDef, TypeDefKind, TypeId, TypeOwner, UnresolvedPackage,
-    World, WorldId, WorldItem, WorldKey, function_references, referred,
+    Function, Interface, InterfaceId, PartRole, TypeDef, TypeDefKind, TypeId, TypeOwner,
+    UnresolvedPackage, World, WorldId, WorldItem, WorldKey, function_references, part_role,
+    referred,
 };
 use wit_values::{Items, Table};
 
@@ -92,8 +93,8 @@ fn refers_to_own(
 fn parts(alloc: Global, kind: &TypeDefKind) -> Result<Items<TypeId>, AllocError>
     ensures { IfOk result (λ ids. ids ≡ parts kind.now) }
 {
-    match kind {
-        TypeDefKind::Type_(_) => Ok(Items::new(alloc)),
+    match part_role(kind) {
+        PartRole::Target => Ok(Items::new(alloc)),
         _ => referred(alloc, kind),
     }
 }
@@ -133,25 +134,12 @@ pub fn all_functions_use_own(
     ensures { IfOk result (λ own. IsTrue own ↔ EachAt (FunctionsUseOwn types.now) interfaces.now) }
 {
     for (index, interface) in interfaces.iter().enumerate() {
-        if !functions_use_own_at(alloc, types, shown, index, interface)? {
+        let owner = InterfaceId::from_index(index);
+        if !functions_use_own(alloc, types, shown, owner, interface)? {
             return Ok(false);
         }
     }
     Ok(true)
-}
-
-fn functions_use_own_at(
-    alloc: Global,
-    types: &[TypeDef],
-    shown: &Items<NamedOwners>,
-    index: usize,
-    interface: &Interface,
-) -> Result<bool, AllocError>
-    requires { AreNamedOwners types.now shown.now }
-    ensures { IfOk result (λ own. IsTrue own ↔ FunctionsUseOwn types.now index interface.now) }
-{
-    let owner = InterfaceId::from_index(index);
-    functions_use_own(alloc, types, shown, owner, interface)
 }
 
 fn functions_use_own(
@@ -185,7 +173,8 @@ pub fn all_imports_use_own(
     ensures { IfOk result (λ own. IsTrue own ↔ EachAt (λ w (world : World). EntriesUseOwn types.now w world.imports) worlds.now) }
 {
     for (index, world) in worlds.iter().enumerate() {
-        if !entries_use_own_at(alloc, types, shown, index, &world.imports)? {
+        let owner = WorldId::from_index(index);
+        if !entries_use_own(alloc, types, shown, owner, &world.imports)? {
             return Ok(false);
         }
     }
@@ -205,25 +194,12 @@ pub fn all_exports_use_own(
     ensures { IfOk result (λ own. IsTrue own ↔ EachAt (λ w (world : World). EntriesUseOwn types.now w world.exports) worlds.now) }
 {
     for (index, world) in worlds.iter().enumerate() {
-        if !entries_use_own_at(alloc, types, shown, index, &world.exports)? {
+        let owner = WorldId::from_index(index);
+        if !entries_use_own(alloc, types, shown, owner, &world.exports)? {
             return Ok(false);
         }
     }
     Ok(true)
-}
-
-fn entries_use_own_at(
-    alloc: Global,
-    types: &[TypeDef],
-    shown: &Items<NamedOwners>,
-    index: usize,
-    entries: &Table<WorldKey, WorldItem>,
-) -> Result<bool, AllocError>
-    requires { AreNamedOwners types.now shown.now }
-    ensures { IfOk result (λ own. IsTrue own ↔ EntriesUseOwn types.now index entries.now) }
-{
-    let owner = WorldId::from_index(index);
-    entries_use_own(alloc, types, shown, owner, entries)
 }
 
 fn entries_use_own(

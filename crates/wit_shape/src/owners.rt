@@ -130,18 +130,11 @@ pub fn all_list_own(types: &[TypeDef], interfaces: &[Interface]) -> bool
     ensures { IsTrue result ↔ EachAt (ListsOwn types.now) interfaces.now }
 {
     for (index, interface) in interfaces.iter().enumerate() {
-        if !lists_own_at(types, index, interface) {
+        if !lists_own(types, InterfaceId::from_index(index), interface) {
             return false;
         }
     }
     true
-}
-
-fn lists_own_at(types: &[TypeDef], index: usize, interface: &Interface) -> bool
-    ensures { IsTrue result ↔ ListsOwn types.now index interface.now }
-{
-    let owner = InterfaceId::from_index(index);
-    lists_own(types, owner, interface)
 }
 
 fn lists_own(types: &[TypeDef], owner: InterfaceId, interface: &Interface) -> bool

@@ -78,18 +78,11 @@ pub fn all_have_imports(interfaces: &[Interface], types: &[TypeDef], worlds: &[W
     ensures { IsTrue result ↔ EachAt (ImportsAreAllowed interfaces.now types.now) worlds.now }
 {
     for (index, world) in worlds.iter().enumerate() {
-        if !has_imports_at(interfaces, types, index, world) {
+        if !has_imports(interfaces, types, WorldId::from_index(index), world) {
             return false;
         }
     }
     true
-}
-
-fn has_imports_at(interfaces: &[Interface], types: &[TypeDef], index: usize, world: &World) -> bool
-    ensures { IsTrue result ↔ ImportsAreAllowed interfaces.now types.now index world.now }
-{
-    let owner = WorldId::from_index(index);
-    has_imports(interfaces, types, owner, world)
 }
 
 fn has_imports(interfaces: &[Interface], types: &[TypeDef], owner: WorldId, world: &World) -> bool

@@ -3,7 +3,7 @@ use Rattle.std.proofs.Common.{◌≡◌, ℕ, ◌<◌, ◌∷◌, [], refl, ap, 
 use Rattle.std.proofs.lemmas.Bool.{false≢true}
 use Rattle.std.specs.Prelude.{List, codes}
 use Rattle.wit_digraph.specs.facts.MemberFacts.{Contains-cons_cases, Contains-nil}
-use Rattle.wit_data.specs.UsePath.{is_kebab_name}
+use Rattle.wit_names.specs.UsePath.{is_kebab_name}
 use Rattle.wit_data.specs.declared.types.TypeOwner.TheVariants as owner
 use Rattle.wit_values.specs.facts.Lists.{differ}
 use Rattle.wit_shape_examples.specs.Shape.{NearMissesOfShape}

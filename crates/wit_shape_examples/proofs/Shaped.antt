@@ -7,7 +7,7 @@ use Rattle.wit_digraph.specs.facts.EarlierFacts.{IsAcyclic-earlier}
 use Rattle.wit_data.specs.facts.EachFacts.{EachAt-nil, EachAt-one, EachAt-three, EachAt-two}
 use Rattle.wit_data.specs.Ownership.{IsOwn}
 use Rattle.wit_data.specs.Shape.{HasForeign, HasNames, HasUnknown, HasUnresolvedOwners, HasUnresolvedReferences, HasUnresolvedWorlds, IsShaped, IsUnplaced, KeepsToOwn, KeysDiffer}
-use Rattle.wit_data.specs.UsePath.{is_kebab_name}
+use Rattle.wit_names.specs.UsePath.{is_kebab_name}
 use Rattle.wit_data.specs.Uses.{uses_of}
 use Rattle.wit_data.specs.declared.stability.Stability.TheVariants.{Unknown}
 use Rattle.wit_data.specs.declared.types.TypeOwner.TheVariants as owner

@@ -1,8 +1,8 @@
 -- The file of a span, and numbers in four places.
 use Rattle.std.proofs.Common.{◌≡◌, ◌∙◌, ℕ, zero, suc, ◌-◌, ◌^◌, List, [], ◌∷◌, ◌++◌, length, replicate, Option, Some, None, ap, refl, arith}
-use Rattle.std.specs.Prelude.{IsSome, decimal, encode_utf8}
+use Rattle.std.specs.Prelude.{IsSome, decimal, encode_utf8, find}
 use Rattle.std.specs.Fmt.{char_count, format_spec, padded_integral, styled_decimal}
-use Rattle.std.specs.List.{find, repeat}
+use Rattle.std.specs.List.{repeat}
 use lib.Utf8.{encode}
 use Rattle.std.proofs.lemmas.Bool.{false≢true}
 use Rattle.std.proofs.lemmas.List.{append-nil}

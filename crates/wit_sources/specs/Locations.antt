@@ -1,7 +1,6 @@
 -- Places of a source map as they are told, and texts that show them.
-use Rattle.std.specs.Prelude.{ℕ, ◌+◌, ◌-◌, ◌≤◌, ◌&&◌, nat_le, nat_lt, Bool, List, ◌++◌, length, replicate, Option, option_and_then, codes, decimal, if◌then◌else◌}
-use Rattle.std.specs.List.{find}
-use Rattle.std.specs.Option.{option_map, option_map_or}
+use Rattle.std.specs.Prelude.{ℕ, ◌+◌, ◌-◌, ◌≤◌, ◌&&◌, nat_le, nat_lt, Bool, List, ◌++◌, length, replicate, Option, option_and_then, codes, decimal, if◌then◌else◌, find, option_map}
+use Rattle.std.specs.Option.{option_map_or}
 use Rattle.wit_sources.specs.Lines.{column, dashes, line_number, line_text}
 use Rattle.wit_sources.specs.Span.{end_of, start_of}
 use Rattle.wit_sources.specs.declared.source_map.SourceFile.{SourceFile}

@@ -8,16 +8,16 @@ use Rattle.wit_data.specs.declared.interface.Interface.{Interface}
 use Rattle.wit_data.specs.declared.types.TypeDef.{TypeDef}
 use Rattle.wit_data.specs.declared.world.World.{World}
 use Rattle.wit_data.specs.declared.world.WorldItem.{WorldItem}
-use Rattle.wit_data.specs.declared.world.WorldItem.TheVariants as item
 use Rattle.wit_data.specs.declared.world.WorldKey.{WorldKey}
+use Rattle.wit_data.specs.declared.world.WorldItem.TheVariants as item
 use Rattle.wit_data.specs.declared.world.WorldKey.TheVariants as key
 use Rattle.wit_digraph.specs.facts.MemberFacts.{Contains-nil}
 use Rattle.wit_elaboration.proofs.Filters.{Contains-filter}
-use Rattle.wit_graph_data.specs.declared.cause.Cause.TheVariants.{LabelClash, NameTaken, TypeExported}
-use Rattle.wit_graph_data.specs.declared.error_kind.ResolveErrorKind.{ResolveErrorKind}
-use Rattle.wit_graph_data.specs.declared.error_kind.ResolveErrorKind.TheVariants.{InvalidTransitiveDependency, Semantic}
+use Rattle.wit_graph_data.specs.declared.cause.Cause.TheVariants.{LabelClash, NameTaken}
 use Rattle.wit_graph_data.specs.declared.graph.Graph.{Graph}
 use Rattle.wit_graph_data.specs.declared.graph.Package.{Package}
+use Rattle.wit_graph_data.specs.declared.error_kind.ResolveErrorKind.{ResolveErrorKind}
+use Rattle.wit_graph_data.specs.declared.error_kind.ResolveErrorKind.TheVariants.{InvalidTransitiveDependency, Semantic}
 use Rattle.wit_elaboration.specs.Elaboration.{graph_uses}
 use Rattle.wit_elaboration.specs.Entries.{Entry}
 use Rattle.wit_graph_data.specs.IdText.{key_text}
@@ -27,9 +27,10 @@ use Rattle.wit_graph_theory.specs.facts.ListFacts.{found_at, get_at, place_of}
 use Rattle.wit_graph_theory.specs.facts.LawsOfElaboration.{LawsOfElaboration}
 use Rattle.wit_transform.proofs.Distinct.{entry_of_key}
 use Rattle.wit_transform.proofs.ListsFrom.{ComesFrom, exportized_comes, importized_comes}
+use Rattle.wit_transform.proofs.Refusals.{no_types, none_told}
 use Rattle.wit_transform.proofs.TransformedWorlds.{in_order}
 use Rattle.wit_transform.proofs.ValidTransformations.{transformed_is_valid}
-use Rattle.wit_transform.specs.TransformCause.{HasTypeAt, IsExportizeCause, IsImportizeCause, HasNameTaken, export_conflict, exportized_name_taken, imports_at, importized_name_taken, label_clash, label_clash_text, name_taken_text, type_exported, type_exported_text}
+use Rattle.wit_transform.specs.TransformCause.{IsExportizeCause, IsImportizeCause, HasNameTaken, export_conflict, export_refusal, exportized_name_taken, imports_at, importized_name_taken, label_clash, label_clash_text, name_taken_text, not_exported}
 use Rattle.wit_transform.specs.Transformed.{AreUnderLabels, WorldLists, exportized, importized, is_type, transformed, transformed_at, type_entries}
 
 -- ---- a valid graph
@@ -95,15 +96,14 @@ module _ (laws : LawsOfElaboration) (g : Graph) (valid : IsValid g) (w : ℕ) (o
         let transform = exportized answers out old in
         let free : (h : Package) → HasNameTaken g w old transform.name h → ⊥ =
         λ h taken. clear (Semantic None (name_taken_text transform.name h.name) NameTaken) (old, there, exportized_name_taken h taken refl) in
-        let no_type : (label : List ℕ) → HasTypeAt transform.exports label → ⊥ =
-        λ label has. clear (Semantic None (type_exported_text label) TypeExported) (old, there, type_exported label has refl) in
+        let fine : export_refusal transform.exports ≡ None = none_told (export_refusal transform.exports) (λ error is. clear error (old, there, not_exported is)) in
         let from = exportized_comes old answers out (valid.well_formed.worlds.distinct_imports w old there) (under_labels g valid w old there)
-        (λ i e at. let within = slice_get_within old.imports i e at in get_at answers i (omega arith)) no_type in
+        (λ i e at. let within = slice_get_within old.imports i e at in get_at answers i (omega arith)) (no_types transform.exports fine) in
         record {
           from = from;
           no_conflict = λ conflict.
               let refused = (laws.refused g.types (graph_uses g) transform.imports transform.exports valid.no_cycles.uses (in_order g valid w old there transform from)).0 conflict in
-              clear (InvalidTransitiveDependency old.span (key_text g.packages g.interfaces refused.0)) (old, there, export_conflict (key_text g.packages g.interfaces refused.0) free no_type conflict (refused.0, refused.1, refl) refl);
+              clear (InvalidTransitiveDependency old.span (key_text g.packages g.interfaces refused.0)) (old, there, export_conflict (key_text g.packages g.interfaces refused.0) free fine conflict (refused.0, refused.1, refl) refl);
           free = free;
         }
 

@@ -4,6 +4,7 @@ pub mod Distinct
 pub mod ListsFrom
 pub mod Looked
 pub mod NamedInterfaces
+pub mod Refusals
 pub mod TransformExamples
 pub mod TransformSteps
 pub mod TransformedBack

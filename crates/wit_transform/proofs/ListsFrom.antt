@@ -1,11 +1,12 @@
 -- What the lists of a transformed world have of the lists that they were.
-use Rattle.std.proofs.Common.{◌≡◌, inl, inr, ℕ, zero, suc, Bool, true, false, List, [], ◌∷◌, ◌++◌, Option, Some, slice_get, refl, ap, subst, Contains}
+use Rattle.std.proofs.Common.{◌≡◌, inl, inr, ℕ, zero, suc, Bool, true, false, List, [], ◌∷◌, ◌++◌, Option, None, Some, slice_get, refl, ap, ◌∙◌, subst, Contains, if◌then◌else◌}
+use Rattle.std.specs.List.{cons_option}
 use Rattle.std.specs.Map.{keys_of}
 use Rattle.std.proofs.lemmas.List.Elements.{Contains-append_cases, Contains-append_left, Contains-append_right}
 use Rattle.wit_data.specs.declared.world.World.{World}
 use Rattle.wit_data.specs.declared.world.WorldItem.{WorldItem}
+use Rattle.wit_data.specs.declared.world.WorldKey.{WorldKey}
 use Rattle.wit_data.specs.declared.world.WorldItem.TheVariants as item
-use Rattle.wit_data.specs.declared.world.WorldKey.TheVariants as key
 use Rattle.wit_digraph.specs.facts.MemberFacts.{Contains-cons_cases, Contains-here, Contains-nil, Contains-there}
 use Rattle.wit_elaboration.proofs.Filters.{Contains-filter, Contains-filtered}
 use Rattle.wit_elaboration.specs.Entries.{Entry}
@@ -15,7 +16,7 @@ use Rattle.wit_graph_theory.specs.facts.Covered.{IsNoType}
 use Rattle.wit_graph_theory.specs.facts.CutIsGood.{distinct_kept}
 use Rattle.wit_graph_theory.specs.facts.ListFacts.{contained_at, place_of}
 use Rattle.wit_transform.proofs.Distinct.{head_apart, joined_distinct, key_of_entry, more_distinct, tail_distinct}
-use Rattle.wit_transform.specs.TransformCause.{HasClash, HasTypeAt}
+use Rattle.wit_transform.specs.TransformCause.{HasClash, type_label, type_labels}
 use Rattle.wit_transform.specs.Transformed.{AreUnderLabels, WorldLists, entries_by_answer, exportized, importized, is_type, type_entries}
 
 -- the new lists are made of the entries of the old ones: no key comes twice in one, none of the types is
@@ -97,17 +98,27 @@ no_type (item.Interface i stability docs span external_id) not = tt
 no_type (item.Function f) not = tt
 no_type (item.Type_ t span) not = not refl
 
-pub type_item : (held : WorldItem) → is_type held ≡ true → (t : ℕ) × (span : Option (ℕ × ℕ)) × (held ≡ item.Type_ t span)
-type_item (item.Interface i stability docs span external_id) is = cc
-type_item (item.Function f) is = cc
-type_item (item.Type_ t span) is = (t, span, refl)
-
--- a type under a label that is there
-pub type_there : (es : List Entry) (e : Entry) → AreUnderLabels (type_entries es) → Contains es e → is_type e.1 ≡ true → (label : List ℕ) × (t : ℕ) × (span : Option (ℕ × ℕ)) × (e ≡ (key.Name label, item.Type_ t span))
-type_there es e labels has is =
+-- the label of a type among some entries
+pub label_there : (es : List Entry) (e : Entry) → AreUnderLabels (type_entries es) → Contains es e → is_type e.1 ≡ true → (label : List ℕ) × (type_label e.0 e.1 ≡ Some label)
+label_there es e labels has is =
     let label = labels e.0 (key_of_entry (type_entries es) e (Contains-filtered (λ (f : Entry). is_type f.1) es e has is)) in
-    let held = type_item e.1 is in
-    (label.0, held.0, held.1, λ i. (label.1 i, held.2 i))
+    (label.0, ap (λ (k : WorldKey). type_label k e.1) label.1 ∙ ap (λ (b : Bool). if b then Some label.0 else None) is)
+
+-- where types stand under no label, none of the entries has one
+no_label : (es : List Entry) (e : Entry) (label : List ℕ) → type_labels es ≡ [] → Contains es e → type_label e.0 e.1 ≡ Some label → ⊥
+no_label [] e label none has is = Contains-nil has
+no_label (x ∷ es) e label none has is = elim (Contains-cons_cases x e es has) [
+  | inl same ↦ here (type_label x.0 x.1) (ap (λ (y : Entry). type_label y.0 y.1) same ∙ is) none
+  | inr there ↦ no_label es e label (rest (type_label x.0 x.1) none) there is
+]
+  where
+    here : (o : Option (List ℕ)) → o ≡ Some label → cons_option o (type_labels es) ≡ [] → ⊥
+    here None some empty = cc
+    here (Some other) some empty = cc
+
+    rest : (o : Option (List ℕ)) → cons_option o (type_labels es) ≡ [] → type_labels es ≡ []
+    rest None empty = empty
+    rest (Some other) empty = cc
 
 -- what is answered with the other answer
 other_answer : (es : List Entry) (answers : List Bool) (i : ℕ) (e : Entry) → slice_get es i ≡ Some e → (slice_get answers i ≡ Some true → ⊥) → (b : Bool) → slice_get answers i ≡ Some b → slice_get answers i ≡ Some false
@@ -116,12 +127,12 @@ other_answer es answers i e at not false given = given
 
 pub exportized_comes : (old : World) (answers : List Bool) (out : Option (List ℕ)) → HasDistinctKeys old.imports → AreUnderLabels (type_entries old.imports)
     → ((i : ℕ) (e : Entry) → slice_get old.imports i ≡ Some e → (b : Bool) × (slice_get answers i ≡ Some b))
-    → ((label : List ℕ) → HasTypeAt (entries_by_answer true old.imports answers) label → ⊥) → ComesFrom old (exportized answers out old)
+    → type_labels (entries_by_answer true old.imports answers) ≡ [] → ComesFrom old (exportized answers out old)
 exportized_comes old answers out distinct labels given clear =
     let stays : (e : Entry) → Contains (entries_by_answer true old.imports answers) e → is_type e.1 ≡ true → ⊥ =
     λ e has is.
-    let there = type_there old.imports e labels (answered_in true old.imports answers e has) is in
-    clear there.0 (there.1, there.2, subst (Contains (entries_by_answer true old.imports answers)) there.3 has) in
+    let label = label_there old.imports e labels (answered_in true old.imports answers e has) is in
+    no_label (entries_by_answer true old.imports answers) e label.0 clear has label.1 in
     record {
       imports = λ e has. Contains-append_left old.imports old.exports e (answered_in false old.imports answers e has);
       exports = λ e has. (Contains-append_left old.imports old.exports e (answered_in true old.imports answers e has), no_type e.1 (stays e has));

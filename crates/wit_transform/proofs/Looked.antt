@@ -1,11 +1,10 @@
 -- What is looked up in tables whose keys differ, and that a key which is to be added is new.
-use Rattle.std.proofs.Common.{◌≡◌, ◌≢◌, ◌∙◌, inl, inr, ℕ, ◌+◌, ◌<◌, ◌≤◌, zero, suc, Bool, true, false, not, List, [], ◌∷◌, ◌++◌, cond, length, take, filter, Option, Some, None, IsSome, is_some, slice_get, refl, sym, ap, subst, append_assoc, arith, add-one, if◌then◌else◌, Contains}
-use Rattle.std.specs.Prelude.{◌↔◌, IsTrue, nat_eq}
+use Rattle.std.proofs.Common.{◌≡◌, ◌≢◌, ◌∙◌, inl, inr, ℕ, ◌+◌, ◌<◌, ◌≤◌, zero, suc, Bool, true, false, not, List, [], ◌∷◌, ◌++◌, cond, length, take, filter, filter_map, Option, Some, None, IsSome, is_some, slice_get, refl, sym, ap, subst, append_assoc, arith, add-one, if◌then◌else◌, Contains}
+use Rattle.std.specs.Prelude.{◌↔◌, IsTrue, nat_eq, bytes_eq}
 use Rattle.std.specs.Cmp.{IsEquivalence}
 use Rattle.std.specs.Cmp.Lexicographic.{nat_list_eq_equiv}
-use Rattle.std.specs.List.{IsDistinct}
+use Rattle.std.specs.List.{IsDistinct, cons_option}
 use Rattle.std.specs.Map.{keys_of, lookup}
-use Rattle.std.specs.Str.{bytes_eq}
 use Rattle.std.proofs.lemmas.Bool.{eqb-false, ne_eqb}
 use Rattle.std.proofs.lemmas.List.{append-nil}
 use Rattle.std.proofs.lemmas.List.Elements.{Contains-append_cases, filter-append}
@@ -15,7 +14,6 @@ use Rattle.wit_values.specs.facts.Lists.{HasDistinctKeys-from_test, take-next_at
 use Rattle.wit_data.specs.facts.WorldKeyFacts.{key_is, key_laws}
 use Rattle.wit_data.specs.contracts.world.WorldKeyPartialEq.TheImpl.{eq-value}
 use Rattle.wit_data.specs.declared.world.WorldItem.{WorldItem}
-use Rattle.wit_data.specs.declared.world.WorldItem.TheVariants as item
 use Rattle.wit_data.specs.declared.world.WorldKey.{WorldKey}
 use Rattle.wit_data.specs.declared.world.WorldKey.TheVariants as key
 use Rattle.wit_digraph.specs.facts.MemberFacts.{Contains-cons_cases, Contains-nil}
@@ -24,8 +22,8 @@ use Rattle.wit_elaboration.specs.Entries.{Entry}
 use Rattle.wit_values.specs.Table.{HasDistinctKeys}
 use Rattle.wit_graph_theory.specs.facts.ListFacts.{contained_at}
 use Rattle.wit_transform.proofs.Distinct.{entry_of_key, key_of_entry}
-use Rattle.wit_transform.proofs.ListsFrom.{answered_in, type_item}
-use Rattle.wit_transform.specs.TransformCause.{HasTypeAt}
+use Rattle.wit_transform.proofs.ListsFrom.{answered_in}
+use Rattle.wit_transform.specs.TransformCause.{type_label}
 use Rattle.wit_transform.specs.Transformed.{entries_by_answer, is_type, type_entries}
 
 module _ {K V : Type 0} {eq : K → K → Bool} (laws : IsEquivalence eq) (faithful : (a b : K) → eq a b ≡ true → a ≡ b) where
@@ -269,21 +267,35 @@ no_label-next es i k v Q at before here label has so =
       ]
     ]
 
--- no type stands under a label so far, and with one more
-pub no_type-next : (es : List Entry) (i : ℕ) (k : WorldKey) (v : WorldItem) → slice_get es i ≡ Some (k, v)
-    → ((label : List ℕ) → HasTypeAt (take i es) label → ⊥) → ((label : List ℕ) → k ≡ key.Name label → is_type v ≡ true → ⊥) → (label : List ℕ) → HasTypeAt (take (i + 1) es) label → ⊥
-no_type-next es i k v at before here label has =
-    let there : Entry = (key.Name label, item.Type_ has.0 has.1) in
-    elim (Contains-append_cases (take i es) ((k, v) ∷ []) there (subst (λ (l : List Entry). Contains l there) (take-next_at es i (k, v) at) has.2)) [
-      | inl earlier ↦ before label (has.0, has.1, earlier)
-      | inr last ↦ elim (Contains-cons_cases (k, v) there [] last) [
-        | inl same ↦ here label (ap (λ (e : Entry). e.0) same) (ap (λ (e : Entry). is_type e.1) same)
-        | inr none ↦ Contains-nil none
-      ]
-    ]
+-- what is read of some entries, one by one
+module _ {X Y : Type 0} (read : X → Option Y) where
+  none-suc : (xs : List X) (i : ℕ) (x : X) → slice_get xs i ≡ Some x → filter_map read (take i xs) ≡ [] → read x ≡ None → filter_map read (take (suc i) xs) ≡ []
+  none-suc [] i x at none is = cc
+  none-suc (y ∷ ys) zero x at none is = let same : y ≡ x = inside y x at in ap (λ (o : Option Y). cons_option o []) (ap read same ∙ is)
+  none-suc (y ∷ ys) (suc i) x at none is = behind (read y) (filter_map read (take i ys)) (filter_map read (take (suc i) ys)) none (λ before. none-suc ys i x at before is)
+    where
+      behind : (o : Option Y) (before after : List Y) → cons_option o before ≡ [] → (before ≡ [] → after ≡ []) → cons_option o after ≡ []
+      behind None before after empty next = next empty
+      behind (Some z) before after empty next = cc
 
--- a type stands under the label at a place
-pub type_at : (es : List Entry) (i : ℕ) (k : WorldKey) (v : WorldItem) (label : List ℕ) → slice_get es i ≡ Some (k, v) → k ≡ key.Name label → is_type v ≡ true → HasTypeAt es label
-type_at es i k v label at name type =
-    let held = type_item v type in
-    (held.0, held.1, subst (Contains es) (λ j. (name j, held.2 j)) (contained_at es i (k, v) at))
+  -- nothing so far, and with one more of which nothing is
+  pub none-next : (xs : List X) (i : ℕ) (x : X) → slice_get xs i ≡ Some x → filter_map read (take i xs) ≡ [] → read x ≡ None → filter_map read (take (i + 1) xs) ≡ []
+  none-next xs i x at none is = rw add-one (none-suc xs i x at none is)
+
+  -- the first that is read
+  pub first-here : (xs : List X) (i : ℕ) (x : X) (y : Y) → slice_get xs i ≡ Some x → filter_map read (take i xs) ≡ [] → read x ≡ Some y → slice_get (filter_map read xs) 0 ≡ Some y
+  first-here [] i x y at none is = cc
+  first-here (z ∷ zs) zero x y at none is = ap (λ (o : Option Y). slice_get (cons_option o (filter_map read zs)) 0) (ap read (inside z x at) ∙ is)
+  first-here (z ∷ zs) (suc i) x y at none is = behind (read z) (filter_map read (take i zs)) (filter_map read zs) none (λ before. first-here zs i x y at before is)
+    where
+      behind : (o : Option Y) (before all : List Y) → cons_option o before ≡ [] → (before ≡ [] → slice_get all 0 ≡ Some y) → slice_get (cons_option o all) 0 ≡ Some y
+      behind None before all empty next = next empty
+      behind (Some w) before all empty next = cc
+
+-- the label of an entry that is a type
+pub type_label_of : (k : WorldKey) (v : WorldItem) (label : List ℕ) → k ≡ key.Name label → is_type v ≡ true → type_label k v ≡ Some label
+type_label_of k v label name is = ap (λ (other : WorldKey). type_label other v) name ∙ ap (λ (b : Bool). if b then Some label else None) is
+
+-- and of one that isn't
+pub no_type_label : (k : WorldKey) (v : WorldItem) (label : List ℕ) → k ≡ key.Name label → is_type v ≡ false → type_label k v ≡ None
+no_type_label k v label name fails = ap (λ (other : WorldKey). type_label other v) name ∙ ap (λ (b : Bool). if b then Some label else None) fails

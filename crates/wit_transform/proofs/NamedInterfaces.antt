@@ -7,12 +7,13 @@ use Rattle.wit_data.specs.Entries.{ExportsAreAllowed, ImportsAreAllowed, IsExpor
 use Rattle.wit_data.specs.Uses.{uses_of}
 use Rattle.wit_data.specs.declared.world.World.{World}
 use Rattle.wit_data.specs.declared.world.WorldItem.{WorldItem}
-use Rattle.wit_data.specs.declared.world.WorldItem.TheVariants as item
 use Rattle.wit_data.specs.declared.world.WorldKey.{WorldKey}
+use Rattle.wit_data.specs.declared.world.WorldItem.TheVariants as item
 use Rattle.wit_data.specs.declared.world.WorldKey.TheVariants as key
 use Rattle.wit_elaboration.specs.Elaboration.{graph_uses}
 use Rattle.wit_elaboration.specs.Entries.{Entry, keyed_interfaces, item_interface, role_of}
-use Rattle.wit_elaboration.specs.Imported.{HasTransitiveConflict, IsImported, Needed, roots_of}
+use Rattle.wit_elaboration.specs.Imported.{HasTransitiveConflict}
+use Rattle.wit_elaboration.specs.laws.Imports.{IsImported, Needed, roots_of}
 use Rattle.wit_graph_data.specs.Relations.{entry_interface, entry_interfaces, world_interfaces}
 use Rattle.wit_elaboration.specs.Valid.{IsValid}
 use Rattle.wit_graph_data.specs.declared.graph.Graph.{Graph}

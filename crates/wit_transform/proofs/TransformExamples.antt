@@ -5,18 +5,17 @@ use Rattle.wit_digraph.specs.facts.MemberFacts.{Contains-cons_cases, Contains-he
 use Rattle.wit_digraph.specs.Relation.{direct}
 use Rattle.wit_digraph.specs.PostOrder.{post_order, post_order_within}
 use Rattle.wit_data.specs.declared.world.World.{World}
-use Rattle.wit_data.specs.declared.world.WorldItem.TheVariants as item
 use Rattle.wit_data.specs.declared.world.WorldKey.TheVariants as key
-use Rattle.wit_graph_data.specs.declared.error_kind.ResolveErrorKind.{ResolveErrorKind}
-use Rattle.wit_graph_data.specs.declared.error_kind.ResolveErrorKind.TheVariants.{InvalidTransitiveDependency}
 use Rattle.wit_graph_data.specs.declared.graph.Graph.{Graph}
 use Rattle.wit_graph_data.specs.declared.graph.Package.{Package}
+use Rattle.wit_graph_data.specs.declared.error_kind.ResolveErrorKind.{ResolveErrorKind}
+use Rattle.wit_graph_data.specs.declared.error_kind.ResolveErrorKind.TheVariants.{InvalidTransitiveDependency}
 use Rattle.wit_elaboration.specs.Elaborated.{import_steps, import_steps_within}
 use Rattle.wit_elaboration.specs.Elaboration.{graph_uses}
 use Rattle.wit_elaboration.specs.Entries.{Entry}
 use Rattle.wit_elaboration.specs.Imported.{HasTransitiveConflict, IsEntryInConflict, exported_keys}
 use Rattle.wit_graph_data.specs.examples.Samples.{entry_of, foo_bar_of, world_of}
-use Rattle.wit_transform.specs.TransformCause.{ExportizeCause, HasNameTaken, HasTypeAt, ImportizeCause, NameIsTakenIn, export_conflict, exportized_name_taken, importized_name_taken, label_clash, type_exported}
+use Rattle.wit_transform.specs.TransformCause.{ExportizeCause, HasNameTaken, ImportizeCause, NameIsTakenIn, export_conflict, exportized_name_taken, importized_name_taken, label_clash, not_exported}
 use Rattle.wit_transform.specs.examples.TransformExamples.{ExamplesOfRefusedTransformations, ExamplesOfTransformations, a, b, chain, clashing, first_and_last, function_t, two, type_t}
 use Rattle.wit_transform.specs.Transformed.{exportized, importized}
 
@@ -131,9 +130,9 @@ own_name_at world error same cause =
 type_stays_at : (world : World) (error : ResolveErrorKind) → world_w (type_t ∷ []) [] ≡ world → ExportizeCause (clashing []) 0 world (exportized (false ∷ []) None world) error → ⊥
 type_stays_at world error same cause =
     elim (subst (λ (x : World). ExportizeCause (clashing []) 0 x (exportized (false ∷ []) None x) error) (sym same) cause) [
-      | export_conflict name free types conflict refused is ↦ Contains-nil conflict.2
+      | export_conflict name free listed conflict refused is ↦ Contains-nil conflict.2
       | exportized_name_taken home taken is ↦ one_world (codes "w-exportized") home (foo_bar_of [] ((codes "w", 0) ∷ [])) (clashing []) (world_w (type_t ∷ []) []) refl refl refl taken
-      | type_exported label has is ↦ Contains-nil has.2
+      | not_exported is ↦ let never : None ≡ Some error = is in cc
     ]
 
 abbrev c : Entry
@@ -170,21 +169,15 @@ a_safe f has conflict =
       | inr none ↦ Contains-nil none
     ]
 
-no_type_there : (label : List ℕ) → HasTypeAt (a ∷ c ∷ []) label → ⊥
-no_type_there label has = elim (Contains-cons_cases a (key.Name label, item.Type_ has.0 has.1) (c ∷ []) has.2) [
-  | inl same ↦ let keys = ap (λ (e : Entry). e.0) same in cc
-  | inr there ↦ elim (Contains-cons_cases c (key.Name label, item.Type_ has.0 has.1) [] there) [ inl same ↦ let keys = ap (λ (e : Entry). e.0) same in cc | inr none ↦ Contains-nil none ]
-]
-
 chain_taken : HasNameTaken chain 0 chain_world (codes "v") chain_home
 chain_taken = (0, refl, refl, (1, v_is_taken, one_is_not_zero 1 refl))
 
 taken_before_at : (world : World) (name : List ℕ) → chain_world ≡ world → ExportizeCause chain 0 world (exportized first_and_last (Some (codes "v")) world) (InvalidTransitiveDependency None name) → ⊥
 taken_before_at world name same cause =
     elim (subst (λ (x : World). ExportizeCause chain 0 x (exportized first_and_last (Some (codes "v")) x) (InvalidTransitiveDependency None name)) (sym same) cause) [
-      | export_conflict n free types conflict refused is ↦ free chain_home chain_taken
+      | export_conflict n free listed conflict refused is ↦ free chain_home chain_taken
       | exportized_name_taken home taken is ↦ cc
-      | type_exported label has is ↦ cc
+      | not_exported is ↦ let never : None ≡ Some (InvalidTransitiveDependency None name) = is in cc
     ]
 
 pub examples_of_refused_transformations : ExamplesOfRefusedTransformations
@@ -197,12 +190,12 @@ examples_of_refused_transformations = record {
     importized_name_taken (foo_bar_of ((codes "a", 0) ∷ (codes "b", 1) ∷ []) ((codes "w", 0) ∷ (codes "v", 1) ∷ [])) (0, refl, refl, (1, v_is_taken, one_is_not_zero 1 refl)) refl,
   );
   own_name = λ error cause. own_name_at cause.0 error (inside (world_w [] []) cause.0 cause.1) cause.2;
-  type_exported = (world_w (type_t ∷ []) [], refl, type_exported (codes "t") (0, None, Contains-here type_t []) refl);
+  type_exported = (world_w (type_t ∷ []) [], refl, not_exported refl);
   type_stays = λ error cause. type_stays_at cause.0 error (inside (world_w (type_t ∷ []) []) cause.0 cause.1) cause.2;
   conflict = (
     chain_world,
     refl,
-    export_conflict (codes "foo:bar/c") (λ home taken. two_worlds (codes "x") home chain_home chain chain_world refl refl refl x_is_not_v taken) no_type_there chain_conflict
+    export_conflict (codes "foo:bar/c") (λ home taken. two_worlds (codes "x") home chain_home chain chain_world refl refl refl x_is_not_v taken) refl chain_conflict
         (key.Interface 2, (a ∷ [], c, [], refl, a_safe, c_leads, refl), refl) refl,
   );
   taken_before = λ name cause. taken_before_at cause.0 name (inside chain_world cause.0 cause.1) cause.2;

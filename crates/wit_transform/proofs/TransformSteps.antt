@@ -8,14 +8,15 @@ use Rattle.wit_elaboration.specs.Entries.{Entry}
 use Rattle.wit_elaboration.specs.Imported.{HasTransitiveConflict, IsRefusedName}
 use Rattle.wit_elaboration.specs.Sound.{HasSoundEntries}
 use Rattle.wit_elaboration.specs.Valid.{IsValid}
+use Rattle.wit_graph_data.specs.declared.graph.Graph.{Graph}
 use Rattle.wit_graph_data.specs.declared.error_kind.ResolveErrorKind.{ResolveErrorKind}
 use Rattle.wit_graph_data.specs.declared.error_kind.ResolveErrorKind.TheVariants.{PackageNotFound, WorldNotFound, InterfaceNotFound, InvalidTransitiveDependency, DuplicatePackage, PackageCycle, ItemShadowing, StabilityMismatch, Semantic, OffsetOverflow, OutOfMemory}
-use Rattle.wit_graph_data.specs.declared.graph.Graph.{Graph}
 use Rattle.wit_graph_theory.specs.facts.ListFacts.{found_at, get_at, same_at, some_at}
 use Rattle.wit_transform.proofs.Accepted.{home_at, under_labels}
 use Rattle.wit_transform.proofs.ListsFrom.{exportized_comes, importized_comes}
+use Rattle.wit_transform.proofs.Refusals.{no_types}
 use Rattle.wit_transform.proofs.TransformedWorlds.{in_order_over}
-use Rattle.wit_transform.specs.TransformCause.{ExportizeCause, ExportsAreInConflict, HasClash, HasPackageAt, HasTypeAt, ImportizeCause, IsExportizeCause, IsImportizeCause, NameIsFreeAt, export_conflict, exportized_name_taken, importized_name_taken, label_clash, type_exported}
+use Rattle.wit_transform.specs.TransformCause.{ExportizeCause, ExportsAreInConflict, HasClash, HasPackageAt, ImportizeCause, IsExportizeCause, IsImportizeCause, NameIsFreeAt, export_conflict, export_refusal, exportized_name_taken, importized_name_taken, label_clash, not_exported}
 use Rattle.wit_transform.specs.Transformed.{WorldLists, entries_by_answer, exportized, importized, listed_world, transformed, transformed_at, type_entries}
 
 -- ---- the world and its package
@@ -68,12 +69,12 @@ importized_in_order g valid w current out there clear =
     (length g.interfaces) refl
 
 pub exportized_in_order : (g : Graph) → IsValid g → (w : ℕ) (current : World) (answers : List Bool) (out : Option (List ℕ)) → slice_get g.worlds w ≡ Some current
-    → length answers ≡ length current.imports → ((label : List ℕ) → HasTypeAt (entries_by_answer true current.imports answers) label → ⊥)
+    → length answers ≡ length current.imports → export_refusal (entries_by_answer true current.imports answers) ≡ None
     → HasSoundEntries g.types (length g.interfaces) (entries_by_answer false current.imports answers) (entries_by_answer true current.imports answers)
-exportized_in_order g valid w current answers out there count clear =
+exportized_in_order g valid w current answers out there count fine =
     in_order_over g valid w current there (exportized answers out current)
     (exportized_comes current answers out (valid.well_formed.worlds.distinct_imports w current there) (under_labels g valid w current there)
-    (λ i e at. let within = slice_get_within current.imports i e at in get_at answers i (omega arith)) clear)
+    (λ i e at. let within = slice_get_within current.imports i e at in get_at answers i (omega arith)) (no_types (entries_by_answer true current.imports answers) fine))
     (length g.interfaces) refl
 
 -- ---- reasons
@@ -105,25 +106,25 @@ importize_clear g w current out there free clear error cause =
 
 -- nor against an export of the imports
 pub exportize_clear : (g : Graph) (w : ℕ) (current : World) (answers : List Bool) (out : Option (List ℕ)) → slice_get g.worlds w ≡ Some current → NameIsFreeAt g w (exportized answers out current).name
-    → ((label : List ℕ) → HasTypeAt (entries_by_answer true current.imports answers) label → ⊥) → (HasTransitiveConflict (graph_uses g) (entries_by_answer true current.imports answers) → ⊥)
+    → export_refusal (entries_by_answer true current.imports answers) ≡ None → (HasTransitiveConflict (graph_uses g) (entries_by_answer true current.imports answers) → ⊥)
     → (error : ResolveErrorKind) → IsExportizeCause g w answers out error → ⊥
-exportize_clear g w current answers out there free no_type no_conflict error cause =
+exportize_clear g w current answers out there free fine no_conflict error cause =
     let same = same_at g.worlds w w cause.0 current refl cause.1 there in
     elim (subst (λ (x : World). ExportizeCause g w x (exportized answers out x) error) same cause.2) [
-      | export_conflict name none types conflict refused is ↦ no_conflict conflict
+      | export_conflict name none listed conflict refused is ↦ no_conflict conflict
       | exportized_name_taken home taken is ↦ free current home there taken
-      | type_exported label has is ↦ no_type label has
+      | not_exported is ↦ let never : None ≡ Some error = sym fine ∙ is in cc
     ]
 
 -- a conflict is a reason where no other is
 pub exportize_conflict : (g : Graph) (w : ℕ) (current : World) (answers : List Bool) (out : Option (List ℕ)) (exports : List Entry) (error : ResolveErrorKind) → slice_get g.worlds w ≡ Some current
-    → NameIsFreeAt g w (exportized answers out current).name → ((label : List ℕ) → HasTypeAt (entries_by_answer true current.imports answers) label → ⊥) → exports ≡ entries_by_answer true current.imports answers
+    → NameIsFreeAt g w (exportized answers out current).name → export_refusal (entries_by_answer true current.imports answers) ≡ None → exports ≡ entries_by_answer true current.imports answers
     → ExportsAreInConflict g w exports error → IsExportizeCause g w answers out error
-exportize_conflict g w current answers out exports error there free no_type exports_are told =
+exportize_conflict g w current answers out exports error there free fine exports_are told =
     let same = same_at g.worlds w w told.0 current refl told.2 there in (
       current,
       there,
-      export_conflict told.1 (λ home taken. free current home there taken) no_type (subst (HasTransitiveConflict (graph_uses g)) exports_are told.3)
+      export_conflict told.1 (λ home taken. free current home there taken) fine (subst (HasTransitiveConflict (graph_uses g)) exports_are told.3)
           (subst (λ (es : List Entry). IsRefusedName g.packages g.interfaces (graph_uses g) es told.1) exports_are told.4)
           (told.5 ∙ ap (λ (x : World). InvalidTransitiveDependency x.span told.1) same),
     )

@@ -1,8 +1,8 @@
 -- A valid graph with a transformed world is valid.
 use Rattle.std.proofs.Common.{◌≡◌, ◌≢◌, ◌∙◌, ◌⊎◌, inl, inr, ℕ, not, List, [], ◌∷◌, ◌+◌, filter, length, Option, None, Some, IfSome, IsSomeAnd, slice_get, slice_set, refl, sym, ap, subst, arith, Contains}
-use Rattle.std.specs.List.{enumerate_from, flat_map}
+use Rattle.std.specs.List.{enumerate_from}
 use Rattle.std.specs.Option.{option_map_or}
-use Rattle.std.specs.Prelude.{nat_eq}
+use Rattle.std.specs.Prelude.{nat_eq, flat_map}
 use Rattle.std.proofs.lemmas.List.{length-map, length-set}
 use Rattle.std.proofs.lemmas.List.Elements.{Contains-append_cases, Contains-append_left, Contains-append_right}
 use Rattle.wit_values.specs.facts.Lists.{kept-cases, slice_get-set}
@@ -12,8 +12,8 @@ use Rattle.wit_data.specs.Each.{SomeAt}
 use Rattle.wit_data.specs.Ownership.{IsListed, world_types}
 use Rattle.wit_data.specs.Uses.{interface_uses, uses_of}
 use Rattle.wit_data.specs.declared.types.TypeOwner.{TypeOwner}
-use Rattle.wit_data.specs.declared.types.TypeOwner.TheVariants as owner
 use Rattle.wit_data.specs.declared.world.World.{World}
+use Rattle.wit_data.specs.declared.types.TypeOwner.TheVariants as owner
 use Rattle.wit_elaboration.proofs.Filters.{Contains-filter, Contains-filtered}
 use Rattle.wit_elaboration.specs.Elaborated.{Elaborated}
 use Rattle.wit_elaboration.specs.Elaboration.{graph_uses}

@@ -1,30 +1,30 @@
 -- Why a transformation of a world is refused. After a refusal by 19, 20 or 21 there is no transformed world, so no
--- conflict (4) is a reason beside these; of several reasons any may be told.
+-- conflict (4) is a reason beside these. Of what the new exports refuse the first is told; else, of several reasons any
+-- may be told.
 -- Source: wit-parser 0.263.0; that a taken name and an exported type are refused, and their texts, are rules
 -- of this project.
-use Rattle.std.specs.Prelude.{◌≡◌, ◌≢◌, ◌<◌, ℕ, Bool, true, List, [], ◌++◌, Option, Some, None, codes, length, slice_get, Contains}
+use Rattle.std.specs.Prelude.{◌≡◌, ◌≢◌, ◌<◌, ℕ, Bool, true, List, [], ◌∷◌, ◌++◌, Option, Some, None, codes, filter_map, length, slice_get, Contains, if◌then◌else◌, IsSomeAnd, option_map}
 use Rattle.std.specs.Borrow.{Bor}
 use Rattle.std.specs.Fn.{Shared}
 use Rattle.std.specs.Map.{keys_of}
-use Rattle.std.specs.Option.{IsSomeAnd, option_map_or}
+use Rattle.std.specs.Option.{option_map_or}
 use Rattle.wit_data.specs.Each.{SomeAt}
-use Rattle.wit_data.specs.PackageName.{package_name_text}
-use Rattle.wit_data.specs.declared.package_name.PackageName.{PackageName}
+use Rattle.wit_names.specs.PackageName.{package_name_text}
+use Rattle.wit_names.specs.declared.package_name.PackageName.{PackageName}
 use Rattle.wit_data.specs.declared.world.World.{World}
 use Rattle.wit_data.specs.declared.world.WorldItem.{WorldItem}
-use Rattle.wit_data.specs.declared.world.WorldItem.TheVariants as item
 use Rattle.wit_data.specs.declared.world.WorldKey.{WorldKey}
 use Rattle.wit_data.specs.declared.world.WorldKey.TheVariants as key
 use Rattle.wit_graph_data.specs.Error.{NoCause}
 use Rattle.wit_graph_data.specs.declared.cause.Cause.TheVariants.{LabelClash, NameTaken, TypeExported}
-use Rattle.wit_graph_data.specs.declared.error_kind.ResolveErrorKind.{ResolveErrorKind}
-use Rattle.wit_graph_data.specs.declared.error_kind.ResolveErrorKind.TheVariants.{InvalidTransitiveDependency, Semantic}
 use Rattle.wit_graph_data.specs.declared.graph.Graph.{Graph}
 use Rattle.wit_graph_data.specs.declared.graph.Package.{Package}
+use Rattle.wit_graph_data.specs.declared.error_kind.ResolveErrorKind.{ResolveErrorKind}
+use Rattle.wit_graph_data.specs.declared.error_kind.ResolveErrorKind.TheVariants.{InvalidTransitiveDependency, Semantic}
 use Rattle.wit_elaboration.specs.Elaboration.{graph_uses}
 use Rattle.wit_elaboration.specs.Entries.{Entry}
 use Rattle.wit_elaboration.specs.Imported.{HasTransitiveConflict, IsRefusedName}
-use Rattle.wit_transform.specs.Transformed.{WorldLists, exportized, importized, new_name, transformed, type_entries}
+use Rattle.wit_transform.specs.Transformed.{WorldLists, exportized, importized, is_type, new_name, transformed, type_entries}
 
 -- ---- texts
 
@@ -54,9 +54,30 @@ NameIsTakenIn home w name = (v : ℕ) × Contains home.worlds (name, v) × (v �
 abbrev pub HasNameTaken : Graph → ℕ → World → List ℕ → Package → Type 0
 HasNameTaken g w world name home = (p : ℕ) × (world.package ≡ Some p) × (slice_get g.packages p ≡ Some home) × NameIsTakenIn home w name
 
--- a type stands under this label among some entries
-abbrev pub HasTypeAt : List Entry → List ℕ → Type 0
-HasTypeAt entries label = (t : ℕ) × (span : Option (ℕ × ℕ)) × Contains entries (key.Name label, item.Type_ t span)
+-- ---- what exports are refused for
+
+-- the first of some refusals
+abbrev pub first_refusal : List (Option ResolveErrorKind) → Option ResolveErrorKind
+first_refusal [] = None
+first_refusal (None ∷ rest) = first_refusal rest
+first_refusal (Some error ∷ rest) = Some error
+
+-- the label of an entry that is a type
+abbrev pub type_label : WorldKey → WorldItem → Option (List ℕ)
+type_label (key.Name label) held = if is_type held then Some label else None
+type_label (key.Interface i) held = None
+
+-- the labels under which types stand among some entries
+abbrev pub type_labels : List Entry → List (List ℕ)
+type_labels entries = filter_map (λ (e : Entry). type_label e.0 e.1) entries
+
+-- 21: a type would be exported; the first one is told
+abbrev pub type_refusal : List Entry → Option ResolveErrorKind
+type_refusal exports = option_map (λ label. Semantic None (type_exported_text label) TypeExported) (slice_get (type_labels exports) 0)
+
+-- why these can't be the exports of a world: the first of these refusals
+abbrev pub export_refusal : List Entry → Option ResolveErrorKind
+export_refusal exports = first_refusal (type_refusal exports ∷ [])
 
 -- ---- the reasons, by their numbers
 
@@ -70,13 +91,13 @@ pub data ImportizeCause (g : Graph) (w : ℕ) (world : World) (lists : WorldList
 -- why imports of a world can't become its exports
 pub data ExportizeCause (g : Graph) (w : ℕ) (world : World) (lists : WorldLists) (error : ResolveErrorKind) : Type 0 where
   -- 4: the new exports are in conflict, where there is a transformed world
-  export_conflict : (name : List ℕ) → ((home : Package) → HasNameTaken g w world lists.name home → ⊥) → ((label : List ℕ) → HasTypeAt lists.exports label → ⊥)
+  export_conflict : (name : List ℕ) → ((home : Package) → HasNameTaken g w world lists.name home → ⊥) → export_refusal lists.exports ≡ None
       → HasTransitiveConflict (graph_uses g) lists.exports → IsRefusedName g.packages g.interfaces (graph_uses g) lists.exports name
       → error ≡ InvalidTransitiveDependency world.span name → ExportizeCause g w world lists error
   -- 20: the new name is another world's of the package
   exportized_name_taken : (home : Package) → HasNameTaken g w world lists.name home → error ≡ Semantic None (name_taken_text lists.name home.name) NameTaken → ExportizeCause g w world lists error
-  -- 21: a type is to be exported
-  type_exported : (label : List ℕ) → HasTypeAt lists.exports label → error ≡ Semantic None (type_exported_text label) TypeExported → ExportizeCause g w world lists error
+  -- 21: the new exports can't be
+  not_exported : export_refusal lists.exports ≡ Some error → ExportizeCause g w world lists error
 
 -- a cause of importizing world w
 abbrev pub IsImportizeCause : Graph → ℕ → Option (List ℕ) → ResolveErrorKind → Type 0

@@ -1,12 +1,13 @@
 //! The lists of a transformed world, before they are elaborated, and the errors where there are none.
-ghost use Rattle.std.specs.Prelude.{◌≡◌, ◌++◌, ◌∷◌, ◌⊎◌, [], false, true, IfErr, IfNone, IfOk, IfSome, None, OnOk, Contains, List, ℕ, length, not, string_bytes, if◌then◌else◌};
+ghost use Rattle.std.specs.Prelude.{◌≡◌, ◌++◌, ◌∷◌, ◌⊎◌, [], false, true, IfErr, IfNone, IfOk, IfSome, None, OnOk, Some, Contains, List, ℕ, length, not, slice_get, string_bytes, if◌then◌else◌};
 ghost use Rattle.std.specs.Map.{keys_of, lookup};
+ghost use Rattle.std.specs.Option.{option_copied};
 ghost use Rattle.wit_data.specs.contracts.world.WorldKeyPartialEq.TheImpl.{eq-value};
 ghost use Rattle.wit_graph_data.specs.declared.cause.Cause.TheVariants as cause;
 ghost use Rattle.wit_graph_data.specs.declared.error_kind.ResolveErrorKind.TheVariants.{OutOfMemory, Semantic};
 ghost use Rattle.wit_data.specs.declared.world.WorldKey.{WorldKey};
 ghost use Rattle.wit_data.specs.declared.world.WorldKey.TheVariants as key;
-ghost use Rattle.wit_transform.specs.TransformCause.{HasClash, HasTypeAt, label_clash_text, name_taken_text, type_exported_text};
+ghost use Rattle.wit_transform.specs.TransformCause.{HasClash, export_refusal, label_clash_text, name_taken_text, type_exported_text, type_labels, type_refusal};
 ghost use Rattle.wit_transform.specs.Transformed.{AreUnderLabels, entries_by_answer, is_type, type_entries};
 
 use std::alloc::{AllocError, Global};
@@ -185,8 +186,7 @@ fn with_answer(
 
 /// The first label under which some entries have a type.
 fn type_label(entries: &Table<WorldKey, WorldItem>) -> Option<&Text>
-    ensures some { IfSome result (λ label. HasTypeAt entries.now label.now) }
-    ensures none { IfNone result ((label : List ℕ) → HasTypeAt entries.now label → ⊥) }
+    ensures { option_copied result ≡ slice_get (type_labels entries.now) 0 }
 {
     for index in 0..entries.len() {
         let (key, item) = entries.entry_at(index);
@@ -202,8 +202,34 @@ fn type_label(entries: &Table<WorldKey, WorldItem>) -> Option<&Text>
     None
 }
 
-/// The lists of a world whose imports become its exports where true was answered. Refused where a type
-/// would be exported (21).
+/// 21: a type would be exported.
+fn type_refusal(
+    alloc: Global,
+    exports: &Table<WorldKey, WorldItem>,
+) -> Result<Option<ResolveError>, AllocError>
+    ensures { IfOk result (λ refusal. refusal ≡ type_refusal exports.now) }
+{
+    match type_label(exports) {
+        Some(label) => Ok(Some(type_exported(alloc, label)?)),
+        None => Ok(None),
+    }
+}
+
+/// Why these can't be the exports of a world: the first refusal that there is.
+fn export_refusal(
+    alloc: Global,
+    exports: &Table<WorldKey, WorldItem>,
+) -> Result<Option<ResolveError>, AllocError>
+    ensures { IfOk result (λ refusal. refusal ≡ export_refusal exports.now) }
+{
+    if let Some(refusal) = type_refusal(alloc, exports)? {
+        return Ok(Some(refusal));
+    }
+    Ok(None)
+}
+
+/// The lists of a world whose imports become its exports where true was answered. Refused where these
+/// can't be exports, as where a type would be (21).
 pub(crate) fn exportized_lists(
     alloc: Global,
     world: &World,
@@ -212,15 +238,13 @@ pub(crate) fn exportized_lists(
     requires { length answers.now ≡ length world.now.imports }
     ensures imports { IfOk result (λ lists. lists.imports ≡ entries_by_answer false world.now.imports answers.now) }
     ensures exports { IfOk result (λ lists. lists.exports ≡ entries_by_answer true world.now.imports answers.now) }
-    ensures no_type { OnOk result ((label : List ℕ) → HasTypeAt (entries_by_answer true world.now.imports answers.now) label → ⊥) }
-    ensures cause { IfErr result (λ e. (e ≡ OutOfMemory) ⊎ ((label : List ℕ) × HasTypeAt (entries_by_answer true world.now.imports answers.now) label × (e ≡ Semantic None (type_exported_text label) cause.TypeExported))) }
+    ensures none { OnOk result (export_refusal (entries_by_answer true world.now.imports answers.now) ≡ None) }
+    ensures cause { IfErr result (λ e. (e ≡ OutOfMemory) ⊎ (export_refusal (entries_by_answer true world.now.imports answers.now) ≡ Some e)) }
 {
     let exports = with_answer(alloc, &world.imports, answers, true)?;
-    match type_label(&exports) {
-        Some(label) => Err(type_exported(alloc, label)?),
-        None => {
-            let imports = with_answer(alloc, &world.imports, answers, false)?;
-            Ok(Lists { imports, exports })
-        }
+    if let Some(refusal) = export_refusal(alloc, &exports)? {
+        return Err(refusal);
     }
+    let imports = with_answer(alloc, &world.imports, answers, false)?;
+    Ok(Lists { imports, exports })
 }

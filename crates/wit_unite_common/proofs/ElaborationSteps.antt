@@ -9,10 +9,10 @@ use Rattle.wit_data.specs.Reference.{type_references}
 use Rattle.wit_data.specs.declared.world.World.{World}
 use Rattle.wit_elaboration.specs.Elaboration.{graph_uses}
 use Rattle.wit_elaboration.specs.Imported.{HasTransitiveConflict}
+use Rattle.wit_graph_data.specs.declared.graph.Graph.{Graph}
 use Rattle.wit_graph_data.specs.declared.error_kind.ResolveErrorKind.{ResolveErrorKind}
 use Rattle.wit_graph_data.specs.declared.error_kind.ResolveErrorKind.TheVariants.{OutOfMemory}
-use Rattle.wit_graph_data.specs.declared.graph.Graph.{Graph}
-use Rattle.wit_graph_theory.specs.AllElaborated.{graph_package_uses}
+use Rattle.wit_elaboration.specs.AllElaborated.{graph_package_uses}
 use Rattle.wit_elaboration.specs.AllWorlds.{IsRefusedWorld}
 use Rattle.wit_unite_common.specs.steps.Reasons.{ElaborationCause, conflict_4, interface_cycle_22, package_cycle_6, type_cycle_23}
 

@@ -12,11 +12,11 @@ use Rattle.wit_data.specs.declared.types.TypeDef.{TypeDef}
 use Rattle.wit_data.specs.Reference.{referred, type_references}
 use Rattle.wit_elaboration.specs.Elaboration.{graph_uses}
 use Rattle.wit_graph_data.specs.Relations.{package_needs}
-use Rattle.wit_graph_data.specs.declared.error_kind.ResolveErrorKind.{ResolveErrorKind}
-use Rattle.wit_graph_data.specs.declared.error_kind.ResolveErrorKind.TheVariants.{OutOfMemory, PackageCycle}
 use Rattle.wit_graph_data.specs.declared.graph.Graph.{Graph}
 use Rattle.wit_graph_data.specs.declared.graph.Package.{Package}
-use Rattle.wit_graph_theory.specs.AllElaborated.{graph_package_uses, interface_cycle_text, type_cycle_text}
+use Rattle.wit_graph_data.specs.declared.error_kind.ResolveErrorKind.{ResolveErrorKind}
+use Rattle.wit_graph_data.specs.declared.error_kind.ResolveErrorKind.TheVariants.{OutOfMemory, PackageCycle}
+use Rattle.wit_elaboration.specs.AllElaborated.{graph_package_uses, interface_cycle_text, type_cycle_text}
 use Rattle.wit_unite_common.specs.steps.Reasons.{CyclesHaveNames, ElaborationCause, IsInterfaceCycleError, IsRound, IsSomeNamed, IsTypeCycleError, interface_cycle_22, package_cycle_6, type_cycle_23}
 
 -- ---- on a cycle

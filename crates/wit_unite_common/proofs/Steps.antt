@@ -8,9 +8,9 @@ use Rattle.std.proofs.lemmas.Map.Views.{Contains-from_lookup, lookup-from_Contai
 use Rattle.std.proofs.lemmas.Option.{slice_get_within}
 use Rattle.std.proofs.lemmas.Slice.Eq.{bytes_eq-Decides}
 use Rattle.wit_data.specs.declared.function.Function.{Function}
-use Rattle.wit_data.specs.declared.function.Param.{Param}
 use Rattle.wit_data.specs.declared.interface.Interface.{Interface}
-use Rattle.wit_graph_theory.specs.FunctionMismatch.{AreOfOneKind, FunctionMismatch, HaveFunctionMismatch, function_mismatch_text, kinds_differ, parameter_counts_differ, parameter_names_differ, parameter_types_differ, result_counts_differ, results_differ}
+use Rattle.wit_data.specs.declared.function.Param.{Param}
+use Rattle.wit_remap_spec.specs.FunctionMismatch.{AreOfOneKind, FunctionMismatch, HaveFunctionMismatch, function_mismatch_text, kinds_differ, parameter_counts_differ, parameter_names_differ, parameter_types_differ, result_counts_differ, results_differ}
 use Rattle.wit_graph_theory.specs.facts.ListFacts.{contained_at, place_of}
 use Rattle.wit_unite_common.specs.steps.Agreeing.{AgreesIn, DisagreesIn, ParamAgrees, ParamMismatch, ParamsAgree, ResultsAgree, names_differ, types_differ}
 

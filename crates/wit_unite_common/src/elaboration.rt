@@ -2,7 +2,7 @@
 ghost use Rattle.std.specs.Prelude.{◌≡◌, ◌⊎◌, IfErr, OnErr, OnOk};
 ghost use Rattle.wit_graph_data.specs.declared.error_kind.ResolveErrorKind.{ResolveErrorKind};
 ghost use Rattle.wit_graph_data.specs.declared.error_kind.ResolveErrorKind.TheVariants.{OutOfMemory};
-ghost use Rattle.wit_graph_theory.specs.AllElaborated.{all_elaborated};
+ghost use Rattle.wit_elaboration.specs.AllElaborated.{all_elaborated};
 ghost use Rattle.wit_unite_common.specs.steps.Reasons.{CanBeElaborated, ElaborationCause};
 
 use crate::cycles::{check_interfaces, check_packages, check_types};

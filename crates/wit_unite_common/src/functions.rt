@@ -1,7 +1,7 @@
 //! What a function disagrees in with another of its name: its kind, its parameters or its result.
 ghost use Rattle.std.specs.Prelude.{◌≡◌, ◌↔◌, IfNone, IfOk, IfSome, IsTrue, List, ℕ, length, string_bytes};
-ghost use Rattle.wit_graph_theory.specs.FunctionMismatch.{AreOfOneKind, AreOfOneSort, FunctionMismatch, one_place};
-ghost use Rattle.wit_graph_theory.specs.Image.{function_kind_image, value_image};
+ghost use Rattle.wit_remap_spec.specs.FunctionMismatch.{AreOfOneKind, AreOfOneSort, FunctionMismatch, one_place};
+ghost use Rattle.wit_remap_spec.specs.Image.{function_kind_image, value_image};
 ghost use Rattle.wit_unite_common.specs.steps.Agreeing.{ParamAgrees, ParamMismatch, ParamsAgree, ResultsAgree};
 
 use std::alloc::{AllocError, Global};

@@ -1,6 +1,6 @@
 //! Which function of an interface disagrees with the one of its name in another interface.
 ghost use Rattle.std.specs.Prelude.{IfNone, IfOk, IfSome, List, ℕ, string_bytes};
-ghost use Rattle.wit_graph_theory.specs.FunctionMismatch.{HaveFunctionMismatch};
+ghost use Rattle.wit_remap_spec.specs.FunctionMismatch.{HaveFunctionMismatch};
 ghost use Rattle.wit_unite_common.specs.steps.Agreeing.{AgreesIn, DisagreesIn};
 
 use crate::functions::function_mismatch;

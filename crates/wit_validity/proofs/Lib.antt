@@ -1,2 +1,3 @@
 pub mod LookUps
+mod Referring
 pub mod Refusals

@@ -1,7 +1,6 @@
 -- What a look-up in a table tells of its entries, and lists that are the same so far.
 use Rattle.std.proofs.Common.{◌≡◌, ◌∙◌, ℕ, ◌+◌, Bool, true, false, List, [], ◌∷◌, ◌++◌, Some, None, slice_get, take, refl, sym, ap, subst}
-use Rattle.std.specs.Prelude.{◌↔◌, Contains}
-use Rattle.std.specs.Bool.{Decides}
+use Rattle.std.specs.Prelude.{◌↔◌, Contains, Decides}
 use Rattle.std.specs.Cmp.{IsEquivalence}
 use Rattle.std.specs.List.{IsDistinct}
 use Rattle.std.specs.Map.{keys_of, lookup}

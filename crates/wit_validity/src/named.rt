@@ -3,7 +3,7 @@ ghost use Rattle.std.specs.Prelude.{◌↔◌, IsTrue};
 ghost use Rattle.wit_elaboration.specs.Valid.{HasKebabNames};
 ghost use Rattle.wit_graph_data.specs.declared.graph.Package.{Package};
 ghost use Rattle.wit_data.specs.Each.{Each};
-ghost use Rattle.wit_data.specs.UsePath.{IsKebabName};
+ghost use Rattle.wit_names.specs.UsePath.{IsKebabName};
 ghost use Rattle.wit_validity.specs.steps.Parts.{HasKebabNamesInTables};
 
 use crate::package_names::has_package_names;

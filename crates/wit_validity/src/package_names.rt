@@ -3,7 +3,7 @@ ghost use Rattle.std.specs.Prelude.{◌≡◌, ◌↔◌, ℕ, Contains, IsTrue}
 ghost use Rattle.wit_elaboration.specs.Valid.{HasPackageNames};
 ghost use Rattle.wit_graph_data.specs.declared.graph.Package.{Package};
 ghost use Rattle.wit_data.specs.Each.{Each, EachAt, SomeAt};
-ghost use Rattle.wit_data.specs.declared.package_name.PackageName.{PackageName};
+ghost use Rattle.wit_names.specs.declared.package_name.PackageName.{PackageName};
 
 use wit_data::{PackageId, PackageName, Table};
 use wit_graph_data::Package;

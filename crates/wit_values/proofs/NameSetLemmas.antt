@@ -5,7 +5,7 @@ use Rattle.std.specs.Cmp.Lexicographic.{nat_list_eq_equiv}
 use Rattle.std.specs.List.{IsDistinct, AllByRecursion, list_any}
 use Rattle.std.specs.Str.{bytes_eq}
 use Rattle.wit_values.specs.facts.Lists.{AllByRecursion-at, slice_get-behind}
-use Rattle.wit_values.specs.facts.NameSet.{texts_of}
+use Rattle.wit_values.specs.NameSet.{texts_of}
 
 pub list_any-texts : (test : List ℕ → Bool) (ks : List (String Global)) → list_any test (texts_of ks) ≡ list_any (λ k. test (string_bytes k)) ks
 list_any-texts test [] = refl

@@ -1,2 +1,2 @@
 pub mod Lists
-pub mod NameSet
+pub mod VersionFacts

@@ -4,7 +4,7 @@ ghost use Rattle.std.specs.Cmp.Lexicographic.{pointwise, lists_equiv, lists_per}
 ghost use Rattle.std.specs.Borrow.{sem};
 ghost use Rattle.std.specs.Option.{option_copied, option_to_list};
 ghost use Rattle.std.specs.Slice.Iter.{iter_rest};
-ghost use Rattle.wit_values.specs.steps.Items.{LendsItem};
+ghost use Rattle.wit_values.specs.Items.{LendsItem};
 
 use crate::try_clone::TryClone;
 use std::alloc::{AllocError, Global};

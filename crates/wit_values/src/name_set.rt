@@ -2,7 +2,7 @@
 ghost use Rattle.std.specs.Prelude.{◌≡◌, ◌++◌, ◌∷◌, [], ◌^◌, ◌↔◌, ◌<◌, length, IsTrue, OnOk, OnErr, slice_get, Some, if◌then◌else◌};
 ghost use Rattle.std.specs.List.{list_any, IsDistinct};
 ghost use Rattle.std.specs.Str.{bytes_eq};
-ghost use Rattle.wit_values.specs.facts.NameSet.{texts_of};
+ghost use Rattle.wit_values.specs.NameSet.{texts_of};
 
 use crate::try_clone::TryClone;
 use indexmap::IndexSet;
@@ -18,7 +18,7 @@ pub struct NameSet {
 
 impl Model for NameSet {
     ghost use Rattle.std.specs.Prelude.{List, ℕ};
-    ghost use Rattle.wit_values.specs.facts.NameSet.{texts_of};
+    ghost use Rattle.wit_values.specs.NameSet.{texts_of};
 
     ghost Value = { List (List ℕ) };
 

@@ -2,7 +2,8 @@
 ghost use Rattle.std.specs.Prelude.{◌≡◌, ℕ, List, Some, IfOk, IfErr, ◌⊎◌, refl, ◌++◌};
 ghost use Rattle.semver.specs.Identifiers.{parts_of, parts_text};
 ghost use Rattle.semver.specs.Parse.{IsRefused, memory_error, version_parts};
-ghost use Rattle.wit_values.specs.Version.{version_cmp, version_cmp_total, version_eq, version_eq_equiv, version_po, version_ties};
+ghost use Rattle.wit_values.specs.Version.{version_cmp, version_eq};
+ghost use Rattle.wit_values.specs.facts.VersionFacts.{version_cmp_total, version_eq_equiv, version_po, version_ties};
 ghost use Rattle.std.specs.Cmp.{partial_equiv_from_equiv};
 ghost use Rattle.std.specs.Cmp.Rules.{hashing};
 ghost use Rattle.std.proofs.Common.{rules};

@@ -1,6 +1,6 @@
 -- The imports that lines list: each a world and an interface that it imports under the interface's own id.
-use Rattle.std.specs.Prelude.{◌&&◌, ℕ, Bool, List, [], ◌∷◌, ◌++◌, filter, nat_eq, not, if◌then◌else◌}
-use Rattle.std.specs.List.{flat_map, list_any}
+use Rattle.std.specs.Prelude.{◌&&◌, ℕ, Bool, List, [], ◌∷◌, ◌++◌, filter, nat_eq, not, if◌then◌else◌, flat_map}
+use Rattle.std.specs.List.{list_any}
 use Rattle.wit_data.specs.declared.world.WorldKey.{WorldKey}
 use Rattle.wit_data.specs.declared.world.WorldKey.TheVariants as key
 use Rattle.witgraph_dot.specs.declared.arrows.ArrowKind.{ArrowKind}

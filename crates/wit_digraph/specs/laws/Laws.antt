@@ -1,6 +1,6 @@
 -- Laws of walks, over every acyclic relation.
-use Rattle.std.specs.Prelude.{◌≡◌, ℕ, ◌<◌, ◌↔◌, List, [], ◌∷◌, ◌++◌, length, nat_eq, Contains, All}
-use Rattle.std.specs.List.{flat_map, IsDistinct}
+use Rattle.std.specs.Prelude.{◌≡◌, ℕ, ◌<◌, ◌↔◌, List, [], ◌∷◌, ◌++◌, length, nat_eq, Contains, All, flat_map}
+use Rattle.std.specs.List.{IsDistinct}
 use Rattle.wit_digraph.specs.Relation.{direct, Reaches, IsAcyclic}
 use Rattle.wit_digraph.specs.PostOrder.{UsesFirst, post_order, first_of_each}
 

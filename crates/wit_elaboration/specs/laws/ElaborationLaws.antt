@@ -6,7 +6,8 @@ use Rattle.wit_data.specs.declared.world.WorldKey.{WorldKey}
 use Rattle.wit_digraph.specs.Relation.{direct, IsAcyclic}
 use Rattle.wit_elaboration.specs.Entries.{Entry, Role, Instance, TypeUse, TypeDefinition, FreeFunction, ResourceFunction, role_of, key_interface, keyed_interfaces}
 use Rattle.wit_elaboration.specs.Elaborated.{Elaborated}
-use Rattle.wit_elaboration.specs.Imported.{HasTransitiveConflict, IsImported, IsRefusedKey}
+use Rattle.wit_elaboration.specs.Imported.{HasTransitiveConflict, IsRefusedKey}
+use Rattle.wit_elaboration.specs.laws.Imports.{IsImported}
 use Rattle.wit_elaboration.specs.Sound.{HasSoundEntries}
 
 -- an elaborated world is its own elaboration

@@ -1,6 +1,5 @@
 -- What elaboration keeps: laws for those who add to a graph, and for readers of an elaborated world.
-use Rattle.std.specs.Prelude.{ℕ, ◌≡◌, ◌⊎◌, ◌↔◌, Bool, true, false, List, ◌++◌, map, filter, length, Contains, All}
-use Rattle.std.specs.List.{flat_map}
+use Rattle.std.specs.Prelude.{ℕ, ◌≡◌, ◌⊎◌, ◌↔◌, Bool, true, false, List, ◌++◌, map, filter, length, Contains, All, flat_map}
 use Rattle.std.specs.Map.{keys_of}
 use Rattle.wit_data.specs.declared.types.TypeDef.{TypeDef}
 use Rattle.wit_data.specs.declared.world.World.{World}
@@ -9,7 +8,8 @@ use Rattle.wit_data.specs.declared.world.WorldKey.TheVariants.{Name, Interface}
 use Rattle.wit_digraph.specs.Relation.{direct, IsAcyclic}
 use Rattle.wit_elaboration.specs.Entries.{Entry, TypeUse, role_of, keyed_interfaces, by_class}
 use Rattle.wit_elaboration.specs.Elaborated.{Elaborated, InheritedData, dependency_of, inherited_by_import, without_span}
-use Rattle.wit_elaboration.specs.Imported.{Needed, IsImported, exported_keys, roots_of}
+use Rattle.wit_elaboration.specs.Imported.{exported_keys}
+use Rattle.wit_elaboration.specs.laws.Imports.{Needed, IsImported, roots_of}
 use Rattle.wit_elaboration.specs.Sound.{HasSoundEntries}
 use Rattle.wit_values.specs.Table.{HasDistinctKeys}
 

@@ -1,6 +1,5 @@
 -- What rows of bits tell of what interfaces reach along uses. A row has 1,024 columns, in 16 words of 64 bits.
-use Rattle.std.specs.Prelude.{◌≡◌, ℕ, ◌<◌, ◌≤◌, ◌*◌, ◌%◌, ◌↔◌, List, length, Contains, All, []}
-use Rattle.std.specs.List.{sum_by}
+use Rattle.std.specs.Prelude.{◌≡◌, ℕ, ◌<◌, ◌≤◌, ◌*◌, ◌%◌, ◌↔◌, List, length, Contains, All, [], sum_by}
 use Rattle.wit_digraph.specs.steps.Rows.{HasBit}
 use Rattle.wit_digraph.specs.Relation.{direct, Reaches, IsAcyclic}
 use Rattle.wit_digraph.specs.PostOrder.{UsesFirst}

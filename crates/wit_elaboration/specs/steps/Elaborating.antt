@@ -1,6 +1,6 @@
 -- States of an elaboration while it runs.
-use Rattle.std.specs.Prelude.{ℕ, ◌≡◌, ◌≤◌, ◌++◌, ◌↔◌, Bool, true, false, List, [], ◌∷◌, Option, Some, None, length, map, filter, not, nat_eq, slice_get, take, Contains}
-use Rattle.std.specs.List.{flat_map, list_any}
+use Rattle.std.specs.Prelude.{ℕ, ◌≡◌, ◌≤◌, ◌++◌, ◌↔◌, Bool, true, false, List, [], ◌∷◌, Option, Some, None, length, map, filter, not, nat_eq, slice_get, take, Contains, flat_map}
+use Rattle.std.specs.List.{list_any}
 use Rattle.std.specs.Map.{keys_of}
 use Rattle.wit_data.specs.declared.world.WorldKey.TheVariants.{Interface}
 use Rattle.wit_digraph.specs.Relation.{direct, Reaches}

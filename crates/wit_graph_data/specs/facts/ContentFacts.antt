@@ -1,16 +1,17 @@
 -- Facts on rows of types of which each is among what its type refers to, as what its values hold, for the proofs of the
 -- crates above.
-use Rattle.std.proofs.Common.{◌≡◌, ◌∙◌, ℕ, zero, suc, List, [], ◌∷◌, map, length, Some, option_map, slice_get, sym, ap, Contains}
+use Rattle.std.proofs.Common.{◌≡◌, ◌∙◌, ℕ, zero, suc, true, List, [], ◌∷◌, map, length, Some, option_map, slice_get, refl, sym, ap, Contains}
 use Rattle.std.proofs.lemmas.List.{length-map}
 use Rattle.std.proofs.lemmas.Option.{get_or_from_slice_get, slice_get-map}
 use Rattle.wit_digraph.specs.facts.AmongFacts.{IsAcyclic-among}
-use Rattle.wit_digraph.specs.facts.MemberFacts.{Contains-nil}
 use Rattle.wit_digraph.specs.Relation.{IsAcyclic, direct}
 use Rattle.wit_data.specs.Reference.{referred, type_references}
+use Rattle.wit_data.specs.facts.ReferenceFacts.{in_referred}
+use Rattle.wit_data.specs.declared.kind.PartRole.{PartRole}
 use Rattle.wit_data.specs.declared.types.TypeDef.{TypeDef}
 use Rattle.wit_data.specs.declared.types.TypeDefKind.{TypeDefKind}
-use Rattle.wit_data.specs.declared.types.TypeDefKind.TheVariants as kind
-use Rattle.wit_graph_data.specs.Queries.{content_types, type_contents}
+use Rattle.wit_data.specs.declared.kind.PartRole.TheVariants.{Argument}
+use Rattle.wit_graph_data.specs.Queries.{content_types, is_held, type_contents}
 
 module _ (row : TypeDefKind → List ℕ) (among : (k : TypeDefKind) (t : ℕ) → Contains (row k) t → Contains (referred k) t) where
   row_among : (types : List TypeDef) (i j : ℕ) → Contains (direct (map (λ (def : TypeDef). row def.kind) types) i) j → Contains (direct (type_references types) i) j
@@ -25,9 +26,14 @@ module _ (row : TypeDefKind → List ℕ) (among : (k : TypeDefKind) (t : ℕ) �
   pub rows_acyclic : (types : List TypeDef) → IsAcyclic (type_references types) → IsAcyclic (map (λ (def : TypeDef). row def.kind) types)
   rows_acyclic types acyclic = IsAcyclic-among (map (λ (def : TypeDef). row def.kind) types) (type_references types) (long_as types) (row_among types) acyclic
 
-held_among : (k : TypeDefKind) (t : ℕ) → Contains (content_types k) t → Contains (referred k) t
-held_among (kind.Handle handle) t has = absurd (Contains-nil has)
-held_among other t has = has
+-- parts in any role but a handle's are held
+pub held_role : (role : PartRole) → (role ≡ Argument → ⊥) → is_held role ≡ true
+held_role Argument other = absurd (other refl)
+held_role role other = refl
+
+-- what the values of a kind hold it refers to
+pub held_among : (k : TypeDefKind) (t : ℕ) → Contains (content_types k) t → Contains (referred k) t
+held_among k t has = in_referred is_held k t has
 
 pub contents_acyclic : (types : List TypeDef) → IsAcyclic (type_references types) → IsAcyclic (type_contents types)
 contents_acyclic types acyclic = rows_acyclic content_types held_among types acyclic

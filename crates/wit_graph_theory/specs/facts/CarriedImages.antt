@@ -5,11 +5,11 @@ use Rattle.wit_data.specs.Reference.{function_references, referred}
 use Rattle.wit_data.specs.Uses.{alias_target}
 use Rattle.wit_data.specs.declared.function.Function.{Function}
 use Rattle.wit_data.specs.declared.types.TypeDef.{TypeDef}
-use Rattle.wit_data.specs.declared.types.TypeDefKind.TheVariants as kind
 use Rattle.wit_data.specs.declared.types.TypeOwner.{TypeOwner}
+use Rattle.wit_data.specs.declared.types.TypeDefKind.TheVariants as kind
 use Rattle.wit_data.specs.declared.types.TypeOwner.TheVariants as owner
 use Rattle.wit_graph_data.specs.declared.graph.Graph.{Graph}
-use Rattle.wit_graph_theory.specs.Image.{Maps, function_image, identity, name_image, owner_image, type_image}
+use Rattle.wit_remap_spec.specs.Image.{Maps, function_image, identity, name_image, owner_image, type_image}
 use Rattle.wit_graph_theory.specs.facts.Referred.{RefersUnder}
 use Rattle.wit_graph_theory.specs.steps.Sources.{IsCarriedFunction, IsCarriedType, Source, Stands}
 use Rattle.wit_graph_theory.specs.facts.ReferredFacts.{alias_image, function_refers, kind_refers, known_image, parts_refer, plain_image}

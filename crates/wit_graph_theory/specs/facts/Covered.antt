@@ -7,18 +7,18 @@ use Rattle.wit_data.specs.Entries.{Entry, item_interface}
 use Rattle.wit_data.specs.Ownership.{IsNamed}
 use Rattle.wit_data.specs.declared.function.Function.{Function}
 use Rattle.wit_data.specs.declared.interface.Interface.{Interface}
-use Rattle.wit_data.specs.declared.types.Handle.TheVariants.{Own}
 use Rattle.wit_data.specs.declared.types.TypeDef.{TypeDef}
-use Rattle.wit_data.specs.declared.types.TypeDefKind.TheVariants as kind
-use Rattle.wit_data.specs.declared.types.TypeOwner.TheVariants as owner
 use Rattle.wit_data.specs.declared.world.World.{World}
 use Rattle.wit_data.specs.declared.world.WorldItem.{WorldItem}
+use Rattle.wit_data.specs.declared.types.Handle.TheVariants.{Own}
+use Rattle.wit_data.specs.declared.types.TypeDefKind.TheVariants as kind
+use Rattle.wit_data.specs.declared.types.TypeOwner.TheVariants as owner
 use Rattle.wit_data.specs.declared.world.WorldItem.TheVariants as item
 use Rattle.wit_data.specs.declared.world.WorldKey.TheVariants as key
 use Rattle.wit_values.specs.Table.{HasDistinctKeys}
 use Rattle.wit_graph_data.specs.declared.graph.Graph.{Graph}
-use Rattle.wit_graph_theory.specs.Image.{key_image}
-use Rattle.wit_graph_theory.specs.Kept.{KeptIds}
+use Rattle.wit_remap_spec.specs.Image.{key_image}
+use Rattle.wit_remap_spec.specs.Kept.{KeptIds}
 use Rattle.wit_graph_theory.specs.steps.Sources.{IsCarriedFunction, IsCarriedType, Source}
 
 -- ---- types

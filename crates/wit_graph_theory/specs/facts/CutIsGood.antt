@@ -11,19 +11,19 @@ use Rattle.wit_data.specs.declared.function.Function.{Function}
 use Rattle.wit_data.specs.declared.interface.Interface.{Interface}
 use Rattle.wit_data.specs.declared.types.TypeDef.{TypeDef}
 use Rattle.wit_data.specs.declared.types.TypeOwner.{TypeOwner}
-use Rattle.wit_data.specs.declared.types.TypeOwner.TheVariants as owner
 use Rattle.wit_data.specs.declared.world.World.{World}
 use Rattle.wit_data.specs.declared.world.WorldItem.{WorldItem}
-use Rattle.wit_data.specs.declared.world.WorldItem.TheVariants as item
 use Rattle.wit_data.specs.declared.world.WorldKey.{WorldKey}
+use Rattle.wit_data.specs.declared.types.TypeOwner.TheVariants as owner
+use Rattle.wit_data.specs.declared.world.WorldItem.TheVariants as item
 use Rattle.wit_data.specs.declared.world.WorldKey.TheVariants as key
 use Rattle.wit_elaboration.proofs.Filters.{Contains-filter, Contains-filtered}
 use Rattle.wit_values.specs.Table.{HasDistinctKeys}
 use Rattle.wit_elaboration.specs.Valid.{IsOfPackage}
-use Rattle.wit_graph_theory.specs.Cut.{IsClosedCut, IsGoodWhere, ItemIsKept, OwnerIsKept, cut_interface, cut_source, cut_world}
+use Rattle.wit_graph_theory.specs.Cut.{IsClosedCut, IsGoodWhere, ItemIsKept, OwnerIsKept, cut_source}
+use Rattle.wit_remap_spec.specs.Kept.{KeptIds, cut_interface, cut_world}
 use Rattle.wit_graph_theory.specs.facts.Good.{IsGoodExport, IsGoodImport, IsGoodInterface, IsGoodType}
-use Rattle.wit_graph_theory.specs.Image.{Maps}
-use Rattle.wit_graph_theory.specs.Kept.{KeptIds}
+use Rattle.wit_remap_spec.specs.Image.{Maps}
 use Rattle.wit_graph_theory.specs.steps.Sources.{IsClosed, IsGoodSource, ItemIsActive, OwnerIsActive, Source, TakePart}
 use Rattle.wit_graph_theory.specs.facts.GoodTypes.{IsAliased, from_if, if_some}
 use Rattle.wit_graph_theory.specs.facts.ListFacts.{at_map, contained_at, found_at, from_map, place_of, some_at}

@@ -14,12 +14,13 @@ use Rattle.wit_data.specs.declared.interface.Interface.{Interface}
 use Rattle.wit_data.specs.declared.types.TypeDef.{TypeDef}
 use Rattle.wit_data.specs.declared.world.World.{World}
 use Rattle.wit_data.specs.declared.world.WorldItem.{WorldItem}
-use Rattle.wit_data.specs.declared.world.WorldItem.TheVariants as item
 use Rattle.wit_data.specs.declared.world.WorldKey.{WorldKey}
+use Rattle.wit_data.specs.declared.world.WorldItem.TheVariants as item
 use Rattle.wit_data.specs.declared.world.WorldKey.TheVariants as key
 use Rattle.wit_elaboration.specs.Elaborated.{Elaborated, without_span}
 use Rattle.wit_elaboration.specs.Entries.{Entry, function_role, key_interface, keyed_interfaces, item_interface, role_of, type_role}
-use Rattle.wit_elaboration.specs.Imported.{exported_keys, roots_of}
+use Rattle.wit_elaboration.specs.Imported.{exported_keys}
+use Rattle.wit_elaboration.specs.laws.Imports.{roots_of}
 use Rattle.wit_elaboration.specs.laws.KeptByElaboration.{HoldsImports, ImportsAreLeast}
 use Rattle.wit_elaboration.specs.facts.SoundFacts.{dep_is_named, lists_in_order, named_within}
 use Rattle.wit_graph_data.specs.Relations.{entry_interface, entry_interfaces, world_interfaces}

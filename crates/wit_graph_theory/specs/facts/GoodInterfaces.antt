@@ -3,7 +3,7 @@ use Rattle.std.proofs.Common.{◌≡◌, ◌∙◌, ℕ, true, List, Option, Som
 use Rattle.wit_data.specs.Each.{Each}
 use Rattle.wit_data.specs.Ownership.{IsOwn, IsTypeOf}
 use Rattle.wit_data.specs.Reference.{function_references}
-use Rattle.wit_data.specs.UsePath.{IsKebabName}
+use Rattle.wit_names.specs.UsePath.{IsKebabName}
 use Rattle.wit_data.specs.declared.function.Function.{Function}
 use Rattle.wit_data.specs.declared.interface.Interface.{Interface}
 use Rattle.wit_data.specs.declared.types.TypeDef.{TypeDef}
@@ -12,7 +12,7 @@ use Rattle.wit_data.specs.declared.types.TypeOwner.TheVariants as owner
 use Rattle.wit_graph_data.specs.declared.graph.Graph.{Graph}
 use Rattle.wit_graph_theory.specs.facts.Covered.{InterfaceComes}
 use Rattle.wit_graph_theory.specs.facts.Good.{IsGoodInterface}
-use Rattle.wit_graph_theory.specs.Image.{name_image, owner_image}
+use Rattle.wit_remap_spec.specs.Image.{name_image, owner_image}
 use Rattle.wit_graph_theory.specs.steps.Sources.{Carries, IsCarriedFunction, IsClosed, IsGoodSource, Source, Stands, TakePart}
 use Rattle.wit_graph_theory.specs.facts.ListFacts.{contained_at, found_at, place_of, some_at}
 use Rattle.wit_graph_theory.specs.facts.OwnedFacts.{owns_refer}

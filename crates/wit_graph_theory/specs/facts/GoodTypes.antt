@@ -1,22 +1,23 @@
 -- A type that is carried from a good one is good; so is an unnamed `own`.
 use Rattle.std.proofs.Common.{◌≡◌, ◌∙◌, ◌⊎◌, inl, inr, ℕ, true, List, [], Option, None, Some, option_map, slice_get, refl, sym, ap, subst, Contains, IsSome, IfSome}
-use Rattle.wit_digraph.specs.facts.MemberFacts.{Contains-here, Contains-nil}
+use Rattle.wit_digraph.specs.facts.MemberFacts.{Contains-here}
 use Rattle.wit_data.specs.Each.{SomeAt}
-use Rattle.wit_data.specs.Ownership.{IsListed, IsNamed, IsNamedInterface, IsOwn, IsPlain, parts, world_types}
+use Rattle.wit_data.specs.Ownership.{IsListed, IsNamed, IsNamedInterface, IsOwn, IsPlain, is_no_target, parts, world_types}
 use Rattle.wit_data.specs.Reference.{referred}
+use Rattle.wit_data.specs.facts.ReferenceFacts.{in_referred}
 use Rattle.wit_data.specs.Uses.{alias_target}
 use Rattle.wit_data.specs.declared.interface.Interface.{Interface}
-use Rattle.wit_data.specs.declared.types.Handle.TheVariants.{Own}
 use Rattle.wit_data.specs.declared.types.TypeDef.{TypeDef}
 use Rattle.wit_data.specs.declared.types.TypeDefKind.{TypeDefKind}
-use Rattle.wit_data.specs.declared.types.TypeDefKind.TheVariants as kind
 use Rattle.wit_data.specs.declared.types.TypeOwner.{TypeOwner}
+use Rattle.wit_data.specs.declared.world.World.{World}
+use Rattle.wit_data.specs.declared.types.Handle.TheVariants.{Own}
+use Rattle.wit_data.specs.declared.types.TypeDefKind.TheVariants as kind
 use Rattle.wit_data.specs.declared.types.TypeOwner.TheVariants as owner
 use Rattle.wit_data.specs.declared.types.Type_.TheVariants as type
-use Rattle.wit_data.specs.declared.world.World.{World}
 use Rattle.wit_graph_data.specs.declared.graph.Graph.{Graph}
 use Rattle.wit_graph_theory.specs.facts.Good.{IsGoodType}
-use Rattle.wit_graph_theory.specs.Image.{name_image, owner_image}
+use Rattle.wit_remap_spec.specs.Image.{name_image, owner_image}
 use Rattle.wit_graph_theory.specs.steps.Sources.{Carries, InterfaceStands, IsCarriedType, IsClosed, OwnerIsActive, Source, Stands, WorldStands}
 use Rattle.wit_graph_theory.specs.facts.ListFacts.{contained_at, found_at, place_of, some_at}
 use Rattle.wit_graph_theory.specs.facts.OptionFacts.{none_or_some}
@@ -30,8 +31,7 @@ alias_referred other t is = cc
 
 -- what it names otherwise it refers to
 parts_among : (k : TypeDefKind) (t : ℕ) → Contains (parts k) t → Contains (referred k) t
-parts_among (kind.Type_ ty) t has = absurd (Contains-nil has)
-parts_among other t has = has
+parts_among k t has = in_referred is_no_target k t has
 
 pub if_some : {X : Type 0} (P : X → Type 0) (o : Option X) → ((x : X) → o ≡ Some x → P x) → IfSome o P
 if_some P None each = tt

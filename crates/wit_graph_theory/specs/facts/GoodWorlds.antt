@@ -7,11 +7,11 @@ use Rattle.wit_data.specs.Entries.{Entry, IsExport, IsImport, ItemUsesOwn, item_
 use Rattle.wit_data.specs.Ownership.{IsNamed}
 use Rattle.wit_data.specs.declared.interface.Interface.{Interface}
 use Rattle.wit_data.specs.declared.types.TypeDef.{TypeDef}
-use Rattle.wit_data.specs.declared.types.TypeOwner.TheVariants as owner
 use Rattle.wit_data.specs.declared.world.World.{World}
 use Rattle.wit_data.specs.declared.world.WorldItem.{WorldItem}
-use Rattle.wit_data.specs.declared.world.WorldItem.TheVariants as item
 use Rattle.wit_data.specs.declared.world.WorldKey.{WorldKey}
+use Rattle.wit_data.specs.declared.types.TypeOwner.TheVariants as owner
+use Rattle.wit_data.specs.declared.world.WorldItem.TheVariants as item
 use Rattle.wit_data.specs.declared.world.WorldKey.TheVariants as key
 use Rattle.wit_elaboration.specs.Elaborated.{without_span}
 use Rattle.wit_elaboration.specs.laws.KeptByElaboration.{listed_without_span}
@@ -19,7 +19,7 @@ use Rattle.wit_elaboration.specs.Valid.{IsOfPackage}
 use Rattle.wit_graph_data.specs.declared.graph.Graph.{Graph}
 use Rattle.wit_graph_theory.specs.facts.Covered.{EntryComes, IsDependency, IsNoType, ItemComes, WorldComes}
 use Rattle.wit_graph_theory.specs.facts.Good.{IsGoodExport, IsGoodImport, IsGoodWorld}
-use Rattle.wit_graph_theory.specs.Image.{key_image}
+use Rattle.wit_remap_spec.specs.Image.{key_image}
 use Rattle.wit_graph_theory.specs.steps.Sources.{Carries, InterfaceStands, IsClosed, IsGoodSource, ItemIsActive, Source, WorldStands}
 use Rattle.wit_graph_theory.specs.facts.GoodInterfaces.{function_stands, type_stands}
 use Rattle.wit_graph_theory.specs.facts.GoodTypes.{named_stands}

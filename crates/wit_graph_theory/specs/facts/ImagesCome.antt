@@ -10,7 +10,7 @@ use Rattle.wit_data.specs.declared.world.WorldItem.TheVariants as item
 use Rattle.wit_values.specs.Table.{HasDistinctKeys}
 use Rattle.wit_graph_theory.specs.facts.Covered.{EntryComes, InterfaceAt, InterfaceComes, ItemComes}
 use Rattle.wit_graph_theory.specs.facts.Good.{IsGoodInterface}
-use Rattle.wit_graph_theory.specs.Image.{entry_image, function_image, interface_image, item_image}
+use Rattle.wit_remap_spec.specs.Image.{entry_image, function_image, interface_image, item_image}
 use Rattle.wit_graph_theory.specs.steps.Sources.{InterfaceStands, IsCarriedFunction, Source}
 use Rattle.wit_graph_theory.specs.facts.ListFacts.{Contains-map, contained_at, from_map}
 use Rattle.wit_graph_theory.specs.facts.ReferredFacts.{function_refers}

@@ -9,11 +9,11 @@ use Rattle.wit_data.specs.Ownership.{IsOwn, through_unnamed}
 use Rattle.wit_data.specs.Reference.{referred}
 use Rattle.wit_data.specs.declared.types.Handle.TheVariants.{Own}
 use Rattle.wit_data.specs.declared.types.TypeDef.{TypeDef}
-use Rattle.wit_data.specs.declared.types.TypeDefKind.TheVariants as kind
 use Rattle.wit_data.specs.declared.types.TypeOwner.{TypeOwner}
+use Rattle.wit_data.specs.declared.types.TypeDefKind.TheVariants as kind
 use Rattle.wit_data.specs.declared.types.TypeOwner.TheVariants as owner
 use Rattle.wit_graph_data.specs.declared.graph.Graph.{Graph}
-use Rattle.wit_graph_theory.specs.Image.{name_image, owner_image}
+use Rattle.wit_remap_spec.specs.Image.{name_image, owner_image}
 use Rattle.wit_graph_theory.specs.facts.Referred.{RefersUnder, RemapsTo}
 use Rattle.wit_graph_theory.specs.steps.Sources.{Carries, IsClosed, IsOwnOf, Source, Stands, TakePart}
 use Rattle.wit_graph_theory.specs.facts.ListFacts.{found_at, from_row, get_at, in_row, some_at}

@@ -17,7 +17,7 @@ use Rattle.wit_data.specs.declared.interface.Interface.{Interface}
 use Rattle.wit_data.specs.declared.types.TypeDef.{TypeDef}
 use Rattle.wit_data.specs.declared.world.World.{World}
 use Rattle.wit_elaboration.specs.Entries.{Entry, item_interface, role_of}
-use Rattle.wit_elaboration.specs.Imported.{IsImported, roots_of}
+use Rattle.wit_elaboration.specs.laws.Imports.{IsImported, roots_of}
 use Rattle.wit_elaboration.specs.laws.KeptByElaboration.{ElaboratedEntries}
 use Rattle.wit_elaboration.specs.facts.SoundFacts.{lists_in_order}
 use Rattle.wit_graph_data.specs.Relations.{entry_interface, entry_interfaces, other_package, package_interfaces, package_needs, package_uses, world_interfaces}

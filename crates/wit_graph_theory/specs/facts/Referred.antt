@@ -1,14 +1,6 @@
 -- What an image refers to, said of ids: each id that it names is where an id that the old one names goes.
 use Rattle.std.specs.Prelude.{◌≡◌, ◌⊎◌, ℕ, List, Contains}
-use Rattle.wit_data.specs.declared.types.TypeDefKind.{TypeDefKind}
-use Rattle.wit_data.specs.declared.types.TypeDefKind.TheVariants as kind
-use Rattle.wit_graph_theory.specs.Image.{Maps}
-
--- where the types go that a kind names: those of handles and aliases to their images, all others to what names a value
-abbrev pub place : Maps → TypeDefKind → ℕ → ℕ
-place m (kind.Handle handle) = m.types
-place m (kind.Type_ ty) = m.types
-place m other = m.values
+use Rattle.wit_remap_spec.specs.Image.{Maps}
 
 -- an id goes to its image or to what names a value of it
 abbrev pub RemapsTo : Maps → ℕ → ℕ → Type 0

@@ -1,25 +1,28 @@
--- What images of types and functions refer to. This is the only file that goes over all kinds.
-use Rattle.std.proofs.Common.{◌≡◌, ℕ, inl, inr, List, ◌++◌, map, Option, None, Some, option_map, option_to_list, refl, sym, subst, Contains}
+-- What images of types and functions refer to.
+use Rattle.std.proofs.Common.{◌≡◌, ◌∙◌, ℕ, Bool, true, inl, inr, List, ◌++◌, map, Option, None, Some, option_map, option_to_list, refl, sym, ap, subst, Contains}
 use Rattle.std.proofs.lemmas.List.{map-append}
 use Rattle.std.proofs.lemmas.List.Elements.{Contains-append_cases, Contains-append_left, Contains-append_right}
 use Rattle.std.specs.List.{flat_map}
 use Rattle.wit_data.specs.Function.{resource_of}
-use Rattle.wit_data.specs.Ownership.{IsPlain, parts}
-use Rattle.wit_data.specs.Reference.{function_references, named_type, named_option, referred}
+use Rattle.wit_data.specs.Kind.{KindPart, kind_parts, map_part, map_type, variant_of}
+use Rattle.wit_data.specs.facts.KindFacts.{parts_mapped, variant_mapped}
+use Rattle.wit_data.specs.Ownership.{IsPlain, is_no_target, parts}
+use Rattle.wit_data.specs.Reference.{function_references, named_type, named_option, referred, referred_in}
+use Rattle.wit_data.specs.facts.ReferenceFacts.{in_role, in_those}
 use Rattle.wit_data.specs.Uses.{alias_target}
 use Rattle.wit_data.specs.declared.function.Function.{Function}
 use Rattle.wit_data.specs.declared.function.FunctionKind.{FunctionKind}
-use Rattle.wit_data.specs.declared.function.FunctionKind.TheVariants.{Freestanding, AsyncFreestanding, Method, AsyncMethod, Static, AsyncStatic, Constructor, Getter, Setter, MethodGetter, MethodSetter, StaticGetter, StaticSetter}
 use Rattle.wit_data.specs.declared.function.Param.{Param}
-use Rattle.wit_data.specs.declared.types.Case.{Case}
-use Rattle.wit_data.specs.declared.types.Field.{Field}
-use Rattle.wit_data.specs.declared.types.Handle.TheVariants.{Own, Borrow}
+use Rattle.wit_data.specs.declared.kind.PartRole.{PartRole}
 use Rattle.wit_data.specs.declared.types.TypeDefKind.{TypeDefKind}
-use Rattle.wit_data.specs.declared.types.TypeDefKind.TheVariants as kind
 use Rattle.wit_data.specs.declared.types.Type_.{Type_}
+use Rattle.wit_data.specs.declared.function.FunctionKind.TheVariants.{Freestanding, AsyncFreestanding, Method, AsyncMethod, Static, AsyncStatic, Constructor, Getter, Setter, MethodGetter, MethodSetter, StaticGetter, StaticSetter}
+use Rattle.wit_data.specs.declared.kind.PartRole.TheVariants.{Value}
+use Rattle.wit_data.specs.declared.types.TypeDefKind.TheVariants as kind
 use Rattle.wit_data.specs.declared.types.Type_.TheVariants as type
-use Rattle.wit_graph_theory.specs.Image.{Maps, value_image, field_image, case_image, kind_image, param_image, function_image, function_kind_image}
-use Rattle.wit_graph_theory.specs.facts.Referred.{place, RemapsTo, RefersUnder}
+use Rattle.wit_sources.specs.Span.{moved_by}
+use Rattle.wit_remap_spec.specs.Image.{Maps, value_image, kind_image, param_image, function_image, function_kind_image, role_remap}
+use Rattle.wit_graph_theory.specs.facts.Referred.{RefersUnder, RemapsTo}
 use Rattle.wit_graph_theory.specs.facts.ListFacts.{Contains-map_cases, flat_map-placed}
 
 module _ (m : Maps) where
@@ -34,35 +37,35 @@ module _ (m : Maps) where
   joined : (xs ys ids more : List ℕ) → xs ≡ map m.values ids → ys ≡ map m.values more → xs ++ ys ≡ map m.values (ids ++ more)
   joined xs ys ids more first second = rw (first, second, map-append m.values ids more) refl
 
-  -- what the image of a kind refers to: what the kind refers to, each at its place
-  pub referred_image : (k : TypeDefKind) → referred (kind_image m k) ≡ map (place m k) (referred k)
-  referred_image (kind.Record fields) =
-      flat_map-placed (field_image m) (λ (f : Field). named_type f.ty) (λ (f : Field). named_type f.ty) m.values (λ f. named_type_image f.ty) fields
-  referred_image kind.Resource = refl
-  referred_image (kind.Handle (Own t)) = refl
-  referred_image (kind.Handle (Borrow t)) = refl
-  referred_image (kind.Flags flags) = refl
-  referred_image (kind.Tuple types) = flat_map-placed (value_image m) named_type named_type m.values named_type_image types
-  referred_image (kind.Variant cases) =
-      flat_map-placed (case_image m) (λ (c : Case). named_option c.ty) (λ (c : Case). named_option c.ty) m.values (λ c. named_option_image c.ty) cases
-  referred_image (kind.Enum cases) = refl
-  referred_image (kind.Option ty) = named_type_image ty
-  referred_image (kind.Result_ ok err) =
-      joined (named_option (option_map (value_image m) ok)) (named_option (option_map (value_image m) err)) (named_option ok) (named_option err) (named_option_image ok) (named_option_image err)
-  referred_image (kind.List ty) = named_type_image ty
-  referred_image (kind.Map k v) =
-      joined (named_type (value_image m k)) (named_type (value_image m v)) (named_type k) (named_type v) (named_type_image k) (named_type_image v)
-  referred_image (kind.FixedLengthList ty len) = named_type_image ty
-  referred_image (kind.Future ty) = named_option_image ty
-  referred_image (kind.Stream ty) = named_option_image ty
-  referred_image (kind.Type_ (type.Id t)) = refl
-  referred_image (kind.Type_ other) = refl
-  referred_image kind.Unknown = refl
+  named_mapped : (go : ℕ → ℕ) (o : Option Type_) → named_option (option_map (map_type go) o) ≡ map go (named_option o)
+  named_mapped go None = refl
+  named_mapped go (Some (type.Id t)) = refl
+  named_mapped go (Some other) = refl
 
-  -- the same other than as an alias
-  pub parts_image : (k : TypeDefKind) → parts (kind_image m k) ≡ map (place m k) (parts k)
-  parts_image (kind.Type_ ty) = refl
-  parts_image other = referred_image other
+  goes_by_role : (role : PartRole) (t t' : ℕ) → role_remap m role t ≡ t' → RemapsTo m t t'
+  goes_by_role Value t t' same = inr (sym same)
+  goes_by_role other t t' same = inl (sym same)
+
+  -- what the image of a kind refers to by parts in some roles is where what the kind refers to by them goes
+  pub roles_refer : (roles : PartRole → Bool) (k : TypeDefKind) → RefersUnder m (referred_in roles k) (referred_in roles (kind_image m k))
+  roles_refer roles k t' has =
+      let change = map_part (role_remap m) (moved_by m.offset) in
+      let new = in_role roles (kind_image m k) t' has in
+      let old = Contains-map_cases change (kind_parts k) new.0 (subst (λ (ps : List KindPart). Contains ps new.0) (parts_mapped (role_remap m) (moved_by m.offset) k) new.1.0) in
+      let names = subst (λ (p : KindPart). Contains (named_option p.ty) t') (sym old.2) new.1.1.1 in
+      let from = Contains-map_cases (role_remap m old.0.role) (named_option old.0.ty) t' (subst (λ (ids : List ℕ). Contains ids t') (named_mapped (role_remap m old.0.role) old.0.ty) names) in
+      let among : Contains (referred_in roles k) from.0 = in_those roles k old.0 from.0 old.1 (ap (λ (p : KindPart). roles p.role) old.2 ∙ new.1.1.0) from.1 in
+      (from.0, among, goes_by_role old.0.role from.0 t' from.2)
+
+  pub kind_refers : (k : TypeDefKind) → RefersUnder m (referred k) (referred (kind_image m k))
+  kind_refers k = roles_refer (λ role. true) k
+
+  pub parts_refer : (k : TypeDefKind) → RefersUnder m (parts k) (parts (kind_image m k))
+  parts_refer k = roles_refer is_no_target k
+
+  -- it is of the same variant
+  pub variant_image : (k : TypeDefKind) → variant_of (kind_image m k) ≡ variant_of k
+  variant_image k = variant_mapped (role_remap m) (moved_by m.offset) k
 
   -- the type that an alias names
   pub alias_image : (k : TypeDefKind) → alias_target (kind_image m k) ≡ option_map m.types (alias_target k)
@@ -94,23 +97,7 @@ module _ (m : Maps) where
   resource_image (StaticGetter r) = refl
   resource_image (StaticSetter r) = refl
 
-  -- ---- the same said of ids
-
-  goes_to_place : (k : TypeDefKind) (t t' : ℕ) → place m k t ≡ t' → RemapsTo m t t'
-  goes_to_place (kind.Handle handle) t t' same = inl (sym same)
-  goes_to_place (kind.Type_ ty) t t' same = inl (sym same)
-  goes_to_place other t t' same = inr (sym same)
-
-  by_equation : (k : TypeDefKind) (old new : List ℕ) → new ≡ map (place m k) old → RefersUnder m old new
-  by_equation k old new is t' has =
-      let from = Contains-map_cases (place m k) old t' (subst (λ (ids : List ℕ). Contains ids t') is has) in
-      (from.0, from.1, goes_to_place k from.0 t' from.2)
-
-  pub kind_refers : (k : TypeDefKind) → RefersUnder m (referred k) (referred (kind_image m k))
-  kind_refers k = by_equation k (referred k) (referred (kind_image m k)) (referred_image k)
-
-  pub parts_refer : (k : TypeDefKind) → RefersUnder m (parts k) (parts (kind_image m k))
-  parts_refer k = by_equation k (parts k) (parts (kind_image m k)) (parts_image k)
+  -- ---- functions
 
   pub function_refers : (f : Function) → RefersUnder m (function_references f) (function_references (function_image m f))
   function_refers f t' has =

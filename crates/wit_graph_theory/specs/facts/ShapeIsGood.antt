@@ -8,13 +8,13 @@ use Rattle.wit_data.specs.Shape.{IsShaped}
 use Rattle.wit_data.specs.declared.interface.Interface.{Interface}
 use Rattle.wit_data.specs.declared.unresolved.UnresolvedPackage.{UnresolvedPackage}
 use Rattle.wit_data.specs.declared.world.WorldItem.{WorldItem}
-use Rattle.wit_data.specs.declared.world.WorldItem.TheVariants as item
 use Rattle.wit_data.specs.declared.world.WorldKey.{WorldKey}
+use Rattle.wit_data.specs.declared.world.WorldItem.TheVariants as item
 use Rattle.wit_data.specs.declared.world.WorldKey.TheVariants as key
 use Rattle.wit_values.specs.Table.{HasDistinctKeys}
 use Rattle.wit_elaboration.specs.Valid.{IsOfPackage}
 use Rattle.wit_graph_theory.specs.Cut.{IsGoodWhere}
-use Rattle.wit_graph_theory.specs.Kept.{KeptIds}
+use Rattle.wit_remap_spec.specs.Kept.{KeptIds}
 use Rattle.wit_graph_theory.specs.facts.ListFacts.{found_at, get_at, some_at}
 
 module _ (u : UnresolvedPackage) (shaped : IsShaped u) where

@@ -4,13 +4,13 @@ use Rattle.std.proofs.lemmas.Bool.{ne_eqb}
 use Rattle.std.proofs.lemmas.List.Elements.{filter-append, Contains-append_cases}
 use Rattle.std.specs.List.{AllByRecursion, IsDistinct, flat_map}
 use Rattle.wit_digraph.specs.facts.MemberFacts.{Contains-cons_cases, Contains-flat_map_cases, Contains-here, Contains-nil, Contains-there}
-use Rattle.wit_data.specs.Entries.{Entry, StandOnce, interfaces_of_entries, is_unnamed, item_interface}
+use Rattle.wit_data.specs.Entries.{Entry, StandOnce, interfaces_of_entries, is_unnamed, item_interface, entries_of}
 use Rattle.wit_data.specs.declared.interface.Interface.{Interface}
 use Rattle.wit_data.specs.declared.world.World.{World}
 use Rattle.wit_data.specs.declared.world.WorldItem.{WorldItem}
 use Rattle.wit_data.specs.declared.world.WorldItem.TheVariants as item
 use Rattle.wit_elaboration.proofs.Filters.{Contains-filter}
-use Rattle.wit_graph_theory.specs.steps.UnnamedOnce.{Holds, StandsOnceOnly, entries_of}
+use Rattle.wit_graph_theory.specs.steps.UnnamedOnce.{Holds, StandsOnceOnly}
 use Rattle.wit_graph_theory.specs.facts.ListFacts.{place_of}
 
 -- ---- distinct lists

@@ -3,14 +3,13 @@ use Rattle.std.proofs.Common.{◌≡◌, ◌∙◌, inl, inr, ℕ, zero, suc, Bo
 use Rattle.std.proofs.lemmas.List.Elements.{filter-append, Contains-append_left, Contains-append_right}
 use Rattle.std.specs.List.{AllByRecursion, IsDistinct, flat_map}
 use Rattle.wit_digraph.specs.facts.MemberFacts.{Contains-cons_cases, Contains-flat_map, Contains-here, Contains-nil}
-use Rattle.wit_data.specs.Entries.{Entry, StandOnce, interfaces_of_entries, is_unnamed, item_interface}
+use Rattle.wit_data.specs.Entries.{Entry, StandOnce, interfaces_of_entries, is_unnamed, item_interface, entries_of}
 use Rattle.wit_data.specs.declared.interface.Interface.{Interface}
 use Rattle.wit_data.specs.declared.world.World.{World}
 use Rattle.wit_elaboration.proofs.Filters.{Contains-filter, Contains-filtered}
 use Rattle.wit_values.specs.Table.{HasDistinctKeys}
-use Rattle.wit_graph_theory.specs.Cut.{cut_interface, cut_world}
-use Rattle.wit_graph_theory.specs.Kept.{KeptIds}
-use Rattle.wit_graph_theory.specs.steps.UnnamedOnce.{Holds, StandsOnceOnly, entries_of}
+use Rattle.wit_remap_spec.specs.Kept.{KeptIds, cut_interface, cut_world}
+use Rattle.wit_graph_theory.specs.steps.UnnamedOnce.{Holds, StandsOnceOnly}
 use Rattle.wit_graph_theory.specs.facts.CutIsGood.{distinct_kept}
 use Rattle.wit_graph_theory.specs.facts.ListFacts.{contained_at, from_map, place_of, same_at}
 

@@ -9,8 +9,7 @@
 -- under its maps, foreign things going to those of the graph. An include: one source more, the graph under the maps of
 -- the copies, of which the copied things and all that is named are selected. A merge: the graph under `identity`, the
 -- other graph under the map of the merge. Semver merging: the graph under `identity`.
-use Rattle.std.specs.Prelude.{◌≡◌, ◌≢◌, ◌⊎◌, ◌<◌, ℕ, Bool, true, List, length, None, Some, Contains, IsSome, slice_get, map}
-use Rattle.std.specs.Option.{option_map, option_to_list}
+use Rattle.std.specs.Prelude.{◌≡◌, ◌≢◌, ◌⊎◌, ◌<◌, ℕ, Bool, true, List, length, None, Some, Contains, IsSome, slice_get, map, option_map}
 use Rattle.wit_data.specs.Each.{Each, SomeAt}
 use Rattle.wit_data.specs.Entries.{Entry}
 use Rattle.wit_data.specs.Ownership.{IsNamedInterface, IsPlain, parts, world_types}
@@ -18,17 +17,17 @@ use Rattle.wit_data.specs.Reference.{function_references, referred}
 use Rattle.wit_data.specs.Uses.{alias_target}
 use Rattle.wit_data.specs.declared.function.Function.{Function}
 use Rattle.wit_data.specs.declared.interface.Interface.{Interface}
-use Rattle.wit_data.specs.declared.types.Handle.TheVariants.{Own}
 use Rattle.wit_data.specs.declared.types.TypeDef.{TypeDef}
-use Rattle.wit_data.specs.declared.types.TypeDefKind.TheVariants as kind
 use Rattle.wit_data.specs.declared.types.TypeOwner.{TypeOwner}
-use Rattle.wit_data.specs.declared.types.TypeOwner.TheVariants as owner
 use Rattle.wit_data.specs.declared.world.World.{World}
 use Rattle.wit_data.specs.declared.world.WorldItem.{WorldItem}
+use Rattle.wit_data.specs.declared.types.Handle.TheVariants.{Own}
+use Rattle.wit_data.specs.declared.types.TypeDefKind.TheVariants as kind
+use Rattle.wit_data.specs.declared.types.TypeOwner.TheVariants as owner
 use Rattle.wit_data.specs.declared.world.WorldItem.TheVariants as item
 use Rattle.wit_graph_data.specs.declared.graph.Graph.{Graph}
 use Rattle.wit_graph_theory.specs.facts.Good.{IsGoodExport, IsGoodImport, IsGoodInterface, IsGoodType}
-use Rattle.wit_graph_theory.specs.Image.{Maps, name_image, owner_image}
+use Rattle.wit_remap_spec.specs.Image.{Maps, name_image, owner_image}
 use Rattle.wit_graph_theory.specs.facts.Referred.{RefersUnder}
 
 pub record Source : Type 0 where
@@ -127,9 +126,3 @@ pub record IsCarriedType (s : Source) (g : Graph) (old new : TypeDef) : Type 0 w
 -- so for a function, whose name is its owner's affair
 abbrev pub IsCarriedFunction : Source → Function → Function → Type 0
 IsCarriedFunction s old new = RefersUnder s.maps (function_references old) (function_references new)
-
--- ---- values in full
-
--- which type is another name of which, as rows
-abbrev pub alias_rows : List TypeDef → List (List ℕ)
-alias_rows types = map (λ (def : TypeDef). option_to_list (alias_target def.kind)) types

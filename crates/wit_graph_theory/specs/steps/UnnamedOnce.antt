@@ -1,17 +1,13 @@
 -- An interface without a name stands once: said by places instead of by a filtered list, since what is
 -- carried is carried place by place.
-use Rattle.std.specs.Prelude.{◌≡◌, ◌⊎◌, ℕ, Bool, true, false, List, [], ◌∷◌, Some, slice_get, if◌then◌else◌}
-use Rattle.wit_data.specs.Entries.{Entry, is_unnamed, item_interface}
+use Rattle.std.specs.Prelude.{◌≡◌, ◌⊎◌, ℕ, Bool, true, false, List, [], ◌∷◌, Some, slice_get}
+use Rattle.wit_data.specs.Entries.{entries_of, Entry, is_unnamed, item_interface}
 use Rattle.wit_data.specs.declared.interface.Interface.{Interface}
 use Rattle.wit_data.specs.declared.world.World.{World}
 use Rattle.wit_data.specs.declared.world.WorldKey.{WorldKey}
 use Rattle.wit_graph_data.specs.declared.graph.Graph.{Graph}
-use Rattle.wit_graph_theory.specs.Image.{key_image}
+use Rattle.wit_remap_spec.specs.Image.{key_image}
 use Rattle.wit_graph_theory.specs.steps.Sources.{Source}
-
--- the exports or the imports
-abbrev pub entries_of : Bool → World → List Entry
-entries_of exported world = if exported then world.exports else world.imports
 
 -- world w has interface f as entry i of its exports or imports
 pub record Holds (worlds : List World) (w : ℕ) (exported : Bool) (i : ℕ) (f : ℕ) : Type 0 where

@@ -4,8 +4,8 @@ use Rattle.wit_data.specs.Entries.{Entry}
 use Rattle.wit_data.specs.New.{new_function}
 use Rattle.wit_data.specs.declared.function.FunctionKind.TheVariants as function
 use Rattle.wit_data.specs.declared.world.IncludeName.{IncludeName}
-use Rattle.wit_data.specs.declared.world.WorldItem.TheVariants as item
 use Rattle.wit_data.specs.declared.world.WorldKey.{WorldKey}
+use Rattle.wit_data.specs.declared.world.WorldItem.TheVariants as item
 use Rattle.wit_data.specs.declared.world.WorldKey.TheVariants as key
 use Rattle.wit_labels.specs.Rename.{renamed_label_by, renamed_label}
 use Rattle.wit_labels.specs.Setters.{HaveGetters, getter_label, is_setter_label, placed}

@@ -1,8 +1,6 @@
 -- Which renaming of an include is the first of a word.
-use Rattle.std.specs.Prelude.{◌≡◌, ℕ, Bool, List, Option, None, Some, slice_get}
-use Rattle.std.specs.List.{find}
+use Rattle.std.specs.Prelude.{◌≡◌, ℕ, Bool, List, Option, None, Some, slice_get, find, bytes_eq}
 use Rattle.std.specs.Map.{lookup}
-use Rattle.std.specs.Str.{bytes_eq}
 use Rattle.wit_data.specs.declared.world.IncludeName.{IncludeName}
 
 -- is the renaming of this word?

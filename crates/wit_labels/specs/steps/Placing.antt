@@ -1,6 +1,6 @@
 -- How setters are placed, by numbers: the words of this crate's own functions.
-use Rattle.std.specs.Prelude.{ℕ, Bool, List, [], ◌∷◌, ◌++◌, length, map, filter, nat_eq, Option, Some, None, is_some, slice_index_or, if◌then◌else◌}
-use Rattle.std.specs.List.{flat_map, range_with_len}
+use Rattle.std.specs.Prelude.{ℕ, Bool, List, [], ◌∷◌, ◌++◌, length, map, filter, nat_eq, Option, Some, None, is_some, slice_index_or, if◌then◌else◌, flat_map}
+use Rattle.std.specs.List.{range_with_len}
 use Rattle.std.specs.Option.{option_eq}
 use Rattle.wit_data.specs.Entries.{Entry}
 use Rattle.wit_labels.specs.Setters.{indexed_entries, later_getter}

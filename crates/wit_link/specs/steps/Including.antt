@@ -3,10 +3,10 @@ use Rattle.std.specs.Prelude.{ℕ, List, map}
 use Rattle.wit_sources.specs.Span.{moved_by}
 use Rattle.wit_data.specs.declared.world.World.{World}
 use Rattle.wit_data.specs.declared.world.WorldInclude.{WorldInclude}
-use Rattle.wit_graph_theory.specs.Image.{world_image}
+use Rattle.wit_remap_spec.specs.Image.{world_image}
 use Rattle.wit_link_spec.specs.Addition.{Addition, addition_maps, own_worlds}
 use Rattle.wit_link_spec.specs.declared.addition.NewIds.{NewIds}
-use Rattle.wit_link_spec.specs.Pushed.{placed_includes}
+use Rattle.wit_link_spec.specs.facts.Linked.{placed_includes}
 use Rattle.wit_remap.specs.steps.Movers.{goes}
 use Rattle.wit_remap.specs.declared.worlds.PlacedWorld.{PlacedWorld}
 

@@ -10,24 +10,24 @@ use Rattle.wit_data.specs.Entries.{Entry}
 use Rattle.wit_data.specs.Foreign.{ForeignItem, interface_id, world_id}
 use Rattle.wit_data.specs.Reference.{function_references, named_type}
 use Rattle.wit_data.specs.Shape.{IsShaped}
+use Rattle.wit_data.specs.declared.unresolved.AstItem.{AstItem}
+use Rattle.wit_data.specs.declared.types.Field.{Field}
 use Rattle.wit_data.specs.declared.function.Function.{Function}
 use Rattle.wit_data.specs.declared.interface.Interface.{Interface}
 use Rattle.wit_data.specs.declared.stability.Stability.{Stability}
-use Rattle.wit_data.specs.declared.stability.Stability.TheVariants.{Unknown, Stable, Unstable}
-use Rattle.wit_data.specs.declared.types.Field.{Field}
 use Rattle.wit_data.specs.declared.types.TypeDef.{TypeDef}
-use Rattle.wit_data.specs.declared.types.TypeDefKind.TheVariants as kind
-use Rattle.wit_data.specs.declared.types.TypeOwner.TheVariants as owner
-use Rattle.wit_data.specs.declared.unresolved.AstItem.{AstItem}
-use Rattle.wit_data.specs.declared.unresolved.AstItem.TheVariants as named
 use Rattle.wit_data.specs.declared.unresolved.UnresolvedPackage.{UnresolvedPackage}
 use Rattle.wit_data.specs.declared.world.World.{World}
 use Rattle.wit_data.specs.declared.world.WorldInclude.{WorldInclude}
 use Rattle.wit_data.specs.declared.world.WorldItem.{WorldItem}
+use Rattle.wit_data.specs.declared.stability.Stability.TheVariants.{Unknown, Stable, Unstable}
+use Rattle.wit_data.specs.declared.types.TypeDefKind.TheVariants as kind
+use Rattle.wit_data.specs.declared.types.TypeOwner.TheVariants as owner
+use Rattle.wit_data.specs.declared.unresolved.AstItem.TheVariants as named
 use Rattle.wit_data.specs.declared.world.WorldItem.TheVariants as item
+use Rattle.wit_graph_data.specs.declared.features.Features.{Features}
 use Rattle.wit_graph_data.specs.declared.error_kind.ResolveErrorKind.{ResolveErrorKind}
 use Rattle.wit_graph_data.specs.declared.error_kind.ResolveErrorKind.TheVariants.{OutOfMemory}
-use Rattle.wit_graph_data.specs.declared.features.Features.{Features}
 use Rattle.wit_link_spec.specs.Addition.{Addition}
 use Rattle.wit_link_spec.specs.steps.AdditionRefs.{activity_of, addition_of}
 use Rattle.wit_link_spec.specs.Cause.{IsCause}

@@ -1,19 +1,25 @@
 -- What the steps of a look-up have found, for the contracts of this crate's own functions.
-use Rattle.std.specs.Prelude.{◌≡◌, ◌≢◌, ◌⊎◌, ◌&&◌, ◌<◌, ℕ, Bool, true, false, List, [], map, take, find, length, nat_eq, slice_get, Option, None, Some, Contains, is_none, option_and_then}
-use Rattle.std.specs.List.{enumerate_from, flat_map, list_any, range_with_len}
+use Rattle.std.specs.Prelude.{◌≡◌, ◌≢◌, ◌⊎◌, ◌&&◌, ◌<◌, ℕ, Bool, true, false, List, [], ◌∷◌, map, take, find, length, nat_eq, slice_get, slice_set, Option, None, Some, Contains, is_none, option_and_then, flat_map, bytes_eq}
+use Rattle.std.specs.List.{enumerate_from, list_any, range_with_len}
 use Rattle.std.specs.Map.{lookup}
-use Rattle.std.specs.Str.{bytes_eq}
+use Rattle.wit_data.specs.Each.{SomeAt}
 use Rattle.wit_data.specs.Foreign.{ForeignItem, ForeignItems, interface_id, world_id}
-use Rattle.wit_data.specs.declared.package_name.PackageName.{PackageName}
-use Rattle.wit_data.specs.declared.stability.Stability.{Stability}
 use Rattle.wit_data.specs.declared.unresolved.AstItem.{AstItem}
+use Rattle.wit_data.specs.declared.interface.Interface.{Interface}
+use Rattle.wit_names.specs.declared.package_name.PackageName.{PackageName}
+use Rattle.wit_data.specs.declared.stability.Stability.{Stability}
+use Rattle.wit_data.specs.declared.unresolved.UnresolvedPackage.{UnresolvedPackage}
+use Rattle.wit_data.specs.declared.world.World.{World}
 use Rattle.wit_data.specs.declared.unresolved.AstItem.TheVariants as item
 use Rattle.wit_graph_data.specs.declared.graph.Graph.{Graph}
 use Rattle.wit_graph_data.specs.declared.graph.Package.{Package}
+use Rattle.wit_graph_data.specs.declared.error_kind.ResolveErrorKind.{ResolveErrorKind}
+use Rattle.wit_graph_data.specs.declared.error_kind.ResolveErrorKind.TheVariants.{InterfaceNotFound, WorldNotFound}
 use Rattle.wit_link_spec.specs.Addition.{Addition}
 use Rattle.wit_link_spec.specs.Gates.{OptionalSpan, interface_is_active, world_is_active}
 use Rattle.wit_link_spec.specs.Lookup.{find_interface, find_package, find_world, named_items}
 use Rattle.wit_link_spec.specs.Reasons.{ForeignTypeMissing, HasPackage, LacksPackage}
+use Rattle.wit_link_spec.specs.facts.RankFacts.{after}
 use Rattle.wit_link_foreign.specs.declared.foreign.Found.{Found}
 
 -- an item that is named: the place and the name of its package, and the item
@@ -36,6 +42,35 @@ interface_in g home name = option_and_then (λ p. option_and_then (λ (there : P
 abbrev pub world_in : Graph → Option ℕ → List ℕ → Option ℕ
 world_in g home name = option_and_then (λ p. option_and_then (λ (there : Package). lookup (bytes_eq name) there.worlds) (slice_get g.packages p)) home
 
+-- so for an item, as it is an interface or a world
+abbrev pub item_in : Graph → Option ℕ → List ℕ → AstItem → Option ℕ
+item_in g home name (item.Interface i) = interface_in g home name
+item_in g home name (item.World w) = world_in g home name
+
+-- where the graph has an item that is named
+abbrev pub found_item : Addition → NamedItem → Option ℕ
+found_item a e = item_in a.graph (find_package a.graph a.unresolved.name e.1) e.2.0 e.2.1.0
+
+-- is the item active?
+abbrev pub named_is_active : Addition → AstItem → Bool
+named_is_active a (item.Interface i) = interface_is_active a.features a.unresolved i
+named_is_active a (item.World w) = world_is_active a.features a.unresolved w
+
+-- the package has the item
+abbrev pub IsItemOf : UnresolvedPackage → AstItem → Type 0
+IsItemOf u (item.Interface i) = i < length u.interfaces
+IsItemOf u (item.World w) = w < length u.worlds
+
+-- it has the item there
+abbrev pub IsItemAt : UnresolvedPackage → AstItem → OptionalSpan → Type 0
+IsItemAt u (item.Interface i) span = SomeAt u.interfaces i (λ (interface : Interface). span ≡ interface.span)
+IsItemAt u (item.World w) span = SomeAt u.worlds w (λ (world : World). span ≡ world.span)
+
+-- the error that tells that the item isn't in its package
+abbrev pub not_found : AstItem → OptionalSpan → List ℕ → PackageName → ResolveErrorKind
+not_found (item.Interface i) span requested home = InterfaceNotFound span requested home
+not_found (item.World w) span requested home = WorldNotFound span requested home
+
 -- these items are named of this package at a place, and the graph has it there; it is there, if any is named
 pub record IsHome (a : Addition) (place : ℕ) (name : PackageName) (items : List ForeignItem) (home : Option ℕ) : Type 0 where
   pub is : slice_get a.unresolved.foreign_deps place ≡ Some (name, items)
@@ -55,24 +90,33 @@ pub record NamesItem (a : Addition) (name : PackageName) (home : Option ℕ) (re
   pub has_package : HasPackage a.graph name ⊎ (name ≡ a.unresolved.name)
 
 -- of these items none is missing that is active
-pub record AreThere (a : Addition) (named : List NamedItem) : Type 0 where
-  pub interfaces : (e : NamedItem) (i : ℕ) → Contains named e → e.2.1.0 ≡ item.Interface i → interface_is_active a.features a.unresolved i ≡ true → find_interface a.graph a.unresolved.name e.1 e.2.0 ≡ None → ⊥
-  pub worlds : (e : NamedItem) (w : ℕ) → Contains named e → e.2.1.0 ≡ item.World w → world_is_active a.features a.unresolved w ≡ true → find_world a.graph a.unresolved.name e.1 e.2.0 ≡ None → ⊥
+abbrev pub AreThere : Addition → List NamedItem → Type 0
+AreThere a named = (e : NamedItem) → Contains named e → named_is_active a e.2.1.0 ≡ true → found_item a e ≡ None → ⊥
 
--- where the first of these items is that names interface i
-abbrev pub interface_among : Addition → List NamedItem → ℕ → Option ℕ
-interface_among a named i = option_and_then (λ (e : NamedItem). find_interface a.graph a.unresolved.name e.1 e.2.0) (find (λ (e : NamedItem). list_any (nat_eq i) (interface_id e.2.1.0)) named)
+-- a look-up in a graph, to which a package of a name is added: of a name in the package of a name
+abbrev pub Lookup : Type 0
+Lookup = Graph → PackageName → PackageName → List ℕ → Option ℕ
 
--- and world w
-abbrev pub world_among : Addition → List NamedItem → ℕ → Option ℕ
-world_among a named w = option_and_then (λ (e : NamedItem). find_world a.graph a.unresolved.name e.1 e.2.0) (find (λ (e : NamedItem). list_any (nat_eq w) (world_id e.2.1.0)) named)
+-- where the first of these items is that has this id, by the ids and the look-up of its sort
+abbrev pub first_among : (AstItem → List ℕ) → Lookup → Addition → List NamedItem → ℕ → Option ℕ
+first_among ids look_up a named id = option_and_then (λ (e : NamedItem). look_up a.graph a.unresolved.name e.1 e.2.0) (find (λ (e : NamedItem). list_any (nat_eq id) (ids e.2.1.0)) named)
 
 -- where the graph has the interfaces and worlds of a package, as far as these items tell
 abbrev pub found_among : Addition → List NamedItem → Found
 found_among a named = record {
-  interfaces = map (interface_among a named) (range_with_len 0 (length a.unresolved.interfaces));
-  worlds = map (world_among a named) (range_with_len 0 (length a.unresolved.worlds));
+  interfaces = map (first_among interface_id find_interface a named) (range_with_len 0 (length a.unresolved.interfaces));
+  worlds = map (first_among world_id find_world a named) (range_with_len 0 (length a.unresolved.worlds));
 }
+
+-- there is an entry for the item
+abbrev pub HasEntryFor : Found → AstItem → Type 0
+HasEntryFor found (item.Interface i) = i < length found.interfaces
+HasEntryFor found (item.World w) = w < length found.worlds
+
+-- what is found, with where an item is
+abbrev pub with_item : Found → AstItem → Option ℕ → Found
+with_item found (item.Interface i) there = record found { interfaces = slice_set found.interfaces i there }
+with_item found (item.World w) there = record found { worlds = slice_set found.worlds w there }
 
 -- ---- what things are remapped to
 
@@ -85,6 +129,12 @@ goes true None next = Some next
 -- does it take the next id?
 abbrev pub has_new_id : Bool → Option ℕ → Bool
 has_new_id active found = active && is_none found
+
+-- what things are remapped to, one after another, from this next id on, by which are active and what is found of each
+abbrev pub assigned_ids : ℕ → List Bool → List (Option ℕ) → List (Option ℕ)
+assigned_ids next [] found = []
+assigned_ids next (b ∷ active) [] = []
+assigned_ids next (b ∷ active) (o ∷ found) = goes b o next ∷ assigned_ids (after (has_new_id b o) next) active found
 
 -- type t isn't missing
 abbrev pub IsTypeThere : Addition → ℕ → Type 0

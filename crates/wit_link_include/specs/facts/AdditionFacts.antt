@@ -9,13 +9,13 @@ use Rattle.wit_data.specs.Entries.{Entry}
 use Rattle.wit_data.specs.declared.function.Function.{Function}
 use Rattle.wit_data.specs.declared.world.World.{World}
 use Rattle.wit_data.specs.declared.world.WorldInclude.{WorldInclude}
-use Rattle.wit_data.specs.declared.world.WorldItem.TheVariants as item
 use Rattle.wit_data.specs.declared.world.WorldKey.{WorldKey}
+use Rattle.wit_data.specs.declared.world.WorldItem.TheVariants as item
 use Rattle.wit_data.specs.declared.world.WorldKey.TheVariants as key
 use Rattle.wit_graph_data.specs.Error.{NoCause}
-use Rattle.wit_graph_data.specs.declared.error_kind.ResolveErrorKind.{ResolveErrorKind}
 use Rattle.wit_graph_data.specs.declared.graph.Graph.{Graph}
-use Rattle.wit_graph_theory.specs.Image.{entry_image, function_image, key_image, world_image}
+use Rattle.wit_graph_data.specs.declared.error_kind.ResolveErrorKind.{ResolveErrorKind}
+use Rattle.wit_remap_spec.specs.Image.{entry_image, function_image, key_image, world_image}
 use Rattle.wit_graph_theory.specs.facts.ListFacts.{Contains-map, Contains-map_cases, at_map, from_map, same_at}
 use Rattle.wit_labels.specs.Setters.{getter_label}
 use Rattle.wit_labels.specs.Strong.{Clashes}
@@ -25,7 +25,8 @@ use Rattle.wit_link_spec.specs.FinishCause.{IsFinishCause, LabelsClash, SetterIs
 use Rattle.wit_link_spec.specs.Gates.{include_is_active}
 use Rattle.wit_link_spec.specs.Include.{IsListCalled, PartiallyLinked, lists_of, with_entry_lists, with_include_of}
 use Rattle.wit_link_spec.specs.IncludeCause.{IsIncludeCause}
-use Rattle.wit_link_spec.specs.Pushed.{placed_include, placed_includes, with_all_includes, with_finished, with_include, with_includes, with_parts, with_world, with_worlds}
+use Rattle.wit_link_spec.specs.Pushed.{placed_include, with_all_includes, with_finished, with_include, with_includes, with_parts, with_world, with_worlds}
+use Rattle.wit_link_spec.specs.facts.Linked.{placed_includes}
 use Rattle.wit_link_spec.specs.Reasons.{IsResolved}
 use Rattle.wit_link_spec.specs.WorldReasons.{AtWorld, IncludeIsAccepted, IsCauseAtFinish, IsCauseAtInclude, WorldIsAccepted, of_finish, of_include, written_no_getter_18, written_not_strongly_unique_17}
 use Rattle.wit_link_include.specs.steps.Included as local

@@ -18,9 +18,11 @@ use Rattle.wit_graph_theory.specs.facts.ListFacts.{contained_at, from_map, place
 use Rattle.wit_labels.specs.Setters.{placed}
 use Rattle.wit_link_laws.specs.facts.PlacedFacts.{placed_into}
 use Rattle.wit_link_spec.specs.Addition.{Addition, active_includes, remapped_world}
-use Rattle.wit_link_spec.specs.Cause.{IncludeIsReached, IsReached}
+use Rattle.wit_link_spec.specs.Cause.{IsReached}
+use Rattle.wit_link_spec.specs.facts.Linked.{IncludeIsReached}
 use Rattle.wit_link_spec.specs.Include.{PartiallyLinked}
-use Rattle.wit_link_spec.specs.Pushed.{placed_include, placed_includes, with_parts, with_worlds}
+use Rattle.wit_link_spec.specs.Pushed.{placed_include, with_parts, with_worlds}
+use Rattle.wit_link_spec.specs.facts.Linked.{placed_includes}
 use Rattle.wit_link_spec.specs.Reasons.{IsResolved}
 use Rattle.wit_link_spec.specs.WorldReasons.{AtWorld}
 use Rattle.wit_link_laws.specs.facts.ListedWorlds.{listed_worlds}

@@ -1,6 +1,6 @@
 -- Where copies go by tables, and what the types that a world names lead to.
-use Rattle.std.specs.Prelude.{◌≡◌, ℕ, ◌+◌, ◌<◌, ◌++◌, ◌||◌, Bool, true, false, List, [], ◌∷◌, Contains, length, map, nat_eq, not, is_some, slice_get, unwrap_or, Option, Some, None, if◌then◌else◌}
-use Rattle.std.specs.List.{flat_map, list_any}
+use Rattle.std.specs.Prelude.{◌≡◌, ℕ, ◌+◌, ◌<◌, ◌++◌, ◌||◌, Bool, true, false, List, [], ◌∷◌, Contains, length, map, nat_eq, not, is_some, slice_get, unwrap_or, Option, Some, None, if◌then◌else◌, flat_map}
+use Rattle.std.specs.List.{list_any}
 use Rattle.std.specs.Map.{lookup}
 use Rattle.std.specs.Option.{option_map_or}
 use Rattle.wit_data.specs.Reference.{referred, type_references}
@@ -9,8 +9,7 @@ use Rattle.wit_data.specs.declared.world.World.{World}
 use Rattle.wit_digraph.specs.Relation.{Reaches}
 use Rattle.wit_digraph.specs.PostOrder.{post_order}
 use Rattle.wit_graph_data.specs.declared.graph.Graph.{Graph}
-use Rattle.wit_graph_theory.specs.Image.{Maps, interface_image, type_image}
-use Rattle.wit_graph_theory.specs.Operations.{include_maps}
+use Rattle.wit_remap_spec.specs.Image.{Maps, include_maps, interface_image, type_image}
 use Rattle.wit_labels.specs.Rename.{renamed_label}
 use Rattle.wit_link_spec.specs.Include.{belongs_to, entry_mentions, is_owned_within, is_unnamed_type, named_types, owner_belongs_to}
 use Rattle.wit_link_spec.specs.Addition.{selected, selected_with_index}

@@ -3,30 +3,29 @@
 -- list becomes is `joined_entries`; why an include and a finished world are refused is `IsIncludeCause` and `IsFinishCause`.
 -- Source: the WIT page of the component model, "include"; `resolve_include` and `process_world_includes` of
 -- wit-parser 0.263.0.
-use Rattle.std.specs.Prelude.{◌≡◌, ◌<◌, ℕ, Bool, List, fold, length, map, take, slice_get, Some, false, ◌==◌, Option, None, if◌then◌else◌, Contains, ◌⊎◌, codes}
+use Rattle.std.specs.Prelude.{◌≡◌, ◌<◌, ℕ, Bool, List, fold, length, map, take, slice_get, Some, false, ◌==◌, Option, None, if◌then◌else◌, Contains, ◌⊎◌, codes, bytes_eq}
 use Rattle.std.specs.List.{AllByRecursion, before_first}
 use Rattle.std.specs.Map.{keys_of}
 use Rattle.std.specs.Option.{option_map_or}
-use Rattle.std.specs.Str.{bytes_eq}
 use Rattle.wit_data.specs.Each.{Each}
 use Rattle.wit_data.specs.Entries.{Entry}
-use Rattle.wit_data.specs.declared.function.Function.{Function}
 use Rattle.wit_data.specs.declared.stability.Docs.{Docs}
-use Rattle.wit_data.specs.declared.stability.Stability.{Stability}
+use Rattle.wit_data.specs.declared.function.Function.{Function}
 use Rattle.wit_data.specs.declared.world.IncludeName.{IncludeName}
+use Rattle.wit_data.specs.declared.stability.Stability.{Stability}
 use Rattle.wit_data.specs.declared.world.World.{World}
 use Rattle.wit_data.specs.declared.world.WorldInclude.{WorldInclude}
 use Rattle.wit_data.specs.declared.world.WorldItem.{WorldItem}
-use Rattle.wit_data.specs.declared.world.WorldItem.TheVariants as item
 use Rattle.wit_data.specs.declared.world.WorldKey.{WorldKey}
+use Rattle.wit_data.specs.declared.world.WorldItem.TheVariants as item
 use Rattle.wit_data.specs.declared.world.WorldKey.TheVariants as key
 use Rattle.wit_elaboration.specs.Sound.{IsUnderOwnKey}
 use Rattle.wit_graph_data.specs.Error.{NoCause}
 use Rattle.wit_graph_data.specs.declared.cause.Cause.TheVariants as cause
+use Rattle.wit_graph_data.specs.declared.graph.Graph.{Graph}
 use Rattle.wit_graph_data.specs.declared.error_kind.ResolveErrorKind.{ResolveErrorKind}
 use Rattle.wit_graph_data.specs.declared.error_kind.ResolveErrorKind.TheVariants.{ItemShadowing, Semantic, StabilityMismatch}
-use Rattle.wit_graph_data.specs.declared.graph.Graph.{Graph}
-use Rattle.wit_graph_theory.specs.Image.{entry_image}
+use Rattle.wit_remap_spec.specs.Image.{entry_image}
 use Rattle.wit_labels.specs.Groups.{begins_group, rest_of}
 use Rattle.wit_labels.specs.Setters.{IsSetter, getter_label}
 use Rattle.wit_labels.specs.Strong.{Clashes}

@@ -16,22 +16,21 @@ use Rattle.wit_data.specs.declared.types.TypeOwner.TheVariants as owner
 use Rattle.wit_elaboration.proofs.Filters.{Contains-filter}
 use Rattle.wit_elaboration.specs.Valid.{IsValid}
 use Rattle.wit_graph_data.specs.declared.graph.Graph.{Graph}
-use Rattle.wit_graph_theory.specs.Cut.{cut_interface}
+use Rattle.wit_remap_spec.specs.Kept.{cut_interface, everything}
 use Rattle.wit_graph_theory.specs.facts.DependencyFacts.{filter_map_from, filter_map_into}
 use Rattle.wit_graph_theory.specs.facts.GoodIsValid.{good_things}
 use Rattle.wit_graph_theory.specs.facts.Growth.{InterfacesGrow, TypesGrow}
-use Rattle.wit_graph_theory.specs.Image.{interface_image, type_image}
+use Rattle.wit_remap_spec.specs.Image.{interface_image, type_image}
 use Rattle.wit_graph_theory.specs.facts.ListFacts.{at_below, contained_at, found_at, from_map, get_at, in_row, place_of, some_at}
 use Rattle.wit_graph_theory.specs.facts.Referred.{RefersUnder}
 use Rattle.wit_graph_theory.specs.facts.ReferredFacts.{alias_image, kind_refers}
 use Rattle.wit_graph_theory.specs.facts.RowFacts.{post_order_shorter}
 use Rattle.wit_graph_theory.specs.steps.Sources.{Carries, OwnerIsActive}
 use Rattle.wit_graph_theory.specs.facts.Covered.{IsCovered}
-use Rattle.wit_graph_theory.specs.Kept.{everything}
 use Rattle.wit_graph_theory.specs.facts.TypesAcyclic.{types_acyclic}
 use Rattle.wit_graph_theory.specs.facts.GraphSource.{good_items}
 use Rattle.wit_graph_theory.specs.facts.UsesAcyclic.{uses_acyclic}
-use Rattle.wit_link_spec.specs.Addition.{Addition, addition_maps, own_interface, own_interfaces, own_type, own_types, owns_of_addition, remapped_interface, remapped_type}
+use Rattle.wit_link_spec.specs.Addition.{Addition, addition_maps, own_interface, own_interfaces, own_type, own_types, remapped_interface, remapped_type, remap_of_addition}
 use Rattle.wit_link_spec.specs.facts.ActivePart.{part}
 use Rattle.wit_link_spec.specs.facts.ClosedCut.{closed_part}
 use Rattle.wit_link_spec.specs.Gates.{interface_is_active, is_foreign_interface, type_is_active}
@@ -39,6 +38,7 @@ use Rattle.wit_link_spec.specs.Lookup.{is_foreign_type}
 use Rattle.wit_link_spec.specs.facts.OwnThingFacts.{own_of_both}
 use Rattle.wit_link_spec.specs.Reasons.{IsResolved}
 use Rattle.wit_link_spec.specs.facts.Standing.{foreign_interface_remapped, foreign_type, listed_is}
+use Rattle.wit_link_spec.specs.ValueRemap.{owns}
 use Rattle.wit_link_laws.specs.facts.ListedStage.{listed, stage_covered, stage_inherits}
 use Rattle.wit_link_laws.specs.facts.Parts.{HasParts}
 use Rattle.wit_link_laws.specs.facts.PartsStand.{own_interface_at, own_type_at}
@@ -108,11 +108,11 @@ module _ (a : Addition) (valid : IsValid a.graph) (shaped : IsShaped a.unresolve
     covered = subst (IsCovered everything (sources a)) stage_is (stage_covered a valid shaped image)
 
     longer_types : length a.graph.types ≤ length types
-    longer_types = let more = map (type_image (addition_maps a)) (own_types a) ++ owns_of_addition a in let long = ap length are.types_are in omega (arith, long, length-append a.graph.types more)
+    longer_types = let more = map (type_image (addition_maps a)) (own_types a) ++ owns (remap_of_addition a) in let long = ap length are.types_are in omega (arith, long, length-append a.graph.types more)
 
     pub kept_types : (i : ℕ) (def : TypeDef) → i < length a.graph.types → slice_get types i ≡ Some def → slice_get a.graph.types i ≡ Some def
     kept_types i def before at =
-        at_below a.graph.types (map (type_image (addition_maps a)) (own_types a) ++ owns_of_addition a) i def before (subst (λ (ts : List TypeDef). slice_get ts i ≡ Some def) are.types_are at)
+        at_below a.graph.types (map (type_image (addition_maps a)) (own_types a) ++ owns (remap_of_addition a)) i def before (subst (λ (ts : List TypeDef). slice_get ts i ≡ Some def) are.types_are at)
 
     pub kept_interfaces : (i : ℕ) (interface : Interface) → i < length a.graph.interfaces → slice_get interfaces i ≡ Some interface → slice_get a.graph.interfaces i ≡ Some interface
     kept_interfaces i interface before at =

@@ -6,13 +6,17 @@ use Rattle.std.proofs.lemmas.Option.{slice_get_within}
 use Rattle.wit_digraph.specs.facts.MemberFacts.{Contains-cons_cases, Contains-nil}
 use Rattle.wit_digraph.specs.Relation.{IsPath, Reaches, direct}
 use Rattle.wit_data.specs.Each.{SomeAt}
-use Rattle.wit_data.specs.Ownership.{IsNamedInterface, IsOwn, parts, through_unnamed}
+use Rattle.wit_data.specs.Ownership.{IsNamedInterface, IsOwn, is_no_target, parts, through_unnamed}
+use Rattle.wit_data.specs.facts.KindFacts.{roles_are}
 use Rattle.wit_data.specs.Reference.{referred, type_references}
+use Rattle.wit_data.specs.facts.ReferenceFacts.{all_referred}
 use Rattle.wit_data.specs.Uses.{alias_target}
+use Rattle.wit_data.specs.declared.kind.PartRole.TheVariants.{Value}
+use Rattle.wit_data.specs.declared.types.Handle.TheVariants as handle
 use Rattle.wit_data.specs.declared.types.TypeDef.{TypeDef}
 use Rattle.wit_data.specs.declared.types.TypeDefKind.{TypeDefKind}
-use Rattle.wit_data.specs.declared.types.TypeDefKind.TheVariants as kind
 use Rattle.wit_data.specs.declared.types.TypeOwner.{TypeOwner}
+use Rattle.wit_data.specs.declared.types.TypeDefKind.TheVariants as kind
 use Rattle.wit_data.specs.declared.types.Type_.TheVariants as type
 use Rattle.wit_graph_data.specs.declared.graph.Graph.{Graph}
 use Rattle.wit_graph_theory.specs.facts.GoodTypes.{IsAliased, from_if}
@@ -26,7 +30,9 @@ use Rattle.wit_link_laws.specs.facts.PartiallyLinked.{IsSoundSoFar}
 referred_is : (k : TypeDefKind) (u : ℕ) → Contains (referred k) u → (alias_target k ≡ Some u) ⊎ Contains (parts k) u
 referred_is (kind.Type_ (type.Id x)) u has = elim (Contains-cons_cases x u [] has) [ inl same ↦ inl (ap Some same) | inr none ↦ absurd (Contains-nil none) ]
 referred_is (kind.Type_ other) u has = absurd (Contains-nil has)
-referred_is other u has = inr has
+referred_is (kind.Handle (handle.Own t)) u has = inr has
+referred_is (kind.Handle (handle.Borrow t)) u has = inr has
+referred_is other u has = inr (subst (λ (ids : List ℕ). Contains ids u) (sym (all_referred is_no_target other Value (roles_are other) refl)) has)
 
 some_or_none : {X : Type 0} (o : Option X) → IsSome o ⊎ (o ≡ None)
 some_or_none None = inr refl

@@ -10,11 +10,11 @@ use Rattle.wit_data.specs.Ownership.{IsNamed, entry_type, world_types}
 use Rattle.wit_data.specs.declared.interface.Interface.{Interface}
 use Rattle.wit_data.specs.declared.types.TypeDef.{TypeDef}
 use Rattle.wit_data.specs.declared.types.TypeOwner.{TypeOwner}
-use Rattle.wit_data.specs.declared.types.TypeOwner.TheVariants as owner
 use Rattle.wit_data.specs.declared.world.World.{World}
 use Rattle.wit_data.specs.declared.world.WorldItem.{WorldItem}
-use Rattle.wit_data.specs.declared.world.WorldItem.TheVariants as item
 use Rattle.wit_data.specs.declared.world.WorldKey.{WorldKey}
+use Rattle.wit_data.specs.declared.types.TypeOwner.TheVariants as owner
+use Rattle.wit_data.specs.declared.world.WorldItem.TheVariants as item
 use Rattle.wit_data.specs.declared.world.WorldKey.TheVariants as key
 use Rattle.std.specs.Option.{option_map_or}
 use Rattle.std.specs.Map.{lookup}
@@ -22,8 +22,9 @@ use Rattle.wit_elaboration.proofs.Filters.{Contains-filter}
 use Rattle.wit_elaboration.specs.Entries.{same_key}
 use Rattle.wit_graph_data.specs.declared.graph.Graph.{Graph}
 use Rattle.wit_graph_theory.specs.facts.CarriedImages.{image_stands}
-use Rattle.wit_graph_theory.specs.Cut.{StaysIn, cut_interface, cut_world}
-use Rattle.wit_graph_theory.specs.Image.{entry_image, interface_image, item_image, key_image, name_image, owner_image, type_image}
+use Rattle.wit_graph_theory.specs.Cut.{StaysIn}
+use Rattle.wit_remap_spec.specs.Kept.{cut_interface, cut_world}
+use Rattle.wit_remap_spec.specs.Image.{entry_image, interface_image, item_image, key_image, name_image, owner_image, type_image}
 use Rattle.wit_graph_theory.specs.facts.ListFacts.{Contains-map, found_at, from_map, place_of, same_at, some_at}
 use Rattle.wit_graph_theory.specs.Operations.{include_source}
 use Rattle.wit_graph_theory.specs.steps.Sources.{Carries, InterfaceStands, Source, Stands, WorldStands}

@@ -4,14 +4,14 @@ use Rattle.std.proofs.lemmas.Bool.{cases_Bool, eq-eqb, eqb-true, false≢true}
 use Rattle.wit_values.specs.Table.{HasDistinctKeys}
 use Rattle.wit_digraph.specs.facts.MemberFacts.{Contains-flat_map, Contains-flat_map_cases, Contains-here}
 use Rattle.wit_data.specs.Each.{SomeAt}
-use Rattle.wit_data.specs.Entries.{Entry, is_unnamed, item_interface}
+use Rattle.wit_data.specs.Entries.{Entry, is_unnamed, item_interface, entries_of}
 use Rattle.wit_data.specs.Ownership.{IsNamed, entry_type, world_types}
 use Rattle.wit_data.specs.Uses.{uses_of}
 use Rattle.wit_data.specs.declared.interface.Interface.{Interface}
 use Rattle.wit_data.specs.declared.types.TypeDef.{TypeDef}
 use Rattle.wit_data.specs.declared.world.World.{World}
-use Rattle.wit_data.specs.declared.world.WorldItem.TheVariants as item
 use Rattle.wit_data.specs.declared.world.WorldKey.{WorldKey}
+use Rattle.wit_data.specs.declared.world.WorldItem.TheVariants as item
 use Rattle.wit_data.specs.declared.world.WorldKey.TheVariants as key
 use Rattle.wit_elaboration.proofs.Classes.{in_by_class}
 use Rattle.wit_elaboration.proofs.Filters.{Contains-filter, Contains-filtered}
@@ -25,11 +25,11 @@ use Rattle.wit_graph_theory.specs.Cut.{StaysIn, graph_source, kept_whole}
 use Rattle.wit_graph_theory.specs.facts.ElaboratedCome.{elaborated_comes, interface_without_span}
 use Rattle.wit_graph_theory.specs.facts.GoodWorlds.{same_one}
 use Rattle.wit_graph_theory.specs.facts.GraphSource.{graph_stands, items_are_good}
-use Rattle.wit_graph_theory.specs.Image.{identity, key_image}
-use Rattle.wit_graph_theory.specs.Kept.{everything}
+use Rattle.wit_remap_spec.specs.Image.{identity, key_image}
+use Rattle.wit_remap_spec.specs.Kept.{everything}
 use Rattle.wit_graph_theory.specs.facts.LawsOfElaboration.{LawsOfElaboration}
 use Rattle.wit_graph_theory.specs.facts.ListFacts.{Contains-map, contained_at, place_of, same_at, some_at}
-use Rattle.wit_graph_theory.specs.steps.UnnamedOnce.{Holds, Origin, StandsOnceOnly, StayApart, entries_of}
+use Rattle.wit_graph_theory.specs.steps.UnnamedOnce.{Holds, Origin, StandsOnceOnly, StayApart}
 use Rattle.wit_graph_theory.specs.facts.UnnamedOnceCarried.{StandsOnceOnly-of_covered, named_not}
 use Rattle.wit_graph_theory.specs.facts.UnnamedOnceFrom.{cut_has_one_place}
 use Rattle.wit_graph_theory.specs.steps.Sources.{Carries, IsGoodSource, Source}

@@ -9,10 +9,12 @@ use Rattle.wit_data.specs.declared.interface.Interface.{Interface}
 use Rattle.wit_data.specs.declared.types.TypeDef.{TypeDef}
 use Rattle.wit_data.specs.declared.world.World.{World}
 use Rattle.wit_graph_data.specs.declared.graph.Graph.{Graph}
-use Rattle.wit_graph_theory.specs.Image.{interface_image, type_image}
+use Rattle.wit_remap_spec.specs.Image.{interface_image, type_image}
 use Rattle.wit_graph_theory.specs.facts.ListFacts.{SomeAt-old, get_at, same_at, some_at}
-use Rattle.wit_link_spec.specs.Addition.{Addition, addition_maps, own_interfaces, own_types, own_worlds, owns_of_addition}
-use Rattle.wit_link_spec.specs.Pushed.{linked_world, new_package, with_all_includes, with_parts, with_world, with_worlds}
+use Rattle.wit_link_spec.specs.Addition.{Addition, addition_maps, own_interfaces, own_types, own_worlds, remap_of_addition}
+use Rattle.wit_link_spec.specs.Pushed.{new_package, with_all_includes, with_parts, with_world, with_worlds}
+use Rattle.wit_link_spec.specs.facts.Linked.{linked_world}
+use Rattle.wit_link_spec.specs.ValueRemap.{owns}
 use Rattle.wit_link_laws.specs.facts.StageGrows.{IsCopy, each_joined}
 use Rattle.wit_link_laws.specs.facts.Stages.{whole_more, with_worlds_next}
 
@@ -86,14 +88,14 @@ module _ (a : Addition) where
 
   module _ (count : ℕ) (new : Graph) (are : IsGrown a count new) where
     abbrev pub more_types : List TypeDef
-    more_types = (map (type_image (addition_maps a)) (own_types a) ++ owns_of_addition a) ++ are.types
+    more_types = (map (type_image (addition_maps a)) (own_types a) ++ owns (remap_of_addition a)) ++ are.types
 
     abbrev pub more_interfaces : List Interface
     more_interfaces = map (interface_image (addition_maps a)) (own_interfaces a) ++ are.interfaces
 
     -- behind the graph
     pub types_behind : new.types ≡ a.graph.types ++ more_types
-    types_behind = are.types_are ∙ append_assoc a.graph.types (map (type_image (addition_maps a)) (own_types a) ++ owns_of_addition a) are.types
+    types_behind = are.types_are ∙ append_assoc a.graph.types (map (type_image (addition_maps a)) (own_types a) ++ owns (remap_of_addition a)) are.types
 
     pub interfaces_behind : new.interfaces ≡ a.graph.interfaces ++ more_interfaces
     interfaces_behind = are.interfaces_are ∙ append_assoc a.graph.interfaces (map (interface_image (addition_maps a)) (own_interfaces a)) are.interfaces

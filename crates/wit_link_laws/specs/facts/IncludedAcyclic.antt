@@ -14,10 +14,10 @@ use Rattle.wit_data.specs.declared.types.TypeDef.{TypeDef}
 use Rattle.wit_data.specs.declared.types.TypeOwner.TheVariants as owner
 use Rattle.wit_elaboration.proofs.Filters.{Contains-filter, Contains-filtered}
 use Rattle.wit_graph_data.specs.declared.graph.Graph.{Graph}
-use Rattle.wit_graph_theory.specs.Cut.{cut_interface}
+use Rattle.wit_remap_spec.specs.Kept.{cut_interface}
 use Rattle.wit_graph_theory.specs.facts.DependencyFacts.{filter_map_from, filter_map_into}
 use Rattle.wit_graph_theory.specs.facts.Growth.{InterfacesGrow, TypesGrow}
-use Rattle.wit_graph_theory.specs.Image.{interface_image, type_image}
+use Rattle.wit_remap_spec.specs.Image.{interface_image, type_image}
 use Rattle.wit_graph_theory.specs.facts.ListFacts.{at_below, contained_at, from_map, in_row, some_at}
 use Rattle.wit_graph_theory.specs.facts.Referred.{RefersUnder}
 use Rattle.wit_graph_theory.specs.facts.ReferredFacts.{alias_image, kind_refers}

@@ -9,18 +9,17 @@ use Rattle.wit_data.specs.declared.function.Function.{Function}
 use Rattle.wit_data.specs.declared.interface.Interface.{Interface}
 use Rattle.wit_data.specs.declared.types.TypeDef.{TypeDef}
 use Rattle.wit_data.specs.declared.world.WorldItem.{WorldItem}
-use Rattle.wit_data.specs.declared.world.WorldItem.TheVariants as item
 use Rattle.wit_data.specs.declared.world.WorldKey.{WorldKey}
+use Rattle.wit_data.specs.declared.world.WorldItem.TheVariants as item
 use Rattle.wit_elaboration.proofs.Filters.{filter-all}
 use Rattle.wit_elaboration.specs.Entries.{same_key}
 use Rattle.wit_graph_data.specs.declared.graph.Graph.{Graph}
 use Rattle.wit_graph_theory.specs.facts.CarriedImages.{image_carried}
 use Rattle.wit_graph_theory.specs.facts.Covered.{EntryComes, InterfaceComes, IsCovered, IsNoType, IsOwnMade, ItemComes, TypeComes, WorldComes}
-use Rattle.wit_graph_theory.specs.Cut.{cut_interface, cut_world}
+use Rattle.wit_remap_spec.specs.Kept.{KeptIds, cut_interface, cut_world, everything}
 use Rattle.wit_graph_theory.specs.facts.GraphSource.{graph_stands, items_are_good}
-use Rattle.wit_graph_theory.specs.Image.{entry_image, identity}
+use Rattle.wit_remap_spec.specs.Image.{entry_image, identity}
 use Rattle.wit_graph_theory.specs.facts.ImagesCome.{entry_image_comes, interface_image_comes}
-use Rattle.wit_graph_theory.specs.Kept.{KeptIds, everything}
 use Rattle.wit_graph_theory.specs.facts.ListFacts.{at_map, contained_at, place_of}
 use Rattle.wit_graph_theory.specs.steps.Sources.{Carries, IsCarriedType, IsGoodSource, Source}
 use Rattle.wit_link_spec.specs.Include.{belongs_to, interface_copy, joined_entry, joined_item, new_item}

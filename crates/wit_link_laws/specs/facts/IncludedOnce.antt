@@ -5,23 +5,24 @@ use Rattle.std.specs.Option.{option_map_or}
 use Rattle.std.proofs.lemmas.Bool.{cases_Bool, ltb-true}
 use Rattle.std.proofs.lemmas.List.{length-map}
 use Rattle.wit_values.specs.Table.{HasDistinctKeys}
-use Rattle.wit_data.specs.Entries.{Entry, IsImport, is_unnamed, item_interface}
+use Rattle.wit_data.specs.Entries.{Entry, IsImport, is_unnamed, item_interface, entries_of}
 use Rattle.wit_data.specs.declared.interface.Interface.{Interface}
 use Rattle.wit_data.specs.declared.types.TypeDef.{TypeDef}
 use Rattle.wit_data.specs.declared.world.World.{World}
 use Rattle.wit_data.specs.declared.world.WorldItem.{WorldItem}
-use Rattle.wit_data.specs.declared.world.WorldItem.TheVariants as item
 use Rattle.wit_data.specs.declared.world.WorldKey.{WorldKey}
+use Rattle.wit_data.specs.declared.world.WorldItem.TheVariants as item
 use Rattle.wit_data.specs.declared.world.WorldKey.TheVariants as key
 use Rattle.wit_elaboration.specs.Entries.{same_key}
 use Rattle.wit_elaboration.specs.facts.SoundFacts.{named_within}
 use Rattle.wit_graph_data.specs.declared.graph.Graph.{Graph}
 use Rattle.wit_graph_theory.specs.facts.CoveredIsValid.{covered_items}
-use Rattle.wit_graph_theory.specs.Cut.{cut_interface, kept_whole}
+use Rattle.wit_graph_theory.specs.Cut.{kept_whole}
+use Rattle.wit_remap_spec.specs.Kept.{cut_interface}
 use Rattle.wit_graph_theory.specs.facts.GoodWorlds.{import_from_export, same_one}
-use Rattle.wit_graph_theory.specs.Image.{entry_image, item_image}
+use Rattle.wit_remap_spec.specs.Image.{entry_image, item_image}
 use Rattle.wit_graph_theory.specs.facts.ListFacts.{contained_at, get_at, place_of, same_at}
-use Rattle.wit_graph_theory.specs.steps.UnnamedOnce.{Holds, Origin, StandsOnceOnly, StayApart, entries_of}
+use Rattle.wit_graph_theory.specs.steps.UnnamedOnce.{Holds, Origin, StandsOnceOnly, StayApart}
 use Rattle.wit_graph_theory.specs.facts.UnnamedOnceCarried.{StandsOnceOnly-of_covered, named_not}
 use Rattle.wit_graph_theory.specs.facts.UnnamedOnceFrom.{cut_has_one_place, unnamed_cut}
 use Rattle.wit_link_spec.specs.Include.{belongs_to, interface_copy, joined_entry, joined_item, new_item}

@@ -4,7 +4,7 @@ use Rattle.wit_data.specs.Entries.{Entry}
 use Rattle.wit_data.specs.declared.world.IncludeName.{IncludeName}
 use Rattle.wit_data.specs.declared.world.World.{World}
 use Rattle.wit_graph_data.specs.declared.graph.Graph.{Graph}
-use Rattle.wit_graph_theory.specs.Image.{Maps, entry_image, interface_image, type_image}
+use Rattle.wit_remap_spec.specs.Image.{Maps, entry_image, interface_image, type_image}
 use Rattle.wit_link_spec.specs.Include.{belongs_to, copy_maps, is_copied, is_other_package, joined_entries}
 use Rattle.wit_link_spec.specs.Addition.{selected}
 

@@ -13,8 +13,9 @@ use Rattle.wit_elaboration.specs.Valid.{IsValid}
 use Rattle.wit_graph_data.specs.declared.graph.Graph.{Graph}
 use Rattle.wit_graph_theory.specs.facts.CarriedImages.{function_itself_carried}
 use Rattle.wit_graph_theory.specs.facts.Covered.{InterfaceAt, InterfaceComes}
-use Rattle.wit_graph_theory.specs.Cut.{cut_interface, graph_source, kept_whole}
-use Rattle.wit_graph_theory.specs.Image.{interface_image}
+use Rattle.wit_graph_theory.specs.Cut.{graph_source, kept_whole}
+use Rattle.wit_remap_spec.specs.Kept.{cut_interface}
+use Rattle.wit_remap_spec.specs.Image.{interface_image}
 use Rattle.wit_graph_theory.specs.facts.ImagesCome.{interface_image_comes}
 use Rattle.wit_graph_theory.specs.facts.ListFacts.{at_map, contained_at, found_at, from_map, old_or_new}
 use Rattle.wit_link_spec.specs.Addition.{Addition, addition_maps, own_interfaces}

@@ -7,15 +7,15 @@ use Rattle.wit_values.specs.Table.{HasDistinctKeys}
 use Rattle.wit_data.specs.Entries.{Entry}
 use Rattle.wit_data.specs.Ownership.{IsNamed}
 use Rattle.wit_data.specs.declared.world.WorldItem.{WorldItem}
-use Rattle.wit_data.specs.declared.world.WorldItem.TheVariants as item
 use Rattle.wit_data.specs.declared.world.WorldKey.{WorldKey}
+use Rattle.wit_data.specs.declared.world.WorldItem.TheVariants as item
 use Rattle.wit_data.specs.declared.world.WorldKey.TheVariants as key
 use Rattle.wit_elaboration.proofs.Filters.{Contains-filter, Contains-filtered, not_true}
 use Rattle.wit_elaboration.proofs.FreshEntries.{same_key-refl, same_key-true}
 use Rattle.wit_elaboration.specs.Entries.{same_key}
 use Rattle.wit_graph_data.specs.declared.graph.Graph.{Graph}
 use Rattle.wit_graph_theory.specs.facts.CutIsGood.{distinct_kept}
-use Rattle.wit_graph_theory.specs.Image.{entry_image, key_image}
+use Rattle.wit_remap_spec.specs.Image.{entry_image, key_image}
 use Rattle.wit_graph_theory.specs.facts.ListFacts.{Contains-map, Contains-map_cases, at_map, contained_at, from_map, place_of}
 use Rattle.wit_link_spec.specs.Include.{has_key, joined_entries, joined_entry, new_item}
 use Rattle.wit_link_spec.specs.IncludeCause.{IsShadowed, renamed_key}

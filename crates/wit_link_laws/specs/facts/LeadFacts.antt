@@ -6,32 +6,18 @@ use Rattle.std.proofs.lemmas.Option.{get_or_from_slice_get}
 use Rattle.wit_digraph.specs.Relation.{direct}
 use Rattle.wit_digraph.specs.PostOrder.{post_order, post_order_within}
 use Rattle.wit_data.specs.Ownership.{IsPlain}
-use Rattle.wit_data.specs.Uses.{alias_target}
+use Rattle.wit_data.specs.Uses.{alias_target, alias_rows}
 use Rattle.wit_data.specs.declared.types.TypeDef.{TypeDef}
 use Rattle.wit_data.specs.declared.types.TypeDefKind.{TypeDefKind}
 use Rattle.wit_data.specs.declared.types.TypeDefKind.TheVariants as kind
 use Rattle.wit_graph_theory.specs.facts.ListFacts.{at_map}
-use Rattle.wit_graph_theory.specs.steps.Sources.{alias_rows}
 use Rattle.wit_link_spec.specs.Resources.{is_resource, is_resource_kind, leads_to_resource}
 
 -- a type that is neither an alias nor a resource leads to none
 plain_is : (k : TypeDefKind) → IsPlain k → (alias_target k ≡ None) × (is_resource_kind k ≡ false)
-plain_is (kind.Record fields) plain = (refl, refl)
 plain_is kind.Resource plain = absurd plain
-plain_is (kind.Handle handle) plain = (refl, refl)
-plain_is (kind.Flags flags) plain = (refl, refl)
-plain_is (kind.Tuple types) plain = (refl, refl)
-plain_is (kind.Variant cases) plain = (refl, refl)
-plain_is (kind.Enum cases) plain = (refl, refl)
-plain_is (kind.Option ty) plain = (refl, refl)
-plain_is (kind.Result_ ok err) plain = (refl, refl)
-plain_is (kind.List ty) plain = (refl, refl)
-plain_is (kind.Map k v) plain = (refl, refl)
-plain_is (kind.FixedLengthList ty len) plain = (refl, refl)
-plain_is (kind.Future ty) plain = (refl, refl)
-plain_is (kind.Stream ty) plain = (refl, refl)
 plain_is (kind.Type_ ty) plain = absurd plain
-plain_is kind.Unknown plain = (refl, refl)
+plain_is other plain = (refl, refl)
 
 pub leads_nowhere : (types : List TypeDef) (t : ℕ) (def : TypeDef) → slice_get types t ≡ Some def → IsPlain def.kind → leads_to_resource types t ≡ false
 unfolding post_order post_order_within

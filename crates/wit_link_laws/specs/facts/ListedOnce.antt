@@ -3,22 +3,23 @@
 use Rattle.std.proofs.Common.{◌≡◌, ◌∙◌, ◌⊎◌, inl, inr, ℕ, zero, suc, ◌<◌, ◌≤◌, Bool, true, false, List, [], ◌∷◌, map, length, Some, IsSome, slice_get, refl, sym, ap, subst, arith, Contains}
 use Rattle.std.proofs.lemmas.Bool.{cases_Bool, ltb-true}
 use Rattle.wit_values.specs.Table.{HasDistinctKeys}
-use Rattle.wit_data.specs.Entries.{Entry, is_unnamed, item_interface}
+use Rattle.wit_data.specs.Entries.{Entry, is_unnamed, item_interface, entries_of}
 use Rattle.wit_data.specs.Shape.{IsShaped}
 use Rattle.wit_data.specs.declared.interface.Interface.{Interface}
 use Rattle.wit_data.specs.declared.world.World.{World}
 use Rattle.wit_data.specs.declared.world.WorldItem.{WorldItem}
-use Rattle.wit_data.specs.declared.world.WorldItem.TheVariants as item
 use Rattle.wit_data.specs.declared.world.WorldKey.{WorldKey}
+use Rattle.wit_data.specs.declared.world.WorldItem.TheVariants as item
 use Rattle.wit_elaboration.specs.Valid.{IsValid}
 use Rattle.wit_graph_data.specs.declared.graph.Graph.{Graph}
 use Rattle.wit_graph_theory.specs.facts.CoveredIsValid.{covered_items}
-use Rattle.wit_graph_theory.specs.Cut.{ItemIsKept, cut_interface, kept_whole}
+use Rattle.wit_graph_theory.specs.Cut.{ItemIsKept, kept_whole}
+use Rattle.wit_remap_spec.specs.Kept.{cut_interface}
 use Rattle.wit_graph_theory.specs.facts.GoodIsValid.{good_things}
 use Rattle.wit_graph_theory.specs.facts.GoodWorlds.{same_one}
-use Rattle.wit_graph_theory.specs.Image.{entry_image, item_image, key_image, world_image}
+use Rattle.wit_remap_spec.specs.Image.{entry_image, item_image, key_image, world_image}
 use Rattle.wit_graph_theory.specs.facts.ListFacts.{Contains-map_cases, contained_at, found_at, get_at, place_of, same_at, some_at}
-use Rattle.wit_graph_theory.specs.steps.UnnamedOnce.{Holds, Origin, StandsOnceOnly, StayApart, entries_of}
+use Rattle.wit_graph_theory.specs.steps.UnnamedOnce.{Holds, Origin, StandsOnceOnly, StayApart}
 use Rattle.wit_graph_theory.specs.facts.UnnamedOnceCarried.{StandsOnceOnly-of_covered, named_not, unnamed_same}
 use Rattle.wit_graph_theory.specs.facts.UnnamedOnceFrom.{StandsOnceOnly-from_once, cut_has_one_place}
 use Rattle.wit_graph_theory.specs.steps.Sources.{InterfaceStands, Source}

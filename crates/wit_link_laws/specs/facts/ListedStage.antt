@@ -16,12 +16,12 @@ use Rattle.wit_data.specs.declared.world.World.{World}
 use Rattle.wit_elaboration.specs.Valid.{IsValid}
 use Rattle.wit_graph_data.specs.declared.graph.Graph.{Graph}
 use Rattle.wit_graph_theory.specs.facts.Covered.{EntryComes, IsCovered, IsNoType, WorldComes}
-use Rattle.wit_graph_theory.specs.Cut.{StaysIn, cut_interface, cut_world}
+use Rattle.wit_graph_theory.specs.Cut.{StaysIn}
+use Rattle.wit_remap_spec.specs.Kept.{cut_interface, cut_world, everything}
 use Rattle.wit_graph_theory.specs.facts.CutIsGood.{distinct_kept}
 use Rattle.wit_graph_theory.specs.facts.GraphSource.{graph_stands}
-use Rattle.wit_graph_theory.specs.Image.{entry_image, item_image, key_image, world_image}
+use Rattle.wit_remap_spec.specs.Image.{entry_image, item_image, key_image, world_image}
 use Rattle.wit_graph_theory.specs.facts.ImagesCome.{entry_image_comes}
-use Rattle.wit_graph_theory.specs.Kept.{everything}
 use Rattle.wit_graph_theory.specs.facts.ListFacts.{Contains-map, at_map, at_new, contained_at, from_map, old_or_new, some_at}
 use Rattle.wit_graph_theory.specs.steps.Sources.{Carries, InterfaceStands, Source, WorldStands}
 use Rattle.wit_link_spec.specs.Addition.{Addition, addition_maps, own_world, own_worlds, rank, remapped_world}

@@ -5,20 +5,21 @@ use Rattle.wit_data.specs.Entries.{Entry, ExportsAreAllowed, ImportsAreAllowed, 
 use Rattle.wit_data.specs.Shape.{IsShaped}
 use Rattle.wit_data.specs.declared.interface.Interface.{Interface}
 use Rattle.wit_data.specs.declared.types.TypeDef.{TypeDef}
-use Rattle.wit_data.specs.declared.types.TypeOwner.TheVariants as owner
 use Rattle.wit_data.specs.declared.world.World.{World}
 use Rattle.wit_data.specs.declared.world.WorldItem.{WorldItem}
-use Rattle.wit_data.specs.declared.world.WorldItem.TheVariants as item
 use Rattle.wit_data.specs.declared.world.WorldKey.{WorldKey}
+use Rattle.wit_data.specs.declared.types.TypeOwner.TheVariants as owner
+use Rattle.wit_data.specs.declared.world.WorldItem.TheVariants as item
 use Rattle.wit_data.specs.declared.world.WorldKey.TheVariants as key
 use Rattle.wit_values.specs.Table.{HasDistinctKeys}
 use Rattle.wit_elaboration.proofs.Filters.{Contains-filter}
 use Rattle.wit_elaboration.specs.Sound.{HasSoundEntries}
 use Rattle.wit_elaboration.specs.facts.SoundFacts.{HasSoundEntries-of_world}
 use Rattle.wit_elaboration.specs.Valid.{IsValid}
-use Rattle.wit_graph_theory.specs.Cut.{ItemIsKept, cut_world}
+use Rattle.wit_graph_theory.specs.Cut.{ItemIsKept}
+use Rattle.wit_remap_spec.specs.Kept.{cut_world}
 use Rattle.wit_graph_theory.specs.facts.CutIsGood.{distinct_kept}
-use Rattle.wit_graph_theory.specs.Image.{entry_image, item_image, key_image, name_image, owner_image, world_image}
+use Rattle.wit_remap_spec.specs.Image.{entry_image, item_image, key_image, name_image, owner_image, world_image}
 use Rattle.wit_graph_theory.specs.facts.ListFacts.{Contains-map_cases, at_map, contained_at, found_at, from_map, place_of, some_at}
 use Rattle.wit_graph_theory.specs.steps.Sources.{Stands}
 use Rattle.wit_link_spec.specs.Addition.{Addition, active, addition_maps, own_world, own_worlds, rank, remapped_interface, remapped_type, remapped_world, selected_with_index}

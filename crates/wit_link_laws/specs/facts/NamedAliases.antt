@@ -12,13 +12,14 @@ use Rattle.wit_data.specs.declared.types.TypeDef.{TypeDef}
 use Rattle.wit_data.specs.declared.types.TypeOwner.{TypeOwner}
 use Rattle.wit_data.specs.declared.types.TypeOwner.TheVariants as owner
 use Rattle.wit_elaboration.specs.Valid.{IsValid}
-use Rattle.wit_graph_theory.specs.Cut.{OwnerIsKept, cut_interface}
+use Rattle.wit_graph_theory.specs.Cut.{OwnerIsKept}
+use Rattle.wit_remap_spec.specs.Kept.{cut_interface}
 use Rattle.wit_graph_theory.specs.facts.GoodTypes.{IsAliased, alias_referred, from_if, if_some}
-use Rattle.wit_graph_theory.specs.Image.{name_image, owner_image, type_image}
+use Rattle.wit_remap_spec.specs.Image.{name_image, owner_image, type_image}
 use Rattle.wit_graph_theory.specs.facts.ListFacts.{found_at, from_map, old_or_new, place_of, some_at}
 use Rattle.wit_graph_theory.specs.facts.ReferredFacts.{alias_image}
 use Rattle.wit_graph_theory.specs.steps.Sources.{InterfaceStands, Stands}
-use Rattle.wit_link_spec.specs.Addition.{Addition, addition_maps, own_types, owns_of_addition, remapped_interface, remapped_type, value_needs_own}
+use Rattle.wit_link_spec.specs.Addition.{Addition, addition_maps, own_types, remapped_interface, remapped_type, remap_of_addition}
 use Rattle.wit_link_spec.specs.facts.ActivePart.{part}
 use Rattle.wit_link_spec.specs.facts.ApartFacts.{active_there}
 use Rattle.wit_link_spec.specs.facts.ClosedCut.{closed_part, references_kept}
@@ -26,6 +27,7 @@ use Rattle.wit_link_spec.specs.Gates.{interface_is_active, type_is_active}
 use Rattle.wit_link_spec.specs.facts.OwnThingFacts.{own_type_from}
 use Rattle.wit_link_spec.specs.Reasons.{IsResolved}
 use Rattle.wit_link_spec.specs.Resources.{own_of}
+use Rattle.wit_link_spec.specs.ValueRemap.{needs_own, owns}
 use Rattle.wit_link_laws.specs.facts.Parts.{HasParts}
 use Rattle.wit_link_laws.specs.facts.PartsStand.{interface_stands, old_interface_at, old_type_at, type_stands}
 use Rattle.wit_link_laws.specs.facts.SourcesGood.{package_source}
@@ -102,19 +104,19 @@ module _ (a : Addition) (valid : IsValid a.graph) (shaped : IsShaped a.unresolve
       mapped None t' h = cc
       mapped (Some u) t' h = (u, refl, cc)
 
-  aliases_joined : Each (AliasesNamed types interfaces) (a.graph.types ++ (map (type_image (addition_maps a)) (own_types a) ++ owns_of_addition a))
+  aliases_joined : Each (AliasesNamed types interfaces) (a.graph.types ++ (map (type_image (addition_maps a)) (own_types a) ++ owns (remap_of_addition a)))
   aliases_joined i def at =
-      elim (old_or_new a.graph.types (map (type_image (addition_maps a)) (own_types a) ++ owns_of_addition a) i def at) [
+      elim (old_or_new a.graph.types (map (type_image (addition_maps a)) (own_types a) ++ owns (remap_of_addition a)) i def at) [
         | inl old ↦
             if_some (IsAliased types interfaces def.owner) (alias_target def.kind)
             (λ u names. old_aliased def.owner u (from_if (IsAliased a.graph.types a.graph.interfaces def.owner) (alias_target def.kind) u (valid.well_formed.references.aliases i def old) names))
-        | inr new ↦ elim (old_or_new (map (type_image (addition_maps a)) (own_types a)) (owns_of_addition a) new.0 def new.2) [
+        | inr new ↦ elim (old_or_new (map (type_image (addition_maps a)) (own_types a)) (owns (remap_of_addition a)) new.0 def new.2) [
           | inl mine ↦
               let from = from_map (type_image (addition_maps a)) (own_types a) new.0 def mine in
               let is = own_type_from a new.0 from.0 from.1 in
               subst (AliasesNamed types interfaces) from.2 (image_aliases is.t from.0 is.there is.active)
           | inr made ↦
-              let from = from_map (λ (t : ℕ). own_of (remapped_type a t)) (filter (value_needs_own a) (range_with_len 0 (length a.unresolved.types))) made.0 def made.2 in
+              let from = from_map (λ (t : ℕ). own_of (remapped_type a t)) (filter (needs_own (remap_of_addition a)) (range_with_len 0 (length a.unresolved.types))) made.0 def made.2 in
               subst (AliasesNamed types interfaces) from.2 tt
         ]
       ]

@@ -9,7 +9,8 @@ use Rattle.wit_elaboration.proofs.Filters.{Contains-filtered}
 use Rattle.wit_elaboration.specs.Valid.{IsValid}
 use Rattle.wit_graph_data.specs.declared.graph.Graph.{Graph}
 use Rattle.wit_graph_theory.specs.facts.Covered.{EntryComes, WorldComes}
-use Rattle.wit_graph_theory.specs.Cut.{cut_world, kept_whole}
+use Rattle.wit_graph_theory.specs.Cut.{kept_whole}
+use Rattle.wit_remap_spec.specs.Kept.{cut_world}
 use Rattle.wit_graph_theory.specs.facts.GoodIsValid.{good_things}
 use Rattle.wit_graph_theory.specs.facts.ListFacts.{at_map, contained_at}
 use Rattle.wit_link_spec.specs.Addition.{Addition}

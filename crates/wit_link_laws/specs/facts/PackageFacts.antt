@@ -14,11 +14,11 @@ use Rattle.wit_data.specs.Shape.{IsShaped}
 use Rattle.wit_data.specs.Uses.{interface_uses, type_interface_dep}
 use Rattle.wit_data.specs.declared.interface.Interface.{Interface}
 use Rattle.wit_data.specs.declared.types.TypeDef.{TypeDef}
-use Rattle.wit_data.specs.declared.types.TypeOwner.TheVariants as owner
 use Rattle.wit_data.specs.declared.world.World.{World}
 use Rattle.wit_data.specs.declared.world.WorldItem.{WorldItem}
-use Rattle.wit_data.specs.declared.world.WorldItem.TheVariants as item
 use Rattle.wit_data.specs.declared.world.WorldKey.{WorldKey}
+use Rattle.wit_data.specs.declared.types.TypeOwner.TheVariants as owner
+use Rattle.wit_data.specs.declared.world.WorldItem.TheVariants as item
 use Rattle.wit_data.specs.declared.world.WorldKey.TheVariants as key
 use Rattle.wit_elaboration.specs.facts.SoundFacts.{dep_is_named}
 use Rattle.wit_graph_data.specs.Relations.{entry_interface, entry_interfaces, other_package, package_interfaces, package_needs, package_uses, world_interfaces}
@@ -31,7 +31,7 @@ use Rattle.wit_graph_theory.specs.facts.GoodIsValid.{good_things}
 use Rattle.wit_graph_theory.specs.facts.GraphSource.{good_items}
 use Rattle.wit_graph_theory.specs.facts.Growth.{PackagesGrow}
 use Rattle.wit_values.specs.facts.Lists.{slice_get-append}
-use Rattle.wit_graph_theory.specs.Image.{interface_image}
+use Rattle.wit_remap_spec.specs.Image.{interface_image}
 use Rattle.wit_graph_theory.specs.facts.ListFacts.{at_below, found_at, from_map, get_at, old_or_new, place_of}
 use Rattle.wit_graph_theory.specs.facts.PackageCycleFacts.{other_from}
 use Rattle.wit_graph_theory.specs.facts.PackagesAcyclic.{packages_acyclic, there_is}

@@ -1,57 +1,52 @@
 -- What is active of a package stands among the types and interfaces of the graph behind which it is put: types,
 -- values and interfaces.
-use Rattle.std.proofs.Common.{◌≡◌, ◌∙◌, ℕ, ◌+◌, ◌<◌, Bool, true, List, ◌++◌, ◌⊎◌, inl, inr, map, filter, length, nat_eq, Option, None, Some, option_and_then, option_map, IsSome, slice_get, refl, sym, ap, subst, arith, Contains, if◌then◌else◌}
-use Rattle.std.specs.List.{list_any, range_with_len}
+use Rattle.std.proofs.Common.{◌≡◌, ◌∙◌, ℕ, ◌+◌, ◌<◌, true, List, ◌++◌, ◌⊎◌, inl, inr, map, length, Option, None, Some, option_and_then, option_map, IsSome, slice_get, refl, sym, ap, subst, Contains, if◌then◌else◌}
 use Rattle.std.specs.Map.{lookup}
-use Rattle.std.proofs.lemmas.List.{length-map}
+use Rattle.std.proofs.lemmas.Option.{slice_get_within}
 use Rattle.std.specs.Str.{bytes_eq}
-use Rattle.std.proofs.lemmas.Bool.{and_parts, cases_Bool, false≢true, lt-ltb, ltb-true}
+use Rattle.std.proofs.lemmas.Bool.{cases_Bool, lt-ltb, ltb-true}
 use Rattle.std.proofs.lemmas.Map.Views.{Contains-from_lookup}
 use Rattle.std.proofs.lemmas.Slice.Eq.{bytes_eq-Decides}
 use Rattle.wit_values.specs.facts.Lists.{slice_get-append}
 use Rattle.wit_data.specs.Each.{SomeAt}
 use Rattle.wit_data.specs.Shape.{IsShaped}
 use Rattle.wit_data.specs.declared.interface.Interface.{Interface}
-use Rattle.wit_data.specs.declared.types.Handle.TheVariants.{Own}
 use Rattle.wit_data.specs.declared.types.TypeDef.{TypeDef}
-use Rattle.wit_data.specs.declared.types.TypeDefKind.TheVariants as kind
 use Rattle.wit_data.specs.declared.types.TypeOwner.{TypeOwner}
 use Rattle.wit_data.specs.declared.types.TypeOwner.TheVariants as owner
 use Rattle.wit_elaboration.specs.Valid.{IsValid}
 use Rattle.wit_graph_theory.specs.facts.CarriedImages.{image_stands}
 use Rattle.wit_elaboration.proofs.Filters.{Contains-filter}
-use Rattle.wit_graph_theory.specs.Cut.{cut_interface}
+use Rattle.wit_remap_spec.specs.Kept.{cut_interface}
 use Rattle.wit_graph_theory.specs.facts.ImagesCome.{interface_image_stands}
-use Rattle.wit_graph_theory.specs.Image.{interface_image, name_image, owner_image, type_image}
+use Rattle.wit_remap_spec.specs.Image.{interface_image, name_image, owner_image, type_image}
 use Rattle.wit_graph_theory.specs.facts.ListFacts.{at_map, at_new, found_at, place_of, some_at}
-use Rattle.wit_graph_theory.specs.facts.ReferredFacts.{plain_image}
 use Rattle.wit_graph_theory.specs.steps.Sources.{InterfaceStands, IsOwnOf, Stands}
-use Rattle.wit_link_spec.specs.Addition.{Addition, addition_maps, maps_without_owns, own_interface, own_interfaces, own_type, own_types, owns_of_addition, positions, rank, remapped_interface, remapped_type, remapped_value, selected, selected_with_index, types_without_owns, value_needs_own}
+use Rattle.wit_link_spec.specs.Addition.{Addition, addition_maps, maps_without_owns, own_interface, own_interfaces, own_type, own_types, rank, remapped_interface, remapped_type, selected, remap_of_addition}
 use Rattle.wit_link_spec.specs.facts.ActivePart.{part}
 use Rattle.wit_link_spec.specs.Gates.{interface_is_active, is_foreign_interface, type_is_active}
 use Rattle.wit_link_spec.specs.Lookup.{interface_type, is_foreign_type}
 use Rattle.wit_link_spec.specs.facts.OwnThingFacts.{own_of_both}
-use Rattle.wit_link_spec.specs.facts.RankFacts.{selected-at, selected_with_index-at}
+use Rattle.wit_link_spec.specs.facts.RankFacts.{selected-at}
 use Rattle.wit_link_spec.specs.Reasons.{IsResolved}
 use Rattle.wit_link_spec.specs.Resources.{leads_to_resource, own_of}
 use Rattle.wit_link_spec.specs.facts.Standing.{ForeignType, foreign_interface_remapped, foreign_type, listed_is, own_interface_remapped, own_type_remapped}
-use Rattle.wit_link_laws.specs.facts.LeadFacts.{filtered_range, leads_nowhere}
+use Rattle.wit_link_spec.specs.ValueRemap.{owns, types_without_owns, value_id}
 use Rattle.wit_link_laws.specs.facts.Parts.{HasParts}
 use Rattle.wit_link_laws.specs.facts.SourcesGood.{package_source}
+use Rattle.wit_link_laws.specs.facts.ValueRemapFacts.{leads_named, new_stands, own_stands, value_stands}
 
 module _ (a : Addition) (valid : IsValid a.graph) (shaped : IsShaped a.unresolved) (image : IsResolved a) (types : List TypeDef) (interfaces : List Interface) (are : HasParts a types interfaces) where
   -- an own type stands as its image at its place
   pub own_type_at : (t : ℕ) (def : TypeDef) → slice_get a.unresolved.types t ≡ Some def → own_type a t ≡ true → slice_get types (remapped_type a t) ≡ Some (type_image (addition_maps a) def)
   own_type_at t def at own =
       subst (λ (types : List TypeDef). slice_get types (remapped_type a t) ≡ Some (type_image (addition_maps a) def)) (sym are.types_are)
-      (at_new a.graph.types (map (type_image (addition_maps a)) (own_types a) ++ owns_of_addition a) (rank (own_type a) t) (remapped_type a t) (type_image (addition_maps a) def) (own_type_remapped a t own)
-      (slice_get-append (map (type_image (addition_maps a)) (own_types a)) (owns_of_addition a) (rank (own_type a) t) (type_image (addition_maps a) def)
-      (at_map (type_image (addition_maps a)) (own_types a) (rank (own_type a) t) def (selected-at (own_type a) a.unresolved.types t def at own))))
+      (new_stands (remap_of_addition a) a.graph.types refl (rank (own_type a) t) (remapped_type a t) def (selected-at (own_type a) a.unresolved.types t def at own) (own_type_remapped a t own))
 
   -- a type of the graph stays
   pub old_type_at : (t : ℕ) (def : TypeDef) → slice_get a.graph.types t ≡ Some def → slice_get types t ≡ Some def
   old_type_at t def at =
-      subst (λ (types : List TypeDef). slice_get types t ≡ Some def) (sym are.types_are) (slice_get-append a.graph.types (map (type_image (addition_maps a)) (own_types a) ++ owns_of_addition a) t def at)
+      subst (λ (types : List TypeDef). slice_get types t ≡ Some def) (sym are.types_are) (slice_get-append a.graph.types (map (type_image (addition_maps a)) (own_types a) ++ owns (remap_of_addition a)) t def at)
 
   pub old_interface_at : (i : ℕ) (interface : Interface) → slice_get a.graph.interfaces i ≡ Some interface → slice_get interfaces i ≡ Some interface
   old_interface_at i interface at =
@@ -137,43 +132,22 @@ module _ (a : Addition) (valid : IsValid a.graph) (shaped : IsShaped a.unresolve
 -- ---- values
 
 module _ (a : Addition) (valid : IsValid a.graph) (shaped : IsShaped a.unresolved) (image : IsResolved a) (types : List TypeDef) (interfaces : List Interface) (are : HasParts a types interfaces) where
-  -- the `own` of a type that needs one stands at its place
-  pub own_at : (t : ℕ) (def : TypeDef) → slice_get a.unresolved.types t ≡ Some def → value_needs_own a t ≡ true → slice_get types (remapped_value a t) ≡ Some (own_of (remapped_type a t))
-  own_at t def at needs =
-      let goes : remapped_value a t ≡ length a.graph.types + length (own_types a) + rank (value_needs_own a) t =
-      ap (λ (b : Bool). if b then length a.graph.types + length (own_types a) + rank (value_needs_own a) t else remapped_type a t) needs in
-      let images = map (type_image (addition_maps a)) (own_types a) in
-      let long : length images ≡ length (own_types a) = length-map (own_types a) (type_image (addition_maps a)) in
-      let listed : slice_get (filter (value_needs_own a) (range_with_len 0 (length a.unresolved.types))) (rank (value_needs_own a) t) ≡ Some t =
-      ap (λ (l : List ℕ). slice_get l (rank (value_needs_own a) t)) (filtered_range (value_needs_own a) a.unresolved.types 0)
-      ∙ at_map (λ (e : ℕ × TypeDef). e.0) (selected_with_index (value_needs_own a) a.unresolved.types) (rank (value_needs_own a) t) (t, def) (selected_with_index-at (value_needs_own a) a.unresolved.types t def at needs) in
-      subst (λ (types : List TypeDef). slice_get types (remapped_value a t) ≡ Some (own_of (remapped_type a t))) (sym are.types_are)
-      (at_new a.graph.types (images ++ owns_of_addition a) (length (own_types a) + rank (value_needs_own a) t) (remapped_value a t) (own_of (remapped_type a t)) (omega arith)
-      (at_new images (owns_of_addition a) (rank (value_needs_own a) t) (length (own_types a) + rank (value_needs_own a) t) (own_of (remapped_type a t)) (omega arith)
-      (at_map (λ (t : ℕ). own_of (remapped_type a t)) (filter (value_needs_own a) (range_with_len 0 (length a.unresolved.types))) (rank (value_needs_own a) t) t listed)))
-
   -- a type that leads to a resource has a name
-  leads_named : (t : ℕ) (def : TypeDef) → slice_get a.unresolved.types t ≡ Some def → type_is_active a.features a.unresolved.types t ≡ true → leads_to_resource (types_without_owns a) (remapped_type a t) ≡ true → IsSome def.name
-  leads_named t def at active leads = elim (cases_Bool (is_foreign_type a.unresolved t)) [
+  type_named : (t : ℕ) (def : TypeDef) → slice_get a.unresolved.types t ≡ Some def → type_is_active a.features a.unresolved.types t ≡ true → leads_to_resource (types_without_owns (remap_of_addition a)) (remapped_type a t) ≡ true → IsSome def.name
+  type_named t def at active leads = elim (cases_Bool (is_foreign_type a.unresolved t)) [
     | inl foreign ↦ let is = foreign_type a valid shaped image t def at foreign active in subst (λ (o : Option (List ℕ)). IsSome o) (sym is.name_is) refl
-    | inr own ↦ by def.name refl (own_of_both (is_foreign_type a.unresolved t) (type_is_active a.features a.unresolved.types t) own active)
-  ]
-    where
-      by : (o : Option (List ℕ)) → def.name ≡ o → own_type a t ≡ true → IsSome def.name
-      by (Some n) called own = subst (λ (o : Option (List ℕ)). IsSome o) (sym called) refl
-      by None called own =
-          let there : slice_get (types_without_owns a) (remapped_type a t) ≡ Some (type_image (maps_without_owns a) def) =
+    | inr mine ↦
+        let own = own_of_both (is_foreign_type a.unresolved t) (type_is_active a.features a.unresolved.types t) mine active in
+        leads_named (remap_of_addition a) t def (λ none. (
+          shaped.references.unnamed t def at none,
           at_new a.graph.types (map (type_image (maps_without_owns a)) (own_types a)) (rank (own_type a) t) (remapped_type a t) (type_image (maps_without_owns a) def) (own_type_remapped a t own)
-          (at_map (type_image (maps_without_owns a)) (own_types a) (rank (own_type a) t) def (selected-at (own_type a) a.unresolved.types t def at own)) in
-          absurd (false≢true (sym (leads_nowhere (types_without_owns a) (remapped_type a t) (type_image (maps_without_owns a) def) there (plain_image (maps_without_owns a) def.kind (shaped.references.unnamed t def at called))) ∙ leads))
+              (at_map (type_image (maps_without_owns a)) (own_types a) (rank (own_type a) t) def (selected-at (own_type a) a.unresolved.types t def at own)),
+        )) leads
+  ]
 
   pub values_stand_there : (t : ℕ) (def : TypeDef) → slice_get a.unresolved.types t ≡ Some def → type_is_active a.features a.unresolved.types t ≡ true
-      → (remapped_value a t ≡ remapped_type a t) ⊎ (IsSome def.name × IsOwnOf types (remapped_value a t) (remapped_type a t))
-  values_stand_there t def at active = elim (cases_Bool (value_needs_own a t)) [
-    | inl needs ↦
-        inr (
-          leads_named t def at active (and_parts (list_any (nat_eq t) (positions a)) (leads_to_resource (types_without_owns a) (remapped_type a t)) needs).1,
-          some_at (λ (there : TypeDef). (there.name ≡ None) × (there.owner ≡ owner.None) × (there.kind ≡ kind.Handle (Own (remapped_type a t)))) types (remapped_value a t) (own_of (remapped_type a t)) (own_at t def at needs) (refl, refl, refl),
-        )
-    | inr plain ↦ inl (ap (λ (b : Bool). if b then length a.graph.types + length (own_types a) + rank (value_needs_own a) t else remapped_type a t) plain)
-  ]
+      → (value_id (remap_of_addition a) t ≡ remapped_type a t) ⊎ (IsSome def.name × IsOwnOf types (value_id (remap_of_addition a) t) (remapped_type a t))
+  values_stand_there t def at active =
+      value_stands (remap_of_addition a) types t def
+      (λ needs. subst (λ (types : List TypeDef). slice_get types (value_id (remap_of_addition a) t) ≡ Some (own_of (remapped_type a t))) (sym are.types_are)
+      (own_stands (remap_of_addition a) a.graph.types refl t (slice_get_within a.unresolved.types t def at) needs)) (type_named t def at active)

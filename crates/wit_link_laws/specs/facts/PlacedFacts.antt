@@ -1,9 +1,8 @@
 -- What a list of a world has after its setters are placed: the entries that it had, each once.
 use Rattle.std.proofs.Common.{◌≡◌, ◌∙◌, inl, inr, ℕ, suc, ◌+◌, Bool, true, false, List, [], ◌∷◌, ◌++◌, map, filter, nat_eq, is_some, Option, None, Some, unwrap_or, slice_get, refl, sym, ap, subst, arith, Contains, if◌then◌else◌}
-use Rattle.std.specs.List.{flat_map}
-use Rattle.std.specs.Option.{option_and_then, option_eq}
+use Rattle.std.specs.Option.{option_eq}
 use Rattle.std.specs.Map.{keys_of}
-use Rattle.std.specs.Prelude.{position}
+use Rattle.std.specs.Prelude.{position, flat_map, option_and_then}
 use Rattle.std.proofs.lemmas.Bool.{eqb-true}
 use Rattle.std.proofs.lemmas.List.{map-append}
 use Rattle.std.proofs.lemmas.List.Elements.{Contains-append_cases, Contains-append_left}

@@ -8,19 +8,20 @@ use Rattle.wit_data.specs.Entries.{Entry, IsExport, IsImport}
 use Rattle.wit_data.specs.declared.function.Function.{Function}
 use Rattle.wit_data.specs.declared.interface.Interface.{Interface}
 use Rattle.wit_data.specs.declared.types.TypeDef.{TypeDef}
-use Rattle.wit_data.specs.declared.types.TypeOwner.TheVariants as owner
 use Rattle.wit_data.specs.declared.world.World.{World}
 use Rattle.wit_data.specs.declared.world.WorldItem.{WorldItem}
-use Rattle.wit_data.specs.declared.world.WorldItem.TheVariants as item
 use Rattle.wit_data.specs.declared.world.WorldKey.{WorldKey}
+use Rattle.wit_data.specs.declared.types.TypeOwner.TheVariants as owner
+use Rattle.wit_data.specs.declared.world.WorldItem.TheVariants as item
 use Rattle.wit_data.specs.declared.world.WorldKey.TheVariants as key
 use Rattle.wit_elaboration.proofs.Filters.{Contains-filtered}
 use Rattle.wit_graph_data.specs.declared.graph.Graph.{Graph}
 use Rattle.wit_graph_theory.specs.facts.CarriedImages.{function_itself_carried, itself_carried}
 use Rattle.wit_graph_theory.specs.facts.Covered.{EntryComes, InterfaceAt, InterfaceComes, IsNoType, ItemComes, TypeComes, WorldComes}
-use Rattle.wit_graph_theory.specs.Cut.{cut_interface, cut_world, graph_source, item_in_range, kept_whole}
+use Rattle.wit_graph_theory.specs.Cut.{graph_source, item_in_range, kept_whole}
+use Rattle.wit_remap_spec.specs.Kept.{cut_interface, cut_world}
 use Rattle.wit_graph_theory.specs.facts.Good.{HasGoodItems}
-use Rattle.wit_graph_theory.specs.Image.{Maps, identity, item_image, key_image}
+use Rattle.wit_remap_spec.specs.Image.{Maps, identity, item_image, key_image}
 use Rattle.wit_graph_theory.specs.facts.ListFacts.{at_map, contained_at, found_at}
 use Rattle.wit_graph_theory.specs.steps.Sources.{Source}
 

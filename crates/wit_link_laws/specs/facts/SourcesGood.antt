@@ -6,7 +6,7 @@ use Rattle.wit_graph_theory.specs.Cut.{cut_source}
 use Rattle.wit_graph_theory.specs.facts.CutIsGood.{cut_is_good}
 use Rattle.wit_graph_theory.specs.facts.GoodIsValid.{good_things}
 use Rattle.wit_graph_theory.specs.facts.GraphSource.{mapped_is_good}
-use Rattle.wit_graph_theory.specs.Image.{identity}
+use Rattle.wit_remap_spec.specs.Image.{identity}
 use Rattle.wit_graph_theory.specs.Operations.{add_sources}
 use Rattle.wit_graph_theory.specs.facts.ShapeIsGood.{shape_is_good}
 use Rattle.wit_graph_theory.specs.steps.Sources.{IsGoodSource, Source}

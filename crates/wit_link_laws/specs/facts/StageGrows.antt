@@ -9,7 +9,7 @@ use Rattle.wit_data.specs.declared.types.TypeDef.{TypeDef}
 use Rattle.wit_data.specs.declared.world.World.{World}
 use Rattle.wit_data.specs.declared.world.WorldInclude.{WorldInclude}
 use Rattle.wit_graph_data.specs.declared.graph.Graph.{Graph}
-use Rattle.wit_graph_theory.specs.Image.{interface_image, type_image}
+use Rattle.wit_remap_spec.specs.Image.{interface_image, type_image}
 use Rattle.wit_graph_theory.specs.facts.ListFacts.{from_map, old_or_new}
 use Rattle.wit_graph_theory.specs.facts.OptionFacts.{none_there}
 use Rattle.wit_link_spec.specs.Addition.{Addition, remapped_world, selected, selected_with_index}

@@ -19,12 +19,13 @@ use Rattle.wit_elaboration.specs.Elaboration.{graph_uses}
 use Rattle.wit_elaboration.specs.Imported.{HasTransitiveConflict}
 use Rattle.wit_graph_data.specs.IdText.{key_text}
 use Rattle.wit_graph_data.specs.declared.graph.Graph.{Graph}
-use Rattle.wit_graph_theory.specs.Image.{world_image}
+use Rattle.wit_remap_spec.specs.Image.{world_image}
 use Rattle.wit_graph_theory.specs.facts.LawsOfElaboration.{LawsOfElaboration}
 use Rattle.wit_graph_theory.specs.facts.ListFacts.{at_map, get_at}
 use Rattle.wit_link_spec.specs.Addition.{Addition, active_includes, addition_maps, own_worlds, remapped_world}
 use Rattle.wit_link_spec.specs.Include.{IsListCalled, PartiallyLinked, lists_of}
-use Rattle.wit_link_spec.specs.Pushed.{linked_world, unfinished_world, with_all_includes, with_include, with_includes, with_parts, with_placed, with_world, with_worlds}
+use Rattle.wit_link_spec.specs.Pushed.{unfinished_world, with_all_includes, with_include, with_includes, with_parts, with_placed, with_world, with_worlds}
+use Rattle.wit_link_spec.specs.facts.Linked.{linked_world}
 use Rattle.wit_link_spec.specs.Reasons.{IsResolved}
 use Rattle.wit_link_spec.specs.FinishCause.{conflict_4}
 use Rattle.wit_link_spec.specs.IncludeCause.{IsShadowed, renamed_key, shadowing_7}

@@ -10,12 +10,12 @@ use Rattle.wit_data.specs.declared.world.World.{World}
 use Rattle.wit_elaboration.specs.Valid.{IsInTable, IsInterfaceOf, IsValid, IsWorldInTable, IsWorldOf}
 use Rattle.wit_graph_data.specs.declared.graph.Graph.{Graph}
 use Rattle.wit_graph_data.specs.declared.graph.Package.{Package}
-use Rattle.wit_graph_theory.specs.Cut.{cut_interface}
+use Rattle.wit_remap_spec.specs.Kept.{cut_interface}
 use Rattle.wit_graph_theory.specs.facts.DependencyFacts.{filter_map_into}
 use Rattle.wit_graph_theory.specs.facts.Good.{IsGoodPackage}
 use Rattle.wit_graph_theory.specs.facts.GoodIsValid.{good_things}
 use Rattle.wit_graph_theory.specs.facts.GoodTypes.{if_some}
-use Rattle.wit_graph_theory.specs.Image.{interface_image}
+use Rattle.wit_remap_spec.specs.Image.{interface_image}
 use Rattle.wit_graph_theory.specs.facts.ListFacts.{SomeAt-old, contained_at, found_at, from_map, old_or_new, some_at}
 use Rattle.wit_graph_theory.specs.laws.Theory.{HasGoodTables}
 use Rattle.wit_link_spec.specs.Addition.{Addition, addition_maps, own_interface, own_interfaces, rank, remapped_interface, selected_with_index}

@@ -12,14 +12,15 @@ use Rattle.wit_graph_data.specs.declared.graph.Graph.{Graph}
 use Rattle.wit_graph_theory.specs.facts.Good.{HasGoodThings, IsGoodAsAWhole}
 use Rattle.wit_graph_theory.specs.facts.GoodIsValid.{IsValid-from_good, good_things}
 use Rattle.wit_graph_theory.specs.facts.GraphSource.{good_items}
-use Rattle.wit_graph_theory.specs.Image.{interface_image, type_image, world_image}
+use Rattle.wit_remap_spec.specs.Image.{interface_image, type_image, world_image}
 use Rattle.wit_graph_theory.specs.facts.LawsOfElaboration.{LawsOfElaboration}
 use Rattle.wit_graph_theory.specs.facts.ListFacts.{get_at}
 use Rattle.wit_graph_theory.specs.facts.UnnamedOnceFacts.{StandOnce-from_entries}
-use Rattle.wit_link_spec.specs.Addition.{Addition, addition_maps, own_interfaces, own_types, own_worlds, owns_of_addition}
+use Rattle.wit_link_spec.specs.Addition.{Addition, addition_maps, own_interfaces, own_types, own_worlds, remap_of_addition}
 use Rattle.wit_link_spec.specs.Cause.{IsReached}
 use Rattle.wit_link_spec.specs.Pushed.{pushed, with_parts, with_world, with_worlds}
 use Rattle.wit_link_spec.specs.Reasons.{HasPackage, IsResolved}
+use Rattle.wit_link_spec.specs.ValueRemap.{owns}
 use Rattle.wit_link_laws.specs.facts.Grown.{IsGrown, grown}
 use Rattle.wit_link_laws.specs.facts.ListedOnce.{listed_stands}
 use Rattle.wit_link_laws.specs.facts.ListedStage.{listed_images}
@@ -43,7 +44,7 @@ module _ (laws : LawsOfElaboration) (a : Addition) (valid : IsValid a.graph) (sh
   -- and its finished worlds are canonical
   stage_canonical : (k : ℕ) → k ≤ length (own_worlds a) → IsReached a k → Each (λ (world : World). Elaborated (with_worlds a k).types (graph_uses (with_worlds a k)) world world) (with_worlds a k).worlds
   stage_canonical zero within reached = λ w world at.
-      canonical_longer a.graph (good_items a.graph (good_things a.graph valid)) (map (type_image (addition_maps a)) (own_types a) ++ owns_of_addition a) (map (interface_image (addition_maps a)) (own_interfaces a)) laws.local valid.no_cycles.uses
+      canonical_longer a.graph (good_items a.graph (good_things a.graph valid)) (map (type_image (addition_maps a)) (own_types a) ++ owns (remap_of_addition a)) (map (interface_image (addition_maps a)) (own_interfaces a)) laws.local valid.no_cycles.uses
       (listed_stands a valid shaped image).uses w world at (valid.canonical w world at)
   stage_canonical (suc k) within reached =
       let e = get_at (own_worlds a) k (omega arith) in

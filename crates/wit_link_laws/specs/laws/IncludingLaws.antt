@@ -1,6 +1,5 @@
 -- The laws of including, so that a contract can say them.
-use Rattle.std.specs.Prelude.{◌≡◌, ◌⊎◌, ◌↔◌, ◌++◌, ℕ, true, Some, Contains, slice_get}
-use Rattle.std.specs.List.{flat_map}
+use Rattle.std.specs.Prelude.{◌≡◌, ◌⊎◌, ◌↔◌, ◌++◌, ℕ, true, Some, Contains, slice_get, flat_map}
 use Rattle.wit_digraph.specs.Relation.{Reaches}
 use Rattle.wit_data.specs.Reference.{type_references}
 use Rattle.wit_data.specs.declared.world.World.{World}

@@ -14,7 +14,8 @@ use Rattle.wit_elaboration.specs.Valid.{IsValid}
 use Rattle.wit_graph_data.specs.declared.graph.Graph.{Graph}
 use Rattle.wit_graph_theory.specs.facts.Good.{IsGoodInterface, IsGoodWorld}
 use Rattle.wit_link_spec.specs.Addition.{Addition, active_includes, own_worlds, remapped_world}
-use Rattle.wit_link_spec.specs.Cause.{IncludeIsReached, IsReached}
+use Rattle.wit_link_spec.specs.Cause.{IsReached}
+use Rattle.wit_link_spec.specs.facts.Linked.{IncludeIsReached}
 use Rattle.wit_link_spec.specs.Include.{PartiallyLinked, is_owned_within, named_types}
 use Rattle.wit_link_spec.specs.Pushed.{pushed, with_all_includes, with_includes, with_worlds}
 use Rattle.wit_link_spec.specs.Reasons.{HasPackage, IsResolved}

@@ -1,12 +1,12 @@
 -- What the steps of sorting answer, for the contracts of this crate's own functions.
-use Rattle.std.specs.Prelude.{◌≡◌, ◌⊎◌, ℕ, ◌<◌, List, map, Some, slice_get, IsPermutation, IsSorted}
-use Rattle.std.specs.List.{enumerate_from, filter_map}
+use Rattle.std.specs.Prelude.{◌≡◌, ◌⊎◌, ℕ, ◌<◌, List, map, Some, slice_get, IsPermutation, IsSorted, filter_map}
+use Rattle.std.specs.List.{enumerate_from}
 use Rattle.std.specs.Map.{keys_of, lookup, values_of}
 use Rattle.wit_digraph.specs.Relation.{IsAcyclic}
 use Rattle.wit_data.specs.Foreign.{ForeignItem}
-use Rattle.wit_data.specs.PackageOrder.{package_cmp, same_package}
+use Rattle.wit_names.specs.PackageOrder.{package_cmp, same_package}
 use Rattle.wit_sources.specs.Span.{moved_by}
-use Rattle.wit_data.specs.declared.package_name.PackageName.{PackageName}
+use Rattle.wit_names.specs.declared.package_name.PackageName.{PackageName}
 use Rattle.wit_data.specs.declared.unresolved.UnresolvedPackage.{UnresolvedPackage}
 use Rattle.wit_graph_data.specs.declared.error_kind.ResolveErrorKind.{ResolveErrorKind}
 use Rattle.wit_graph_data.specs.declared.error_kind.ResolveErrorKind.TheVariants.{DuplicatePackage, PackageCycle, OffsetOverflow}

@@ -1,20 +1,17 @@
--- The functions that are active of a package, one after another: those of its interfaces, then of its worlds; and which
--- types stand at value positions.
-use Rattle.std.specs.Prelude.{ℕ, List, [], ◌∷◌, ◌++◌, map, length, slice_get, if◌then◌else◌, Bool, nat_eq}
+-- The functions that are active of a package, one after another: those of its interfaces, then of its worlds.
+use Rattle.std.specs.Prelude.{ℕ, List, [], ◌∷◌, ◌++◌, map, length, slice_get, if◌then◌else◌, flat_map}
 use Rattle.std.specs.Borrow.{Bor}
-use Rattle.std.specs.List.{flat_map, list_any, range_with_len}
+use Rattle.std.specs.List.{range_with_len}
 use Rattle.std.specs.Option.{option_map_or}
 use Rattle.wit_data.specs.Entries.{Entry}
 use Rattle.wit_data.specs.declared.function.Function.{Function}
 use Rattle.wit_data.specs.declared.interface.Interface.{Interface}
-use Rattle.wit_data.specs.declared.types.TypeDef.{TypeDef}
 use Rattle.wit_data.specs.declared.world.World.{World}
 use Rattle.wit_data.specs.declared.world.WorldItem.{WorldItem}
 use Rattle.wit_data.specs.declared.world.WorldItem.TheVariants as item
 use Rattle.wit_graph_data.specs.declared.features.Features.{Features}
-use Rattle.wit_link_spec.specs.Addition.{Addition, positions}
-use Rattle.wit_link_spec.specs.Gates.{function_is_active, interface_is_active, type_is_active, world_is_active}
-use Rattle.wit_link_spec.specs.Resources.{signature_positions, value_positions}
+use Rattle.wit_link_spec.specs.Addition.{Addition}
+use Rattle.wit_link_spec.specs.Gates.{function_is_active, interface_is_active, world_is_active}
 
 -- a function, where it is active
 abbrev pub active_one : Features → Function → List Function
@@ -54,16 +51,3 @@ active_functions a =
 -- functions that are looked at
 abbrev pub seen : List (Bor Function) → List Function
 seen functions = map (λ (f : Bor Function). f.now) functions
-
--- the value positions of type t of the package, where it is active
-abbrev pub positions_of_type : Addition → ℕ → List ℕ
-positions_of_type a t =
-    if type_is_active a.features a.unresolved.types t then option_map_or (λ (def : TypeDef). value_positions def.kind) (slice_get a.unresolved.types t) [] else []
-
--- those of all types, then of all functions
-abbrev pub gathered_positions : Addition → List ℕ
-gathered_positions a = flat_map (positions_of_type a) (range_with_len 0 (length a.unresolved.types)) ++ flat_map signature_positions (active_functions a)
-
--- does type t stand at a value position of what is active?
-abbrev pub is_asked : Addition → ℕ → Bool
-is_asked a t = list_any (nat_eq t) (positions a)

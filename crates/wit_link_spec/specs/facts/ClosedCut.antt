@@ -13,18 +13,19 @@ use Rattle.wit_data.specs.Entries.{Entry}
 use Rattle.wit_data.specs.Foreign.{AreFirst, ForeignItem, IsForeign, IsForeignType, IsNameOnlyWorld, foreign_interfaces, foreign_worlds, interface_id, world_id}
 use Rattle.wit_data.specs.Ownership.{IsListed, entry_type, world_types}
 use Rattle.wit_data.specs.Reference.{function_references, named_type, referred}
+use Rattle.wit_data.specs.facts.ReferenceFacts.{record_refers}
 use Rattle.wit_data.specs.Shape.{IsShaped}
+use Rattle.wit_data.specs.declared.types.Field.{Field}
 use Rattle.wit_data.specs.declared.function.Function.{Function}
 use Rattle.wit_data.specs.declared.interface.Interface.{Interface}
-use Rattle.wit_data.specs.declared.package_name.PackageName.{PackageName}
-use Rattle.wit_data.specs.declared.types.Field.{Field}
+use Rattle.wit_names.specs.declared.package_name.PackageName.{PackageName}
 use Rattle.wit_data.specs.declared.types.TypeDef.{TypeDef}
 use Rattle.wit_data.specs.declared.types.TypeDefKind.{TypeDefKind}
-use Rattle.wit_data.specs.declared.types.TypeDefKind.TheVariants as kind
 use Rattle.wit_data.specs.declared.types.TypeOwner.{TypeOwner}
+use Rattle.wit_data.specs.declared.world.World.{World}
+use Rattle.wit_data.specs.declared.types.TypeDefKind.TheVariants as kind
 use Rattle.wit_data.specs.declared.types.TypeOwner.TheVariants as owner
 use Rattle.wit_data.specs.declared.unresolved.AstItem.TheVariants as named
-use Rattle.wit_data.specs.declared.world.World.{World}
 use Rattle.wit_data.specs.declared.world.WorldItem.TheVariants as item
 use Rattle.wit_graph_theory.specs.Cut.{IsClosedCut, ItemIsKept, OwnerIsKept}
 use Rattle.wit_graph_theory.specs.facts.ListFacts.{Contains-map, contained_at, found_at, place_of, same_at, some_at}
@@ -41,45 +42,17 @@ there_where f (Some x) h = (x, refl, h)
 -- a reference has a place
 reference_place : (k : TypeDefKind) (span : OptionalSpan) (t : ℕ) → Contains (referred k) t → (place : OptionalSpan) × Contains (kind_references k span) (t, place)
 reference_place (kind.Record fields) span t has =
-    let from = Contains-flat_map_cases (λ (f : Field). named_type f.ty) fields t has in (
+    let from = Contains-flat_map_cases (λ (f : Field). named_type f.ty) fields t (subst (λ (ids : List ℕ). Contains ids t) (record_refers fields) has) in (
       from.0.span,
       Contains-flat_map (λ (f : Field). map (λ (u : ℕ). (u, f.span)) (named_type f.ty)) fields from.0 (t, from.0.span) from.1.0
           (Contains-map (λ (u : ℕ). (u, from.0.span)) (named_type from.0.ty) t from.1.1),
     )
-reference_place kind.Resource span t has = (span, Contains-map (λ (u : ℕ). (u, span)) (referred kind.Resource) t has)
-reference_place (kind.Handle handle) span t has = (span, Contains-map (λ (u : ℕ). (u, span)) (referred (kind.Handle handle)) t has)
-reference_place (kind.Flags flags) span t has = (span, Contains-map (λ (u : ℕ). (u, span)) (referred (kind.Flags flags)) t has)
-reference_place (kind.Tuple types) span t has = (span, Contains-map (λ (u : ℕ). (u, span)) (referred (kind.Tuple types)) t has)
-reference_place (kind.Variant cases) span t has = (span, Contains-map (λ (u : ℕ). (u, span)) (referred (kind.Variant cases)) t has)
-reference_place (kind.Enum cases) span t has = (span, Contains-map (λ (u : ℕ). (u, span)) (referred (kind.Enum cases)) t has)
-reference_place (kind.Option ty) span t has = (span, Contains-map (λ (u : ℕ). (u, span)) (referred (kind.Option ty)) t has)
-reference_place (kind.Result_ ok err) span t has = (span, Contains-map (λ (u : ℕ). (u, span)) (referred (kind.Result_ ok err)) t has)
-reference_place (kind.List ty) span t has = (span, Contains-map (λ (u : ℕ). (u, span)) (referred (kind.List ty)) t has)
-reference_place (kind.Map k v) span t has = (span, Contains-map (λ (u : ℕ). (u, span)) (referred (kind.Map k v)) t has)
-reference_place (kind.FixedLengthList ty len) span t has = (span, Contains-map (λ (u : ℕ). (u, span)) (referred (kind.FixedLengthList ty len)) t has)
-reference_place (kind.Future ty) span t has = (span, Contains-map (λ (u : ℕ). (u, span)) (referred (kind.Future ty)) t has)
-reference_place (kind.Stream ty) span t has = (span, Contains-map (λ (u : ℕ). (u, span)) (referred (kind.Stream ty)) t has)
-reference_place (kind.Type_ ty) span t has = (span, Contains-map (λ (u : ℕ). (u, span)) (referred (kind.Type_ ty)) t has)
-reference_place kind.Unknown span t has = (span, Contains-map (λ (u : ℕ). (u, span)) (referred kind.Unknown) t has)
+reference_place other span t has = (span, Contains-map (λ (u : ℕ). (u, span)) (referred other) t has)
 
 -- a kind is known or not
 known_or : (k : TypeDefKind) → (k ≡ kind.Unknown) ⊎ (k ≢ kind.Unknown)
-known_or (kind.Record fields) = inr (λ h. cc)
-known_or kind.Resource = inr (λ h. cc)
-known_or (kind.Handle handle) = inr (λ h. cc)
-known_or (kind.Flags flags) = inr (λ h. cc)
-known_or (kind.Tuple types) = inr (λ h. cc)
-known_or (kind.Variant cases) = inr (λ h. cc)
-known_or (kind.Enum cases) = inr (λ h. cc)
-known_or (kind.Option ty) = inr (λ h. cc)
-known_or (kind.Result_ ok err) = inr (λ h. cc)
-known_or (kind.List ty) = inr (λ h. cc)
-known_or (kind.Map k v) = inr (λ h. cc)
-known_or (kind.FixedLengthList ty len) = inr (λ h. cc)
-known_or (kind.Future ty) = inr (λ h. cc)
-known_or (kind.Stream ty) = inr (λ h. cc)
-known_or (kind.Type_ ty) = inr (λ h. cc)
 known_or kind.Unknown = inl refl
+known_or other = inr (λ h. cc)
 
 -- of so many ids, each once and each below their number, every number below is one
 differs : (w : ℕ) (xs : List ℕ) → ((y : ℕ) → Contains xs y → nat_eq w y ≡ false) → AllByRecursion (λ y. nat_eq w y ≡ false) xs

@@ -7,13 +7,13 @@ use Rattle.std.proofs.lemmas.Option.{slice_get_within}
 use Rattle.wit_digraph.specs.facts.MemberFacts.{Contains-cons_cases, Contains-flat_map, Contains-flat_map_cases, Contains-here, Contains-nil, Contains-there}
 use Rattle.wit_digraph.specs.facts.FreshFacts.{any_from_contains, contains_from_any}
 use Rattle.wit_data.specs.Foreign.{ForeignItem, ForeignItems, foreign_interfaces, foreign_worlds, interface_id, world_id}
-use Rattle.wit_data.specs.facts.PackageNameFacts.{own_name, same_name}
-use Rattle.wit_data.specs.PackageOrder.{same_package}
+use Rattle.wit_names.specs.facts.PackageNameFacts.{own_name, same_name}
+use Rattle.wit_names.specs.PackageOrder.{same_package}
 use Rattle.wit_data.specs.Shape.{IsShaped}
-use Rattle.wit_data.specs.declared.interface.Interface.{Interface}
-use Rattle.wit_data.specs.declared.package_name.PackageName.{PackageName}
-use Rattle.wit_data.specs.declared.world.World.{World}
 use Rattle.wit_data.specs.declared.unresolved.AstItem.{AstItem}
+use Rattle.wit_data.specs.declared.interface.Interface.{Interface}
+use Rattle.wit_names.specs.declared.package_name.PackageName.{PackageName}
+use Rattle.wit_data.specs.declared.world.World.{World}
 use Rattle.wit_data.specs.declared.unresolved.AstItem.TheVariants as named
 use Rattle.wit_sources.specs.Span.{moved_by}
 use Rattle.wit_graph_theory.specs.facts.ListFacts.{Contains-map, Contains-map_cases, get_at, place_of, some_at}

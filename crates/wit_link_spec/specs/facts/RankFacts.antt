@@ -1,5 +1,5 @@
 -- Facts on what is active of a list, for the proofs of the crates above.
-use Rattle.std.proofs.Common.{◌≡◌, ◌∙◌, ℕ, zero, suc, ◌+◌, ◌<◌, ◌≤◌, Bool, true, false, List, [], ◌∷◌, inl, inr, filter, Some, option_map, slice_get, refl, sym, ap, subst, cond, arith, if◌then◌else◌}
+use Rattle.std.proofs.Common.{◌≡◌, ◌∙◌, ℕ, zero, suc, ◌+◌, ◌<◌, ◌≤◌, Bool, true, false, List, [], ◌∷◌, inl, inr, map, filter, length, Some, option_map, slice_get, refl, sym, ap, subst, cond, arith, if◌then◌else◌}
 use Rattle.std.specs.List.{enumerate_from}
 use Rattle.std.proofs.lemmas.Bool.{cases_lt, cases_order}
 use Rattle.std.proofs.lemmas.Option.{slice_get-map}
@@ -135,3 +135,22 @@ module _ {X : Type 0} where
 
   pub selected-at : (kept : ℕ → Bool) (xs : List X) (i : ℕ) (x : X) → slice_get xs i ≡ Some x → kept i ≡ true → slice_get (selected kept xs) (rank kept i) ≡ Some x
   selected-at kept xs i x at takes = slice_get-map (λ (e : ℕ × X). e.1) (selected_with_index kept xs) (rank kept i) ∙ ap (option_map (λ (e : ℕ × X). e.1)) (selected_with_index-at kept xs i x at takes)
+
+-- ---- two tests that agree
+
+-- keep as many below a number below which they agree
+pub rank-agree : (p q : ℕ → Bool) (n : ℕ) → ((i : ℕ) → i < n → p i ≡ q i) → rank p n ≡ rank q n
+rank-agree p q zero same = refl
+rank-agree p q (suc n) same =
+    rank-suc p n ∙ (ap (λ (b : Bool). after b (rank p n)) (same n (omega arith)) ∙ (ap (after (q n)) (rank-agree p q n (λ i below. same i (omega arith))) ∙ sym (rank-suc q n)))
+
+module _ {X : Type 0} where
+  from-agree : (p q : ℕ → Bool) (n : ℕ) (xs : List X) → ((i : ℕ) → i < n + length xs → p i ≡ q i) → from n p xs ≡ from n q xs
+  from-agree p q n [] same = refl
+  from-agree p q n (x ∷ xs) same =
+      ap (λ (b : Bool). cond b ((n, x) ∷ from (n + 1) p xs) (from (n + 1) p xs)) (same n (omega arith))
+      ∙ ap (λ (l : List (ℕ × X)). cond (q n) ((n, x) ∷ l) l) (from-agree p q (n + 1) xs (λ i below. same i (omega arith)))
+
+  -- keep the same of a list
+  pub selected-agree : (p q : ℕ → Bool) (xs : List X) → ((i : ℕ) → i < length xs → p i ≡ q i) → selected p xs ≡ selected q xs
+  selected-agree p q xs same = ap (map (λ (e : ℕ × X). e.1)) (from-agree p q 0 xs (λ i below. same i (omega arith)))

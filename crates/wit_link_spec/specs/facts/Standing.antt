@@ -11,11 +11,11 @@ use Rattle.wit_data.specs.Foreign.{ForeignItem, IsForeignType, IsNameOnly, IsNam
 use Rattle.wit_data.specs.Ownership.{IsTypeOf}
 use Rattle.wit_data.specs.Shape.{IsShaped}
 use Rattle.wit_data.specs.declared.interface.Interface.{Interface}
-use Rattle.wit_data.specs.declared.package_name.PackageName.{PackageName}
+use Rattle.wit_names.specs.declared.package_name.PackageName.{PackageName}
 use Rattle.wit_data.specs.declared.types.TypeDef.{TypeDef}
 use Rattle.wit_data.specs.declared.types.TypeOwner.{TypeOwner}
-use Rattle.wit_data.specs.declared.types.TypeOwner.TheVariants as owner
 use Rattle.wit_data.specs.declared.world.World.{World}
+use Rattle.wit_data.specs.declared.types.TypeOwner.TheVariants as owner
 use Rattle.std.proofs.lemmas.Option.{slice_get_within}
 use Rattle.wit_data.specs.declared.unresolved.AstItem.TheVariants as named
 use Rattle.wit_sources.specs.Span.{moved_by}

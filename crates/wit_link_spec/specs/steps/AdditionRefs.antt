@@ -5,8 +5,9 @@ use Rattle.wit_link_spec.specs.declared.addition.Activity.{Activity}
 use Rattle.wit_link_spec.specs.declared.addition.AdditionRef.{AdditionRef}
 use Rattle.wit_link_spec.specs.declared.addition.NewIds.{NewIds}
 use Rattle.wit_link_spec.specs.declared.addition.Values.{Values}
-use Rattle.wit_link_spec.specs.Addition.{Addition, active_interface_id, active_type_id, active_world_id, owns_of_addition, remapped_value}
+use Rattle.wit_link_spec.specs.Addition.{Addition, active_interface_id, active_type_id, active_world_id, remap_of_addition}
 use Rattle.wit_link_spec.specs.Gates.{interface_is_active, type_is_active, world_is_active}
+use Rattle.wit_link_spec.specs.ValueRemap.{owns, value_id}
 
 -- the addition of a package that is being added
 abbrev pub addition_of : AdditionRef → Addition
@@ -31,6 +32,6 @@ new_ids_of a = record {
 -- what its types are remapped to at value positions, and the `own`s that come for that
 abbrev pub values_of : Addition → Values
 values_of a = record {
-  places = map (remapped_value a) (range_with_len 0 (length a.unresolved.types));
-  owns = owns_of_addition a;
+  places = map (value_id (remap_of_addition a)) (range_with_len 0 (length a.unresolved.types));
+  owns = owns (remap_of_addition a);
 }

@@ -1,25 +1,24 @@
 -- What the steps that join a thing to another, or move one, ask of it.
-use Rattle.std.specs.Prelude.{◌≡◌, ◌<◌, ℕ, true, List, [], filter, get_or, is_some, length, map, not, option_and_then, Contains, Option, None, Some}
+use Rattle.std.specs.Prelude.{◌≡◌, ◌<◌, ℕ, true, List, [], filter, get_or, is_some, length, map, not, option_and_then, Contains, Option, None, Some, bytes_eq}
 use Rattle.std.specs.Map.{lookup}
-use Rattle.std.specs.Str.{bytes_eq}
 use Rattle.wit_values.specs.Table.{HasDistinctKeys}
 use Rattle.wit_data.specs.Entries.{Entry}
 use Rattle.wit_data.specs.Reference.{function_references, referred}
 use Rattle.wit_data.specs.declared.function.Function.{Function}
 use Rattle.wit_data.specs.declared.interface.Interface.{Interface}
-use Rattle.wit_data.specs.declared.package_name.PackageName.{PackageName}
+use Rattle.wit_names.specs.declared.package_name.PackageName.{PackageName}
 use Rattle.wit_data.specs.declared.stability.Stability.{Stability}
 use Rattle.wit_data.specs.declared.types.TypeDef.{TypeDef}
 use Rattle.wit_data.specs.declared.types.TypeOwner.{TypeOwner}
-use Rattle.wit_data.specs.declared.types.TypeOwner.TheVariants as owner
 use Rattle.wit_data.specs.declared.world.World.{World}
 use Rattle.wit_data.specs.declared.world.WorldItem.{WorldItem}
-use Rattle.wit_data.specs.declared.world.WorldItem.TheVariants as item
 use Rattle.wit_data.specs.declared.world.WorldKey.{WorldKey}
+use Rattle.wit_data.specs.declared.types.TypeOwner.TheVariants as owner
+use Rattle.wit_data.specs.declared.world.WorldItem.TheVariants as item
 use Rattle.wit_data.specs.declared.world.WorldKey.TheVariants as key
 use Rattle.wit_elaboration.specs.Entries.{same_key}
 use Rattle.wit_graph_data.specs.declared.graph.Package.{Package}
-use Rattle.wit_graph_theory.specs.Image.{entry_image, function_image}
+use Rattle.wit_remap_spec.specs.Image.{entry_image, function_image}
 use Rattle.wit_link_spec.specs.Include.{joined_stability}
 use Rattle.wit_merge_match.specs.steps.Matched.{moves}
 use Rattle.wit_remap.specs.steps.Fits.{Fits, FunctionFits, InterfaceFits, TypeFits, WorldFits}
@@ -81,20 +80,20 @@ pub record InterfaceMoves (m : GraphMerge) (interface : Interface) : Type 0 wher
   pub fits : InterfaceFits (Fits m.offset) interface
 
 -- an interface can be joined to another: the names of what it brings are new there
-pub record InterfaceJoins (m : GraphMerge) (p : ℕ × Interface) (into : Interface) : Type 0 where
-  pub types_apart : HasDistinctKeys (with_interface m p.1 into).types
-  pub functions_apart : HasDistinctKeys (with_interface m p.1 into).functions
-  pub types : (e : List ℕ × ℕ) → Contains p.1.types e → e.1 < length m.other.types
-  pub functions : FunctionsMove m p.1.functions
+pub record InterfaceJoins (m : GraphMerge) (from into : Interface) : Type 0 where
+  pub types_apart : HasDistinctKeys (with_interface m from into).types
+  pub functions_apart : HasDistinctKeys (with_interface m from into).functions
+  pub types : (e : List ℕ × ℕ) → Contains from.types e → e.1 < length m.other.types
+  pub functions : FunctionsMove m from.functions
 
 -- ---- packages
 
 -- the names of what comes to the tables of a package differ there
-pub record PackageJoins (m : GraphMerge) (p : ℕ × Package) (into : Package) : Type 0 where
-  pub interfaces_apart : HasDistinctKeys (with_package m p.1 into).interfaces
-  pub worlds_apart : HasDistinctKeys (with_package m p.1 into).worlds
-  pub interfaces : (e : List ℕ × ℕ) → Contains p.1.interfaces e → e.1 < length m.other.interfaces
-  pub worlds : (e : List ℕ × ℕ) → Contains p.1.worlds e → e.1 < length m.other.worlds
+pub record PackageJoins (m : GraphMerge) (from into : Package) : Type 0 where
+  pub interfaces_apart : HasDistinctKeys (with_package m from into).interfaces
+  pub worlds_apart : HasDistinctKeys (with_package m from into).worlds
+  pub interfaces : (e : List ℕ × ℕ) → Contains from.interfaces e → e.1 < length m.other.interfaces
+  pub worlds : (e : List ℕ × ℕ) → Contains from.worlds e → e.1 < length m.other.worlds
 
 -- a package can move: so do all its interfaces and worlds
 pub record PackageMoves (m : GraphMerge) (home : Package) : Type 0 where
@@ -156,7 +155,7 @@ abbrev pub brought_names : GraphMerge → List (PackageName × ℕ) → List (Pa
 brought_names m names = map (λ (e : PackageName × ℕ). (e.0, merged_package m e.1)) (filter (λ (e : PackageName × ℕ). moves_package m e.1) names)
 
 -- a world can be joined to another: the keys of each of its lists differ, and the interfaces of its keys are there
-pub record WorldJoins (m : GraphMerge) (p : ℕ × World) (into : World) : Type 0 where
+pub record WorldJoins (m : GraphMerge) (into : World) : Type 0 where
   pub imports_apart : HasDistinctKeys into.imports
   pub exports_apart : HasDistinctKeys into.exports
   pub imports : (e : Entry) → Contains into.imports e → KeyWithin (length m.graph.interfaces) e.0

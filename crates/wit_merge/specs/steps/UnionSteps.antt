@@ -1,24 +1,21 @@
--- What the steps of a merge ask and hand on: the two graphs and what holds before anything is made of them, which types
--- lead to a resource where it is known of some in advance, what functions that move return, what is matched of the two
--- graphs, and where the things of the other one go.
-use Rattle.std.specs.Prelude.{◌≡◌, ℕ, List, length, map, find, nat_eq, option_and_then, slice_get, Option, Some, Bool, None, Contains}
+-- What the steps of a merge ask and hand on: the two graphs and what holds before anything is made of them, what functions
+-- that move return, what is matched of the two graphs, and where the things of the other one go.
+use Rattle.std.specs.Prelude.{◌≡◌, ℕ, List, length, map, find, nat_eq, option_and_then, slice_get, Option, Some, None, Contains, option_map}
 use Rattle.std.specs.List.{enumerate_from, range_with_len}
-use Rattle.std.specs.Option.{option_eq, option_map}
+use Rattle.std.specs.Option.{option_eq}
 use Rattle.wit_data.specs.Reference.{named_option}
-use Rattle.wit_data.specs.Uses.{alias_target}
 use Rattle.wit_data.specs.declared.function.Function.{Function}
 use Rattle.wit_data.specs.declared.stability.Stability.{Stability}
-use Rattle.wit_data.specs.declared.types.TypeDef.{TypeDef}
 use Rattle.wit_graph_data.specs.declared.cause.Cause.TheVariants as cause
 use Rattle.wit_graph_data.specs.declared.error_kind.ResolveErrorKind.{ResolveErrorKind}
 use Rattle.wit_graph_data.specs.declared.error_kind.ResolveErrorKind.TheVariants.{Semantic}
 use Rattle.wit_elaboration.specs.Valid.{IsValid}
-use Rattle.wit_graph_theory.specs.Image.{function_image}
+use Rattle.wit_remap_spec.specs.Image.{function_image}
 use Rattle.wit_link_spec.specs.Reasons.{HoldsBorrow}
-use Rattle.wit_link_spec.specs.Resources.{is_resource_kind}
+use Rattle.wit_link_spec.specs.ValueRemap.{value_id}
 use Rattle.wit_remap.specs.steps.Fits.{PartsFit}
 use Rattle.wit_merge_spec.specs.Matches.{GraphMerge}
-use Rattle.wit_merge_spec.specs.Remapped.{merge_maps, merged_value}
+use Rattle.wit_merge_spec.specs.Remapped.{merge_maps, remap_of_merge}
 use Rattle.wit_merge_spec.specs.Cause.{HasNoMismatch, MergeOverflows, MergeReturnsBorrow, StabilitiesMismatch}
 use Rattle.wit_merge_spec.specs.United.{joined_graph}
 use Rattle.wit_merge_match.specs.steps.Matched.{AreMatches, merge_remap_of}
@@ -42,7 +39,7 @@ merging_of u = record { graph = u.graph.now; other = u.other.now; offset = u.off
 
 -- where the types of the other graph go at value positions, as a list
 abbrev pub value_ids : GraphMerge → List ℕ
-value_ids m = map (merged_value m) (range_with_len 0 (length m.other.types))
+value_ids m = map (value_id (remap_of_merge m)) (range_with_len 0 (length m.other.types))
 
 -- the graphs are valid, nothing differs of them that has to agree, what is handed on is theirs, and spans can be moved
 pub record CanUnite (u : UnionPlan) : Type 0 where
@@ -60,13 +57,6 @@ pub record DoAgree (m : GraphMerge) : Type 0 where
   pub one : HasNoMismatch m
   pub stabilities : (from into : Stability) → StabilitiesMismatch m from into → ⊥
   pub spans : MergeOverflows m → ⊥
-
--- a test has of some types the answer that is known of them, and of each other that of the type that it names as an
--- alias, or whether it is a resource
-pub record AreLeadFlags (types : List TypeDef) (known : List (Option Bool)) (test : ℕ → Bool) : Type 0 where
-  pub told : (t : ℕ) (answer : Bool) → slice_get known t ≡ Some (Some answer) → test t ≡ answer
-  pub alias : (t u : ℕ) (def : TypeDef) → slice_get known t ≡ Some None → slice_get types t ≡ Some def → alias_target def.kind ≡ Some u → test t ≡ test u
-  pub plain : (t : ℕ) (def : TypeDef) → slice_get known t ≡ Some None → slice_get types t ≡ Some def → alias_target def.kind ≡ None → test t ≡ is_resource_kind def.kind
 
 -- what a function returns where it goes holds no borrow
 pub record ReturnsFree (m : GraphMerge) (f : Function) : Type 0 where

@@ -1,7 +1,7 @@
 -- A type of the incoming graph holds a borrow in two graphs that are one only if it does in its own: what moves holds
 -- what it held, at its place or by an `own` of it, and what is matched holds what its counterpart does, since the two
 -- have one structure.
-use Rattle.std.proofs.Common.{◌≡◌, ◌∙◌, ◌⊎◌, inl, inr, ℕ, ◌<◌, ◌+◌, Bool, true, false, List, [], ◌∷◌, ◌++◌, length, Option, None, Some, option_map, option_to_list, slice_get, refl, sym, ap, subst, Contains, if◌then◌else◌}
+use Rattle.std.proofs.Common.{◌≡◌, ◌∙◌, ◌⊎◌, inl, inr, ℕ, ◌<◌, ◌+◌, true, false, List, [], ◌∷◌, ◌++◌, length, Option, None, Some, option_map, option_to_list, slice_get, refl, sym, ap, subst, Contains, if◌then◌else◌}
 use Rattle.std.specs.List.{flat_map}
 use Rattle.std.proofs.lemmas.Bool.{cases_Bool}
 use Rattle.std.proofs.lemmas.List.Elements.{Contains-append_right}
@@ -9,52 +9,63 @@ use Rattle.std.proofs.lemmas.Option.{slice_get_within}
 use Rattle.wit_digraph.specs.facts.MemberFacts.{Contains-cons_cases, Contains-flat_map_cases, Contains-here, Contains-nil}
 use Rattle.wit_digraph.specs.Relation.{IsPath}
 use Rattle.wit_data.specs.Function.{resource_of}
+use Rattle.wit_data.specs.Kind.{KindPart, kind_parts, variant_of}
+use Rattle.wit_data.specs.facts.KindFacts.{roles_are, variant_role}
 use Rattle.wit_data.specs.Reference.{function_references, named_option, named_type, referred}
+use Rattle.wit_data.specs.facts.ReferenceFacts.{all_referred, in_role}
 use Rattle.wit_data.specs.declared.function.Function.{Function}
 use Rattle.wit_data.specs.declared.function.Param.{Param}
-use Rattle.wit_data.specs.declared.types.Handle.TheVariants as handle
 use Rattle.wit_data.specs.declared.types.TypeDef.{TypeDef}
 use Rattle.wit_data.specs.declared.types.TypeDefKind.{TypeDefKind}
-use Rattle.wit_data.specs.declared.types.TypeDefKind.TheVariants as kind
 use Rattle.wit_data.specs.declared.types.Type_.{Type_}
+use Rattle.wit_data.specs.declared.kind.Variant.{Variant}
+use Rattle.wit_data.specs.declared.kind.Variant.TheVariants as variants
+use Rattle.wit_data.specs.declared.types.Handle.TheVariants as handle
+use Rattle.wit_data.specs.declared.types.TypeDefKind.TheVariants as kind
 use Rattle.wit_data.specs.declared.types.Type_.TheVariants as type
 use Rattle.wit_elaboration.specs.Valid.{IsValid}
-use Rattle.wit_graph_data.specs.Queries.{content_types, type_contents}
-use Rattle.wit_graph_theory.specs.Image.{Maps, kind_image, type_image, value_image}
-use Rattle.wit_graph_theory.specs.facts.ListFacts.{found_at, from_row, get_at, in_row, same_at, some_at}
+use Rattle.wit_graph_data.specs.facts.ContentFacts.{held_among}
+use Rattle.wit_graph_data.specs.Queries.{content_types, is_held, type_contents}
+use Rattle.wit_remap_spec.specs.Image.{Maps, kind_image, type_image, value_image}
+use Rattle.wit_graph_theory.specs.facts.ListFacts.{found_at, from_row, get_at, in_row, place_of, same_at, some_at}
 use Rattle.wit_graph_theory.specs.facts.Referred.{RemapsTo}
-use Rattle.wit_graph_theory.specs.facts.ReferredFacts.{kind_refers}
+use Rattle.wit_graph_theory.specs.facts.ReferredFacts.{kind_refers, variant_image}
 use Rattle.wit_link_spec.specs.Reasons.{HoldsBorrow, IsBorrow}
-use Rattle.wit_link_spec.specs.Addition.{rank}
 use Rattle.wit_link_spec.specs.Resources.{own_of}
-use Rattle.wit_merge_structure.specs.Structure.{Part, held_features, parts_of, structure, variant_of}
-use Rattle.wit_merge_structure.specs.facts.StructureFacts.{part_refers, parts_name}
-use Rattle.wit_merge_structure.specs.declared.kinds.Variant.TheVariants as variants
+use Rattle.wit_link_spec.specs.ValueRemap.{needs_own, value_id}
+use Rattle.wit_merge_structure.specs.Structure.{held_features, structure}
+use Rattle.wit_merge_structure.specs.facts.StructureFacts.{part_refers}
 use Rattle.wit_merge_spec.specs.United.{joined_graph, joined_type}
 use Rattle.wit_merge_spec.specs.Matches.{GraphMerge, counterpart_type}
-use Rattle.wit_merge_spec.specs.Remapped.{merge_maps, merged_type, merged_value, merged_value_needs_own, moved_types, moves_type}
+use Rattle.wit_merge_spec.specs.Remapped.{merge_maps, merged_type, moves_type, remap_of_merge}
 use Rattle.wit_merge_spec.specs.Cause.{HasNoMismatch}
 use Rattle.wit_merge_laws.specs.laws.BorrowLaws.{MergesMakeNoBorrow}
 use Rattle.wit_merge_laws.specs.facts.FunctionsThere.{moved_refers}
 use Rattle.wit_merge_laws.specs.facts.MatchFacts.{goes_to, type_is}
 use Rattle.wit_merge_laws.specs.facts.MatchedTypes.{no_difference}
 use Rattle.wit_merge_laws.specs.facts.StructuresRead.{kinds_alike, refers_within, same_structure, type_alike}
+use Rattle.wit_link_laws.specs.facts.ValueRemapFacts.{value_plain}
 use Rattle.wit_merge_laws.specs.facts.TypesStand.{joined_keeps, matched_some, new_type_at, old_type_at, own_at}
 
 -- ---- kinds
 
 -- what a kind holds it refers to
 held_refers : (k : TypeDefKind) (t : ℕ) → Contains (content_types k) t → Contains (referred k) t
-held_refers (kind.Handle h) t has = absurd (Contains-nil has)
-held_refers other t has = has
+held_refers k t has = held_among k t has
+
+-- a kind that holds something is of a variant whose parts are held, and holds all that it refers to
+held_variant : (l : TypeDefKind) (u : ℕ) → Contains (content_types l) u → is_held (variant_role (variant_of l)) ≡ true
+held_variant l u held =
+    let at = in_role is_held l u held in
+    let place = place_of (kind_parts l) at.0 at.1.0 in
+    sym (ap is_held (roles_are l place.0 at.0 place.1)) ∙ at.1.1.0
+
+all_held : (k : TypeDefKind) → is_held (variant_role (variant_of k)) ≡ true → (t : ℕ) → Contains (referred k) t → Contains (content_types k) t
+all_held k held t has = subst (λ (ids : List ℕ). Contains ids t) (sym (all_referred is_held k (variant_role (variant_of k)) (roles_are k) held)) has
 
 -- what a kind refers to it holds, where one of its variant holds something
 refers_held : (k l : TypeDefKind) (t u : ℕ) → variant_of k ≡ variant_of l → Contains (content_types l) u → Contains (referred k) t → Contains (content_types k) t
-refers_held (kind.Handle (handle.Own r)) (kind.Handle h) t u same held has = absurd (Contains-nil held)
-refers_held (kind.Handle (handle.Own r)) other t u same held has = cc
-refers_held (kind.Handle (handle.Borrow r)) (kind.Handle h) t u same held has = absurd (Contains-nil held)
-refers_held (kind.Handle (handle.Borrow r)) other t u same held has = cc
-refers_held other l t u same held has = has
+refers_held k l t u same held has = all_held k (ap (λ (v : Variant). is_held (variant_role v)) same ∙ held_variant l u held) t has
 
 borrow_variant : (k : TypeDefKind) → variant_of k ≡ variants.Borrow → (r : ℕ) × (k ≡ kind.Handle (handle.Borrow r))
 borrow_variant (kind.Handle (handle.Borrow r)) is = (r, refl)
@@ -62,9 +73,9 @@ borrow_variant (kind.Handle (handle.Own r)) is = cc
 borrow_variant other is = cc
 
 -- a part holds what a kind refers to
-named_part : (k : TypeDefKind) (u : ℕ) → Contains (referred k) u → (p : Part) × Contains (parts_of k) p × (p.ty ≡ Some (type.Id u))
+named_part : (k : TypeDefKind) (u : ℕ) → Contains (referred k) u → (p : KindPart) × Contains (kind_parts k) p × (p.ty ≡ Some (type.Id u))
 named_part k u has =
-    let from = Contains-flat_map_cases (λ (p : Part). named_option p.ty) (parts_of k) u (subst (λ (ids : List ℕ). Contains ids u) (sym (parts_name k)) has) in
+    let from = Contains-flat_map_cases (λ (p : KindPart). named_option p.ty) (kind_parts k) u has in
     (from.0, from.1.0, by from.0.ty from.1.1)
   where
     by : (ty : Option Type_) → Contains (named_option ty) u → ty ≡ Some (type.Id u)
@@ -82,8 +93,7 @@ borrow_image m (kind.Handle (handle.Own r)) r' is = cc
 borrow_image m other r' is = cc
 
 held_image : (m : Maps) (k : TypeDefKind) (t u' : ℕ) → Contains (content_types (kind_image m k)) u' → Contains (referred k) t → Contains (content_types k) t
-held_image m (kind.Handle h) t u' held has = absurd (Contains-nil held)
-held_image m other t u' held has = has
+held_image m k t u' held has = refers_held k (kind_image m k) t u' (sym (variant_image m k)) held has
 
 abbrev content_row : TypeDef → List ℕ
 content_row def = content_types def.kind
@@ -165,28 +175,28 @@ module _ (m : GraphMerge) (valid : IsValid m.graph) (valid_other : IsValid m.oth
       ((in_row content_row ours t' at.0 u' at.1 has, rest.0), rest.1)
 
   -- an `own` holds none
-  own_holds : (t : ℕ) (def : TypeDef) (path : List ℕ) (b : ℕ) → slice_get others t ≡ Some def → merged_value_needs_own m t ≡ true → IsPath (type_contents joined) (merged_value m t) path b → IsBorrow joined b → ⊥
+  own_holds : (t : ℕ) (def : TypeDef) (path : List ℕ) (b : ℕ) → slice_get others t ≡ Some def → needs_own (remap_of_merge m) t ≡ true → IsPath (type_contents joined) (value_id (remap_of_merge m) t) path b → IsBorrow joined b → ⊥
   own_holds t def [] b at needs same is =
-      let there = found_at (λ (d : TypeDef). (x : ℕ) × (d.kind ≡ kind.Handle (handle.Borrow x))) joined (merged_value m t) (subst (IsBorrow joined) (sym same) is) in
-      let own : own_of (merged_type m t) ≡ there.0 = same_at joined (merged_value m t) (merged_value m t) (own_of (merged_type m t)) there.0 refl (own_at m t def at needs) there.1 in
+      let there = found_at (λ (d : TypeDef). (x : ℕ) × (d.kind ≡ kind.Handle (handle.Borrow x))) joined (value_id (remap_of_merge m) t) (subst (IsBorrow joined) (sym same) is) in
+      let own : own_of (merged_type m t) ≡ there.0 = same_at joined (value_id (remap_of_merge m) t) (value_id (remap_of_merge m) t) (own_of (merged_type m t)) there.0 refl (own_at m t def at needs) there.1 in
       let borrow = ap (λ (d : TypeDef). d.kind) own ∙ there.2.1 in
       apart borrow
     where
       apart : {r r' : ℕ} → kind.Handle (handle.Own r) ≡ kind.Handle (handle.Borrow r') → ⊥
       apart same = cc
   own_holds t def (u' ∷ path) b at needs leads is =
-      let there = from_row content_row joined (merged_value m t) u' leads.0 in
-      let own : own_of (merged_type m t) ≡ there.0 = same_at joined (merged_value m t) (merged_value m t) (own_of (merged_type m t)) there.0 refl (own_at m t def at needs) there.1 in
+      let there = from_row content_row joined (value_id (remap_of_merge m) t) u' leads.0 in
+      let own : own_of (merged_type m t) ≡ there.0 = same_at joined (value_id (remap_of_merge m) t) (value_id (remap_of_merge m) t) (own_of (merged_type m t)) there.0 refl (own_at m t def at needs) there.1 in
       Contains-nil (subst (λ (d : TypeDef). Contains (content_types d.kind) u') (sym own) there.2)
 
-  value_goes : (t : ℕ) → merged_value_needs_own m t ≡ false → merged_value m t ≡ merged_type m t
-  value_goes t plain = ap (λ (b : Bool). if b then length m.graph.types + length (moved_types m) + rank (merged_value_needs_own m) t else merged_type m t) plain
+  value_goes : (t : ℕ) → needs_own (remap_of_merge m) t ≡ false → value_id (remap_of_merge m) t ≡ merged_type m t
+  value_goes t plain = value_plain (remap_of_merge m) t plain
 
   -- what a type is remapped to is its place, or an `own` of it
-  place_or_own : (t t' : ℕ) → RemapsTo (merge_maps m) t t' → (t' ≡ merged_type m t) ⊎ ((merged_value_needs_own m t ≡ true) × (t' ≡ merged_value m t))
+  place_or_own : (t t' : ℕ) → RemapsTo (merge_maps m) t t' → (t' ≡ merged_type m t) ⊎ ((needs_own (remap_of_merge m) t ≡ true) × (t' ≡ value_id (remap_of_merge m) t))
   place_or_own t t' (inl place) = inl place
   place_or_own t t' (inr value) =
-      elim (cases_Bool (merged_value_needs_own m t)) [
+      elim (cases_Bool (needs_own (remap_of_merge m) t)) [
         | inl needs ↦ inr (needs, value)
         | inr plain ↦ inl (value ∙ value_goes t plain)
       ]

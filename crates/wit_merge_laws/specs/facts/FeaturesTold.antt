@@ -9,8 +9,8 @@ use Rattle.wit_data.specs.declared.types.Type_.{Type_}
 use Rattle.wit_data.specs.declared.types.Type_.TheVariants as type
 use Rattle.wit_merge_structure.specs.facts.DifferenceFacts.{first_behind, first_here}
 use Rattle.wit_merge_structure.specs.Structure.{Content, Feature, FirstDifference, absent, fixed, named, names, primitive, variant}
-use Rattle.wit_merge_structure.specs.declared.kinds.Variant.TheVariants as variants
-use Rattle.wit_merge_laws.specs.facts.StructureHeads.{all_variants, number, numbered}
+use Rattle.wit_data.specs.declared.kind.Variant.TheVariants as variants
+use Rattle.wit_data.specs.facts.KindFacts.{all_variants, variant_number, variant_numbered}
 
 -- ---- types by numbers
 
@@ -55,7 +55,7 @@ record Code : Type 0 where
   steps : List (List ℕ)
 
 code : Content → Code
-code (variant v) = record { sort = 0; first = number v; second = 0; steps = [] }
+code (variant v) = record { sort = 0; first = variant_number v; second = 0; steps = [] }
 code (names steps) = record { sort = 1; first = 0; second = 0; steps = steps }
 code (fixed len) = record { sort = 2; first = len; second = 0; steps = [] }
 code absent = record { sort = 3; first = 0; second = 0; steps = [] }
@@ -71,7 +71,7 @@ coded c =
 
 code_back : (c : Content) → coded (code c) ≡ c
 unfolding code coded
-code_back (variant v) = ap variant (numbered v)
+code_back (variant v) = ap variant (variant_numbered v)
 code_back (names steps) = refl
 code_back (fixed len) = refl
 code_back absent = refl

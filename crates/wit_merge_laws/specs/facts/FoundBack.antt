@@ -14,20 +14,20 @@ use Rattle.std.specs.Str.{bytes_eq}
 use Rattle.wit_digraph.specs.facts.MemberFacts.{Contains-flat_map, Contains-here}
 use Rattle.std.proofs.lemmas.List.Elements.{Contains-append_left, Contains-append_right}
 use Rattle.wit_values.specs.Table.{HasDistinctKeys}
-use Rattle.wit_data.specs.Entries.{Entry, is_unnamed, item_interface}
+use Rattle.wit_data.specs.Entries.{Entry, is_unnamed, item_interface, entries_of}
 use Rattle.wit_data.specs.Ownership.{IsListed, world_types}
-use Rattle.wit_data.specs.facts.PackageNameFacts.{same_package-Decides}
-use Rattle.wit_data.specs.PackageOrder.{same_package}
+use Rattle.wit_names.specs.facts.PackageNameFacts.{same_package-Decides}
+use Rattle.wit_names.specs.PackageOrder.{same_package}
 use Rattle.wit_data.specs.facts.WorldKeyFacts.{key_laws}
 use Rattle.wit_data.specs.declared.interface.Interface.{Interface}
-use Rattle.wit_data.specs.declared.package_name.PackageName.{PackageName}
+use Rattle.wit_names.specs.declared.package_name.PackageName.{PackageName}
 use Rattle.wit_data.specs.declared.types.TypeDef.{TypeDef}
 use Rattle.wit_data.specs.declared.types.TypeOwner.{TypeOwner}
-use Rattle.wit_data.specs.declared.types.TypeOwner.TheVariants as owner
 use Rattle.wit_data.specs.declared.world.World.{World}
 use Rattle.wit_data.specs.declared.world.WorldItem.{WorldItem}
-use Rattle.wit_data.specs.declared.world.WorldItem.TheVariants as item
 use Rattle.wit_data.specs.declared.world.WorldKey.{WorldKey}
+use Rattle.wit_data.specs.declared.types.TypeOwner.TheVariants as owner
+use Rattle.wit_data.specs.declared.world.WorldItem.TheVariants as item
 use Rattle.wit_data.specs.declared.world.WorldKey.TheVariants as key
 use Rattle.wit_elaboration.proofs.FreshEntries.{same_key-true}
 use Rattle.wit_elaboration.specs.Entries.{same_key}
@@ -36,7 +36,6 @@ use Rattle.wit_graph_data.specs.declared.graph.Graph.{Graph}
 use Rattle.wit_graph_data.specs.declared.graph.Package.{Package}
 use Rattle.wit_graph_theory.specs.facts.GoodWorlds.{same_one}
 use Rattle.wit_graph_theory.specs.facts.ListFacts.{Contains-map, contained_at, found_at, place_of}
-use Rattle.wit_graph_theory.specs.steps.UnnamedOnce.{entries_of}
 use Rattle.wit_graph_theory.specs.facts.OptionFacts.{some_parts, some_there, some_whole}
 use Rattle.wit_graph_theory.specs.facts.PackagesAcyclic.{numbered_into}
 use Rattle.wit_link_spec.specs.Lookup.{interface_type}

@@ -6,11 +6,11 @@ use Rattle.std.specs.Option.{option_map_or}
 use Rattle.wit_values.specs.facts.Lists.{slice_get-append}
 use Rattle.wit_data.specs.Each.{EachAt, SomeAt}
 use Rattle.wit_data.specs.declared.interface.Interface.{Interface}
-use Rattle.wit_data.specs.declared.package_name.PackageName.{PackageName}
+use Rattle.wit_names.specs.declared.package_name.PackageName.{PackageName}
 use Rattle.wit_data.specs.declared.types.TypeDef.{TypeDef}
 use Rattle.wit_data.specs.declared.world.World.{World}
 use Rattle.wit_graph_data.specs.declared.graph.Package.{Package}
-use Rattle.wit_graph_theory.specs.AllElaborated.{elaborated_world}
+use Rattle.wit_elaboration.specs.AllElaborated.{elaborated_world}
 use Rattle.wit_graph_theory.specs.facts.ListFacts.{at_map, some_at}
 use Rattle.wit_graph_theory.specs.facts.PackagesAcyclic.{numbered_into}
 use Rattle.wit_merge_spec.specs.United.{joined_graph, joined_interface, joined_package, joined_type, joined_world, united, with_interface, with_package, with_type, with_world}

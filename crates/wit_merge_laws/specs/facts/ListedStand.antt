@@ -14,14 +14,14 @@ use Rattle.wit_data.specs.Entries.{Entry, IsExport}
 use Rattle.wit_data.specs.declared.interface.Interface.{Interface}
 use Rattle.wit_data.specs.declared.world.World.{World}
 use Rattle.wit_data.specs.declared.world.WorldItem.{WorldItem}
-use Rattle.wit_data.specs.declared.world.WorldItem.TheVariants as item
 use Rattle.wit_data.specs.declared.world.WorldKey.{WorldKey}
+use Rattle.wit_data.specs.declared.world.WorldItem.TheVariants as item
 use Rattle.wit_data.specs.declared.world.WorldKey.TheVariants as key
 use Rattle.wit_elaboration.specs.Entries.{same_key}
 use Rattle.wit_elaboration.specs.Valid.{IsValid}
 use Rattle.wit_graph_theory.specs.facts.CarriedImages.{function_itself_carried}
 use Rattle.wit_graph_theory.specs.facts.Covered.{EntryComes, IsNoType, ItemComes, WorldComes}
-use Rattle.wit_graph_theory.specs.Image.{Maps, entry_image, identity, item_image, key_image, world_image}
+use Rattle.wit_remap_spec.specs.Image.{Maps, entry_image, identity, item_image, key_image, world_image}
 use Rattle.wit_graph_theory.specs.facts.ImagesCome.{entry_image_comes}
 use Rattle.wit_graph_theory.specs.facts.ListFacts.{at_map, at_new, contained_at, from_map, old_or_new, place_of}
 use Rattle.wit_graph_theory.specs.Operations.{merge_sources}

@@ -1,10 +1,9 @@
 -- A world that one of two graphs alone has imports the same in both orders of their merge: it stays in the one union and
 -- moves in the other, its imports begin at what corresponds, and what corresponds uses what corresponds.
-use Rattle.std.specs.Prelude.{◌↔◌}
+use Rattle.std.specs.Prelude.{◌↔◌, bytes_eq}
 use Rattle.std.proofs.Common.{◌≡◌, ◌∙◌, inl, inr, ℕ, ◌<◌, true, List, [], ◌∷◌, map, length, not, is_some, Option, None, Some, option_and_then, slice_get, refl, sym, ap, subst, Contains}
 use Rattle.std.specs.Map.{lookup}
 use Rattle.std.specs.Option.{option_map_or}
-use Rattle.std.specs.Str.{bytes_eq}
 use Rattle.wit_digraph.specs.facts.MemberFacts.{Contains-flat_map, Contains-flat_map_cases, Contains-here, Contains-nil}
 use Rattle.wit_data.specs.Entries.{Entry, IsExport, IsImport, item_interface}
 use Rattle.wit_data.specs.Function.{resource_of}
@@ -12,21 +11,22 @@ use Rattle.wit_data.specs.Ownership.{world_types}
 use Rattle.wit_data.specs.Uses.{type_interface_dep}
 use Rattle.wit_data.specs.declared.interface.Interface.{Interface}
 use Rattle.wit_data.specs.declared.types.TypeDef.{TypeDef}
-use Rattle.wit_data.specs.declared.types.TypeOwner.TheVariants as owner
 use Rattle.wit_data.specs.declared.world.World.{World}
 use Rattle.wit_data.specs.declared.world.WorldItem.{WorldItem}
-use Rattle.wit_data.specs.declared.world.WorldItem.TheVariants as item
 use Rattle.wit_data.specs.declared.world.WorldKey.{WorldKey}
+use Rattle.wit_data.specs.declared.types.TypeOwner.TheVariants as owner
+use Rattle.wit_data.specs.declared.world.WorldItem.TheVariants as item
 use Rattle.wit_data.specs.declared.world.WorldKey.TheVariants as key
 use Rattle.wit_elaboration.specs.Elaboration.{graph_uses}
 use Rattle.wit_elaboration.specs.Entries.{key_interface, keyed_interfaces, role_of, type_role}
-use Rattle.wit_elaboration.specs.Imported.{IsImported, Needed, exported_interfaces, exported_keys, roots_of}
+use Rattle.wit_elaboration.specs.Imported.{exported_interfaces, exported_keys}
+use Rattle.wit_elaboration.specs.laws.Imports.{IsImported, Needed, roots_of}
 use Rattle.wit_elaboration.specs.facts.SoundFacts.{dep_is_named, named_within}
 use Rattle.wit_graph_data.specs.declared.graph.Graph.{Graph}
-use Rattle.wit_graph_theory.specs.AllElaborated.{elaborated_world}
+use Rattle.wit_elaboration.specs.AllElaborated.{elaborated_world}
 use Rattle.wit_graph_theory.specs.facts.DependencyFacts.{needs_from, needs_into}
 use Rattle.wit_graph_theory.specs.facts.EntryFacts.{no_function_root, one_of, type_root}
-use Rattle.wit_graph_theory.specs.Image.{Maps, entry_image, function_kind_image, item_image, key_image, world_image}
+use Rattle.wit_remap_spec.specs.Image.{Maps, entry_image, function_kind_image, item_image, key_image, world_image}
 use Rattle.wit_graph_theory.specs.facts.LawsOfElaboration.{LawsOfElaboration}
 use Rattle.wit_graph_theory.specs.facts.ListFacts.{Contains-map, Contains-map_cases, found_at, place_of}
 use Rattle.wit_graph_theory.specs.facts.OptionFacts.{none_there, some_by}

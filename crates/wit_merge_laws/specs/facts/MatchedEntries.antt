@@ -4,14 +4,13 @@ use Rattle.std.proofs.Common.{◌≡◌, ◌∙◌, inl, inr, ℕ, Bool, length,
 use Rattle.std.proofs.lemmas.Bool.{cases_Bool, eq-eqb, eqb-true, false≢true}
 use Rattle.std.proofs.lemmas.Map.Views.{Contains-from_lookup}
 use Rattle.std.proofs.lemmas.Option.{slice_get_within}
-use Rattle.wit_data.specs.Entries.{Entry}
+use Rattle.wit_data.specs.Entries.{Entry, entries_of}
 use Rattle.wit_data.specs.declared.world.World.{World}
 use Rattle.wit_data.specs.declared.world.WorldKey.{WorldKey}
 use Rattle.wit_data.specs.declared.world.WorldKey.TheVariants as key
 use Rattle.wit_elaboration.proofs.FreshEntries.{same_key-true}
 use Rattle.wit_elaboration.specs.Valid.{IsValid}
 use Rattle.wit_graph_theory.specs.facts.ListFacts.{place_of, same_at}
-use Rattle.wit_graph_theory.specs.steps.UnnamedOnce.{entries_of}
 use Rattle.wit_merge_spec.specs.Agreement as differ
 use Rattle.wit_merge_spec.specs.Matches.{GraphMerge, counterpart_key, counterpart_world}
 use Rattle.wit_merge_spec.specs.Cause.{HasNoMismatch}

@@ -17,20 +17,21 @@ use Rattle.wit_digraph.specs.facts.MemberFacts.{Contains-cons_cases, Contains-fl
 use Rattle.wit_digraph.specs.facts.PostOrderFacts.{Contains-post_order_end}
 use Rattle.wit_digraph.specs.PostOrder.{post_order}
 use Rattle.wit_data.specs.Each.{SomeAt}
-use Rattle.wit_data.specs.Entries.{Entry, is_unnamed, item_interface}
+use Rattle.wit_data.specs.Entries.{Entry, is_unnamed, item_interface, entries_of}
 use Rattle.wit_data.specs.Ownership.{IsListed, world_types}
 use Rattle.wit_data.specs.Uses.{alias_target}
 use Rattle.wit_data.specs.declared.interface.Interface.{Interface}
 use Rattle.wit_data.specs.declared.types.TypeDef.{TypeDef}
-use Rattle.wit_data.specs.declared.types.TypeDefKind.TheVariants as kind
 use Rattle.wit_data.specs.declared.types.TypeOwner.{TypeOwner}
-use Rattle.wit_data.specs.declared.types.TypeOwner.TheVariants as owner
 use Rattle.wit_data.specs.declared.types.Type_.{Type_}
-use Rattle.wit_data.specs.declared.types.Type_.TheVariants as type
+use Rattle.wit_data.specs.declared.kind.Variant.{Variant}
 use Rattle.wit_data.specs.declared.world.World.{World}
 use Rattle.wit_data.specs.declared.world.WorldItem.{WorldItem}
-use Rattle.wit_data.specs.declared.world.WorldItem.TheVariants as item
 use Rattle.wit_data.specs.declared.world.WorldKey.{WorldKey}
+use Rattle.wit_data.specs.declared.types.TypeDefKind.TheVariants as kind
+use Rattle.wit_data.specs.declared.types.TypeOwner.TheVariants as owner
+use Rattle.wit_data.specs.declared.types.Type_.TheVariants as type
+use Rattle.wit_data.specs.declared.world.WorldItem.TheVariants as item
 use Rattle.wit_data.specs.declared.world.WorldKey.TheVariants as key
 use Rattle.wit_elaboration.proofs.FreshEntries.{same_key-true}
 use Rattle.wit_elaboration.specs.Entries.{same_key}
@@ -42,12 +43,11 @@ use Rattle.wit_graph_data.specs.declared.graph.Package.{Package}
 use Rattle.wit_graph_theory.specs.facts.GoodTypes.{IsAliased, from_if}
 use Rattle.wit_graph_theory.specs.facts.GoodWorlds.{same_one}
 use Rattle.wit_graph_theory.specs.facts.ListFacts.{found_at}
-use Rattle.wit_graph_theory.specs.steps.UnnamedOnce.{entries_of}
 use Rattle.wit_graph_theory.specs.facts.OptionFacts.{some_by, some_parts, some_same}
 use Rattle.wit_link_spec.specs.Lookup.{interface_type}
-use Rattle.wit_merge_structure.specs.Structure.{Content, Feature, FirstDifference, difference_text, held_features, here, is_named, named, names, path_text, primitive, structure, variant, variant_of, within}
-use Rattle.wit_merge_structure.specs.declared.kinds.Variant.{Variant}
-use Rattle.wit_merge_structure.specs.declared.kinds.Variant.TheVariants as variants
+use Rattle.wit_data.specs.Kind.{variant_of}
+use Rattle.wit_merge_structure.specs.Structure.{Content, Feature, FirstDifference, difference_text, held_features, here, is_named, named, names, path_text, primitive, structure, variant, within}
+use Rattle.wit_data.specs.declared.kind.Variant.TheVariants as variants
 use Rattle.wit_merge_spec.specs.Agreement.{StructuresDiffer}
 use Rattle.wit_merge_spec.specs.Agreement as differ
 use Rattle.wit_merge_spec.specs.Matches.{FirstDiffers, GraphMerge, TypePair, common_entries, common_types, counterpart_interface, counterpart_type, counterpart_type_by, counterpart_world, entry_pairs, in_package_order, interface_pairs, item_pairs, matched_interface, matched_world, paired as pair_of, type_pairs, world_labels, world_pairs}

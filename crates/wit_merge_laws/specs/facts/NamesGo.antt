@@ -2,10 +2,10 @@
 -- in it: said of a part, a graph whose things go to places of the united one.
 use Rattle.std.proofs.Common.{◌≡◌, ◌∙◌, ℕ, Bool, true, List, [], ◌∷◌, Option, None, Some, IfSome, IsSomeAnd, slice_get, refl, sym, ap, subst, Contains}
 use Rattle.wit_data.specs.Each.{SomeAt}
-use Rattle.wit_data.specs.Entries.{is_unnamed, item_interface}
+use Rattle.wit_data.specs.Entries.{is_unnamed, item_interface, entries_of}
 use Rattle.wit_data.specs.declared.function.Function.{Function}
 use Rattle.wit_data.specs.declared.interface.Interface.{Interface}
-use Rattle.wit_data.specs.declared.package_name.PackageName.{PackageName}
+use Rattle.wit_names.specs.declared.package_name.PackageName.{PackageName}
 use Rattle.wit_data.specs.declared.world.World.{World}
 use Rattle.wit_data.specs.declared.world.WorldItem.{WorldItem}
 use Rattle.wit_data.specs.declared.world.WorldKey.TheVariants as key
@@ -13,7 +13,6 @@ use Rattle.wit_elaboration.specs.Valid.{IsValid}
 use Rattle.wit_graph_data.specs.declared.graph.Graph.{Graph}
 use Rattle.wit_graph_data.specs.declared.graph.Package.{Package}
 use Rattle.wit_graph_theory.specs.facts.ListFacts.{found_at, same_at, some_at}
-use Rattle.wit_graph_theory.specs.steps.UnnamedOnce.{entries_of}
 use Rattle.wit_graph_theory.specs.facts.UnnamedOnceCarried.{unnamed_same}
 use Rattle.wit_merge_laws.specs.facts.MatchFacts.{no_name}
 use Rattle.wit_merge_laws.specs.laws.Names.{HasName, InterfaceName, IsInterface, IsNamedSo, IsPackage, IsWorld, Name, at_label, in_package, of_export, of_function, of_interface, of_label, of_package, of_type, of_world}

@@ -25,7 +25,7 @@ use Rattle.wit_elaboration.specs.Valid.{IsValid}
 use Rattle.wit_graph_data.specs.declared.cause.Cause.TheVariants as cause
 use Rattle.wit_graph_data.specs.declared.error_kind.ResolveErrorKind.TheVariants.{InvalidTransitiveDependency, Semantic}
 use Rattle.wit_graph_data.specs.declared.graph.Graph.{Graph}
-use Rattle.wit_graph_theory.specs.AllElaborated.{RefersToItself, UsesItself, interface_cycle_text}
+use Rattle.wit_elaboration.specs.AllElaborated.{RefersToItself, UsesItself, interface_cycle_text}
 use Rattle.wit_graph_theory.specs.facts.Growth.{TypesGrow}
 use Rattle.wit_graph_theory.specs.facts.ListFacts.{at_below, found_at, in_row, place_of, some_at}
 use Rattle.wit_graph_theory.specs.facts.NamedUses.{used_is_named}
@@ -39,12 +39,13 @@ use Rattle.wit_graph_theory.specs.facts.TypesAcyclic.{types_acyclic}
 use Rattle.wit_merge_spec.specs.Cause.{HasNoMismatch, MergeIsAccepted, conflict_4, interface_cycle_22, merge_mismatch_24}
 use Rattle.wit_merge_spec.specs.United.{joined_graph, joined_type}
 use Rattle.wit_merge_spec.specs.Matches.{GraphMerge, counterpart_type}
-use Rattle.wit_merge_spec.specs.Remapped.{merge_maps, merged_type, moves_type, owns_of_merge}
+use Rattle.wit_merge_spec.specs.Remapped.{merge_maps, merged_type, moves_type, remap_of_merge}
 use Rattle.wit_merge_laws.specs.facts.JoinedGood.{UnionCanElaborate, aliases, in_order}
 use Rattle.wit_merge_laws.specs.facts.MatchFacts.{goes_to, type_is}
 use Rattle.wit_merge_laws.specs.facts.PackagesStand.{interfaces_in_tables}
 use Rattle.wit_merge_laws.specs.facts.TypesStand.{images, joined_keeps, long_old, matched_some, new_type_at, old_types}
 use Rattle.wit_merge_laws.specs.facts.WorldsStand.{joined_covered, joined_stands, sources_good}
+use Rattle.wit_link_spec.specs.ValueRemap.{owns}
 
 -- ---- no type refers to itself
 
@@ -100,8 +101,8 @@ module _ (m : GraphMerge) (valid : IsValid m.graph) (valid_other : IsValid m.oth
 
   types_grow : TypesGrow at rank (old_types m) g
   types_grow = record {
-    longer = omega (arith, length-append (old_types m) (images m ++ owns_of_merge m));
-    kept = λ i def before there. at_below (old_types m) (images m ++ owns_of_merge m) i def before there;
+    longer = omega (arith, length-append (old_types m) (images m ++ owns (remap_of_merge m)));
+    kept = λ i def before there. at_below (old_types m) (images m ++ owns (remap_of_merge m)) i def before there;
     carried = carried;
     falls = falls;
   }

@@ -13,7 +13,7 @@ use Rattle.wit_elaboration.specs.examples.Examples.{empty_graph}
 use Rattle.wit_elaboration.specs.Imported.{HasTransitiveConflict}
 use Rattle.wit_elaboration.specs.Valid.{IsValid}
 use Rattle.wit_graph_data.specs.declared.graph.Graph.{Graph}
-use Rattle.wit_graph_theory.specs.AllElaborated.{all_elaborated, elaborated_world, graph_package_uses}
+use Rattle.wit_elaboration.specs.AllElaborated.{all_elaborated, elaborated_world, graph_package_uses}
 use Rattle.wit_graph_theory.specs.facts.ListFacts.{place_of}
 use Rattle.wit_merge_spec.specs.Agreement as differ
 use Rattle.wit_merge_spec.specs.Agreement.{GraphsDiffer}

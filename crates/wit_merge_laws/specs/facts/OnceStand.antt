@@ -4,26 +4,27 @@ use Rattle.std.specs.Map.{lookup}
 use Rattle.std.specs.Option.{option_map_or}
 use Rattle.std.proofs.lemmas.Bool.{cases_Bool, eqb-true, ltb-true}
 use Rattle.std.proofs.lemmas.Map.Views.{Contains-from_lookup}
-use Rattle.wit_data.specs.Entries.{Entry, StandOnce, is_unnamed, item_interface}
+use Rattle.wit_data.specs.Entries.{Entry, StandOnce, is_unnamed, item_interface, entries_of}
 use Rattle.wit_data.specs.Ownership.{IsNamed}
 use Rattle.wit_data.specs.declared.interface.Interface.{Interface}
 use Rattle.wit_data.specs.declared.world.World.{World}
 use Rattle.wit_data.specs.declared.world.WorldItem.{WorldItem}
-use Rattle.wit_data.specs.declared.world.WorldItem.TheVariants as item
 use Rattle.wit_data.specs.declared.world.WorldKey.{WorldKey}
+use Rattle.wit_data.specs.declared.world.WorldItem.TheVariants as item
 use Rattle.wit_data.specs.declared.world.WorldKey.TheVariants as key
 use Rattle.wit_elaboration.proofs.FreshEntries.{same_key-true}
 use Rattle.wit_elaboration.specs.Entries.{same_key}
 use Rattle.wit_elaboration.specs.Valid.{IsValid}
 use Rattle.wit_graph_data.specs.declared.graph.Graph.{Graph}
-use Rattle.wit_graph_theory.specs.AllElaborated.{elaborated_world}
-use Rattle.wit_graph_theory.specs.Cut.{cut_interface, kept_whole, mapped_source}
+use Rattle.wit_elaboration.specs.AllElaborated.{elaborated_world}
+use Rattle.wit_graph_theory.specs.Cut.{kept_whole, mapped_source}
+use Rattle.wit_remap_spec.specs.Kept.{cut_interface}
 use Rattle.wit_graph_theory.specs.facts.ElaboratedCome.{interface_without_span}
 use Rattle.wit_graph_theory.specs.facts.GoodWorlds.{same_one}
-use Rattle.wit_graph_theory.specs.Image.{Maps, entry_image, identity, item_image, key_image, world_image}
+use Rattle.wit_remap_spec.specs.Image.{Maps, entry_image, identity, item_image, key_image, world_image}
 use Rattle.wit_graph_theory.specs.facts.LawsOfElaboration.{LawsOfElaboration}
 use Rattle.wit_graph_theory.specs.facts.ListFacts.{Contains-map_cases, contained_at, found_at, from_map, place_of, same_at}
-use Rattle.wit_graph_theory.specs.steps.UnnamedOnce.{Holds, Origin, StandsOnceOnly, entries_of}
+use Rattle.wit_graph_theory.specs.steps.UnnamedOnce.{Holds, Origin, StandsOnceOnly}
 use Rattle.wit_graph_theory.specs.facts.UnnamedOnceCarried.{StandsOnceOnly-of_covered, named_not, unnamed_same}
 use Rattle.wit_graph_theory.specs.facts.UnnamedOnceFacts.{StandOnce-from_entries}
 use Rattle.wit_graph_theory.specs.facts.UnnamedOnceFrom.{cut_has_one_place}

@@ -12,20 +12,20 @@ use Rattle.wit_values.specs.Table.{HasDistinctKeys}
 use Rattle.wit_data.specs.Each.{Each, EachAt, SomeAt}
 use Rattle.wit_data.specs.Entries.{Entry, IsImport, item_interface}
 use Rattle.wit_data.specs.declared.interface.Interface.{Interface}
-use Rattle.wit_data.specs.declared.package_name.PackageName.{PackageName}
+use Rattle.wit_names.specs.declared.package_name.PackageName.{PackageName}
 use Rattle.wit_data.specs.declared.types.TypeDef.{TypeDef}
 use Rattle.wit_data.specs.declared.world.World.{World}
 use Rattle.wit_data.specs.declared.world.WorldItem.{WorldItem}
-use Rattle.wit_data.specs.declared.world.WorldItem.TheVariants as item
 use Rattle.wit_data.specs.declared.world.WorldKey.{WorldKey}
+use Rattle.wit_data.specs.declared.world.WorldItem.TheVariants as item
 use Rattle.wit_data.specs.declared.world.WorldKey.TheVariants as key
 use Rattle.wit_elaboration.specs.Elaboration.{graph_uses}
 use Rattle.wit_elaboration.specs.Entries.{keyed_interfaces, role_of}
-use Rattle.wit_elaboration.specs.Imported.{roots_of}
+use Rattle.wit_elaboration.specs.laws.Imports.{roots_of}
 use Rattle.wit_elaboration.specs.Valid.{HasPackageNames, IsValid, IsWorldInTable}
 use Rattle.wit_graph_data.specs.declared.graph.Graph.{Graph}
 use Rattle.wit_graph_data.specs.declared.graph.Package.{Package}
-use Rattle.wit_graph_theory.specs.AllElaborated.{elaborated_world}
+use Rattle.wit_elaboration.specs.AllElaborated.{elaborated_world}
 use Rattle.wit_graph_theory.specs.facts.EntryFacts.{key_entry}
 use Rattle.wit_graph_theory.specs.facts.LawsOfElaboration.{LawsOfElaboration}
 use Rattle.wit_graph_theory.specs.facts.ListFacts.{at_map, found_at, place_of, same_at, some_at}

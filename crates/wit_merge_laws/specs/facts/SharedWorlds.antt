@@ -9,20 +9,20 @@ use Rattle.std.proofs.lemmas.Map.Views.{Contains-from_lookup}
 use Rattle.wit_digraph.specs.facts.FreshFacts.{any_from_contains, contains_from_any}
 use Rattle.wit_digraph.specs.facts.MemberFacts.{Contains-flat_map, Contains-flat_map_cases, Contains-here, Contains-nil}
 use Rattle.wit_digraph.specs.Relation.{IsPath, direct}
-use Rattle.wit_data.specs.Entries.{Entry, IsImport, item_interface}
+use Rattle.wit_data.specs.Entries.{Entry, IsImport, item_interface, entries_of}
 use Rattle.wit_data.specs.Uses.{type_interface_dep}
 use Rattle.wit_data.specs.declared.interface.Interface.{Interface}
 use Rattle.wit_data.specs.declared.types.TypeDef.{TypeDef}
-use Rattle.wit_data.specs.declared.types.TypeOwner.TheVariants as owner
 use Rattle.wit_data.specs.declared.world.World.{World}
 use Rattle.wit_data.specs.declared.world.WorldItem.{WorldItem}
-use Rattle.wit_data.specs.declared.world.WorldItem.TheVariants as item
 use Rattle.wit_data.specs.declared.world.WorldKey.{WorldKey}
+use Rattle.wit_data.specs.declared.types.TypeOwner.TheVariants as owner
+use Rattle.wit_data.specs.declared.world.WorldItem.TheVariants as item
 use Rattle.wit_data.specs.declared.world.WorldKey.TheVariants as key
 use Rattle.wit_elaboration.proofs.FreshEntries.{same_key-true}
 use Rattle.wit_elaboration.specs.Elaboration.{graph_uses}
 use Rattle.wit_elaboration.specs.Entries.{keyed_interfaces, role_of, same_key, type_role}
-use Rattle.wit_elaboration.specs.Imported.{Needed, roots_of}
+use Rattle.wit_elaboration.specs.laws.Imports.{Needed, roots_of}
 use Rattle.wit_elaboration.specs.laws.KeptByElaboration.{HoldsImports, ImportsAreLeast}
 use Rattle.wit_graph_data.specs.Relations.{entry_interface}
 use Rattle.wit_elaboration.specs.Valid.{IsValid}
@@ -32,7 +32,6 @@ use Rattle.wit_graph_theory.specs.facts.EntryFacts.{export_uses, import_uses, in
 use Rattle.wit_graph_theory.specs.facts.EntryFacts as entries
 use Rattle.wit_graph_theory.specs.facts.GoodWorlds.{same_one}
 use Rattle.wit_graph_theory.specs.facts.ListFacts.{Contains-map_cases, found_at, place_of}
-use Rattle.wit_graph_theory.specs.steps.UnnamedOnce.{entries_of}
 use Rattle.wit_graph_theory.specs.laws.PackageCycles.{ListsKey}
 use Rattle.wit_link_spec.specs.Include.{joined_entry, joined_item}
 use Rattle.wit_merge_spec.specs.Agreement.{same_sort}

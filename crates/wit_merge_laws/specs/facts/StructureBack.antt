@@ -11,7 +11,8 @@ use Rattle.wit_data.specs.declared.types.TypeDefKind.{TypeDefKind}
 use Rattle.wit_data.specs.declared.types.Type_.{Type_}
 use Rattle.wit_data.specs.declared.types.Type_.TheVariants as type
 use Rattle.wit_graph_theory.specs.facts.ListFacts.{Contains-map_cases}
-use Rattle.wit_merge_structure.specs.Structure.{Content, DifferInStructure, Feature, FirstDifference, Part, absent, fixed, fixed_length, head_features, held_features, here, is_named, kind_features, named, names, part_features, parts_of, primitive, structure, structure_within, variant, variant_of, within}
+use Rattle.wit_data.specs.Kind.{fixed_length, kind_parts, KindPart, variant_of}
+use Rattle.wit_merge_structure.specs.Structure.{Content, DifferInStructure, Feature, FirstDifference, absent, fixed, head_features, held_features, here, is_named, kind_features, named, names, part_features, primitive, structure, structure_within, variant, within}
 
 -- ---- what stands for a type with a name
 
@@ -39,8 +40,8 @@ module _ (types : List TypeDef) (matched : ℕ → Option ℕ) where
   head-with : (k : TypeDefKind) → head_features k ≡ map (with_matched matched) (head_features k)
   head-with k = by (fixed_length k)
     where
-      by : (o : Option ℕ) → here (variant (variant_of k)) ∷ here (names (map (λ (p : Part). p.step) (parts_of k))) ∷ option_map_or (λ len. here (fixed len) ∷ []) o []
-          ≡ map (with_matched matched) (here (variant (variant_of k)) ∷ here (names (map (λ (p : Part). p.step) (parts_of k))) ∷ option_map_or (λ len. here (fixed len) ∷ []) o [])
+      by : (o : Option ℕ) → here (variant (variant_of k)) ∷ here (names (map (λ (p : KindPart). p.step) (kind_parts k))) ∷ option_map_or (λ len. here (fixed len) ∷ []) o []
+          ≡ map (with_matched matched) (here (variant (variant_of k)) ∷ here (names (map (λ (p : KindPart). p.step) (kind_parts k))) ∷ option_map_or (λ len. here (fixed len) ∷ []) o [])
       by None = refl
       by (Some len) = refl
 
@@ -54,15 +55,15 @@ module _ (types : List TypeDef) (matched : ℕ → Option ℕ) where
         by false = same t
     held-with (Some ty) = refl
 
-    part-with : (p : Part) → part_features types matched inner p ≡ map (with_matched matched) (part_features types Some inner' p)
+    part-with : (p : KindPart) → part_features types matched inner p ≡ map (with_matched matched) (part_features types Some inner' p)
     part-with p =
         ap (map (within p.step)) (held-with p.ty)
         ∙ map-map (with_matched matched) (within p.step) (within p.step) (with_matched matched) (λ f. refl) (held_features types Some inner' p.ty)
 
     kind-with : (k : TypeDefKind) → kind_features types matched inner k ≡ map (with_matched matched) (kind_features types Some inner' k)
     kind-with k =
-        (λ i. head-with k i ++ map-flat_map (with_matched matched) (part_features types Some inner') (part_features types matched inner) part-with (parts_of k) i)
-        ∙ sym (map-append (with_matched matched) (head_features k) (flat_map (part_features types Some inner') (parts_of k)))
+        (λ i. head-with k i ++ map-flat_map (with_matched matched) (part_features types Some inner') (part_features types matched inner) part-with (kind_parts k) i)
+        ∙ sym (map-append (with_matched matched) (head_features k) (flat_map (part_features types Some inner') (kind_parts k)))
 
   option-with : (o : Option TypeDef) (inner inner' : ℕ → List Feature) → ((t : ℕ) → inner t ≡ map (with_matched matched) (inner' t))
       → option_map_or (λ (def : TypeDef). kind_features types matched inner def.kind) o [] ≡ map (with_matched matched) (option_map_or (λ (def : TypeDef). kind_features types Some inner' def.kind) o [])
@@ -94,12 +95,12 @@ module _ (types : List TypeDef) where
   head_firm : (k : TypeDefKind) (f : Feature) → Contains (head_features k) f → IsFirm f
   head_firm k f has = by (fixed_length k) has
     where
-      by : (o : Option ℕ) → Contains (here (variant (variant_of k)) ∷ here (names (map (λ (p : Part). p.step) (parts_of k))) ∷ option_map_or (λ len. here (fixed len) ∷ []) o []) f → IsFirm f
+      by : (o : Option ℕ) → Contains (here (variant (variant_of k)) ∷ here (names (map (λ (p : KindPart). p.step) (kind_parts k))) ∷ option_map_or (λ len. here (fixed len) ∷ []) o []) f → IsFirm f
       by None has =
-          one_firm (variant (variant_of k)) f (here (names (map (λ (p : Part). p.step) (parts_of k))) ∷ []) (λ never. cc) (one_firm (names (map (λ (p : Part). p.step) (parts_of k))) f [] (λ never. cc) (nil_firm f)) has
+          one_firm (variant (variant_of k)) f (here (names (map (λ (p : KindPart). p.step) (kind_parts k))) ∷ []) (λ never. cc) (one_firm (names (map (λ (p : KindPart). p.step) (kind_parts k))) f [] (λ never. cc) (nil_firm f)) has
       by (Some len) has =
-          one_firm (variant (variant_of k)) f (here (names (map (λ (p : Part). p.step) (parts_of k))) ∷ here (fixed len) ∷ []) (λ never. cc)
-          (one_firm (names (map (λ (p : Part). p.step) (parts_of k))) f (here (fixed len) ∷ []) (λ never. cc) (one_firm (fixed len) f [] (λ never. cc) (nil_firm f))) has
+          one_firm (variant (variant_of k)) f (here (names (map (λ (p : KindPart). p.step) (kind_parts k))) ∷ here (fixed len) ∷ []) (λ never. cc)
+          (one_firm (names (map (λ (p : KindPart). p.step) (kind_parts k))) f (here (fixed len) ∷ []) (λ never. cc) (one_firm (fixed len) f [] (λ never. cc) (nil_firm f))) has
 
   module _ (inner : ℕ → List Feature) (each : (t : ℕ) (f : Feature) → Contains (inner t) f → IsFirm f) where
     held_firm : (ty : Option Type_) (f : Feature) → Contains (held_features types Some inner ty) f → IsFirm f
@@ -112,10 +113,10 @@ module _ (types : List TypeDef) where
     held_firm (Some ty) f has = one_firm (primitive ty) f [] (λ never. cc) (nil_firm f) has
 
     kind_firm : (k : TypeDefKind) (f : Feature) → Contains (kind_features types Some inner k) f → IsFirm f
-    kind_firm k f has = elim (Contains-append_cases (head_features k) (flat_map (part_features types Some inner) (parts_of k)) f has) [
+    kind_firm k f has = elim (Contains-append_cases (head_features k) (flat_map (part_features types Some inner) (kind_parts k)) f has) [
       | inl front ↦ head_firm k f front
       | inr of_parts ↦
-          let from = Contains-flat_map_cases (part_features types Some inner) (parts_of k) f of_parts in
+          let from = Contains-flat_map_cases (part_features types Some inner) (kind_parts k) f of_parts in
           let held = Contains-map_cases (within from.0.step) (held_features types Some inner from.0.ty) f from.1.1 in
           λ none. held_firm from.0.ty held.0 held.1 (ap (λ (x : Feature). x.content) held.2 ∙ none)
     ]

@@ -11,67 +11,24 @@ use Rattle.wit_data.specs.Uses.{alias_target}
 use Rattle.wit_data.specs.declared.types.Handle.TheVariants as handle
 use Rattle.wit_data.specs.declared.types.TypeDef.{TypeDef}
 use Rattle.wit_data.specs.declared.types.TypeDefKind.{TypeDefKind}
-use Rattle.wit_data.specs.declared.types.TypeDefKind.TheVariants as kind
 use Rattle.wit_data.specs.declared.types.Type_.{Type_}
+use Rattle.wit_data.specs.declared.kind.Variant.{Variant}
+use Rattle.wit_data.specs.declared.types.TypeDefKind.TheVariants as kind
 use Rattle.wit_data.specs.declared.types.Type_.TheVariants as type
-use Rattle.wit_merge_structure.specs.Structure.{Feature, Part, fixed, fixed_length, held_features, here, kind_features, names, part_features, parts_of, structure, variant, variant_of, within}
+use Rattle.wit_data.specs.Kind.{KindPart, fixed_length, kind_parts, variant_of}
+use Rattle.wit_data.specs.facts.KindFacts.{all_variants, variant_number, variant_numbered}
+use Rattle.wit_merge_structure.specs.Structure.{Feature, fixed, held_features, here, kind_features, names, part_features, structure, variant, within}
 use Rattle.wit_merge_structure.specs.facts.StructureFacts.{structure_at}
-use Rattle.wit_merge_structure.specs.declared.kinds.Variant.{Variant}
-use Rattle.wit_merge_structure.specs.declared.kinds.Variant.TheVariants as variants
+use Rattle.wit_data.specs.declared.kind.Variant.TheVariants as variants
 
 -- ---- variants
-
--- variants by numbers
-pub all_variants : List Variant
-all_variants =
-    variants.Record ∷ variants.Resource ∷ variants.Own ∷ variants.Borrow ∷ variants.Flags ∷ variants.Tuple ∷ variants.Variant_ ∷ variants.Enum ∷ variants.Option ∷ variants.Result_
-    ∷ variants.List ∷ variants.Map ∷ variants.FixedLengthList ∷ variants.Future ∷ variants.Stream ∷ variants.Alias ∷ variants.Unknown ∷ []
-
-pub number : Variant → ℕ
-number variants.Record = 0
-number variants.Resource = 1
-number variants.Own = 2
-number variants.Borrow = 3
-number variants.Flags = 4
-number variants.Tuple = 5
-number variants.Variant_ = 6
-number variants.Enum = 7
-number variants.Option = 8
-number variants.Result_ = 9
-number variants.List = 10
-number variants.Map = 11
-number variants.FixedLengthList = 12
-number variants.Future = 13
-number variants.Stream = 14
-number variants.Alias = 15
-number variants.Unknown = 16
-
-pub numbered : (v : Variant) → slice_index_or all_variants (number v) variants.Unknown ≡ v
-unfolding all_variants number
-numbered variants.Record = refl
-numbered variants.Resource = refl
-numbered variants.Own = refl
-numbered variants.Borrow = refl
-numbered variants.Flags = refl
-numbered variants.Tuple = refl
-numbered variants.Variant_ = refl
-numbered variants.Enum = refl
-numbered variants.Option = refl
-numbered variants.Result_ = refl
-numbered variants.List = refl
-numbered variants.Map = refl
-numbered variants.FixedLengthList = refl
-numbered variants.Future = refl
-numbered variants.Stream = refl
-numbered variants.Alias = refl
-numbered variants.Unknown = refl
 
 -- variants are told apart, or are the same
 pub same_variant : (v w : Variant) → ((v ≡ w → ⊥) → ⊥) → v ≡ w
 same_variant v w denied =
-    elim (cases_Bool (nat_eq (number v) (number w))) [
-      | inl same ↦ sym (numbered v) ∙ (ap (λ (n : ℕ). slice_index_or all_variants n variants.Unknown) (eqb-true (number v) (number w) same) ∙ numbered w)
-      | inr other ↦ absurd (denied (λ is. false≢true (sym other ∙ eq-eqb (number v) (number w) (ap number is))))
+    elim (cases_Bool (nat_eq (variant_number v) (variant_number w))) [
+      | inl same ↦ sym (variant_numbered v) ∙ (ap (λ (n : ℕ). slice_index_or all_variants n variants.Unknown) (eqb-true (variant_number v) (variant_number w) same) ∙ variant_numbered w)
+      | inr other ↦ absurd (denied (λ is. false≢true (sym other ∙ eq-eqb (variant_number v) (variant_number w) (ap variant_number is))))
     ]
 
 -- so are ids that may be missing
@@ -110,7 +67,7 @@ resource_variant other is = cc
 module _ (types : List TypeDef) (matched : ℕ → Option ℕ) (acyclic : IsAcyclic (type_references types)) (t : ℕ) (def : TypeDef) (at : slice_get types t ≡ Some def) where
   -- what comes after the variant
   abbrev behind : TypeDefKind → List Feature
-  behind k = here (names (map (λ (p : Part). p.step) (parts_of k))) ∷ option_map_or (λ len. here (fixed len) ∷ []) (fixed_length k) [] ++ flat_map (part_features types matched (structure types matched)) (parts_of k)
+  behind k = here (names (map (λ (p : KindPart). p.step) (kind_parts k))) ∷ option_map_or (λ len. here (fixed len) ∷ []) (fixed_length k) [] ++ flat_map (part_features types matched (structure types matched)) (kind_parts k)
 
   pub structure_begins : (rest : List Feature) × (structure types matched t ≡ here (variant (variant_of def.kind)) ∷ rest)
   structure_begins = (behind def.kind, structure_at types matched acyclic t def (slice_get_within types t def at) at)

@@ -14,13 +14,14 @@ use Rattle.wit_data.specs.facts.ReferenceFacts.{length-references, references_at
 use Rattle.wit_data.specs.declared.types.Handle.TheVariants as handle
 use Rattle.wit_data.specs.declared.types.TypeDef.{TypeDef}
 use Rattle.wit_data.specs.declared.types.TypeDefKind.{TypeDefKind}
-use Rattle.wit_data.specs.declared.types.TypeDefKind.TheVariants as kind
 use Rattle.wit_data.specs.declared.types.Type_.{Type_}
+use Rattle.wit_data.specs.declared.kind.Variant.{Variant}
+use Rattle.wit_data.specs.declared.types.TypeDefKind.TheVariants as kind
 use Rattle.wit_data.specs.declared.types.Type_.TheVariants as type
-use Rattle.wit_merge_structure.specs.Structure.{Content, Feature, FirstDifference, Part, absent, fixed, fixed_length, head_features, held_features, here, is_named, kind_features, named, names, part_features, parts_of, primitive, structure, variant, variant_of, within}
+use Rattle.wit_data.specs.Kind.{fixed_length, kind_parts, KindPart, variant_of}
+use Rattle.wit_merge_structure.specs.Structure.{Content, Feature, FirstDifference, absent, fixed, head_features, held_features, here, is_named, kind_features, named, names, part_features, primitive, structure, variant, within}
 use Rattle.wit_merge_structure.specs.facts.StructureFacts.{part_refers, structure_at}
-use Rattle.wit_merge_structure.specs.declared.kinds.Variant.{Variant}
-use Rattle.wit_merge_structure.specs.declared.kinds.Variant.TheVariants as variants
+use Rattle.wit_data.specs.declared.kind.Variant.TheVariants as variants
 use Rattle.wit_merge_laws.specs.facts.FeaturesTold.{front_of}
 
 -- ---- lists that are read alike
@@ -100,7 +101,7 @@ read_lengths k l same = by (fixed_length k) (fixed_length l) refl refl
     by (Some m) None is is' = absurd (variant_fixed l (sym same ∙ fixed_variant k m is) is')
 
 abbrev steps_of : TypeDefKind → List (List ℕ)
-steps_of k = map (λ (p : Part). p.step) (parts_of k)
+steps_of k = map (λ (p : KindPart). p.step) (kind_parts k)
 
 one_content : {c d : Content} → here c ∷ [] ≡ here d ∷ [] → c ≡ d
 one_content {c} {d} same = ap (λ (x : Feature). x.content) (same_heads (here c) (here d) [] [] same).0
@@ -135,7 +136,7 @@ there_at (x ∷ xs) zero within = (x, refl)
 there_at (x ∷ xs) (suc i) within = there_at xs i (omega (arith, within))
 
 -- what a type refers to is there
-pub refers_within : (types : List TypeDef) → IsAcyclic (type_references types) → (t : ℕ) (def : TypeDef) (p : Part) (u : ℕ) → slice_get types t ≡ Some def → Contains (parts_of def.kind) p → Contains (named_option p.ty) u
+pub refers_within : (types : List TypeDef) → IsAcyclic (type_references types) → (t : ℕ) (def : TypeDef) (p : KindPart) (u : ℕ) → slice_get types t ≡ Some def → Contains (kind_parts def.kind) p → Contains (named_option p.ty) u
     → Contains (direct (type_references types) t) u × (u < length types)
 refers_within types acyclic t def p u at among has =
     let edge : Contains (direct (type_references types) t) u = subst (λ (ids : List ℕ). Contains ids u) (sym (references_at types t def at)) (part_refers def.kind p u among has) in
@@ -179,7 +180,7 @@ module _ (others ours : List TypeDef) (found back : ℕ → Option ℕ) (acyclic
   begins : (types : List TypeDef) (matched : ℕ → Option ℕ) → IsAcyclic (type_references types) → (t : ℕ) → t < length types → (v : Variant) × (rest : List Feature) × (structure types matched t ≡ here (variant v) ∷ rest)
   begins types matched acyclic t within =
       let at = there_at types t within in
-      (variant_of at.0.kind, here (names (steps_of at.0.kind)) ∷ (length_features at.0.kind ++ flat_map (part_features types matched (structure types matched)) (parts_of at.0.kind)), structure_at types matched acyclic t at.0 within at.1)
+      (variant_of at.0.kind, here (names (steps_of at.0.kind)) ∷ (length_features at.0.kind ++ flat_map (part_features types matched (structure types matched)) (kind_parts at.0.kind)), structure_at types matched acyclic t at.0 within at.1)
 
   read_held : (ty ty' : Option Type_) → ((t : ℕ) → Contains (named_option ty) t → IsRead t × (t < length others)) → ((t' : ℕ) → Contains (named_option ty') t' → t' < length ours)
       → AreRead (held_features others found mine ty) (held_features ours back theirs ty')
@@ -196,48 +197,48 @@ module _ (others ours : List TypeDef) (found back : ℕ → Option ℕ) (acyclic
       by fs gs (a_type t has is) (a_type t' has' is') = subst (λ (l : List Feature). AreRead l gs) (sym is) (subst (AreRead (mine t)) (sym is') ((read t has).0 t' (within t' has')))
 
   -- the parts of two kinds
-  abbrev AreNamedSo : List Part → List Part → Type 0
-  AreNamedSo ps ps' = map (λ (p : Part). p.step) ps ≡ map (λ (p : Part). p.step) ps'
+  abbrev AreNamedSo : List KindPart → List KindPart → Type 0
+  AreNamedSo ps ps' = map (λ (p : KindPart). p.step) ps ≡ map (λ (p : KindPart). p.step) ps'
 
-  abbrev my_part : Part → List Feature
+  abbrev my_part : KindPart → List Feature
   my_part = part_features others found mine
 
-  abbrev their_part : Part → List Feature
+  abbrev their_part : KindPart → List Feature
   their_part = part_features ours back theirs
 
-  record PartsRead (ps ps' : List Part) : Type 0 where
-    read : (p : Part) → Contains ps p → (t : ℕ) → Contains (named_option p.ty) t → IsRead t × (t < length others)
-    inside : (p : Part) → Contains ps' p → (t : ℕ) → Contains (named_option p.ty) t → t < length ours
+  record PartsRead (ps ps' : List KindPart) : Type 0 where
+    read : (p : KindPart) → Contains ps p → (t : ℕ) → Contains (named_option p.ty) t → IsRead t × (t < length others)
+    inside : (p : KindPart) → Contains ps' p → (t : ℕ) → Contains (named_option p.ty) t → t < length ours
 
-  later : (p p' : Part) (ps ps' : List Part) → PartsRead (p ∷ ps) (p' ∷ ps') → PartsRead ps ps'
+  later : (p p' : KindPart) (ps ps' : List KindPart) → PartsRead (p ∷ ps) (p' ∷ ps') → PartsRead ps ps'
   later p p' ps ps' told = record { read = λ q has. told.read q (Contains-there p q ps has); inside = λ q has. told.inside q (Contains-there p' q ps' has) }
 
-  one_step : (p p' : Part) (ps ps' : List Part) → AreNamedSo (p ∷ ps) (p' ∷ ps') → (p.step ≡ p'.step) × AreNamedSo ps ps'
-  one_step p p' ps ps' same = let steps : p.step ∷ map (λ (q : Part). q.step) ps ≡ p'.step ∷ map (λ (q : Part). q.step) ps' = same in (cc, cc)
+  one_step : (p p' : KindPart) (ps ps' : List KindPart) → AreNamedSo (p ∷ ps) (p' ∷ ps') → (p.step ≡ p'.step) × AreNamedSo ps ps'
+  one_step p p' ps ps' same = let steps : p.step ∷ map (λ (q : KindPart). q.step) ps ≡ p'.step ∷ map (λ (q : KindPart). q.step) ps' = same in (cc, cc)
 
   no_names : (s : List ℕ) (more : List (List ℕ)) → [] ≡ s ∷ more → ⊥
   no_names s more same = cc
 
-  read_first : (p p' : Part) (ps ps' : List Part) → PartsRead (p ∷ ps) (p' ∷ ps') → AreRead (held_features others found mine p.ty) (held_features ours back theirs p'.ty)
+  read_first : (p p' : KindPart) (ps ps' : List KindPart) → PartsRead (p ∷ ps) (p' ∷ ps') → AreRead (held_features others found mine p.ty) (held_features ours back theirs p'.ty)
   read_first p p' ps ps' told = read_held p.ty p'.ty (told.read p (Contains-here p ps)) (told.inside p' (Contains-here p' ps'))
 
-  read_part : (p p' : Part) → p.step ≡ p'.step → AreRead (held_features others found mine p.ty) (held_features ours back theirs p'.ty) → AreRead (my_part p) (their_part p')
+  read_part : (p p' : KindPart) → p.step ≡ p'.step → AreRead (held_features others found mine p.ty) (held_features ours back theirs p'.ty) → AreRead (my_part p) (their_part p')
   read_part p p' step held =
       subst (λ (s : List ℕ). AreRead (my_part p) (map (within s) (held_features ours back theirs p'.ty))) step (read_within p.step (held_features others found mine p.ty) (held_features ours back theirs p'.ty) held)
 
-  read_parts : (ps ps' : List Part) → AreNamedSo ps ps' → PartsRead ps ps' → AreRead (flat_map my_part ps) (flat_map their_part ps')
+  read_parts : (ps ps' : List KindPart) → AreNamedSo ps ps' → PartsRead ps ps' → AreRead (flat_map my_part ps) (flat_map their_part ps')
   read_parts [] [] same told = read_nothing
-  read_parts [] (p' ∷ ps') same told = absurd (no_names p'.step (map (λ (q : Part). q.step) ps') same)
-  read_parts (p ∷ ps) [] same told = absurd (no_names p.step (map (λ (q : Part). q.step) ps) (sym same))
+  read_parts [] (p' ∷ ps') same told = absurd (no_names p'.step (map (λ (q : KindPart). q.step) ps') same)
+  read_parts (p ∷ ps) [] same told = absurd (no_names p.step (map (λ (q : KindPart). q.step) ps) (sym same))
   read_parts (p ∷ ps) (p' ∷ ps') same told =
       let steps = one_step p p' ps ps' same in
       read_then (my_part p) (their_part p') (flat_map my_part ps) (flat_map their_part ps') (read_part p p' steps.0 (read_first p p' ps ps' told)) (λ _. read_parts ps ps' steps.1 (later p p' ps ps' told))
 
   -- two kinds
-  read_kinds : (k l : TypeDefKind) → PartsRead (parts_of k) (parts_of l) → AreRead (kind_features others found mine k) (kind_features ours back theirs l)
+  read_kinds : (k l : TypeDefKind) → PartsRead (kind_parts k) (kind_parts l) → AreRead (kind_features others found mine k) (kind_features ours back theirs l)
   read_kinds k l told =
-      read_then (head_features k) (head_features l) (flat_map my_part (parts_of k)) (flat_map their_part (parts_of l)) (read_heads k l)
-      (λ same. read_parts (parts_of k) (parts_of l) (heads_variant k l [] [] (ap (λ (fs : List Feature). fs ++ []) same)).1 told)
+      read_then (head_features k) (head_features l) (flat_map my_part (kind_parts k)) (flat_map their_part (kind_parts l)) (read_heads k l)
+      (λ same. read_parts (kind_parts k) (kind_parts l) (heads_variant k l [] [] (ap (λ (fs : List Feature). fs ++ []) same)).1 told)
 
   -- each type is read
   read_all : (t : ℕ) → t < length others → IsRead t
@@ -271,12 +272,12 @@ module _ (others ours : List TypeDef) (found back : ℕ → Option ℕ) (acyclic
   -- ---- what two types of one structure have in common
 
   -- a part of the one holds what a part of the other does
-  abbrev IsLike : List Part → Part → Type 0
-  IsLike ps p' = (p : Part) × Contains ps p × (held_features others found mine p.ty ≡ held_features ours back theirs p'.ty)
+  abbrev IsLike : List KindPart → KindPart → Type 0
+  IsLike ps p' = (p : KindPart) × Contains ps p × (held_features others found mine p.ty ≡ held_features ours back theirs p'.ty)
 
-  parts_alike : (ps ps' : List Part) → AreNamedSo ps ps' → PartsRead ps ps' → flat_map my_part ps ≡ flat_map their_part ps' → (p' : Part) → Contains ps' p' → IsLike ps p'
+  parts_alike : (ps ps' : List KindPart) → AreNamedSo ps ps' → PartsRead ps ps' → flat_map my_part ps ≡ flat_map their_part ps' → (p' : KindPart) → Contains ps' p' → IsLike ps p'
   parts_alike ps [] called told same q has = absurd (Contains-nil has)
-  parts_alike [] (p' ∷ ps') called told same q has = absurd (no_names p'.step (map (λ (x : Part). x.step) ps') called)
+  parts_alike [] (p' ∷ ps') called told same q has = absurd (no_names p'.step (map (λ (x : KindPart). x.step) ps') called)
   parts_alike (p ∷ ps) (p' ∷ ps') called told same q has =
       let steps = one_step p p' ps ps' called in
       let within_one : my_part p ++ flat_map my_part ps ≡ map (within p.step) (held_features ours back theirs p'.ty) ++ flat_map their_part ps' =
@@ -284,27 +285,27 @@ module _ (others ours : List TypeDef) (found back : ℕ → Option ℕ) (acyclic
       let first = read_within_held p.step (held_features others found mine p.ty) (held_features ours back theirs p'.ty) (read_first p p' ps ps' told) (λ x. x) (flat_map my_part ps) (flat_map their_part ps') (λ x. refl)
       (itself (my_part p) (flat_map my_part ps) ∙ (within_one ∙ sym (itself (map (within p.step) (held_features ours back theirs p'.ty)) (flat_map their_part ps')))) in
       elim (Contains-cons_cases p' q ps' has) [
-        | inl is ↦ (p, Contains-here p ps, first.0 ∙ ap (λ (x : Part). held_features ours back theirs x.ty) is)
+        | inl is ↦ (p, Contains-here p ps, first.0 ∙ ap (λ (x : KindPart). held_features ours back theirs x.ty) is)
         | inr there ↦ let rest = parts_alike ps ps' steps.1 (later p p' ps ps' told) first.1 q there in (rest.0, Contains-there p rest.0 ps rest.1, rest.2)
       ]
 
   pub record KindsAreAlike (k l : TypeDefKind) : Type 0 where
     pub same : variant_of k ≡ variant_of l
-    pub parts : (p' : Part) → Contains (parts_of l) p' → IsLike (parts_of k) p'
+    pub parts : (p' : KindPart) → Contains (kind_parts l) p' → IsLike (kind_parts k) p'
 
   pub kinds_alike : (t t' : ℕ) (def def' : TypeDef) → slice_get others t ≡ Some def → slice_get ours t' ≡ Some def' → mine t ≡ theirs t' → KindsAreAlike def.kind def'.kind
   kinds_alike t t' def def' at at' same =
       let within = slice_get_within others t def at in
       let within' = slice_get_within ours t' def' at' in
       let kinds : kind_features others found mine def.kind ≡ kind_features ours back theirs def'.kind = sym (structure_at others found acyclic t def within at) ∙ (same ∙ structure_at ours back acyclic' t' def' within' at') in
-      let heads = heads_variant def.kind def'.kind (flat_map my_part (parts_of def.kind)) (flat_map their_part (parts_of def'.kind)) kinds in
-      let tails = read_heads def.kind def'.kind (λ x. x) (flat_map my_part (parts_of def.kind)) (flat_map their_part (parts_of def'.kind)) (λ x. refl)
-      (itself (head_features def.kind) (flat_map my_part (parts_of def.kind)) ∙ (kinds ∙ sym (itself (head_features def'.kind) (flat_map their_part (parts_of def'.kind))))) in
-      let told : PartsRead (parts_of def.kind) (parts_of def'.kind) = record {
+      let heads = heads_variant def.kind def'.kind (flat_map my_part (kind_parts def.kind)) (flat_map their_part (kind_parts def'.kind)) kinds in
+      let tails = read_heads def.kind def'.kind (λ x. x) (flat_map my_part (kind_parts def.kind)) (flat_map their_part (kind_parts def'.kind)) (λ x. refl)
+      (itself (head_features def.kind) (flat_map my_part (kind_parts def.kind)) ∙ (kinds ∙ sym (itself (head_features def'.kind) (flat_map their_part (kind_parts def'.kind))))) in
+      let told : PartsRead (kind_parts def.kind) (kind_parts def'.kind) = record {
         read = λ p has u holds. let refers = refers_within others acyclic t def p u at has holds in (read_all u refers.1, refers.1);
         inside = λ p has u holds. (refers_within ours acyclic' t' def' p u at' has holds).1;
       } in
-      record { same = heads.0; parts = parts_alike (parts_of def.kind) (parts_of def'.kind) heads.1 told tails.1 }
+      record { same = heads.0; parts = parts_alike (kind_parts def.kind) (kind_parts def'.kind) heads.1 told tails.1 }
 
   -- where the one holds a type, the other holds one that is matched with what that is, or is of its structure
   pub record IsTypeLike (ty : Option Type_) (u' : ℕ) : Type 0 where

@@ -1,40 +1,39 @@
 -- The types of two graphs that are one: those of the graph stay but for their stability, those of the other stand at
 -- their places, and there are no others but the `own`s that values ask for.
-use Rattle.std.proofs.Common.{◌≡◌, ◌∙◌, ℕ, ◌+◌, ◌<◌, Bool, true, false, not, List, ◌++◌, ◌⊎◌, inl, inr, map, filter, length, is_some, nat_eq, Option, None, Some, option_map, unwrap_or, IsSome, slice_get, refl, sym, ap, subst, arith, if◌then◌else◌}
-use Rattle.std.specs.List.{enumerate_from, list_any, range_with_len}
+use Rattle.std.proofs.Common.{◌≡◌, ◌∙◌, ℕ, ◌+◌, ◌<◌, true, false, not, List, ◌++◌, ◌⊎◌, inl, inr, map, length, is_some, Option, None, Some, option_map, unwrap_or, IsSome, slice_get, refl, sym, ap, subst, arith, if◌then◌else◌}
+use Rattle.std.specs.List.{enumerate_from}
 use Rattle.std.specs.Option.{option_map_or}
-use Rattle.std.proofs.lemmas.Bool.{and_parts, cases_Bool, false≢true, lt-ltb}
+use Rattle.std.proofs.lemmas.Bool.{cases_Bool, lt-ltb}
 use Rattle.std.proofs.lemmas.List.{length-map}
 use Rattle.std.proofs.lemmas.Option.{slice_get_within}
 use Rattle.wit_values.specs.facts.Lists.{slice_get-append}
 use Rattle.wit_data.specs.Each.{SomeAt}
 use Rattle.wit_data.specs.Ownership.{IsPlain, parts}
 use Rattle.wit_data.specs.Uses.{alias_target}
-use Rattle.wit_data.specs.declared.types.Handle.TheVariants.{Own}
 use Rattle.wit_data.specs.declared.types.TypeDef.{TypeDef}
 use Rattle.wit_data.specs.declared.types.TypeDefKind.{TypeDefKind}
-use Rattle.wit_data.specs.declared.types.TypeDefKind.TheVariants as kind
 use Rattle.wit_data.specs.declared.types.TypeOwner.{TypeOwner}
+use Rattle.wit_data.specs.declared.types.TypeDefKind.TheVariants as kind
 use Rattle.wit_data.specs.declared.types.TypeOwner.TheVariants as owner
 use Rattle.wit_elaboration.specs.Valid.{IsValid}
 use Rattle.wit_graph_data.specs.declared.graph.Graph.{Graph}
 use Rattle.wit_graph_theory.specs.facts.CarriedImages.{image_carried, image_stands, itself_carried}
 use Rattle.wit_graph_theory.specs.facts.Covered.{IsOwnMade, TypeComes}
 use Rattle.wit_graph_theory.specs.Cut.{graph_source}
-use Rattle.wit_graph_theory.specs.Image.{name_image, owner_image, type_image}
-use Rattle.wit_graph_theory.specs.facts.ListFacts.{at_map, at_new, from_map, old_or_new, some_at}
+use Rattle.wit_remap_spec.specs.Image.{name_image, owner_image, type_image}
+use Rattle.wit_graph_theory.specs.facts.ListFacts.{at_map, at_new, from_map, some_at}
 use Rattle.wit_graph_theory.specs.Operations.{merge_sources}
 use Rattle.wit_graph_theory.specs.facts.PackagesAcyclic.{length-numbered, numbered_from, numbered_into}
 use Rattle.wit_graph_theory.specs.facts.Referred.{RefersUnder}
 use Rattle.wit_graph_theory.specs.steps.Sources.{IsCarriedType, IsOwnOf, Source, Stands}
-use Rattle.wit_link_spec.specs.facts.RankFacts.{selected-at, selected_with_index-at, selected_with_index-from}
+use Rattle.wit_link_spec.specs.facts.RankFacts.{selected-at, selected_with_index-from}
 use Rattle.wit_link_spec.specs.Addition.{rank, selected_with_index}
 use Rattle.wit_link_spec.specs.Resources.{leads_to_resource, own_of}
-use Rattle.wit_link_laws.specs.facts.LeadFacts.{filtered_range, leads_nowhere}
-use Rattle.wit_graph_theory.specs.facts.ReferredFacts.{plain_image}
+use Rattle.wit_link_spec.specs.ValueRemap.{needs_own, owns, types_without_owns, value_id}
+use Rattle.wit_link_laws.specs.facts.ValueRemapFacts.{behind_from, leads_named, new_stands, own_stands, value_stands}
 use Rattle.wit_merge_spec.specs.United.{joined_graph, joined_type, with_type}
 use Rattle.wit_merge_spec.specs.Matches.{GraphMerge, counterpart_of, counterpart_type}
-use Rattle.wit_merge_spec.specs.Remapped.{merge_maps, merge_maps_without_owns, merge_types_without_owns, merged_type, merged_value, merged_value_needs_own, moved_types, moves_type, owns_of_merge, positions}
+use Rattle.wit_merge_spec.specs.Remapped.{merge_maps, merge_maps_without_owns, merged_type, moved_types, moves_type, remap_of_merge}
 use Rattle.wit_merge_laws.specs.facts.MatchFacts.{goes_to, type_is}
 
 -- ---- what moves, and what is matched
@@ -91,7 +90,7 @@ module _ (m : GraphMerge) where
   pub old_type_at : (t : ℕ) (def : TypeDef) → slice_get m.graph.types t ≡ Some def → slice_get (joined_graph m).types t ≡ Some (joined_type m (t, def))
   old_type_at t def at =
       let place : 0 + t ≡ t = omega arith in
-      slice_get-append old_types (images ++ owns_of_merge m) t (joined_type m (t, def))
+      slice_get-append old_types (images ++ owns (remap_of_merge m)) t (joined_type m (t, def))
       (at_map (joined_type m) (enumerate_from 0 m.graph.types) t (t, def) (numbered_into 0 m.graph.types t def at ∙ ap (λ (n : ℕ). Some (n, def)) place))
 
   pub moved_type_remapped : (t : ℕ) → moves_type m t ≡ true → merged_type m t ≡ length m.graph.types + rank (moves_type m) t
@@ -100,25 +99,11 @@ module _ (m : GraphMerge) where
   -- one that moves stands at the next place, as its image
   pub new_type_at : (t : ℕ) (def : TypeDef) → slice_get m.other.types t ≡ Some def → moves_type m t ≡ true → slice_get (joined_graph m).types (merged_type m t) ≡ Some (type_image (merge_maps m) def)
   new_type_at t def at moves =
-      let goes = moved_type_remapped t moves in
-      let long = long_old in
-      at_new old_types (images ++ owns_of_merge m) (rank (moves_type m) t) (merged_type m t) (type_image (merge_maps m) def) (omega (arith, goes, long))
-      (slice_get-append images (owns_of_merge m) (rank (moves_type m) t) (type_image (merge_maps m) def)
-      (at_map (type_image (merge_maps m)) (moved_types m) (rank (moves_type m) t) def (selected-at (moves_type m) m.other.types t def at moves)))
+      new_stands (remap_of_merge m) old_types long_old (rank (moves_type m) t) (merged_type m t) def (selected-at (moves_type m) m.other.types t def at moves) (moved_type_remapped t moves)
 
   -- the `own` of a type that needs one stands behind those
-  pub own_at : (t : ℕ) (def : TypeDef) → slice_get m.other.types t ≡ Some def → merged_value_needs_own m t ≡ true → slice_get (joined_graph m).types (merged_value m t) ≡ Some (own_of (merged_type m t))
-  own_at t def at needs =
-      let goes : merged_value m t ≡ length m.graph.types + length (moved_types m) + rank (merged_value_needs_own m) t =
-      ap (λ (b : Bool). if b then length m.graph.types + length (moved_types m) + rank (merged_value_needs_own m) t else merged_type m t) needs in
-      let long = long_old in
-      let many : length images ≡ length (moved_types m) = length-map (moved_types m) (type_image (merge_maps m)) in
-      let listed : slice_get (filter (merged_value_needs_own m) (range_with_len 0 (length m.other.types))) (rank (merged_value_needs_own m) t) ≡ Some t =
-      ap (λ (l : List ℕ). slice_get l (rank (merged_value_needs_own m) t)) (filtered_range (merged_value_needs_own m) m.other.types 0)
-      ∙ at_map (λ (e : ℕ × TypeDef). e.0) (selected_with_index (merged_value_needs_own m) m.other.types) (rank (merged_value_needs_own m) t) (t, def) (selected_with_index-at (merged_value_needs_own m) m.other.types t def at needs) in
-      at_new old_types (images ++ owns_of_merge m) (length (moved_types m) + rank (merged_value_needs_own m) t) (merged_value m t) (own_of (merged_type m t)) (omega (arith, goes, long))
-      (at_new images (owns_of_merge m) (rank (merged_value_needs_own m) t) (length (moved_types m) + rank (merged_value_needs_own m) t) (own_of (merged_type m t)) (omega (arith, many))
-      (at_map (λ (t : ℕ). own_of (merged_type m t)) (filter (merged_value_needs_own m) (range_with_len 0 (length m.other.types))) (rank (merged_value_needs_own m) t) t listed))
+  pub own_at : (t : ℕ) (def : TypeDef) → slice_get m.other.types t ≡ Some def → needs_own (remap_of_merge m) t ≡ true → slice_get (joined_graph m).types (value_id (remap_of_merge m) t) ≡ Some (own_of (merged_type m t))
+  own_at t def at needs = own_stands (remap_of_merge m) old_types long_old t (slice_get_within m.other.types t def at) needs
 
   -- what stands there is one of these
   pub data TypeFrom (t' : ℕ) (new : TypeDef) : Type 0 where
@@ -126,33 +111,23 @@ module _ (m : GraphMerge) where
     of_other : (t : ℕ) (old : TypeDef) → slice_get m.other.types t ≡ Some old → moves_type m t ≡ true → t' ≡ merged_type m t → type_image (merge_maps m) old ≡ new → TypeFrom t' new
     an_own : (t : ℕ) → t < length m.other.types → own_of (merged_type m t) ≡ new → TypeFrom t' new
 
-  own_from : (t' k : ℕ) (new : TypeDef) → slice_get (owns_of_merge m) k ≡ Some new → TypeFrom t' new
-  own_from t' k new at =
-      let from = from_map (λ (t : ℕ). own_of (merged_type m t)) (filter (merged_value_needs_own m) (range_with_len 0 (length m.other.types))) k new at in
-      let listed : slice_get (map (λ (e : ℕ × TypeDef). e.0) (selected_with_index (merged_value_needs_own m) m.other.types)) k ≡ Some from.0 = ap (λ (l : List ℕ). slice_get l k) (sym (filtered_range (merged_value_needs_own m) m.other.types 0)) ∙ from.1 in
-      let e = from_map (λ (e : ℕ × TypeDef). e.0) (selected_with_index (merged_value_needs_own m) m.other.types) k from.0 listed in
-      let is = selected_with_index-from (merged_value_needs_own m) m.other.types k e.0 e.1 in
-      an_own from.0 (slice_get_within m.other.types from.0 e.0.1 (ap (slice_get m.other.types) (sym e.2) ∙ is.0)) from.2
-
   pub type_at_from : (t' : ℕ) (new : TypeDef) → slice_get (joined_graph m).types t' ≡ Some new → TypeFrom t' new
   type_at_from t' new at =
-      elim (old_or_new old_types (images ++ owns_of_merge m) t' new at) [
+      elim (behind_from (remap_of_merge m) old_types long_old t' new at) [
         | inl old ↦
             let from = from_map (joined_type m) (enumerate_from 0 m.graph.types) t' new old in
             let is = numbered_from 0 m.graph.types t' from.0 from.1 in
             let place : from.0.0 ≡ t' = let n = is.0 in omega (arith, n) in
             of_graph from.0.1 is.1 (ap (λ (k : ℕ). joined_type m (k, from.0.1)) (sym place) ∙ from.2)
-        | inr behind ↦ elim (old_or_new images (owns_of_merge m) behind.0 new behind.2) [
+        | inr behind ↦ elim behind [
           | inl image ↦
-              let from = from_map (type_image (merge_maps m)) (moved_types m) behind.0 new image in
-              let taken_from = from_map (λ (e : ℕ × TypeDef). e.1) (selected_with_index (moves_type m) m.other.types) behind.0 from.0 from.1 in
-              let is = selected_with_index-from (moves_type m) m.other.types behind.0 taken_from.0 taken_from.1 in
+              let taken_from = from_map (λ (e : ℕ × TypeDef). e.1) (selected_with_index (moves_type m) m.other.types) image.k image.old image.there in
+              let is = selected_with_index-from (moves_type m) m.other.types image.k taken_from.0 taken_from.1 in
               let goes = moved_type_remapped taken_from.0.0 is.1 in
-              let long = long_old in
-              let n = behind.1 in
-              let r = is.2 in
-              of_other taken_from.0.0 from.0 (is.0 ∙ ap (λ (d : TypeDef). Some d) taken_from.2) is.1 (omega (arith, goes, long, n, r)) from.2
-          | inr own ↦ own_from t' own.0 new own.2
+              let n = image.place in
+              let k = is.2 in
+              of_other taken_from.0.0 image.old (is.0 ∙ ap (λ (d : TypeDef). Some d) taken_from.2) is.1 (omega (arith, goes, n, k)) image.is
+          | inr own ↦ an_own own.t own.there own.is
         ]
       ]
 
@@ -185,36 +160,24 @@ module _ (m : GraphMerge) (valid : IsValid m.graph) (valid_other : IsValid m.oth
           })
 
   -- a type that leads to a resource has a name
-  leads_named : (t : ℕ) (def : TypeDef) → slice_get m.other.types t ≡ Some def → leads_to_resource (merge_types_without_owns m) (merged_type m t) ≡ true → IsSome def.name
-  leads_named t def at leads = elim (cases_Bool (moves_type m t)) [
+  type_named : (t : ℕ) (def : TypeDef) → slice_get m.other.types t ≡ Some def → leads_to_resource (types_without_owns (remap_of_merge m)) (merged_type m t) ≡ true → IsSome def.name
+  type_named t def at leads = elim (cases_Bool (moves_type m t)) [
     | inr stays ↦
         let found = matched_some (counterpart_type m t) stays in
         let is = type_is m valid t found.0 found.1 in
         let same : is.from ≡ def = let first = is.from_is in cc in
         subst (λ (o : Option (List ℕ)). IsSome o) (sym (sym (ap (λ (d : TypeDef). d.name) same) ∙ is.called)) refl
-    | inl moves ↦ by def.name refl moves
-  ]
-    where
-      by : (o : Option (List ℕ)) → def.name ≡ o → moves_type m t ≡ true → IsSome def.name
-      by (Some n) called moves = subst (λ (o : Option (List ℕ)). IsSome o) (sym called) refl
-      by None called moves =
-          let there : slice_get (merge_types_without_owns m) (merged_type m t) ≡ Some (type_image (merge_maps_without_owns m) def) =
+    | inl moves ↦
+        leads_named (remap_of_merge m) t def (λ none. (
+          valid_other.well_formed.references.unnamed t def at none,
           at_new m.graph.types (map (type_image (merge_maps_without_owns m)) (moved_types m)) (rank (moves_type m) t) (merged_type m t) (type_image (merge_maps_without_owns m) def) (moved_type_remapped m t moves)
-          (at_map (type_image (merge_maps_without_owns m)) (moved_types m) (rank (moves_type m) t) def (selected-at (moves_type m) m.other.types t def at moves)) in
-          absurd
-          (false≢true
-          (sym (leads_nowhere (merge_types_without_owns m) (merged_type m t) (type_image (merge_maps_without_owns m) def) there (plain_image (merge_maps_without_owns m) def.kind (valid_other.well_formed.references.unnamed t def at called))) ∙ leads))
+              (at_map (type_image (merge_maps_without_owns m)) (moved_types m) (rank (moves_type m) t) def (selected-at (moves_type m) m.other.types t def at moves)),
+        )) leads
+  ]
 
   -- and where a value of it goes is that place or, of a named type, an `own` of it
-  pub values_stand : (t : ℕ) (def : TypeDef) → slice_get m.other.types t ≡ Some def → (merged_value m t ≡ merged_type m t) ⊎ (IsSome def.name × IsOwnOf (joined_graph m).types (merged_value m t) (merged_type m t))
-  values_stand t def at = elim (cases_Bool (merged_value_needs_own m t)) [
-    | inl needs ↦
-        inr (
-          leads_named t def at (and_parts (list_any (nat_eq t) (positions m)) (leads_to_resource (merge_types_without_owns m) (merged_type m t)) needs).1,
-          some_at (λ (there : TypeDef). (there.name ≡ None) × (there.owner ≡ owner.None) × (there.kind ≡ kind.Handle (Own (merged_type m t)))) (joined_graph m).types (merged_value m t) (own_of (merged_type m t)) (own_at m t def at needs) (refl, refl, refl),
-        )
-    | inr plain ↦ inl (ap (λ (b : Bool). if b then length m.graph.types + length (moved_types m) + rank (merged_value_needs_own m) t else merged_type m t) plain)
-  ]
+  pub values_stand : (t : ℕ) (def : TypeDef) → slice_get m.other.types t ≡ Some def → (value_id (remap_of_merge m) t ≡ merged_type m t) ⊎ (IsSome def.name × IsOwnOf (joined_graph m).types (value_id (remap_of_merge m) t) (merged_type m t))
+  values_stand t def at = value_stands (remap_of_merge m) (joined_graph m).types t def (own_at m t def at) (type_named t def at)
 
   -- each type of the two graphs as one comes of a type of one of them, or is an `own`
   pub types_come : (g : Graph) (t' : ℕ) (new : TypeDef) → slice_get (joined_graph m).types t' ≡ Some new

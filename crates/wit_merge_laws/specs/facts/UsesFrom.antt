@@ -13,7 +13,7 @@ use Rattle.wit_graph_data.specs.declared.graph.Graph.{Graph}
 use Rattle.wit_graph_theory.specs.facts.CarriedImages.{from_mapped}
 use Rattle.wit_graph_theory.specs.facts.DependencyFacts.{Needs, filter_map_from, filter_map_into, needs_from, needs_into}
 use Rattle.wit_graph_theory.specs.facts.GoodTypes.{IsAliased, from_if}
-use Rattle.wit_graph_theory.specs.Image.{name_image, owner_image, type_image}
+use Rattle.wit_remap_spec.specs.Image.{name_image, owner_image, type_image}
 use Rattle.wit_graph_theory.specs.facts.ListFacts.{found_at, from_row, in_row, place_of, same_at}
 use Rattle.wit_graph_theory.specs.facts.ReferredFacts.{alias_image}
 use Rattle.wit_graph_theory.specs.steps.Sources.{Stands}

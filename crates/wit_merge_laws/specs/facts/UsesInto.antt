@@ -14,7 +14,7 @@ use Rattle.wit_graph_data.specs.declared.graph.Graph.{Graph}
 use Rattle.wit_graph_theory.specs.facts.CarriedImages.{from_mapped}
 use Rattle.wit_graph_theory.specs.Cut.{mapped_source}
 use Rattle.wit_graph_theory.specs.facts.DependencyFacts.{Needs, filter_map_from, filter_map_into, needs_from, needs_into}
-use Rattle.wit_graph_theory.specs.Image.{owner_image, type_image}
+use Rattle.wit_remap_spec.specs.Image.{owner_image, type_image}
 use Rattle.wit_graph_theory.specs.facts.ListFacts.{found_at, from_row, in_row, place_of, same_at}
 use Rattle.wit_graph_theory.specs.facts.OptionFacts.{some_same}
 use Rattle.wit_graph_theory.specs.facts.ReferredFacts.{alias_image}

@@ -7,13 +7,13 @@ use Rattle.std.proofs.lemmas.Map.Views.{Contains-from_lookup}
 use Rattle.std.proofs.lemmas.Option.{slice_get_within}
 use Rattle.wit_digraph.specs.facts.MemberFacts.{Contains-cons_cases, Contains-flat_map, Contains-here, Contains-nil}
 use Rattle.wit_digraph.specs.Relation.{direct}
-use Rattle.wit_data.specs.Entries.{Entry, is_unnamed, item_interface}
+use Rattle.wit_data.specs.Entries.{Entry, is_unnamed, item_interface, entries_of}
 use Rattle.wit_data.specs.Uses.{interface_uses}
 use Rattle.wit_data.specs.declared.interface.Interface.{Interface}
 use Rattle.wit_data.specs.declared.world.World.{World}
 use Rattle.wit_data.specs.declared.world.WorldItem.{WorldItem}
-use Rattle.wit_data.specs.declared.world.WorldItem.TheVariants as item
 use Rattle.wit_data.specs.declared.world.WorldKey.{WorldKey}
+use Rattle.wit_data.specs.declared.world.WorldItem.TheVariants as item
 use Rattle.wit_data.specs.declared.world.WorldKey.TheVariants as key
 use Rattle.wit_elaboration.proofs.FreshEntries.{same_key-true}
 use Rattle.wit_elaboration.specs.Elaboration.{graph_uses}
@@ -23,9 +23,8 @@ use Rattle.wit_elaboration.specs.Valid.{IsValid}
 use Rattle.wit_graph_data.specs.declared.graph.Graph.{Graph}
 use Rattle.wit_graph_theory.specs.Cut.{mapped_source}
 use Rattle.wit_graph_theory.specs.facts.EntryFacts.{canonical_lists_uses, key_entry}
-use Rattle.wit_graph_theory.specs.Image.{entry_image, world_image}
+use Rattle.wit_remap_spec.specs.Image.{entry_image, world_image}
 use Rattle.wit_graph_theory.specs.facts.ListFacts.{Contains-map, Contains-map_cases, found_at, from_row, place_of}
-use Rattle.wit_graph_theory.specs.steps.UnnamedOnce.{entries_of}
 use Rattle.wit_graph_theory.specs.facts.UnnamedOnceCarried.{unnamed_same}
 use Rattle.wit_graph_theory.specs.laws.PackageCycles.{ListsKey, ListsUses}
 use Rattle.wit_graph_theory.specs.steps.Sources.{InterfaceStands}

@@ -8,7 +8,7 @@ use Rattle.wit_elaboration.specs.Elaboration.{graph_uses}
 use Rattle.wit_elaboration.specs.Valid.{IsValid}
 use Rattle.wit_graph_data.specs.declared.error_kind.ResolveErrorKind.TheVariants.{PackageCycle}
 use Rattle.wit_graph_data.specs.declared.graph.Graph.{Graph}
-use Rattle.wit_graph_theory.specs.AllElaborated.{elaborated_world, graph_package_uses}
+use Rattle.wit_elaboration.specs.AllElaborated.{elaborated_world, graph_package_uses}
 use Rattle.wit_graph_theory.specs.facts.CoveredIsValid.{IsValid-of_covered}
 use Rattle.wit_graph_theory.specs.facts.Good.{IsGoodAsAWhole}
 use Rattle.wit_graph_theory.specs.facts.LawsOfElaboration.{LawsOfElaboration}

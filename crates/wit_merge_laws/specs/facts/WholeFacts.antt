@@ -7,16 +7,17 @@ use Rattle.wit_data.specs.Entries.{Entry, IsExport, IsImport}
 use Rattle.wit_data.specs.declared.function.Function.{Function}
 use Rattle.wit_data.specs.declared.interface.Interface.{Interface}
 use Rattle.wit_data.specs.declared.types.TypeDef.{TypeDef}
-use Rattle.wit_data.specs.declared.types.TypeOwner.TheVariants as owner
 use Rattle.wit_data.specs.declared.world.World.{World}
 use Rattle.wit_data.specs.declared.world.WorldItem.{WorldItem}
-use Rattle.wit_data.specs.declared.world.WorldItem.TheVariants as item
 use Rattle.wit_data.specs.declared.world.WorldKey.{WorldKey}
+use Rattle.wit_data.specs.declared.types.TypeOwner.TheVariants as owner
+use Rattle.wit_data.specs.declared.world.WorldItem.TheVariants as item
 use Rattle.wit_data.specs.declared.world.WorldKey.TheVariants as key
 use Rattle.wit_elaboration.specs.Valid.{IsValid}
 use Rattle.wit_graph_data.specs.declared.graph.Graph.{Graph}
-use Rattle.wit_graph_theory.specs.Cut.{cut_interface, cut_world, kept_whole, mapped_source}
-use Rattle.wit_graph_theory.specs.Image.{Maps}
+use Rattle.wit_graph_theory.specs.Cut.{kept_whole, mapped_source}
+use Rattle.wit_remap_spec.specs.Kept.{cut_interface, cut_world}
+use Rattle.wit_remap_spec.specs.Image.{Maps}
 use Rattle.wit_graph_theory.specs.facts.ListFacts.{at_map, found_at, from_map}
 
 -- what passes all is as it was

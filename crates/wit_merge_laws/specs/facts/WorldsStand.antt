@@ -10,15 +10,15 @@ use Rattle.std.proofs.lemmas.Slice.Eq.{bytes_eq-Decides}
 use Rattle.std.specs.Cmp.Lexicographic.{nat_list_eq_equiv}
 use Rattle.wit_digraph.specs.facts.MemberFacts.{Contains-cons_cases, Contains-flat_map, Contains-flat_map_cases, Contains-here, Contains-nil}
 use Rattle.wit_data.specs.Each.{SomeAt}
-use Rattle.wit_data.specs.Entries.{Entry}
+use Rattle.wit_data.specs.Entries.{Entry, entries_of}
 use Rattle.wit_data.specs.Ownership.{entry_type, world_types}
 use Rattle.wit_data.specs.declared.interface.Interface.{Interface}
 use Rattle.wit_data.specs.declared.types.TypeDef.{TypeDef}
-use Rattle.wit_data.specs.declared.types.TypeOwner.TheVariants as owner
 use Rattle.wit_data.specs.declared.world.World.{World}
 use Rattle.wit_data.specs.declared.world.WorldItem.{WorldItem}
-use Rattle.wit_data.specs.declared.world.WorldItem.TheVariants as item
 use Rattle.wit_data.specs.declared.world.WorldKey.{WorldKey}
+use Rattle.wit_data.specs.declared.types.TypeOwner.TheVariants as owner
+use Rattle.wit_data.specs.declared.world.WorldItem.TheVariants as item
 use Rattle.wit_data.specs.declared.world.WorldKey.TheVariants as key
 use Rattle.wit_elaboration.proofs.FreshEntries.{same_key-true}
 use Rattle.wit_elaboration.specs.Entries.{same_key}
@@ -28,10 +28,9 @@ use Rattle.wit_graph_theory.specs.facts.Covered.{IsCovered}
 use Rattle.wit_graph_theory.specs.Cut.{StaysIn, mapped_source}
 use Rattle.wit_graph_theory.specs.facts.GoodIsValid.{good_things}
 use Rattle.wit_graph_theory.specs.facts.GraphSource.{graph_stands, mapped_is_good}
-use Rattle.wit_graph_theory.specs.Image.{entry_image, identity, world_image}
-use Rattle.wit_graph_theory.specs.Kept.{everything}
+use Rattle.wit_remap_spec.specs.Image.{entry_image, identity, world_image}
+use Rattle.wit_remap_spec.specs.Kept.{everything}
 use Rattle.wit_graph_theory.specs.facts.ListFacts.{Contains-map, found_at, some_at}
-use Rattle.wit_graph_theory.specs.steps.UnnamedOnce.{entries_of}
 use Rattle.wit_graph_theory.specs.Operations.{merge_sources}
 use Rattle.wit_graph_theory.specs.facts.OptionFacts.{some_by, some_parts, some_same}
 use Rattle.wit_graph_theory.specs.steps.Sources.{Carries, IsGoodSource, WorldStands}

@@ -2,14 +2,13 @@
 -- gives the same names, labels and keys, and what leads to a resource still does.
 use Rattle.std.specs.Prelude.{◌≡◌, ◌↔◌, ℕ, Bool, true, List, Contains}
 use Rattle.wit_data.specs.Each.{SomeAt}
-use Rattle.wit_data.specs.Entries.{Entry}
-use Rattle.wit_data.specs.declared.package_name.PackageName.{PackageName}
+use Rattle.wit_data.specs.Entries.{Entry, entries_of}
+use Rattle.wit_names.specs.declared.package_name.PackageName.{PackageName}
 use Rattle.wit_data.specs.declared.world.World.{World}
 use Rattle.wit_data.specs.declared.world.WorldItem.{WorldItem}
 use Rattle.wit_elaboration.specs.Valid.{IsValid}
 use Rattle.wit_graph_data.specs.IdText.{key_text}
 use Rattle.wit_graph_data.specs.declared.graph.Graph.{Graph}
-use Rattle.wit_graph_theory.specs.steps.UnnamedOnce.{entries_of}
 use Rattle.wit_link_spec.specs.Resources.{leads_to_resource}
 use Rattle.wit_merge_spec.specs.Agreement.{same_sort}
 use Rattle.wit_merge_spec.specs.Matches.{GraphMerge}

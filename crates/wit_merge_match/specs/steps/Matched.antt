@@ -1,24 +1,22 @@
 -- What is found of another graph in a graph, as lists of ids: of each thing of the other graph the one with which it is
 -- matched; and where its things go in a merge.
-use Rattle.std.specs.Prelude.{◌≡◌, ℕ, Bool, List, get_or, length, nat_eq, slice_get, Option, None, Some, option_and_then, if◌then◌else◌, ◌+◌, not, is_some, unwrap_or}
+use Rattle.std.specs.Prelude.{◌≡◌, ℕ, Bool, List, get_or, length, nat_eq, slice_get, Option, None, Some, option_and_then, if◌then◌else◌, ◌+◌, not, is_some, unwrap_or, bytes_eq}
 use Rattle.std.specs.Map.{lookup}
-use Rattle.std.specs.Str.{bytes_eq}
-use Rattle.wit_data.specs.Entries.{is_unnamed}
+use Rattle.wit_data.specs.Entries.{is_unnamed, entries_of}
 use Rattle.wit_data.specs.Ownership.{world_types}
 use Rattle.wit_data.specs.declared.interface.Interface.{Interface}
 use Rattle.wit_data.specs.declared.types.TypeDef.{TypeDef}
 use Rattle.wit_data.specs.declared.types.TypeOwner.{TypeOwner}
-use Rattle.wit_data.specs.declared.types.TypeOwner.TheVariants as owner
 use Rattle.wit_data.specs.declared.world.World.{World}
 use Rattle.wit_data.specs.declared.world.WorldItem.{WorldItem}
-use Rattle.wit_data.specs.declared.world.WorldItem.TheVariants as item
 use Rattle.wit_data.specs.declared.world.WorldKey.{WorldKey}
+use Rattle.wit_data.specs.declared.types.TypeOwner.TheVariants as owner
+use Rattle.wit_data.specs.declared.world.WorldItem.TheVariants as item
 use Rattle.wit_elaboration.specs.Entries.{same_key}
 use Rattle.wit_graph_data.specs.declared.graph.Graph.{Graph}
 use Rattle.wit_graph_data.specs.declared.graph.Package.{Package}
 use Rattle.wit_link_spec.specs.Lookup.{interface_type}
 use Rattle.wit_link_spec.specs.Addition.{rank}
-use Rattle.wit_graph_theory.specs.steps.UnnamedOnce.{entries_of}
 use Rattle.wit_merge_spec.specs.Matches.{GraphMerge, WorldLabel, counterpart_at_label, counterpart_interface, counterpart_package, counterpart_type, counterpart_world, unnamed_item}
 use Rattle.wit_merge_spec.specs.Remapped as moved
 use Rattle.wit_merge_match.specs.declared.matches.Matches.{Matches}

@@ -1,17 +1,16 @@
 -- Stabilities that can't be joined, at one place of the lists of two graphs: the words of the steps that look for some.
 use Rattle.std.specs.Prelude.{◌≡◌, ℕ, Bool, List, Option, None, Some, nat_eq, option_and_then, if◌then◌else◌}
 use Rattle.std.specs.Map.{lookup}
-use Rattle.wit_data.specs.Entries.{Entry}
+use Rattle.wit_data.specs.Entries.{Entry, entries_of}
 use Rattle.wit_data.specs.declared.interface.Interface.{Interface}
 use Rattle.wit_data.specs.declared.stability.Stability.{Stability}
 use Rattle.wit_data.specs.declared.types.TypeDef.{TypeDef}
 use Rattle.wit_data.specs.declared.world.World.{World}
 use Rattle.wit_data.specs.declared.world.WorldItem.{WorldItem}
-use Rattle.wit_data.specs.declared.world.WorldItem.TheVariants as item
 use Rattle.wit_data.specs.declared.world.WorldKey.{WorldKey}
+use Rattle.wit_data.specs.declared.world.WorldItem.TheVariants as item
 use Rattle.wit_data.specs.declared.world.WorldKey.TheVariants as key
 use Rattle.wit_elaboration.specs.Entries.{same_key}
-use Rattle.wit_graph_theory.specs.steps.UnnamedOnce.{entries_of}
 use Rattle.wit_link_spec.specs.IncludeCause.{Disagree, HasStability}
 use Rattle.wit_merge_spec.specs.Matches.{GraphMerge, counterpart_interface, counterpart_type, counterpart_world}
 use Rattle.wit_merge_match.specs.Differing.{DifferAt}

@@ -5,12 +5,12 @@ use Rattle.wit_data.specs.declared.types.Case.{Case}
 use Rattle.wit_data.specs.declared.types.EnumCase.{EnumCase}
 use Rattle.wit_data.specs.declared.types.Field.{Field}
 use Rattle.wit_data.specs.declared.types.Flag.{Flag}
-use Rattle.wit_data.specs.declared.types.Handle.TheVariants as handle
 use Rattle.wit_data.specs.declared.types.TypeDef.{TypeDef}
 use Rattle.wit_data.specs.declared.types.TypeDefKind.{TypeDefKind}
+use Rattle.wit_data.specs.declared.types.Type_.{Type_}
+use Rattle.wit_data.specs.declared.types.Handle.TheVariants as handle
 use Rattle.wit_data.specs.declared.types.TypeDefKind.TheVariants as kind
 use Rattle.wit_data.specs.declared.types.TypeOwner.TheVariants as owner
-use Rattle.wit_data.specs.declared.types.Type_.{Type_}
 use Rattle.wit_data.specs.declared.types.Type_.TheVariants as type
 use Rattle.wit_merge_structure.specs.Structure.{DifferInStructure, structure}
 

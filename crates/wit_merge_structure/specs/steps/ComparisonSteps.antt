@@ -5,12 +5,13 @@ use Rattle.wit_digraph.specs.Relation.{IsAcyclic}
 use Rattle.wit_data.specs.Reference.{named_option, type_references}
 use Rattle.wit_data.specs.declared.types.TypeDef.{TypeDef}
 use Rattle.wit_data.specs.declared.types.TypeDefKind.{TypeDefKind}
-use Rattle.wit_data.specs.declared.types.TypeDefKind.TheVariants as kind
 use Rattle.wit_data.specs.declared.types.Type_.{Type_}
+use Rattle.wit_data.specs.declared.types.TypeDefKind.TheVariants as kind
 use Rattle.wit_data.specs.declared.types.Type_.TheVariants as type
 use Rattle.wit_merge_structure.specs.steps.Classes.{AreSame, IsDescending}
 use Rattle.wit_merge_structure.specs.steps.Kinds.{ending_text, step_at}
-use Rattle.wit_merge_structure.specs.Structure.{Content, Feature, FirstDifference, difference_text, head_features, held_features, here, parts_of, structure}
+use Rattle.wit_data.specs.Kind.{kind_parts}
+use Rattle.wit_merge_structure.specs.Structure.{Content, Feature, FirstDifference, difference_text, head_features, held_features, here, structure}
 use Rattle.wit_merge_structure.specs.declared.comparison.Comparison.{Comparison}
 use Rattle.wit_merge_structure.specs.declared.comparison.Held.{Held}
 use Rattle.wit_merge_structure.specs.declared.comparison.Held.TheVariants as held
@@ -88,7 +89,7 @@ pub record IsAtPart (s : Sides) (f : Frame) : Type 0 where
   pub from : f.from < length s.from.now
   pub into : f.into < length s.into.now
   pub begun : 0 < f.next
-  pub within : f.next ≤ length (parts_of (kind_at s.from.now f.from))
+  pub within : f.next ≤ length (kind_parts (kind_at s.from.now f.from))
 
 abbrev pub AreAtParts : Sides → List Frame → Type 0
 AreAtParts s stack = (i : ℕ) (f : Frame) → slice_get stack i ≡ Some f → IsAtPart s f

@@ -1,7 +1,6 @@
 -- How all names are gone through. What they come to is `each_once` (specs/Names).
-use Rattle.std.specs.Prelude.{ℕ, List, [], ◌∷◌, ◌++◌, fold, if◌then◌else◌}
+use Rattle.std.specs.Prelude.{ℕ, List, [], ◌∷◌, ◌++◌, fold, if◌then◌else◌, bytes_eq}
 use Rattle.std.specs.List.{list_any}
-use Rattle.std.specs.Str.{bytes_eq}
 
 -- the names with one more, where it isn't among them
 abbrev pub with_name : List (List ℕ) → List ℕ → List (List ℕ)

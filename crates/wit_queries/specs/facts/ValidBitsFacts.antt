@@ -1,8 +1,7 @@
 -- Facts on flags that tell of which types all bits are valid, for the proofs of the crates above. They say nothing of
 -- this crate's code.
 use Rattle.std.proofs.Common.{◌≡◌, ℕ, ◌<◌, ◌∙◌, zero, suc, Bool, true, false, refl, arith, List, [], ◌∷◌, None, Some, Option, length, take, sym, subst, slice_get, Contains, unwrap_or, inl, inr}
-use Rattle.std.specs.Option.{IsSomeAnd}
-use Rattle.std.specs.Prelude.{IsTrue, ◌↔◌}
+use Rattle.std.specs.Prelude.{IsTrue, ◌↔◌, IsSomeAnd}
 use Rattle.std.proofs.lemmas.Bool.{false≢true}
 use Rattle.std.proofs.lemmas.List.Elements.{All-contains}
 use Rattle.std.proofs.lemmas.Option.{slice_get_cases, slice_get_within}

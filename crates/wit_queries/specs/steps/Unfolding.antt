@@ -1,7 +1,6 @@
 -- How the futures and streams of a function are told: a type after another is taken off a stack, told
 -- where it is one, and gives way to the types that its values hold. What is told comes last first.
-use Rattle.std.specs.Prelude.{◌≡◌, ◌<◌, ℕ, List, [], ◌∷◌, ◌++◌, All, Contains, filter, length, nat_lt, reverse}
-use Rattle.std.specs.List.{flat_map}
+use Rattle.std.specs.Prelude.{◌≡◌, ◌<◌, ℕ, List, [], ◌∷◌, ◌++◌, All, Contains, filter, length, nat_lt, reverse, flat_map}
 use Rattle.wit_digraph.specs.Relation.{direct}
 use Rattle.wit_digraph.specs.PostOrder.{first_of_each, post_order}
 use Rattle.wit_data.specs.declared.types.TypeDef.{TypeDef}

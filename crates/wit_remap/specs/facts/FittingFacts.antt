@@ -7,15 +7,9 @@ use Rattle.std.specs.List.{flat_map}
 use Rattle.wit_data.specs.Each.{Each}
 use Rattle.wit_data.specs.Entries.{Entry}
 use Rattle.wit_data.specs.declared.function.Function.{Function}
-use Rattle.wit_data.specs.declared.function.Param.{Param}
 use Rattle.wit_data.specs.declared.interface.Interface.{Interface}
-use Rattle.wit_data.specs.declared.types.Case.{Case}
-use Rattle.wit_data.specs.declared.types.EnumCase.{EnumCase}
-use Rattle.wit_data.specs.declared.types.Field.{Field}
-use Rattle.wit_data.specs.declared.types.Flag.{Flag}
+use Rattle.wit_data.specs.declared.function.Param.{Param}
 use Rattle.wit_data.specs.declared.types.TypeDef.{TypeDef}
-use Rattle.wit_data.specs.declared.types.TypeDefKind.{TypeDefKind}
-use Rattle.wit_data.specs.declared.types.TypeDefKind.TheVariants as kind
 use Rattle.wit_data.specs.declared.world.World.{World}
 use Rattle.wit_data.specs.declared.world.WorldInclude.{WorldInclude}
 use Rattle.wit_data.specs.declared.world.WorldItem.{WorldItem}
@@ -24,7 +18,7 @@ use Rattle.wit_link_spec.specs.Gates.{OptionalSpan}
 use Rattle.wit_link_spec.specs.Spans.{function_spans, interface_spans, item_spans, kind_spans, type_spans, world_spans}
 use Rattle.wit_values.specs.facts.Lists.{slice_get-append}
 use Rattle.wit_graph_theory.specs.facts.ListFacts.{Each-map, at_map}
-use Rattle.wit_remap.specs.steps.Fits.{EntriesFit, Fits, FunctionFits, InterfaceFits, ItemFits, KindFits, PartsFit, TypeFits, WholeWorldFits}
+use Rattle.wit_remap.specs.steps.Fits.{EntriesFit, Fits, FunctionFits, InterfaceFits, ItemFits, PartsFit, TypeFits, WholeWorldFits}
 
 -- ---- what holds of each element
 
@@ -69,27 +63,13 @@ module _ (offset : ℕ) where
   abbrev pub AllFit : List OptionalSpan → Type 0
   AllFit spans = Each (Fits offset) spans
 
-  all_kind : (k : TypeDefKind) → KindFits (Fits offset) k → AllFit (kind_spans k)
-  all_kind (kind.Record fields) fits = Each-map (λ (f : Field). f.span) (Fits offset) fields fits
-  all_kind (kind.Variant cases) fits = Each-map (λ (c : Case). c.span) (Fits offset) cases fits
-  all_kind (kind.Flags flags) fits = Each-map (λ (f : Flag). f.span) (Fits offset) flags fits
-  all_kind (kind.Enum cases) fits = Each-map (λ (c : EnumCase). c.span) (Fits offset) cases fits
-  all_kind other fits = λ i place at. cc
-
-  kind_fits : (k : TypeDefKind) → AllFit (kind_spans k) → KindFits (Fits offset) k
-  kind_fits (kind.Record fields) all = Each-unmapped (Fits offset) (λ (f : Field). Fits offset f.span) (λ (f : Field). f.span) fields (λ f h. h) all
-  kind_fits (kind.Variant cases) all = Each-unmapped (Fits offset) (λ (c : Case). Fits offset c.span) (λ (c : Case). c.span) cases (λ c h. h) all
-  kind_fits (kind.Flags flags) all = Each-unmapped (Fits offset) (λ (f : Flag). Fits offset f.span) (λ (f : Flag). f.span) flags (λ f h. h) all
-  kind_fits (kind.Enum cases) all = Each-unmapped (Fits offset) (λ (c : EnumCase). Fits offset c.span) (λ (c : EnumCase). c.span) cases (λ c h. h) all
-  kind_fits other all = tt
-
   all_type : (def : TypeDef) → TypeFits (Fits offset) def → AllFit (type_spans def)
-  all_type def fits = Each-cons (Fits offset) def.span (kind_spans def.kind) fits.own (all_kind def.kind fits.parts)
+  all_type def fits = Each-cons (Fits offset) def.span (kind_spans def.kind) fits.own fits.parts
 
   type_fits : (def : TypeDef) → AllFit (type_spans def) → TypeFits (Fits offset) def
   type_fits def all = record {
     own = Each-head (Fits offset) def.span (kind_spans def.kind) all;
-    parts = kind_fits def.kind (Each-tail (Fits offset) def.span (kind_spans def.kind) all);
+    parts = Each-tail (Fits offset) def.span (kind_spans def.kind) all;
   }
 
   abbrev param_spans : Function → List OptionalSpan

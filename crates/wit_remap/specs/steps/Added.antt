@@ -1,12 +1,10 @@
 -- The parts of a package at the ends of a graph, its tables and its worlds at their places.
-use Rattle.std.specs.Prelude.{◌≡◌, ℕ, Bool, List, [], ◌∷◌, ◌++◌, map, length, None, filter, Option, filter_map}
+use Rattle.std.specs.Prelude.{◌≡◌, ℕ, Bool, List, [], ◌∷◌, ◌++◌, map, length, None, filter, Option, filter_map, option_map, bytes_eq}
 use Rattle.std.specs.List.{IsDistinct}
 use Rattle.std.specs.Map.{keys_of, lookup}
-use Rattle.std.specs.Option.{option_map}
-use Rattle.std.specs.Str.{bytes_eq}
 use Rattle.wit_data.specs.Each.{Each}
 use Rattle.wit_data.specs.Entries.{Entry}
-use Rattle.wit_data.specs.PackageOrder.{same_package}
+use Rattle.wit_names.specs.PackageOrder.{same_package}
 use Rattle.wit_data.specs.declared.interface.Interface.{Interface}
 use Rattle.wit_data.specs.declared.types.TypeDef.{TypeDef}
 use Rattle.wit_data.specs.declared.unresolved.UnresolvedPackage.{UnresolvedPackage}
@@ -14,14 +12,14 @@ use Rattle.wit_data.specs.declared.world.World.{World}
 use Rattle.wit_data.specs.facts.WorldKeyFacts.{same_key}
 use Rattle.wit_graph_data.specs.declared.graph.Graph.{Graph}
 use Rattle.wit_graph_data.specs.declared.graph.Package.{Package}
-use Rattle.wit_graph_theory.specs.Cut.{cut_interface, cut_world}
-use Rattle.wit_graph_theory.specs.Image.{Maps, entry_image, interface_image, type_image, world_image}
-use Rattle.wit_graph_theory.specs.Kept.{KeptIds}
+use Rattle.wit_remap_spec.specs.Kept.{KeptIds, cut_interface, cut_world}
+use Rattle.wit_remap_spec.specs.Image.{Maps, entry_image, interface_image, type_image, world_image}
 use Rattle.wit_link_spec.specs.Addition.{Addition, active_includes, addition_maps, own_worlds, selected, selected_with_index}
 use Rattle.wit_link_spec.specs.Gates.{include_is_active}
 use Rattle.wit_link_spec.specs.declared.addition.NewIds.{NewIds}
+use Rattle.wit_link_spec.specs.steps.NewThings.{is_new}
 use Rattle.wit_remap.specs.steps.Fits.{Fits, InterfaceFits, TypeFits, WorldFits}
-use Rattle.wit_remap.specs.steps.Parts.{is_new, kept_of}
+use Rattle.wit_remap.specs.steps.Parts.{kept_of}
 use Rattle.wit_remap.specs.declared.part.Part.{Part}
 use Rattle.wit_remap.specs.declared.worlds.PlacedWorld.{PlacedWorld}
 

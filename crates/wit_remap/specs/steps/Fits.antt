@@ -5,20 +5,16 @@ use Rattle.wit_data.specs.Each.{Each}
 use Rattle.wit_data.specs.Entries.{Entry}
 use Rattle.wit_sources.specs.Span.{end_of}
 use Rattle.wit_data.specs.declared.function.Function.{Function}
-use Rattle.wit_data.specs.declared.function.Param.{Param}
 use Rattle.wit_data.specs.declared.interface.Interface.{Interface}
-use Rattle.wit_data.specs.declared.types.Case.{Case}
-use Rattle.wit_data.specs.declared.types.EnumCase.{EnumCase}
-use Rattle.wit_data.specs.declared.types.Field.{Field}
-use Rattle.wit_data.specs.declared.types.Flag.{Flag}
+use Rattle.wit_data.specs.declared.function.Param.{Param}
 use Rattle.wit_data.specs.declared.types.TypeDef.{TypeDef}
 use Rattle.wit_data.specs.declared.types.TypeDefKind.{TypeDefKind}
-use Rattle.wit_data.specs.declared.types.TypeDefKind.TheVariants as kind
 use Rattle.wit_data.specs.declared.world.World.{World}
 use Rattle.wit_data.specs.declared.world.WorldInclude.{WorldInclude}
 use Rattle.wit_data.specs.declared.world.WorldItem.{WorldItem}
 use Rattle.wit_data.specs.declared.world.WorldItem.TheVariants as item
 use Rattle.wit_link_spec.specs.Gates.{OptionalSpan}
+use Rattle.wit_link_spec.specs.Spans.{kind_spans}
 
 -- the place still ends within the last position
 abbrev pub Fits : ℕ → OptionalSpan → Type 0
@@ -26,11 +22,7 @@ Fits offset place = end_of place + offset < 2 ^ 32
 
 -- of any condition on places: those of the parts of a kind meet it
 abbrev pub KindFits : (OptionalSpan → Type 0) → TypeDefKind → Type 0
-KindFits P (kind.Record fields) = Each (λ (f : Field). P f.span) fields
-KindFits P (kind.Variant cases) = Each (λ (c : Case). P c.span) cases
-KindFits P (kind.Flags flags) = Each (λ (f : Flag). P f.span) flags
-KindFits P (kind.Enum cases) = Each (λ (c : EnumCase). P c.span) cases
-KindFits P _ = Unit {0}
+KindFits P k = Each P (kind_spans k)
 
 -- those of a type
 pub record TypeFits (P : OptionalSpan → Type 0) (def : TypeDef) : Type 0 where

@@ -1,6 +1,6 @@
 -- What the things of a package are remapped to, as maps.
 use Rattle.std.specs.Prelude.{ℕ, List, Option, None, Some, slice_get, unwrap_or}
-use Rattle.wit_graph_theory.specs.Image.{Maps}
+use Rattle.wit_remap_spec.specs.Image.{Maps}
 use Rattle.wit_link_spec.specs.declared.addition.NewIds.{NewIds}
 use Rattle.wit_remap.specs.declared.mover.Mover.{Mover}
 

@@ -1,9 +1,9 @@
 -- What of a package is active, and what of that is its own.
-use Rattle.std.specs.Prelude.{ℕ, Bool, false, List, Option, None, Some, nat_le, slice_get, unwrap_or}
+use Rattle.std.specs.Prelude.{ℕ, Bool, false, List, slice_get, unwrap_or}
 use Rattle.wit_data.specs.declared.world.WorldItem.{WorldItem}
 use Rattle.wit_data.specs.declared.world.WorldItem.TheVariants as item
 use Rattle.wit_graph_data.specs.declared.features.Features.{Features}
-use Rattle.wit_graph_theory.specs.Kept.{KeptIds}
+use Rattle.wit_remap_spec.specs.Kept.{KeptIds}
 use Rattle.wit_link_spec.specs.Gates.{function_is_active, is_active}
 use Rattle.wit_link_spec.specs.declared.addition.Activity.{Activity}
 use Rattle.wit_remap.specs.declared.part.Part.{Part}
@@ -30,13 +30,3 @@ kept_with features activity = record {
 
 abbrev pub kept_of : Part → KeptIds
 kept_of part = kept_with part.features.now part.activity.now
-
--- an id that isn't below the first one
-abbrev pub is_from : ℕ → Option (Option ℕ) → Bool
-is_from first None = false
-is_from first (Some None) = false
-is_from first (Some (Some id)) = nat_le first id
-
--- what stands at a place goes to an id that isn't there yet
-abbrev pub is_new : ℕ → List (Option ℕ) → ℕ → Bool
-is_new first places i = is_from first (slice_get places i)

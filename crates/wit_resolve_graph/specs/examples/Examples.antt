@@ -1,11 +1,11 @@
 -- What the definitions say of small graphs and short runs.
 use Rattle.std.specs.Prelude.{◌≡◌, ℕ, true, List, [], ◌∷◌, Some, None, Ok, Err, codes}
-use Rattle.wit_data.specs.declared.package_name.PackageName.{PackageName}
-use Rattle.wit_data.specs.declared.track.TrackRule.TheVariants.{WithPrereleases}
-use Rattle.wit_data.specs.declared.world.World.{World}
-use Rattle.wit_data.specs.declared.unresolved.UnresolvedPackageGroup.{UnresolvedPackageGroup}
-use Rattle.wit_graph_data.specs.examples.Samples.{foo_bar, no_docs, world_of}
+use Rattle.wit_names.specs.declared.package_name.PackageName.{PackageName}
 use Rattle.wit_data.specs.declared.unresolved.UnresolvedPackage.{UnresolvedPackage}
+use Rattle.wit_data.specs.declared.unresolved.UnresolvedPackageGroup.{UnresolvedPackageGroup}
+use Rattle.wit_data.specs.declared.world.World.{World}
+use Rattle.wit_names.specs.declared.track.TrackRule.TheVariants.{WithPrereleases}
+use Rattle.wit_graph_data.specs.examples.Samples.{foo_bar, no_docs, world_of}
 use Rattle.wit_graph_data.specs.declared.graph.Graph.{Graph}
 use Rattle.wit_graph_data.specs.declared.graph.Package.{Package}
 use Rattle.wit_selection.specs.Selection.{selected_world}

@@ -1,6 +1,6 @@
 -- What semver merging leaves of a world's imports, at a `Resolve` with whatever rule of tracks is in force.
 use Rattle.std.specs.Prelude.{◌≡◌, ◌↔◌, ◌<◌, ℕ, false, List, Some, length, slice_get, Contains}
-use Rattle.wit_data.specs.declared.package_name.PackageName.{PackageName}
+use Rattle.wit_names.specs.declared.package_name.PackageName.{PackageName}
 use Rattle.wit_data.specs.declared.world.World.{World}
 use Rattle.wit_elaboration.specs.Entries.{keyed_interfaces}
 use Rattle.wit_graph_data.specs.declared.graph.Graph.{Graph}

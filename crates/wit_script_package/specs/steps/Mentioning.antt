@@ -1,14 +1,13 @@
 -- What one more mention changes in a package that has only what is foreign. Mention says what all of them make.
-use Rattle.std.specs.Prelude.{ℕ, Bool, true, false, not, List, [], ◌∷◌, ◌++◌, length, is_some, Option, Some, None, if◌then◌else◌}
+use Rattle.std.specs.Prelude.{ℕ, Bool, true, false, not, List, [], ◌∷◌, ◌++◌, length, is_some, Option, Some, None, if◌then◌else◌, bytes_eq}
 use Rattle.std.specs.Map.{lookup}
 use Rattle.std.specs.Option.{option_map_or}
-use Rattle.std.specs.Str.{bytes_eq}
 use Rattle.wit_data.specs.Foreign.{ForeignItem, ForeignItems}
-use Rattle.wit_data.specs.PackageOrder.{same_package}
-use Rattle.wit_data.specs.declared.package_name.PackageName.{PackageName}
+use Rattle.wit_names.specs.PackageOrder.{same_package}
+use Rattle.wit_data.specs.declared.unresolved.AstItem.{AstItem}
+use Rattle.wit_names.specs.declared.package_name.PackageName.{PackageName}
 use Rattle.wit_data.specs.declared.stability.Stability.{Stability}
 use Rattle.wit_data.specs.declared.types.TypeDefKind.TheVariants as kind
-use Rattle.wit_data.specs.declared.unresolved.AstItem.{AstItem}
 use Rattle.wit_data.specs.declared.unresolved.AstItem.TheVariants as item
 use Rattle.wit_script_package.specs.Adding.{empty_interface, empty_world, with_interface_type}
 use Rattle.wit_script_package.specs.Mention.{is_world, mentioned_at}

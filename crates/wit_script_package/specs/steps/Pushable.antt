@@ -2,7 +2,7 @@
 use Rattle.std.specs.Prelude.{IfSome}
 use Rattle.wit_data.specs.Each.{Each, EachAt}
 use Rattle.wit_data.specs.Entries.{IncludesEarlier}
-use Rattle.wit_data.specs.UsePath.{IsKebabName}
+use Rattle.wit_names.specs.UsePath.{IsKebabName}
 use Rattle.wit_data.specs.declared.interface.Interface.{Interface}
 use Rattle.wit_data.specs.declared.unresolved.UnresolvedPackage.{UnresolvedPackage}
 use Rattle.wit_data.specs.declared.world.World.{World}

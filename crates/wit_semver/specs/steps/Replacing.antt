@@ -1,16 +1,16 @@
 -- What the steps of semver merging hand on: which interface replaces which, and which types' uses follow.
-use Rattle.std.specs.Prelude.{◌≡◌, ℕ, Bool, false, true, List, get_or, length, map, nat_eq, slice_set, Option, None, Some, Contains, option_and_then, slice_get, if◌then◌else◌}
+use Rattle.std.specs.Prelude.{◌≡◌, ℕ, Bool, false, true, List, get_or, length, map, nat_eq, slice_set, Option, None, Some, Contains, option_and_then, slice_get, if◌then◌else◌, option_map}
 use Rattle.std.specs.List.{enumerate_from, list_any}
 use Rattle.std.specs.Map.{lookup}
-use Rattle.std.specs.Option.{option_map, option_map_or}
+use Rattle.std.specs.Option.{option_map_or}
 use Rattle.wit_data.specs.Uses.{type_interface_dep}
 use Rattle.wit_data.specs.declared.interface.Interface.{Interface}
-use Rattle.wit_data.specs.declared.track.TrackRule.{TrackRule}
+use Rattle.wit_names.specs.declared.track.TrackRule.{TrackRule}
 use Rattle.wit_data.specs.declared.types.TypeDef.{TypeDef}
 use Rattle.wit_data.specs.declared.world.World.{World}
 use Rattle.wit_elaboration.specs.Entries.{Entry}
 use Rattle.wit_graph_data.specs.declared.graph.Graph.{Graph}
-use Rattle.wit_graph_theory.specs.FunctionMismatch.{HaveFunctionMismatch}
+use Rattle.wit_remap_spec.specs.FunctionMismatch.{HaveFunctionMismatch}
 use Rattle.wit_semver_spec.specs.Rewritten.{interface_type, retargeted, with_new_entries_at}
 use Rattle.wit_semver_spec.specs.TrackCause.{Disagrees, IsComplete, disagreement_text, missing_text, target_name, upgrade_message}
 use Rattle.wit_semver_spec.specs.Tracks.{Upgrade, Versioned, both, is_below, is_replaced, newest, track_key, versioned}

@@ -1,10 +1,10 @@
 -- What it means that functions agree, and where a parameter or a function of an interface doesn't: the words of the steps.
 use Rattle.std.specs.Prelude.{◌≡◌, ◌≢◌, ℕ, List, Option, Some, Contains, is_some, slice_get}
 use Rattle.wit_data.specs.declared.function.Function.{Function}
-use Rattle.wit_data.specs.declared.function.Param.{Param}
 use Rattle.wit_data.specs.declared.interface.Interface.{Interface}
+use Rattle.wit_data.specs.declared.function.Param.{Param}
 use Rattle.wit_data.specs.declared.types.Type_.{Type_}
-use Rattle.wit_graph_theory.specs.FunctionMismatch.{AreOfOneSort, FunctionMismatch, function_mismatch_text, parameter_names_text, parameter_types_text}
+use Rattle.wit_remap_spec.specs.FunctionMismatch.{AreOfOneSort, FunctionMismatch, function_mismatch_text, parameter_names_text, parameter_types_text}
 
 -- ---- parameters and results
 

@@ -6,17 +6,17 @@ use Rattle.std.specs.Prelude.{◌≡◌, ℕ, List, None, Some, slice_get, Conta
 use Rattle.wit_digraph.specs.Relation.{IsInRange, IsPath, direct}
 use Rattle.wit_data.specs.Each.{Each}
 use Rattle.wit_data.specs.Reference.{type_references}
-use Rattle.wit_data.specs.declared.package_name.PackageName.{PackageName}
+use Rattle.wit_names.specs.declared.package_name.PackageName.{PackageName}
 use Rattle.wit_data.specs.declared.types.TypeDef.{TypeDef}
 use Rattle.wit_data.specs.declared.world.World.{World}
 use Rattle.wit_graph_data.specs.IdText.{interface_id_at}
 use Rattle.wit_graph_data.specs.declared.cause.Cause.TheVariants as cause
+use Rattle.wit_graph_data.specs.declared.graph.Graph.{Graph}
 use Rattle.wit_graph_data.specs.declared.error_kind.ResolveErrorKind.{ResolveErrorKind}
 use Rattle.wit_graph_data.specs.declared.error_kind.ResolveErrorKind.TheVariants.{InvalidTransitiveDependency, PackageCycle, Semantic}
-use Rattle.wit_graph_data.specs.declared.graph.Graph.{Graph}
 use Rattle.wit_elaboration.specs.Elaboration.{graph_uses}
 use Rattle.wit_elaboration.specs.Sound.{HasSoundEntries}
-use Rattle.wit_graph_theory.specs.AllElaborated.{DependsOnItself, HasWorldInConflict, RefersToItself, UsesItself, graph_package_uses, interface_cycle_text, type_cycle_text}
+use Rattle.wit_elaboration.specs.AllElaborated.{DependsOnItself, HasWorldInConflict, RefersToItself, UsesItself, graph_package_uses, interface_cycle_text, type_cycle_text}
 
 -- this interface uses itself
 pub record IsInterfaceCycleError (g : Graph) (interface : ℕ) (error : ResolveErrorKind) : Type 0 where

@@ -1,19 +1,20 @@
-use Rattle.std.proofs.Common.{◌∙◌, None, Option, ℕ, ap, arith, map, refl, subst}
+use Rattle.std.proofs.Common.{◌∙◌, [], None, Option, ℕ, ap, arith, map, subst}
 use Rattle.std.specs.List.{range_with_len}
+use Rattle.wit_digraph.specs.facts.MemberFacts.{Contains-nil}
 use Rattle.wit_link_spec.specs.steps.AdditionRefs.{addition_of}
 use Rattle.wit_link_foreign.specs.steps.ForeignItems.{AreThere, found_among}
 use Rattle.wit_link_foreign.proofs.NamedItems.{before-all}
-use Rattle.wit_link_foreign.proofs.Steps.{nothing-found, nothing-there}
+use Rattle.wit_link_foreign.proofs.Steps.{found_from}
 use Rattle.wit_link_foreign.proofs.foreign.find_foreign.Goals as goal
 
 pub loop-place-init : goal.loop-place-init
 loop-place-init c =
     let a = addition_of c.args.adding.now in
     record {
-      found = nothing-found a c.in_ok-interfaces.interfaces c.in_ok-worlds.worlds
+      found = found_from a [] (record { interfaces = c.in_ok-interfaces.interfaces; worlds = c.in_ok-worlds.worlds })
           (c.in_ok-interfaces.ensures ∙ ap (λ (n : ℕ). map (λ (i : ℕ). let o : Option ℕ = None in o) (range_with_len 0 n)) c.len.ensures)
-          (c.in_ok-worlds.ensures ∙ ap (λ (n : ℕ). map (λ (i : ℕ). let o : Option ℕ = None in o) (range_with_len 0 n)) c.len-2.ensures) (record { interfaces = c.in_ok-interfaces.interfaces; worlds = c.in_ok-worlds.worlds }) refl refl;
-      there = nothing-there a;
+          (c.in_ok-worlds.ensures ∙ ap (λ (n : ℕ). map (λ (i : ℕ). let o : Option ℕ = None in o) (range_with_len 0 n)) c.len-2.ensures);
+      there = λ e has active none. Contains-nil has;
       packages = λ span requested known lacks below. absurd (omega (arith, below));
     }
 

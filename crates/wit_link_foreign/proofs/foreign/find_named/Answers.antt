@@ -1,59 +1,40 @@
-use Rattle.std.proofs.Common.{◌∙◌, ap, arith, subst}
+use Rattle.std.proofs.Common.{◌∙◌, ap, arith, false, refl, subst, sym, true}
+use Rattle.std.proofs.lemmas.Bool.{false≢true}
 use Rattle.wit_link_spec.specs.steps.AdditionRefs.{addition_of}
-use Rattle.wit_link_foreign.specs.steps.ForeignItems.{AreThere, found_among}
-use Rattle.wit_link_foreign.specs.declared.foreign.Found.{Found}
+use Rattle.wit_link_foreign.specs.steps.ForeignItems.{AreThere, found_among, item_in}
 use Rattle.wit_link_foreign.proofs.Causes.{is_named, packages-next}
-use Rattle.wit_link_foreign.proofs.FoundLists.{found_interface-inside, found_world-inside, named_interface-inside, named_world-inside}
-use Rattle.wit_link_foreign.proofs.NamedItems.{named_until, until-all}
-use Rattle.wit_link_foreign.proofs.ItemSteps.{interface_step, world_step}
+use Rattle.wit_link_foreign.proofs.FoundLists.{none_from_test, some_from_test}
+use Rattle.wit_link_foreign.proofs.ItemSteps.{entry-inside, item_step}
+use Rattle.wit_link_foreign.proofs.NamedItems.{until-all}
 use Rattle.wit_link_foreign.proofs.foreign.find_named.Goals as goal
-use Rattle.wit_link_foreign.proofs.foreign.find_named.Goals.{in-Interface+in_ok-there-in-Interface, in-World+in_ok-there-in-World}
+use Rattle.wit_link_foreign.proofs.foreign.find_named.Goals.{else-not-find_item, then-not-find_item+in_ok-check_inactive}
 
-pub find_interface-requires-clause-named : goal.find_interface-requires-clause-named
-find_interface-requires-clause-named c =
-    is_named (addition_of c.args.adding.now) c.args.place c.in_ok-home.home.name.now c.in_ok-home.home.items.now c.in_ok-home.home.id c.loop-index.index c.entry_at.result.0.now c.entry_at.result.1.now _ c.in_ok-home.ensures.home
-    c.entry_at.ensures c.in-Interface.is
+pub find_item-requires : goal.find_item-requires
+find_item-requires c =
+    entry-inside (addition_of c.args.adding.now) c.requires.shaped c.args.place c.in_ok-home.home.name.now c.in_ok-home.home.items.now c.in_ok-home.home.id c.in_ok-home.ensures.home c.loop-index.index c.entry_at.result.0.now
+    c.entry_at.result.1.now c.entry_at.ensures c.loop-index.found c.loop-index.invariant.found
 
-pub set-requires : goal.set-requires
-set-requires c =
-    let a = addition_of c.args.adding.now in
-    rw c.index.ensures
-    (found_interface-inside a (named_until c.args.adding.now.unresolved.now.foreign_deps c.args.place c.in_ok-home.home.name.now c.in_ok-home.home.items.now c.loop-index.index) c.loop-index.found c.loop-index.invariant.found
-    c.in-Interface.id
-    (named_interface-inside a c.requires.shaped c.in_ok-home.home.name.now c.in_ok-home.home.id c.entry_at.result.0.now c.in-Interface.id
-    (is_named a c.args.place c.in_ok-home.home.name.now c.in_ok-home.home.items.now c.in_ok-home.home.id c.loop-index.index c.entry_at.result.0.now c.entry_at.result.1.now _ c.in_ok-home.ensures.home c.entry_at.ensures
-    c.in-Interface.is)))
+pub check_inactive-requires-clause-named : goal.check_inactive-requires-clause-named
+check_inactive-requires-clause-named c =
+    is_named (addition_of c.args.adding.now) c.args.place c.in_ok-home.home.name.now c.in_ok-home.home.items.now c.in_ok-home.home.id c.loop-index.index c.entry_at.result.0.now c.entry_at.result.1.now c.in_ok-home.ensures.home
+    c.entry_at.ensures
 
-pub find_world-requires-clause-named : goal.find_world-requires-clause-named
-find_world-requires-clause-named c =
-    is_named (addition_of c.args.adding.now) c.args.place c.in_ok-home.home.name.now c.in_ok-home.home.items.now c.in_ok-home.home.id c.loop-index.index c.entry_at.result.0.now c.entry_at.result.1.now _ c.in_ok-home.ensures.home
-    c.entry_at.ensures c.in-World.is
-
-pub set-requires-in-World : goal.set-requires-in-World
-set-requires-in-World c =
-    let a = addition_of c.args.adding.now in
-    rw c.index-in-World.ensures
-    (found_world-inside a (named_until c.args.adding.now.unresolved.now.foreign_deps c.args.place c.in_ok-home.home.name.now c.in_ok-home.home.items.now c.loop-index.index) c.loop-index.found c.loop-index.invariant.found
-    c.in-World.id
-    (named_world-inside a c.requires.shaped c.in_ok-home.home.name.now c.in_ok-home.home.id c.entry_at.result.0.now c.in-World.id
-    (is_named a c.args.place c.in_ok-home.home.name.now c.in_ok-home.home.items.now c.in_ok-home.home.id c.loop-index.index c.entry_at.result.0.now c.entry_at.result.1.now _ c.in_ok-home.ensures.home c.entry_at.ensures
-    c.in-World.is)))
+pub check_inactive-requires-clause-absent : goal.check_inactive-requires-clause-absent
+check_inactive-requires-clause-absent c =
+    none_from_test (item_in c.args.adding.now.graph.now c.in_ok-home.home.id c.entry_at.result.0.now c.entry_at.result.1.now.0) true (sym c.find_item.ensures.there ∙ c.if-not-find_item.true) refl
 
 pub loop-index-preserved : goal.loop-index-preserved
-loop-index-preserved c = elim c.match-item.branch [
-  | in-Interface+in_ok-there-in-Interface w ↦
-      let step =
-      interface_step (addition_of c.args.adding.now) c.requires.shaped c.args.place c.in_ok-home.home.name.now c.in_ok-home.home.items.now c.in_ok-home.home.id c.in_ok-home.ensures.home c.loop-index.index c.entry_at.result.0.now
-      c.entry_at.result.1.now c.entry_at.ensures c.loop-index.found c.match-item.found c.loop-index.invariant.found c.loop-index.invariant.there w.in_ok-there-in-Interface.there w.index.result w.in-Interface.id w.in-Interface.is
-      w.in_ok-there-in-Interface.ensures.found w.in_ok-there-in-Interface.ensures.there w.index.ensures (ap (λ (f : Found). f.interfaces) w.found-is ∙ w.set.ensures) (ap (λ (f : Found). f.worlds) w.found-is) in
-      record { found = step.0; there = step.1 }
-  | in-World+in_ok-there-in-World w ↦
-      let step =
-      world_step (addition_of c.args.adding.now) c.requires.shaped c.args.place c.in_ok-home.home.name.now c.in_ok-home.home.items.now c.in_ok-home.home.id c.in_ok-home.ensures.home c.loop-index.index c.entry_at.result.0.now
-      c.entry_at.result.1.now c.entry_at.ensures c.loop-index.found c.match-item.found c.loop-index.invariant.found c.loop-index.invariant.there w.in_ok-there-in-World.there w.index-in-World.result w.in-World.id w.in-World.is
-      w.in_ok-there-in-World.ensures.found w.in_ok-there-in-World.ensures.there w.index-in-World.ensures (ap (λ (f : Found). f.worlds) w.found-is ∙ w.set-in-World.ensures) (ap (λ (f : Found). f.interfaces) w.found-is) in
-      record { found = step.0; there = step.1 }
-]
+loop-index-preserved c =
+    let step =
+    item_step (addition_of c.args.adding.now) c.requires.shaped c.args.place c.in_ok-home.home.name.now c.in_ok-home.home.items.now c.in_ok-home.home.id c.in_ok-home.ensures.home c.loop-index.index c.entry_at.result.0.now
+    c.entry_at.result.1.now c.entry_at.ensures c.loop-index.found c.loop-index.invariant.found c.loop-index.invariant.there
+    (λ active none. elim c.if-not-find_item.branch [
+      | then-not-find_item+in_ok-check_inactive w ↦ false≢true (sym w.in_ok-check_inactive.ensures.inactive ∙ active)
+      | else-not-find_item w ↦
+          some_from_test (item_in c.args.adding.now.graph.now c.in_ok-home.home.id c.entry_at.result.0.now c.entry_at.result.1.now.0) false (sym c.find_item.ensures.there ∙ w.if-not-find_item.false) refl none
+    ])
+    c.find_item.new.found c.find_item.ensures.found in
+    record { found = step.0; there = step.1 }
 
 pub returns-clause-found : goal.returns-clause-found
 returns-clause-found c =

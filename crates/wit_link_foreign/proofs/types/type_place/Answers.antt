@@ -22,38 +22,20 @@ returns-then-t-len-clause-place c =
     (foreign_type_remapped a c.args.t (sym (type-flag a c.args.activity.now c.requires.activity c.args.t c.at-active.result.now c.at-active.ensures) ∙ c.if-active.true)
     (lt-ltb c.args.t (length c.args.adding.now.unresolved.now.unknown_type_spans) (omega (arith, c.if-t-len.true, c.len.ensures)))) c.foreign_type.ensures.place
 
-pub returns-clause-place : goal.returns-clause-place
-returns-clause-place c =
+pub returns : goal.returns
+returns c =
     let a = addition_of c.args.adding.now in
+    let flag = type-flag a c.args.activity.now c.requires.activity c.args.t c.at-active.result.now c.at-active.ensures in
     let own : type_is_active c.args.adding.now.features.now c.args.adding.now.unresolved.now.types c.args.t ≡ true → is_foreign_type c.args.adding.now.unresolved.now c.args.t ≡ true → ⊥ =
     λ active foreign. elim c.else-active.branch [
       | else-active-via-then-active+else-t-len w ↦ let below = ltb-true c.args.t (length c.args.adding.now.unresolved.now.unknown_type_spans) foreign in omega (arith, w.if-t-len.false, w.len.ensures)
-      | else-active-via-else-active w ↦
-          false≢true (sym w.if-active.false ∙ (type-flag a c.args.activity.now c.requires.activity c.args.t c.at-active.result.now c.at-active.ensures ∙ active))
+      | else-active-via-else-active w ↦ false≢true (sym w.if-active.false ∙ (flag ∙ active))
     ] in
-    (own_type_step a c.args.t c.at-active.result.now c.args.next.now c.next_new_id.new.next c.in_ok-next_new_id.field-0
-    (type-flag a c.args.activity.now c.requires.activity c.args.t c.at-active.result.now c.at-active.ensures) own c.requires.next c.in_ok-next_new_id.ensures.place c.in_ok-next_new_id.ensures.next).0
-
-pub returns-clause-next : goal.returns-clause-next
-returns-clause-next c =
-    let a = addition_of c.args.adding.now in
-    let own : type_is_active c.args.adding.now.features.now c.args.adding.now.unresolved.now.types c.args.t ≡ true → is_foreign_type c.args.adding.now.unresolved.now c.args.t ≡ true → ⊥ =
-    λ active foreign. elim c.else-active.branch [
-      | else-active-via-then-active+else-t-len w ↦ let below = ltb-true c.args.t (length c.args.adding.now.unresolved.now.unknown_type_spans) foreign in omega (arith, w.if-t-len.false, w.len.ensures)
-      | else-active-via-else-active w ↦
-          false≢true (sym w.if-active.false ∙ (type-flag a c.args.activity.now c.requires.activity c.args.t c.at-active.result.now c.at-active.ensures ∙ active))
-    ] in
-    (own_type_step a c.args.t c.at-active.result.now c.args.next.now c.next_new_id.new.next c.in_ok-next_new_id.field-0
-    (type-flag a c.args.activity.now c.requires.activity c.args.t c.at-active.result.now c.at-active.ensures) own c.requires.next c.in_ok-next_new_id.ensures.place c.in_ok-next_new_id.ensures.next).1
-
-pub returns-clause-there : goal.returns-clause-there
-returns-clause-there c =
-    let a = addition_of c.args.adding.now in
-    let own : type_is_active c.args.adding.now.features.now c.args.adding.now.unresolved.now.types c.args.t ≡ true → is_foreign_type c.args.adding.now.unresolved.now c.args.t ≡ true → ⊥ =
-    λ active foreign. elim c.else-active.branch [
-      | else-active-via-then-active+else-t-len w ↦ let below = ltb-true c.args.t (length c.args.adding.now.unresolved.now.unknown_type_spans) foreign in omega (arith, w.if-t-len.false, w.len.ensures)
-      | else-active-via-else-active w ↦
-          false≢true (sym w.if-active.false ∙ (type-flag a c.args.activity.now c.requires.activity c.args.t c.at-active.result.now c.at-active.ensures ∙ active))
-    ] in
-    λ span message lacks same.
-    own (ap (type_is_active c.args.adding.now.features.now c.args.adding.now.unresolved.now.types) (sym same) ∙ lacks.active) (ap (is_foreign_type c.args.adding.now.unresolved.now) (sym same) ∙ lacks.foreign)
+    let step = own_type_step a c.args.t c.at-active.result.now c.args.next.now c.next_new_id.new.next c.in_ok-next_new_id.field-0 flag own c.requires.next c.in_ok-next_new_id.ensures.place c.in_ok-next_new_id.ensures.next in
+    record {
+      place = step.0;
+      next = step.1;
+      there = λ span message lacks same.
+          own (ap (type_is_active c.args.adding.now.features.now c.args.adding.now.unresolved.now.types) (sym same) ∙ lacks.active) (ap (is_foreign_type c.args.adding.now.unresolved.now) (sym same) ∙ lacks.foreign);
+      cause = tt;
+    }

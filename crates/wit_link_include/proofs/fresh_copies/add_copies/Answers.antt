@@ -3,8 +3,7 @@ use Rattle.std.specs.Map.{keys_of, lookup}
 use Rattle.wit_data.specs.declared.world.IncludeName.{IncludeName}
 use Rattle.wit_data.specs.declared.world.World.{World}
 use Rattle.wit_graph_data.specs.declared.graph.Graph.{Graph}
-use Rattle.wit_graph_theory.specs.Image.{Maps}
-use Rattle.wit_graph_theory.specs.Operations.{include_maps}
+use Rattle.wit_remap_spec.specs.Image.{Maps, include_maps}
 use Rattle.wit_labels.specs.Rename.{renamed_label}
 use Rattle.wit_link_spec.specs.Include.{belongs_to, copy_maps, interface_copy, is_copied, type_copy}
 use Rattle.wit_remap.specs.Grown.{Grown}

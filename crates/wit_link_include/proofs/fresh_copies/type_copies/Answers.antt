@@ -3,7 +3,7 @@ use Rattle.std.specs.Map.Iter.{deref_pair}
 use Rattle.std.proofs.lemmas.List.{length_push, take_all}
 use Rattle.std.proofs.lemmas.Map.Iter.{iter_end, iter_turn}
 use Rattle.wit_data.specs.declared.types.TypeDef.{TypeDef}
-use Rattle.wit_graph_theory.specs.Image.{type_image}
+use Rattle.wit_remap_spec.specs.Image.{type_image}
 use Rattle.wit_link_spec.specs.Addition.{selected}
 use Rattle.wit_link_include.specs.steps.Copied.{maps_of}
 use Rattle.wit_link_include.proofs.Steps.{map_added}

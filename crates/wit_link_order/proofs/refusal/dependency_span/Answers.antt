@@ -1,6 +1,6 @@
 use Rattle.std.proofs.Common.{◌≡◌, ◌∙◌, ap, sym, Some, arith}
-use Rattle.wit_data.specs.facts.PackageNameFacts.{same_name}
-use Rattle.wit_data.specs.declared.package_name.PackageName.{PackageName}
+use Rattle.wit_names.specs.facts.PackageNameFacts.{same_name}
+use Rattle.wit_names.specs.declared.package_name.PackageName.{PackageName}
 use Rattle.wit_link_order.proofs.Orders.{unnamed-next}
 use Rattle.wit_link_order.proofs.Refusals.{none-named}
 use Rattle.wit_link_order.proofs.refusal.dependency_span.Goals as goal

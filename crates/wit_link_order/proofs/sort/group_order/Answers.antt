@@ -3,8 +3,8 @@ use Rattle.std.specs.List.{IsDistinct}
 use Rattle.std.specs.Map.{keys_of}
 use Rattle.wit_digraph.specs.Cycles.{IsOnCycle}
 use Rattle.wit_digraph.specs.Relation.{IsAcyclic}
-use Rattle.wit_data.specs.PackageOrder.{same_package}
-use Rattle.wit_data.specs.declared.package_name.PackageName.{PackageName}
+use Rattle.wit_names.specs.PackageOrder.{same_package}
+use Rattle.wit_names.specs.declared.package_name.PackageName.{PackageName}
 use Rattle.wit_link_order.specs.GroupOrder.{group_uses, names_of}
 use Rattle.wit_link_order.specs.steps.GroupOrderSteps.{AreByName, indices_of_names}
 use Rattle.wit_link_order.proofs.Orders.{found-below, found-order, uses-in_range}

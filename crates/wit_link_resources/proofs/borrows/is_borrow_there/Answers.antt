@@ -9,7 +9,8 @@ use Rattle.wit_link_spec.specs.Lookup.{is_foreign_type}
 use Rattle.wit_link_spec.specs.Reasons.{HoldsBorrow}
 use Rattle.wit_link_resources.specs.steps.Borrows.{IsBorrowThere}
 use Rattle.wit_link_resources.proofs.MayHold.{borrow_here, found_there, nowhere_none, own_back, there_found}
-use Rattle.wit_link_resources.proofs.Where.{foreign_back, found_there as found_in_graph}
+use Rattle.wit_link_spec.specs.facts.NewFacts.{foreign_type_id-below}
+use Rattle.wit_link_resources.proofs.Where.{foreign_back}
 use Rattle.wit_link_resources.proofs.borrows.is_borrow_there.Goals as goal
 
 pub at-requires : goal.at-requires
@@ -21,7 +22,7 @@ holds_borrow-requires-clause-there c =
     let taken : active_type_id a c.args.place ≡ Some c.in-Some.found = sym (place-is a c.args.places.now c.requires.places c.args.place c.at.result.now c.at.ensures) ∙ c.in-Some.is in
     let below : c.args.place < length a.unresolved.unknown_type_spans = let first = c.if-place-len.true in let len = c.len.ensures in omega arith in
     let back = foreign_back a c.requires.shaped c.args.place c.in-Some.found (lt-ltb c.args.place (length a.unresolved.unknown_type_spans) below) taken in
-    subst (λ (types : List TypeDef). c.in-Some.found < length types) (sym c.as_slice.ensures) (found_in_graph a c.requires.valid c.args.place c.in-Some.found back.1)
+    subst (λ (types : List TypeDef). c.in-Some.found < length types) (sym c.as_slice.ensures) (foreign_type_id-below a c.requires.valid c.args.place c.in-Some.found back.1)
 
 pub returns-in-Some-clause-holds : goal.returns-in-Some-clause-holds
 returns-in-Some-clause-holds c =

@@ -1,5 +1,5 @@
 use Rattle.std.proofs.Common.{◌≡◌, ◌∙◌, ◌++◌, ◌∷◌, [], ◌<◌, ℕ, Bool, List, length, take, ap, refl, sym, subst}
-use Rattle.wit_graph_theory.specs.steps.Sources.{alias_rows}
+use Rattle.wit_data.specs.Uses.{alias_rows}
 use Rattle.wit_digraph.specs.PostOrder.{post_order}
 use Rattle.wit_link_spec.specs.Resources.{leads_to_resource}
 use Rattle.wit_link_resources.specs.steps.Leading.{AreRight}

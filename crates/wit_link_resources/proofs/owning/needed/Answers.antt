@@ -1,48 +1,125 @@
-use Rattle.std.proofs.Common.{◌≡◌, ◌∙◌, ◌&&◌, ℕ, Bool, true, false, List, Option, Some, length, map, slice_get, unwrap_or, ap, refl, sym, arith}
-use Rattle.std.specs.List.{range_with_len}
-use Rattle.std.proofs.lemmas.List.FromFn.{length-map-range_with_len}
-use Rattle.wit_link_spec.specs.steps.AdditionRefs.{addition_of}
-use Rattle.wit_link_spec.specs.Addition.{Addition, value_needs_own}
-use Rattle.wit_link_spec.specs.facts.RangeFacts.{range-pushed, range-read}
-use Rattle.wit_link_resources.specs.steps.Active.{is_asked}
-use Rattle.wit_link_resources.specs.steps.Leading.{leads_if_wanted, leads_there}
-use Rattle.wit_link_resources.proofs.Needing.{needs_is}
-use Rattle.wit_link_resources.proofs.Where.{conj}
-use Rattle.wit_link_resources.proofs.owning.needed.Goals.{then-at, else-at}
+use Rattle.std.proofs.Common.{rules, ◌≡◌, ◌∙◌, ◌&&◌, ◌<◌, ◌+◌, ℕ, Bool, true, false, List, None, length, map, nat_eq, replicate, get_or, take, ap, refl, subst, sym, arith}
+use Rattle.std.specs.List.{list_any, range_with_len}
+use Rattle.std.proofs.lemmas.List.{length-append}
+use Rattle.std.proofs.lemmas.List.Elements.{Contains-get_or}
+use Rattle.wit_digraph.specs.facts.FreshFacts.{contains_from_any}
+use Rattle.wit_data.specs.declared.function.Function.{Function}
+use Rattle.wit_link_spec.specs.ValueRemap.{ValueRemap, needs_own, positions}
+use Rattle.wit_link_spec.specs.facts.RangeFacts.{range-inside, range-pushed, range-read}
+use Rattle.wit_link_resources.specs.declared.incoming.Incoming.{Incoming}
+use Rattle.wit_link_resources.specs.steps.Active.{seen}
+use Rattle.wit_link_resources.specs.steps.IncomingTypes.{AreTold, IsRemap, leads_in, positions_of}
+use Rattle.wit_link_resources.specs.steps.Leading.{AreRight}
+use Rattle.wit_link_resources.proofs.IncomingLeads.{positions_same, remapped_there}
+use Rattle.wit_link_resources.proofs.MetTypes.{begins_same, begins_then}
+use Rattle.wit_link_resources.proofs.Ways.{nothing_told}
+use Rattle.wit_link_resources.proofs.owning.needed.Goals.{then-at+in_ok-needs, else-at}
 use Rattle.wit_link_resources.proofs.owning.needed.Goals as goal
 
-neither : (b d : Bool) → b ≡ false → false ≡ b && d
-neither true d h = cc
-neither false d h = refl
+conj : (b c : Bool) → b ≡ true → b && c ≡ c
+conj true c h = refl
+conj false c h = cc
 
-pub wanted-requires-clause-long : goal.wanted-requires-clause-long
-wanted-requires-clause-long c =
-    let a : Addition = addition_of c.args.adding.now in
-    ap length c.in_ok-asked.ensures ∙ length-map-range_with_len (is_asked a) 0 (length a.unresolved.types)
+disj : (b c : Bool) → b ≡ false → b && c ≡ false
+disj true c h = cc
+disj false c h = refl
 
-pub loop-place-preserved : goal.loop-place-preserved
-loop-place-preserved c =
-    let a : Addition = addition_of c.args.adding.now in
-    let n : ℕ = length a.unresolved.types in
-    let t : ℕ = c.loop-place.place in
-    let wanted : List Bool = c.in_ok-wanted.wanted in
-    let long = ap length c.in_ok-asked.ensures ∙ length-map-range_with_len (is_asked a) 0 n in
-    let asked : c.at.result.now ≡ is_asked a t = range-read (is_asked a) n t c.in_ok-asked.asked c.at.result.now c.in_ok-asked.ensures c.at.ensures in
-    let is : c.if-at.push ≡ value_needs_own a t =
+-- what stands at the value positions of what comes
+abbrev asked_of : Incoming → List Function → ℕ → Bool
+asked_of s functions t = list_any (nat_eq t) (positions_of s functions)
+
+-- so of the remap
+asked_is : (s : Incoming) (functions : List Function) (r : ValueRemap) → IsRemap s functions r → (t : ℕ) → asked_of s functions t ≡ list_any (nat_eq t) (positions r)
+asked_is s functions r is t = ap (list_any (nat_eq t)) (positions_same s.graph_types.now s.types.now s.ids.now functions r is)
+
+pub asked-requires : goal.asked-requires
+asked-requires c = λ k d below.
+    let s : Incoming = c.args.incoming.now in
+    let ids : List ℕ = positions_of s (seen c.args.functions.now) in
+    remapped_there s.graph_types.now s.types.now s.ids.now c.requires.can (get_or ids k d) (c.requires.there (get_or ids k d) (Contains-get_or ids k d below))
+
+pub at-requires : goal.at-requires
+at-requires c =
+    let s : Incoming = c.args.incoming.now in
+    range-inside (asked_of s (seen c.args.functions.now)) (length s.types.now) c.loop-index.index c.in_ok-asked.asked c.in_ok-asked.ensures (let first = c.loop-index-test.true in let end = c.len-index-end.ensures in omega arith)
+
+pub leads-requires-clause-remapped : goal.leads-requires-clause-remapped
+leads-requires-clause-remapped c =
+    let s : Incoming = c.args.incoming.now in
+    let t : ℕ = c.loop-index.index in
+    let flag : c.at.result.now ≡ asked_of s (seen c.args.functions.now) t =
+    range-read (asked_of s (seen c.args.functions.now)) (length s.types.now) t c.in_ok-asked.asked c.at.result.now c.in_ok-asked.ensures c.at.ensures in
+    c.requires.there t (contains_from_any t (positions_of s (seen c.args.functions.now)) (sym flag ∙ c.if-at.true))
+
+pub loop-index-init : goal.loop-index-init
+loop-index-init c =
+    let empty : c.in_ok-vec.field-0.items ≡ replicate c.len.result None = search rules in
+    let nothing : c.from_vec-known.result ≡ replicate c.len.result None = c.from_vec-known.ensures ∙ empty in
+    record {
+      known_long = ap length nothing ∙ search rules;
+      long = ap length c.new-needed.ensures;
+      right = λ r is. (nothing_told r c.len.result c.from_vec-known.result nothing, c.new-needed.ensures);
+      met = c.requires.met;
+      begins = begins_same c.args.met.now;
+    }
+
+pub loop-index-preserved : goal.loop-index-preserved
+loop-index-preserved c =
+    let s : Incoming = c.args.incoming.now in
+    let functions : List Function = seen c.args.functions.now in
+    let t : ℕ = c.loop-index.index in
+    let flag : c.at.result.now ≡ asked_of s functions t = range-read (asked_of s functions) (length s.types.now) t c.in_ok-asked.asked c.at.result.now c.in_ok-asked.ensures c.at.ensures in
+    record {
+      known_long = elim c.if-at.branch [
+        | then-at+in_ok-needs w ↦ ap length w.known-is ∙ w.in_ok-needs.ensures.long
+        | else-at w ↦ ap length w.known-is ∙ c.loop-index.invariant.known_long
+      ];
+      long = ap length c.in_ok-push.ensures.ok ∙ (length-append c.loop-index.needed _ ∙ ap (λ (n : ℕ). n + 1) c.loop-index.invariant.long);
+      right = λ r is.
+          let now = c.loop-index.invariant.right r is in
+          let asked : list_any (nat_eq t) (positions r) ≡ c.at.result.now = sym (flag ∙ asked_is s functions r is t) in
+          let told : c.if-at.needs ≡ needs_own r t = elim c.if-at.branch [
+            | then-at+in_ok-needs w ↦
+                w.needs-is ∙ (sym (w.in_ok-needs.ensures.leads functions r is now.0) ∙ sym (conj (list_any (nat_eq t) (positions r)) (leads_in r t) (asked ∙ w.if-at.true)))
+            | else-at w ↦ w.needs-is ∙ sym (disj (list_any (nat_eq t) (positions r)) (leads_in r t) (asked ∙ w.if-at.false))
+          ] in (
+            elim c.if-at.branch [
+              | then-at+in_ok-needs w ↦ subst (AreTold r) (sym w.known-is) (w.in_ok-needs.ensures.told functions r is now.0)
+              | else-at w ↦ subst (AreTold r) (sym w.known-is) now.0
+            ],
+            range-pushed (needs_own r) t c.loop-index.needed c.push.new.self c.if-at.needs now.1 c.in_ok-push.ensures.ok told,
+          );
+      met = elim c.if-at.branch [
+        | then-at+in_ok-needs w ↦ subst (AreRight s.graph_types.now) (sym w.met-is) w.in_ok-needs.ensures.met
+        | else-at w ↦ subst (AreRight s.graph_types.now) (sym w.met-is) c.loop-index.invariant.met
+      ];
+      begins = elim c.if-at.branch [
+        | then-at+in_ok-needs w ↦ subst (λ (es : List (ℕ × Bool)). take (length c.args.met.now) es ≡ c.args.met.now) (sym w.met-is)
+            (begins_then c.args.met.now c.loop-index.met _ c.loop-index.invariant.begins w.in_ok-needs.ensures.begins)
+        | else-at w ↦ subst (λ (es : List (ℕ × Bool)). take (length c.args.met.now) es ≡ c.args.met.now) (sym w.met-is) c.loop-index.invariant.begins
+      ];
+    }
+
+pub returns-in_err-push-clause-met : goal.returns-in_err-push-clause-met
+returns-in_err-push-clause-met c =
+    let types = c.args.incoming.now.graph_types.now in
     elim c.if-at.branch [
-      | then-at w ↦
-          let on = c.in_ok-wanted.ensures.all t (c.at.ensures ∙ ap (λ (b : Bool). Some b) w.if-at.true) in
-          let flag : unwrap_or (slice_get wanted t) false ≡ true = ap (λ (o : Option Bool). unwrap_or o false) on in
-          w.push-is ∙ (range-read (leads_if_wanted a wanted) n t c.in_ok-leading.leading w.at-then-at.result.now c.in_ok-leading.ensures.leading w.at-then-at.ensures
-          ∙ (conj (unwrap_or (slice_get wanted t) false) (leads_there a t) flag ∙ (sym (conj (is_asked a t) (leads_there a t) (sym asked ∙ w.if-at.true)) ∙ needs_is a c.requires.shaped c.requires.image t)))
-      | else-at w ↦ w.push-is ∙ (w.if-at.false ∙ (neither (is_asked a t) (leads_there a t) (sym asked ∙ w.if-at.false) ∙ needs_is a c.requires.shaped c.requires.image t))
-    ] in
-    range-pushed (value_needs_own a) t c.loop-place.needed c.push.new.self c.if-at.push c.loop-place.invariant c.in_ok-push.ensures.ok is
+      | then-at+in_ok-needs w ↦ subst (AreRight types) (sym w.met-is) w.in_ok-needs.ensures.met
+      | else-at w ↦ subst (AreRight types) (sym w.met-is) c.loop-index.invariant.met
+    ]
+
+pub returns-in_err-push-clause-begins : goal.returns-in_err-push-clause-begins
+returns-in_err-push-clause-begins c =
+    elim c.if-at.branch [
+      | then-at+in_ok-needs w ↦ subst (λ (es : List (ℕ × Bool)). take (length c.args.met.now) es ≡ c.args.met.now) (sym w.met-is)
+          (begins_then c.args.met.now c.loop-index.met _ c.loop-index.invariant.begins w.in_ok-needs.ensures.begins)
+      | else-at w ↦ subst (λ (es : List (ℕ × Bool)). take (length c.args.met.now) es ≡ c.args.met.now) (sym w.met-is) c.loop-index.invariant.begins
+    ]
+
+pub returns-clause-long : goal.returns-clause-long
+returns-clause-long c = let is = c.loop-index.invariant.long in let past = c.loop-index-test.false in let within = c.loop-index.auto.index-end in let end = c.len-index-end.ensures in omega arith
 
 pub returns-clause-needed : goal.returns-clause-needed
-returns-clause-needed c =
-    let a : Addition = addition_of c.args.adding.now in
-    let n : ℕ = length a.unresolved.types in
-    let long = ap length c.in_ok-asked.ensures ∙ length-map-range_with_len (is_asked a) 0 n in
-    let last : c.loop-place.place ≡ n = let past = c.loop-place-test.false in let within = c.loop-place.auto.place-end in let end = c.len-place-end.ensures in omega arith in
-    c.loop-place.invariant ∙ ap (λ (m : ℕ). map (value_needs_own a) (range_with_len 0 m)) last
+returns-clause-needed c = λ r is.
+    let last : c.loop-index.index ≡ length c.args.incoming.now.types.now = let past = c.loop-index-test.false in let within = c.loop-index.auto.index-end in let end = c.len-index-end.ensures in omega arith in
+    (c.loop-index.invariant.right r is).1 ∙ ap (λ (n : ℕ). map (needs_own r) (range_with_len 0 n)) last

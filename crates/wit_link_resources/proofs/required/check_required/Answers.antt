@@ -3,10 +3,11 @@ use Rattle.wit_data.specs.declared.types.TypeDef.{TypeDef}
 use Rattle.wit_link_spec.specs.steps.AdditionRefs.{addition_of}
 use Rattle.wit_link_spec.specs.Addition.{Addition, active_type_id}
 use Rattle.wit_link_spec.specs.facts.FlagFacts.{place-inside, place-is}
+use Rattle.wit_link_spec.specs.facts.NewFacts.{foreign_type_id-below}
 use Rattle.wit_link_spec.specs.Resources.{leads_to_resource}
 use Rattle.wit_link_resources.specs.steps.Leading.{AreRight}
 use Rattle.wit_link_resources.proofs.Tells.{resource_cause}
-use Rattle.wit_link_resources.proofs.Where.{foreign_back, found_on, found_there, required_is_foreign}
+use Rattle.wit_link_resources.proofs.Where.{foreign_back, found_on, required_is_foreign}
 use Rattle.wit_link_resources.proofs.required.check_required.Goals as goal
 
 pub at-requires : goal.at-requires
@@ -31,7 +32,7 @@ leads_to_resource-requires-clause-there c =
     let taken : active_type_id a c.args.id ≡ Some c.in-Some.found =
     sym (place-is a c.args.places.now c.requires.places c.args.id c.at.result.now (subst (λ (k : ℕ). slice_get c.args.places.now.types k ≡ Some c.at.result.now) c.index.ensures c.at.ensures)) ∙ c.in-Some.is in
     let back = foreign_back a c.requires.shaped c.args.id c.in-Some.found there.1 taken in
-    subst (λ (types : List TypeDef). c.in-Some.found < length types) (sym c.as_slice.ensures) (found_there a c.requires.valid c.args.id c.in-Some.found back.1)
+    subst (λ (types : List TypeDef). c.in-Some.found < length types) (sym c.as_slice.ensures) (foreign_type_id-below a c.requires.valid c.args.id c.in-Some.found back.1)
 
 pub returns-then-leads-clause-ok : goal.returns-then-leads-clause-ok
 returns-then-leads-clause-ok c = λ t' active found.

@@ -4,13 +4,13 @@ use Rattle.std.proofs.lemmas.List.{append-nil}
 use Rattle.wit_data.specs.declared.function.Function.{Function}
 use Rattle.wit_data.specs.declared.world.World.{World}
 use Rattle.wit_graph_theory.specs.facts.ListFacts.{get_at}
-use Rattle.wit_merge_spec.specs.Remapped.{world_functions}
 use Rattle.wit_link_resources.specs.steps.Active.{seen}
 use Rattle.wit_merge_match.specs.steps.Matched.{moves}
 use Rattle.wit_merge.proofs.Left.{kept-first, left-more, of_kept}
 use Rattle.wit_merge.proofs.Numbered.{first_behind}
 use Rattle.wit_merge.proofs.functions.push_worlds.Goals.{then-moves+in_ok-push_world, else-moves}
 use Rattle.wit_merge.proofs.functions.push_worlds.Goals as goal
+use Rattle.wit_link_spec.specs.ValueRemap.{world_functions}
 
 pub loop-place-preserved : goal.loop-place-preserved
 loop-place-preserved c =

@@ -2,7 +2,7 @@ use Rattle.std.proofs.Common.{◌∙◌, ◌++◌, ℕ, List, ap, map, sym}
 use Rattle.std.proofs.lemmas.Result.{IfOk-weaker}
 use Rattle.std.specs.List.{enumerate_from}
 use Rattle.wit_data.specs.declared.interface.Interface.{Interface}
-use Rattle.wit_graph_theory.specs.Image.{interface_image}
+use Rattle.wit_remap_spec.specs.Image.{interface_image}
 use Rattle.wit_link_spec.specs.Addition.{selected_with_index}
 use Rattle.wit_merge_spec.specs.United.{joined_interface, with_interface}
 use Rattle.wit_merge_spec.specs.Matches.{counterpart_interface}

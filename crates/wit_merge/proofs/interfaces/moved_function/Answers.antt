@@ -1,5 +1,5 @@
 use Rattle.std.proofs.Common.{◌∙◌, ap}
-use Rattle.wit_graph_theory.specs.Image.{function_image}
+use Rattle.wit_remap_spec.specs.Image.{function_image}
 use Rattle.wit_remap.specs.steps.Movers.{maps_of}
 use Rattle.wit_merge.proofs.Agrees.{function_is}
 use Rattle.wit_merge.proofs.interfaces.moved_function.Goals as goal

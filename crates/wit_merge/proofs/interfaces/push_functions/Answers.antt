@@ -4,7 +4,7 @@ use Rattle.std.specs.Map.{lookup}
 use Rattle.std.specs.Str.{bytes_eq}
 use Rattle.wit_digraph.specs.facts.MemberFacts.{Contains-here, Contains-there}
 use Rattle.wit_data.specs.declared.function.Function.{Function}
-use Rattle.wit_graph_theory.specs.Image.{function_image}
+use Rattle.wit_remap_spec.specs.Image.{function_image}
 use Rattle.wit_merge_spec.specs.Remapped.{merge_maps}
 use Rattle.wit_merge.specs.steps.Joined.{brought_matched, functions_image}
 use Rattle.wit_merge.specs.steps.UnionSteps.{merging_of}

@@ -1,12 +1,12 @@
 use Rattle.std.proofs.Common.{◌≡◌, ◌∙◌, ◌++◌, ℕ, List, Option, None, ap, is_some, not, subst, sym, Contains}
 use Rattle.wit_digraph.specs.facts.MemberFacts.{Contains-here, Contains-there}
-use Rattle.wit_data.specs.facts.PackageNameFacts.{same_package-Decides}
-use Rattle.wit_data.specs.declared.package_name.PackageName.{PackageName}
+use Rattle.wit_names.specs.facts.PackageNameFacts.{same_package-Decides}
+use Rattle.wit_names.specs.declared.package_name.PackageName.{PackageName}
 use Rattle.wit_graph_data.specs.declared.graph.Package.{Package}
 use Rattle.wit_graph_theory.specs.facts.ListFacts.{found_at, place_of}
 use Rattle.std.proofs.lemmas.Option.{slice_get_within}
 use Rattle.std.specs.Map.{lookup}
-use Rattle.wit_data.specs.PackageOrder.{same_package}
+use Rattle.wit_names.specs.PackageOrder.{same_package}
 use Rattle.wit_merge_match.specs.steps.Matched.{moves}
 use Rattle.wit_merge_spec.specs.Remapped.{merged_package, moves_package}
 use Rattle.wit_merge_laws.specs.facts.PackagesStand.{good_names}

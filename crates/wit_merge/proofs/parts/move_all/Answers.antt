@@ -22,7 +22,7 @@ loop-index-preserved g c =
     elim c.if-moves.branch [
       | then-moves+in_ok-moved+in_ok-push w ↦
           kept_next others image kept k (k + 1) w.at.result.now c.loop-index.made c.if-moves.made whole w.in_ok-moved.field-0 refl w.at.ensures (sym c.moves.ensures ∙ w.if-moves.true) c.loop-index.invariant
-          (w.made-is ∙ w.in_ok-push.ensures.ok) w.in_ok-moved.ensures
+          (w.made-is ∙ w.in_ok-push.ensures.ok) (w.in_ok-moved.ensures k)
       | else-moves w ↦
           let low : k < length others = let test = c.loop-index-test.true in let long = c.len-index-end.ensures in omega arith in
           left_next others image kept k (k + 1) c.if-moves.made whole refl low (sym c.moves.ensures ∙ w.if-moves.false) (ap (λ l. l ++ map image (kept_behind others kept k)) w.made-is ∙ c.loop-index.invariant)

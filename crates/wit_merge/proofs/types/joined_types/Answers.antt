@@ -1,11 +1,12 @@
 use Rattle.std.proofs.Common.{◌∙◌, ◌++◌, ℕ, List, ap, append_assoc, map}
 use Rattle.std.specs.List.{enumerate_from}
 use Rattle.wit_data.specs.declared.types.TypeDef.{TypeDef}
-use Rattle.wit_graph_theory.specs.Image.{type_image}
+use Rattle.wit_remap_spec.specs.Image.{type_image}
 use Rattle.wit_link_spec.specs.Addition.{selected_with_index}
+use Rattle.wit_link_spec.specs.ValueRemap.{owns}
 use Rattle.wit_merge_spec.specs.United.{joined_type, with_type}
 use Rattle.wit_merge_spec.specs.Matches.{counterpart_type}
-use Rattle.wit_merge_spec.specs.Remapped.{merge_maps, moved_types, moves_type, owns_of_merge}
+use Rattle.wit_merge_spec.specs.Remapped.{merge_maps, moved_types, moves_type, remap_of_merge}
 use Rattle.wit_merge.specs.steps.UnionSteps.{merging_of}
 use Rattle.wit_merge.proofs.Movable.{types_move}
 use Rattle.wit_merge.proofs.UnitedIs.{united_is, without_places}
@@ -24,4 +25,4 @@ returns c =
     c.in_ok-types.ensures
     ∙ united_is (counterpart_type m) _ u.matches.now.types c.requires.ready.matches.types (λ (p : ℕ × TypeDef). with_type p.1) image u.other.now.types u.graph.now.types
     ∙ ap (λ (l : List TypeDef). kept ++ l) (without_places (type_image (merge_maps m)) (selected_with_index (moves_type m) u.other.now.types)) in
-    c.in_ok-append.ensures.ok ∙ (λ j. told j ++ c.requires.owns j) ∙ append_assoc kept (map (type_image (merge_maps m)) (moved_types m)) (owns_of_merge m)
+    c.in_ok-append.ensures.ok ∙ (λ j. told j ++ c.requires.owns j) ∙ append_assoc kept (map (type_image (merge_maps m)) (moved_types m)) (owns (remap_of_merge m))

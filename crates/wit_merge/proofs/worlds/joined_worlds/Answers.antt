@@ -1,7 +1,7 @@
 use Rattle.std.proofs.Common.{◌∙◌, ℕ}
 use Rattle.std.proofs.lemmas.Result.{IfOk-weaker}
 use Rattle.wit_data.specs.declared.world.World.{World}
-use Rattle.wit_graph_theory.specs.Image.{world_image}
+use Rattle.wit_remap_spec.specs.Image.{world_image}
 use Rattle.wit_merge_spec.specs.United.{with_world}
 use Rattle.wit_merge_spec.specs.Matches.{counterpart_world}
 use Rattle.wit_merge_spec.specs.Remapped.{merge_maps}
@@ -11,7 +11,7 @@ use Rattle.wit_merge.proofs.UnitedIs.{united_is}
 use Rattle.wit_merge.proofs.worlds.joined_worlds.Goals as goal
 
 pub joined_list-requires-clause-joining : goal.joined_list-requires-clause-joining
-joined_list-requires-clause-joining c x x' from into at found there = worlds_join c.args.uniting.now c.requires (x, from) x' into there
+joined_list-requires-clause-joining c x x' from into at found there = worlds_join c.args.uniting.now c.requires x' into there
 
 pub joined_list-requires-clause-moving : goal.joined_list-requires-clause-moving
 joined_list-requires-clause-moving c x from at moves = worlds_move c.args.uniting.now c.requires x from at

@@ -1,9 +1,9 @@
 use Rattle.std.proofs.Common.{◌≡◌, ◌∙◌, None, ap, rules, sym}
 use Rattle.std.proofs.lemmas.Result.{IfOk-weaker}
-use Rattle.wit_merge_structure.specs.steps.Kinds.{name_at, plain_step, step_at}
-use Rattle.wit_merge_structure.specs.Structure.{variant_of}
-use Rattle.wit_merge_structure.specs.declared.kinds.Variant.{Variant}
-use Rattle.wit_merge_structure.specs.declared.kinds.Variant.TheVariants.{Tuple}
+use Rattle.wit_merge_structure.specs.steps.Kinds.{name_at, step_at}
+use Rattle.wit_data.specs.Kind.{plain_step, variant_of}
+use Rattle.wit_data.specs.declared.kind.Variant.{Variant}
+use Rattle.wit_data.specs.declared.kind.Variant.TheVariants.{Tuple}
 use Rattle.wit_merge_structure.proofs.KindParts.{no_name, step_plain}
 use Rattle.wit_merge_structure.proofs.kinds.step_text.Goals as goal
 

@@ -2,13 +2,14 @@ use Rattle.std.proofs.Common.{◌≡◌, ◌∷◌, [], ℕ, List, map, length, 
 use Rattle.std.specs.List.{enumerate_from}
 use Rattle.wit_data.specs.Each.{Each}
 use Rattle.wit_data.specs.declared.interface.Interface.{Interface}
-use Rattle.wit_graph_theory.specs.Cut.{cut_interface}
-use Rattle.wit_graph_theory.specs.Image.{interface_image}
+use Rattle.wit_remap_spec.specs.Kept.{cut_interface}
+use Rattle.wit_remap_spec.specs.Image.{interface_image}
 use Rattle.wit_link_spec.specs.Addition.{selected_with_index}
+use Rattle.wit_link_spec.specs.steps.NewThings.{is_new}
 use Rattle.wit_remap.specs.steps.Fits.{Fits, InterfaceFits}
 use Rattle.wit_remap.specs.facts.GrownFacts.{Begins-as, Begins-by, Grown-same, interfaces_grow}
 use Rattle.wit_remap.specs.steps.Movers.{maps_of}
-use Rattle.wit_remap.specs.steps.Parts.{is_new, kept_of}
+use Rattle.wit_remap.specs.steps.Parts.{kept_of}
 use Rattle.wit_remap.proofs.Kept.{Each-enumerated, Each-filter, map-pairs}
 use Rattle.wit_remap.proofs.parts.add_interfaces.Goals as goal
 

@@ -4,9 +4,10 @@ use Rattle.wit_link_spec.specs.steps.AdditionRefs.{new_ids_of, values_of}
 use Rattle.wit_link_spec.specs.Addition.{active, addition_maps, selected_with_index}
 use Rattle.wit_link_spec.specs.Pushed.{with_parts}
 use Rattle.wit_link_spec.specs.declared.addition.Values.{Values}
+use Rattle.wit_link_spec.specs.steps.NewThings.{is_new}
 use Rattle.wit_remap.specs.steps.Added.{added_worlds, addition, moved_parts, placed_world}
 use Rattle.wit_remap.specs.steps.Movers.{maps_with}
-use Rattle.wit_remap.specs.steps.Parts.{is_new, kept_of, kept_with}
+use Rattle.wit_remap.specs.steps.Parts.{kept_of, kept_with}
 use Rattle.wit_remap.specs.declared.worlds.PlacedWorld.{PlacedWorld}
 use Rattle.wit_remap.proofs.MapsAre.{kept_is, maps_are}
 use Rattle.wit_remap.proofs.Ready.{is_ready, maps_so, moved_are, moved_so, placed_so, ready_so, worlds_are}

@@ -2,9 +2,8 @@ use Rattle.std.proofs.Common.{◌≡◌, ◌∙◌, ℕ, List, map, slice_get, a
 use Rattle.std.specs.Vec.Iter.{into_iter_items}
 use Rattle.wit_data.specs.declared.function.Function.{Function}
 use Rattle.wit_data.specs.declared.interface.Interface.{Interface}
-use Rattle.wit_graph_theory.specs.Cut.{cut_interface}
-use Rattle.wit_graph_theory.specs.Image.{interface_image}
-use Rattle.wit_graph_theory.specs.Kept.{KeptIds}
+use Rattle.wit_remap_spec.specs.Kept.{KeptIds, cut_interface}
+use Rattle.wit_remap_spec.specs.Image.{interface_image}
 use Rattle.wit_remap.specs.steps.Fits.{Fits, FunctionFits, InterfaceFits}
 use Rattle.wit_remap.specs.steps.Movers.{maps_of}
 use Rattle.wit_remap.specs.steps.Parts.{kept_of}

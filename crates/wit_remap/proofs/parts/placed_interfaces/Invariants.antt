@@ -2,8 +2,8 @@ use Rattle.std.proofs.Common.{◌≡◌, ◌++◌, ℕ, map}
 use Rattle.std.specs.Vec.Iter.{into_iter_items}
 use Rattle.wit_data.specs.Each.{Each}
 use Rattle.wit_data.specs.declared.interface.Interface.{Interface}
-use Rattle.wit_graph_theory.specs.Cut.{cut_interface}
-use Rattle.wit_graph_theory.specs.Image.{interface_image}
+use Rattle.wit_remap_spec.specs.Kept.{cut_interface}
+use Rattle.wit_remap_spec.specs.Image.{interface_image}
 use Rattle.wit_remap.specs.steps.Fits.{Fits, InterfaceFits}
 use Rattle.wit_remap.specs.steps.Movers.{maps_of}
 use Rattle.wit_remap.specs.steps.Parts.{kept_of}

@@ -1,6 +1,6 @@
 use Rattle.std.proofs.Common.{◌≡◌, ◌∙◌, List, map, slice_get, ap, sym}
 use Rattle.wit_data.specs.Entries.{Entry}
-use Rattle.wit_graph_theory.specs.Image.{entry_image}
+use Rattle.wit_remap_spec.specs.Image.{entry_image}
 use Rattle.wit_remap.specs.steps.Movers.{maps_of}
 use Rattle.wit_remap.proofs.EntrySteps.{first_fits, others_fit, placed-next, placed-new, placed-all, entries_same}
 use Rattle.wit_remap.proofs.worlds.placed_entries.Goals as goal

@@ -1,5 +1,5 @@
 use Rattle.std.proofs.Common.{◌≡◌, ◌++◌, map}
-use Rattle.wit_graph_theory.specs.Image.{entry_image}
+use Rattle.wit_remap_spec.specs.Image.{entry_image}
 use Rattle.wit_remap.specs.steps.Fits.{EntriesFit, Fits}
 use Rattle.wit_remap.specs.steps.Movers.{maps_of}
 use Rattle.wit_remap.proofs.worlds.placed_entries.Given as goal

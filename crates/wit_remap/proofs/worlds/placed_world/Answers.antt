@@ -3,7 +3,7 @@ use Rattle.std.specs.List.{IsDistinct}
 use Rattle.std.specs.Map.{keys_of}
 use Rattle.wit_data.specs.Entries.{Entry}
 use Rattle.wit_data.specs.facts.WorldKeyFacts.{same_key}
-use Rattle.wit_graph_theory.specs.Image.{entry_image}
+use Rattle.wit_remap_spec.specs.Image.{entry_image}
 use Rattle.wit_link_spec.specs.Gates.{include_is_active}
 use Rattle.wit_remap.specs.steps.Fits.{EntriesFit, Fits, ItemFits}
 use Rattle.wit_remap.specs.steps.Movers.{maps_of}

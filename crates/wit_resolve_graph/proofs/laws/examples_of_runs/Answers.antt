@@ -3,8 +3,8 @@ use Rattle.std.proofs.lemmas.Bool.{false≢true}
 use Rattle.wit_sources.specs.SourceMap.{Sources}
 use Rattle.wit_resolve_graph.proofs.laws.examples_of_runs.Goals as goal
 use Rattle.wit_resolve_graph.specs.State.{State}
-use Rattle.wit_data.specs.declared.track.TrackRule.{TrackRule}
-use Rattle.wit_data.specs.declared.track.TrackRule.TheVariants.{Published, WithPrereleases}
+use Rattle.wit_names.specs.declared.track.TrackRule.{TrackRule}
+use Rattle.wit_names.specs.declared.track.TrackRule.TheVariants.{Published, WithPrereleases}
 
 -- is the rule not the published one?
 abbrev is_with_prereleases : TrackRule → Bool

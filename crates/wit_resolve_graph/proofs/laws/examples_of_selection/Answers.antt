@@ -1,6 +1,6 @@
 use Rattle.std.proofs.Common.{refl}
 use Rattle.std.specs.Fmt.{digits}
-use Rattle.wit_data.specs.UsePath.{is_kebab_name, use_path_of}
+use Rattle.wit_names.specs.UsePath.{is_kebab_name, use_path_of}
 use Rattle.wit_resolve_graph.proofs.laws.examples_of_selection.Goals as goal
 
 pub returns : goal.returns

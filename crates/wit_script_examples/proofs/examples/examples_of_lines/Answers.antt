@@ -1,5 +1,5 @@
 use Rattle.std.proofs.Common.{refl}
-use Rattle.wit_data.specs.UsePath.{is_kebab_name, use_path_of}
+use Rattle.wit_names.specs.UsePath.{is_kebab_name, use_path_of}
 use Rattle.wit_script_examples.proofs.examples.examples_of_lines.Goals as goal
 
 pub returns : goal.returns

@@ -1,5 +1,5 @@
 use Rattle.std.proofs.Common.{refl, inl, inr, codes, lit<}
-use Rattle.wit_data.specs.UsePath.{is_kebab_name, use_path_of}
+use Rattle.wit_names.specs.UsePath.{is_kebab_name, use_path_of}
 use Rattle.wit_script.specs.Script.{new_reading}
 use Rattle.wit_script_examples.proofs.After.{after, before}
 use Rattle.wit_script_examples.proofs.examples.examples_of_scripts.Goals as goal

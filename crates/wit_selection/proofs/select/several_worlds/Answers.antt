@@ -1,5 +1,5 @@
 use Rattle.std.proofs.Common.{◌≡◌, ◌∙◌, ◌++◌, ℕ, List, ap, codes, string_bytes}
-use Rattle.wit_data.specs.PackageName.{package_name_text}
+use Rattle.wit_names.specs.PackageName.{package_name_text}
 use Rattle.wit_selection.specs.Selection.{selection_error}
 use Rattle.wit_selection.proofs.select.several_worlds.Goals as goal
 

@@ -1,5 +1,5 @@
 use Rattle.std.proofs.Common.{rules, ◌≡◌, ◌∙◌, ◌&&◌, ℕ, true, false, is_none}
-use Rattle.wit_data.specs.declared.package_name.PackageName.{PackageName}
+use Rattle.wit_names.specs.declared.package_name.PackageName.{PackageName}
 use Rattle.wit_selection.specs.Selection.{is_version_of}
 use Rattle.wit_selection.proofs.Selected.{filter-met, filter-passed}
 use Rattle.wit_selection.proofs.select.version_from.Goals as goal

@@ -1,10 +1,10 @@
 use Rattle.std.proofs.Common.{◌≡◌, ◌∙◌, ◌⊎◌, inl, inr, ℕ, sym, subst}
-use Rattle.wit_data.specs.declared.track.TrackRule.{TrackRule}
+use Rattle.wit_names.specs.declared.track.TrackRule.{TrackRule}
 use Rattle.wit_graph_data.specs.facts.ResultFacts.{residual_error}
 use Rattle.wit_elaboration.specs.Valid.{IsValid}
+use Rattle.wit_graph_data.specs.declared.graph.Graph.{Graph}
 use Rattle.wit_graph_data.specs.declared.error_kind.ResolveErrorKind.{ResolveErrorKind}
 use Rattle.wit_graph_data.specs.declared.error_kind.ResolveErrorKind.TheVariants.{OutOfMemory}
-use Rattle.wit_graph_data.specs.declared.graph.Graph.{Graph}
 use Rattle.wit_semver_spec.specs.TrackCause.{IsTrackCause, SemverMergeIsAccepted}
 use Rattle.wit_unite_common.specs.steps.Reasons.{CanBeElaborated, ElaborationCause}
 use Rattle.wit_semver.specs.steps.Replacing.{HasNewEntries, upgrade}

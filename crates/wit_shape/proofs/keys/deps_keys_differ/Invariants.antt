@@ -2,7 +2,7 @@ use Rattle.std.proofs.Common.{List}
 use Rattle.wit_values.specs.Table.{HasDistinctKeys}
 use Rattle.wit_data.specs.Each.{Each}
 use Rattle.wit_data.specs.Foreign.{ForeignItem}
-use Rattle.wit_data.specs.declared.package_name.PackageName.{PackageName}
+use Rattle.wit_names.specs.declared.package_name.PackageName.{PackageName}
 use Rattle.wit_shape.proofs.keys.deps_keys_differ.Given as goal
 
 -- if the packages that are left are so, all are

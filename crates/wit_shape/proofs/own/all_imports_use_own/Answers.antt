@@ -4,10 +4,10 @@ use Rattle.wit_data.specs.facts.EachFacts.{more, all, fails}
 use Rattle.wit_shape.proofs.own.all_imports_use_own.Goals as goal
 
 pub returns-then-not-branch : goal.returns-then-not-branch
-returns-then-not-branch c = fails c.loop-index.invariant _ (slice_get_read c.args.worlds.now _ c.loop-index.index c.index-worlds-index.result refl c.loop-index-test.true c.index-worlds-index.is) c.in_ok-entries_use_own_at.ensures c.if-not-branch.true
+returns-then-not-branch c = fails c.loop-index.invariant _ (slice_get_read c.args.worlds.now _ c.loop-index.index c.index-worlds-index.result refl c.loop-index-test.true c.index-worlds-index.is) (rw c.from_index-owner.ensures at c.in_ok-entries_use_own.ensures) c.if-not-branch.true
 
 pub loop-index-preserved : goal.loop-index-preserved
-loop-index-preserved c = more c.loop-index.invariant _ (slice_get_read c.args.worlds.now _ c.loop-index.index c.index-worlds-index.result refl c.loop-index-test.true c.index-worlds-index.is) c.in_ok-entries_use_own_at.ensures c.if-not-branch.false
+loop-index-preserved c = more c.loop-index.invariant _ (slice_get_read c.args.worlds.now _ c.loop-index.index c.index-worlds-index.result refl c.loop-index-test.true c.index-worlds-index.is) (rw c.from_index-owner.ensures at c.in_ok-entries_use_own.ensures) c.if-not-branch.false
 
 pub returns : goal.returns
 returns c = all c.loop-index.invariant (omega arith)

@@ -1,6 +1,5 @@
 use Rattle.std.proofs.Common.{◌≡◌, ℕ, Option, Some, None, false, refl, subst, sym}
-use Rattle.std.specs.Prelude.{◌↔◌, IsTrue, IfOk, slice_get, Contains}
-use Rattle.std.specs.Option.{IsSomeAnd}
+use Rattle.std.specs.Prelude.{◌↔◌, IsTrue, IfOk, slice_get, Contains, IsSomeAnd}
 use Rattle.std.proofs.lemmas.Option.{slice_get_past, slice_get_read}
 use Rattle.wit_data.specs.Ownership.{world_types}
 use Rattle.wit_data.specs.declared.world.World.{World}

@@ -1,24 +1,29 @@
-use Rattle.std.proofs.Common.{◌∙◌, ◌≤◌, List, length, sym, subst, arith}
+use Rattle.std.proofs.Common.{◌≡◌, ◌∙◌, ◌≤◌, ℕ, List, [], None, Option, length, slice_get, sym, ap, subst, arith}
+use Rattle.wit_data.specs.declared.world.WorldKey.{WorldKey}
 use Rattle.wit_elaboration.specs.Entries.{Entry}
-use Rattle.wit_transform.proofs.Looked.{no_type-next, take_whole, type_at}
-use Rattle.wit_transform.specs.TransformCause.{HasTypeAt}
+use Rattle.wit_transform.proofs.Looked.{first-here, no_type_label, none-next, take_whole, type_label_of}
+use Rattle.wit_transform.specs.TransformCause.{type_label, type_labels}
 use Rattle.wit_transform.proofs.new_lists.type_label.Goals as goal
 use Rattle.wit_transform.proofs.new_lists.type_label.Goals.{in-Name+else-holds_type, in-Interface}
 
-pub returns-then-holds_type-clause-some : goal.returns-then-holds_type-clause-some
-returns-then-holds_type-clause-some c =
-    type_at c.args.entries.now c.loop-index.index c.entry_at.result.0.now c.entry_at.result.1.now c.in-Name.label c.entry_at.ensures c.in-Name.is (sym c.holds_type.ensures ∙ c.if-holds_type.true)
+abbrev label_of : Entry → Option (List ℕ)
+label_of e = type_label e.0 e.1
+
+pub returns-then-holds_type : goal.returns-then-holds_type
+returns-then-holds_type c =
+    sym (first-here label_of c.args.entries.now c.loop-index.index (c.entry_at.result.0.now, c.entry_at.result.1.now) c.in-Name.label c.entry_at.ensures c.loop-index.invariant
+    (type_label_of c.entry_at.result.0.now c.entry_at.result.1.now c.in-Name.label c.in-Name.is (sym c.holds_type.ensures ∙ c.if-holds_type.true)))
 
 pub loop-index-preserved : goal.loop-index-preserved
 loop-index-preserved c =
-    no_type-next c.args.entries.now c.loop-index.index c.entry_at.result.0.now c.entry_at.result.1.now c.entry_at.ensures c.loop-index.invariant
+    none-next label_of c.args.entries.now c.loop-index.index (c.entry_at.result.0.now, c.entry_at.result.1.now) c.entry_at.ensures c.loop-index.invariant
     (elim c.match-key.branch [
-      | in-Name+else-holds_type w ↦ λ label is type. let never = sym type ∙ sym w.holds_type.ensures ∙ w.if-holds_type.false in cc
-      | in-Interface w ↦ λ label is type. let never = sym w.in-Interface.is ∙ is in cc
+      | in-Name+else-holds_type w ↦ no_type_label c.entry_at.result.0.now c.entry_at.result.1.now w.in-Name.label w.in-Name.is (sym w.holds_type.ensures ∙ w.if-holds_type.false)
+      | in-Interface w ↦ ap (λ (k : WorldKey). type_label k c.entry_at.result.1.now) w.in-Interface.is
     ])
 
-pub returns-clause-none : goal.returns-clause-none
-returns-clause-none c =
-    λ label has.
+pub returns : goal.returns
+returns c =
     let reached : length c.args.entries.now ≤ c.loop-index.index = omega arith in
-    c.loop-index.invariant label (subst (λ (es : List Entry). HasTypeAt es label) (sym (take_whole c.args.entries.now c.loop-index.index reached)) has)
+    let none : type_labels c.args.entries.now ≡ [] = subst (λ (es : List Entry). type_labels es ≡ []) (take_whole c.args.entries.now c.loop-index.index reached) c.loop-index.invariant in
+    sym (ap (λ (labels : List (List ℕ)). slice_get labels 0) none)

@@ -11,7 +11,7 @@ use Rattle.wit_graph_data.specs.declared.error_kind.ResolveErrorKind.{ResolveErr
 use Rattle.wit_graph_data.specs.declared.error_kind.ResolveErrorKind.TheVariants.{OutOfMemory}
 use Rattle.wit_graph_theory.specs.facts.ListFacts.{same_at}
 use Rattle.wit_transform.proofs.TransformSteps.{exportize_clear, exportize_conflict, exportized_in_order, has_home, transformed_same}
-use Rattle.wit_transform.specs.TransformCause.{IsExportizeCause, NameIsFreeAt, exportized_name_taken, type_exported}
+use Rattle.wit_transform.specs.TransformCause.{IsExportizeCause, NameIsFreeAt, exportized_name_taken, not_exported}
 use Rattle.wit_transform.specs.Transformed.{WorldLists, entries_by_answer, exportized, transformed}
 use Rattle.wit_transform.proofs.transformations.exportize_answered.Goals as goal
 
@@ -38,7 +38,7 @@ returns-in_err-lists-clause-cause c =
     subst (λ (x : ResolveErrorKind). (x ≡ OutOfMemory) ⊎ IsExportizeCause c.args.graph.now c.args.world c.args.answers.now (option_map string_bytes c.args.out) x) (sym same)
     (elim c.in_err-lists.ensures.cause [
       | inl memory ↦ inl memory
-      | inr told ↦ inr (c.at.result.now, there, type_exported told.0 told.1 told.2)
+      | inr told ↦ inr (c.at.result.now, there, not_exported told)
     ]))
 
 pub transform-requires-clause-world : goal.transform-requires-clause-world
@@ -48,7 +48,7 @@ pub transform-requires-clause-listed : goal.transform-requires-clause-listed
 transform-requires-clause-listed c =
     let there : slice_get c.args.graph.now.worlds c.args.world ≡ Some c.at.result.now = subst (λ (i : ℕ). slice_get c.args.graph.now.worlds i ≡ Some c.at.result.now) c.index.ensures c.at.ensures in
     let count : length c.args.answers.now ≡ length c.at.result.now.imports = c.requires.answers ∙ ap (λ (o : Option World). length (option_map_or (λ (x : World). x.imports) o [])) there in
-    let order = exportized_in_order c.args.graph.now c.requires.valid c.args.world c.at.result.now c.args.answers.now (option_map string_bytes c.args.out) there count c.in_ok-lists.ensures.no_type in
+    let order = exportized_in_order c.args.graph.now c.requires.valid c.args.world c.at.result.now c.args.answers.now (option_map string_bytes c.args.out) there count c.in_ok-lists.ensures.none in
     subst (λ (es : List Entry). HasSoundEntries c.args.graph.now.types (length c.args.graph.now.interfaces) c.in_ok-lists.lists.imports es) (sym c.in_ok-lists.ensures.exports)
     (subst (λ (es : List Entry). HasSoundEntries c.args.graph.now.types (length c.args.graph.now.interfaces) es (entries_by_answer true c.at.result.now.imports c.args.answers.now)) (sym c.in_ok-lists.ensures.imports) order)
 
@@ -67,7 +67,7 @@ returns-in_err-transform-clause-cause c =
       | inl memory ↦ inl memory
       | inr told ↦
           inr (exportize_conflict c.args.graph.now c.args.world c.at.result.now c.args.answers.now out c.in_ok-lists.lists.exports c.in_err-transform.field-0.0 there
-          (subst (NameIsFreeAt c.args.graph.now c.args.world) name c.in_ok-name.ensures.free) c.in_ok-lists.ensures.no_type c.in_ok-lists.ensures.exports told)
+          (subst (NameIsFreeAt c.args.graph.now c.args.world) name c.in_ok-name.ensures.free) c.in_ok-lists.ensures.none c.in_ok-lists.ensures.exports told)
     ]))
 
 pub returns-clause-refuses : goal.returns-clause-refuses
@@ -78,7 +78,7 @@ returns-clause-refuses c =
     let named = c.in_ok-name.ensures.ok in
     let same : named.0 ≡ c.at.result.now = same_at c.args.graph.now.worlds c.args.world c.args.world named.0 c.at.result.now refl named.1 there in
     let name : c.in_ok-name.name ≡ (exportized c.args.answers.now out c.at.result.now).name = named.2 ∙ ap (λ (x : World). (exportized c.args.answers.now out x).name) same in
-    exportize_clear c.args.graph.now c.args.world c.at.result.now c.args.answers.now out there (subst (NameIsFreeAt c.args.graph.now c.args.world) name c.in_ok-name.ensures.free) c.in_ok-lists.ensures.no_type
+    exportize_clear c.args.graph.now c.args.world c.at.result.now c.args.answers.now out there (subst (NameIsFreeAt c.args.graph.now c.args.world) name c.in_ok-name.ensures.free) c.in_ok-lists.ensures.none
     (λ conflict. c.in_ok-transform.ensures.no_conflict (subst (λ (es : List Entry). HasTransitiveConflict (graph_uses c.args.graph.now) es) (sym c.in_ok-lists.ensures.exports) conflict)) error cause
 
 pub returns-clause-valid : goal.returns-clause-valid
@@ -95,5 +95,5 @@ returns-clause-valid c =
     subst IsValid (sym made)
     (c.exportized_stay_valid.ensures c.args.graph.now c.args.world c.args.answers.now out c.requires.valid c.requires.answers
     (λ error cause.
-    exportize_clear c.args.graph.now c.args.world c.at.result.now c.args.answers.now out there (subst (NameIsFreeAt c.args.graph.now c.args.world) name c.in_ok-name.ensures.free) c.in_ok-lists.ensures.no_type
+    exportize_clear c.args.graph.now c.args.world c.at.result.now c.args.answers.now out there (subst (NameIsFreeAt c.args.graph.now c.args.world) name c.in_ok-name.ensures.free) c.in_ok-lists.ensures.none
     (λ conflict. c.in_ok-transform.ensures.no_conflict (subst (λ (es : List Entry). HasTransitiveConflict (graph_uses c.args.graph.now) es) (sym c.in_ok-lists.ensures.exports) conflict)) error cause))

@@ -1,5 +1,5 @@
 use Rattle.std.proofs.Common.{rules}
-use Rattle.wit_graph_theory.specs.FunctionMismatch.{results_differ}
+use Rattle.wit_remap_spec.specs.FunctionMismatch.{results_differ}
 use Rattle.wit_unite_common.proofs.functions.result_mismatch.Goals as goal
 
 pub returns-in_ok-from_str-in-Some-Some-clause-some : goal.returns-in_ok-from_str-in-Some-Some-clause-some

@@ -1,7 +1,7 @@
 use Rattle.std.proofs.Common.{◌≡◌, ℕ}
 use Rattle.wit_graph_data.specs.declared.graph.Package.{Package}
 use Rattle.wit_data.specs.Each.{SomeAt}
-use Rattle.wit_data.specs.declared.package_name.PackageName.{PackageName}
+use Rattle.wit_names.specs.declared.package_name.PackageName.{PackageName}
 use Rattle.wit_data.specs.facts.EachFacts.{EachBelow}
 use Rattle.wit_validity.proofs.package_names.name_their_own.Given as goal
 

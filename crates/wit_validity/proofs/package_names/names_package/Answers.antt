@@ -1,6 +1,6 @@
 use Rattle.std.proofs.Common.{ℕ, Some, sym, ap, ◌∙◌}
 use Rattle.std.proofs.lemmas.Bool.Decides.{Decides-eqb}
-use Rattle.wit_data.specs.facts.PackageNameFacts.{same_package-Decides}
+use Rattle.wit_names.specs.facts.PackageNameFacts.{same_package-Decides}
 use Rattle.wit_validity.proofs.LookUps.{is_found, none_found}
 use Rattle.wit_validity.proofs.package_names.names_package.Goals as goal
 

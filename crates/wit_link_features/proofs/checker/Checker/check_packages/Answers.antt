@@ -2,7 +2,7 @@ use Rattle.std.proofs.Common.{◌∙◌, List, length}
 use Rattle.std.specs.Map.Iter.{deref_pair}
 use Rattle.std.proofs.lemmas.Map.Iter.{iter_turn}
 use Rattle.wit_data.specs.Foreign.{ForeignItem}
-use Rattle.wit_data.specs.declared.package_name.PackageName.{PackageName}
+use Rattle.wit_names.specs.declared.package_name.PackageName.{PackageName}
 use Rattle.wit_link_features.specs.steps.FeatureSteps.{MeetsForeign}
 use Rattle.wit_link_features.proofs.ForeignGates.{Each-flat_map}
 use Rattle.wit_data.specs.facts.YieldedFacts.{all_yielded, one_yielded}

@@ -25,7 +25,7 @@ push_functions-requires-clause-apart c =
     subst (λ (l : List (List ℕ × Function)). HasDistinctKeys l) (sym functions) c.requires.can.functions_apart
 
 pub returns : goal.returns
-returns c =
+returns c = λ index.
     let u = c.args.uniting.now in
     let m = merging_of u in
     let from = c.args.from.now in

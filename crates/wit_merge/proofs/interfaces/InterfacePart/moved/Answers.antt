@@ -1,11 +1,11 @@
 use Rattle.std.proofs.Common.{◌∙◌, ap}
-use Rattle.wit_graph_theory.specs.Image.{interface_image}
+use Rattle.wit_remap_spec.specs.Image.{interface_image}
 use Rattle.wit_remap.specs.steps.Movers.{maps_of}
 use Rattle.wit_merge.proofs.Agrees.{interface_is}
 use Rattle.wit_merge.proofs.interfaces.InterfacePart.moved.Goals as goal
 
 pub returns : goal.returns
-returns c =
+returns c = λ index.
     let mover = c.mover.result in
     let can = c.requires.can in
     c.place.ensures ∙ ap (interface_image (maps_of mover)) c.in_ok-moved.ensures

@@ -23,7 +23,7 @@ push_tables-requires-clause-worlds c =
     subst (λ (l : Table). HasDistinctKeys l) (sym names) c.requires.can.worlds_apart
 
 pub returns : goal.returns
-returns c =
+returns c = λ index.
     let u = c.args.uniting.now in
     let m = merging_of u in
     let ready = c.requires.ready in

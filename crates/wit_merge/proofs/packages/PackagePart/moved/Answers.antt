@@ -27,7 +27,7 @@ push_tables-requires-clause-worlds c =
     subst (λ (l : Table). HasDistinctKeys l) (sym whole) (distinct_map (merged_world m) self.worlds c.requires.can.worlds_apart)
 
 pub returns : goal.returns
-returns c =
+returns c = λ index.
     let u = c.args.uniting.now in
     let m = merging_of u in
     let self = c.args.self.now in

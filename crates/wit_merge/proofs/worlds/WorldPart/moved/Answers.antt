@@ -5,7 +5,7 @@ use Rattle.wit_data.specs.Entries.{Entry}
 use Rattle.wit_data.specs.facts.WorldKeyFacts.{key_is, same_key}
 use Rattle.wit_data.specs.declared.world.World.{World}
 use Rattle.wit_sources.specs.Span.{moved_by}
-use Rattle.wit_graph_theory.specs.Image.{entry_image}
+use Rattle.wit_remap_spec.specs.Image.{entry_image}
 use Rattle.wit_remap.specs.steps.Fits.{EntriesFit, Fits}
 use Rattle.wit_remap.specs.steps.Movers.{maps_of}
 use Rattle.wit_merge_spec.specs.Remapped.{merged_package}
@@ -43,11 +43,10 @@ placed_entries-requires-2-clause-keys c =
     subst (λ (l : List Entry). IsDistinct same_key (keys_of l)) (sym same) (told_apart (λ a b. (key_is a b).0) _ c.requires.can.exports_apart)
 
 pub returns : goal.returns
-returns c =
+returns c = λ w.
     let u = c.args.uniting.now in
     let m = merging_of u in
     let mover = c.mover-mover.result in
-    let w = c.args._place in
     let can = c.requires.can in
     let self = c.args.self.now in
     let kept = c.in_ok-moved.ensures in

@@ -1,5 +1,5 @@
 use Rattle.std.proofs.Common.{codes}
-use Rattle.wit_graph_theory.specs.FunctionMismatch.{HaveFunctionMismatch}
+use Rattle.wit_remap_spec.specs.FunctionMismatch.{HaveFunctionMismatch}
 use Rattle.wit_merge_spec.specs.Matches.{counterpart_interface}
 use Rattle.wit_merge_match.specs.Differing.{InterfacesDiffer, merging_of}
 use Rattle.wit_merge_match.proofs.Steps.{alike, part_alike}

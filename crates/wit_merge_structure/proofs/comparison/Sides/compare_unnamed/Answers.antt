@@ -1,16 +1,18 @@
 use Rattle.std.proofs.Common.{◌≡◌, ◌∙◌, ◌+◌, ℕ, ap, arith, subst, sym}
 use Rattle.wit_data.specs.declared.types.TypeDefKind.{TypeDefKind}
-use Rattle.wit_merge_structure.specs.steps.ComparisonSteps.{kind_at, structure_of}
+use Rattle.wit_merge_structure.specs.steps.ComparisonSteps.{HasClasses, kind_at, structure_of}
 use Rattle.wit_merge_structure.specs.steps.Kinds.{HeadsDiffer}
 use Rattle.wit_merge_structure.proofs.CompareSteps.{from_is, into_is, kinds_apart, of_from, of_into}
 use Rattle.wit_merge_structure.proofs.WalkSteps.{kind_is}
+use Rattle.wit_merge_structure.proofs.comparison.Sides.compare_unnamed.Goals.{After-leader_of-other}
 use Rattle.wit_merge_structure.proofs.comparison.Sides.compare_unnamed.Goals as goal
 
 pub overflow_add-len : goal.overflow_add-len
 overflow_add-len c = omega (arith, c.len.ensures, c.requires.classes.small, c.requires.classes.long, c.requires.into)
 
-pub returns-then-one-other-clause-classes : goal.returns-then-one-other-clause-classes
-returns-then-one-other-clause-classes c =
+-- after the leaders of both
+kept : (c : After-leader_of-other) → HasClasses c.args.self.now c.leader_of-other.new.leaders
+kept c =
     let f = structure_of c.args.self.now in
     record {
       long = c.leader_of-other.ensures.long ∙ (c.leader_of-one.ensures.long ∙ c.requires.classes.long);
@@ -18,26 +20,15 @@ returns-then-one-other-clause-classes c =
       descending = c.leader_of-other.ensures.descending;
       same = c.leader_of-other.ensures.kept f (c.leader_of-one.ensures.kept f c.requires.classes.same);
     }
+
+pub returns-then-one-other-clause-classes : goal.returns-then-one-other-clause-classes
+returns-then-one-other-clause-classes c = kept (goal.at.returns-then-one-other-clause-classes c).After-leader_of-other
 
 pub returns-in-Some-clause-classes : goal.returns-in-Some-clause-classes
-returns-in-Some-clause-classes c =
-    let f = structure_of c.args.self.now in
-    record {
-      long = c.leader_of-other.ensures.long ∙ (c.leader_of-one.ensures.long ∙ c.requires.classes.long);
-      small = omega (arith, c.leader_of-other.ensures.long, c.leader_of-one.ensures.long, c.requires.classes.small);
-      descending = c.leader_of-other.ensures.descending;
-      same = c.leader_of-other.ensures.kept f (c.leader_of-one.ensures.kept f c.requires.classes.same);
-    }
+returns-in-Some-clause-classes c = kept (goal.at.returns-in-Some-clause-classes c).After-leader_of-other
 
 pub returns-in-None-clause-classes : goal.returns-in-None-clause-classes
-returns-in-None-clause-classes c =
-    let f = structure_of c.args.self.now in
-    record {
-      long = c.leader_of-other.ensures.long ∙ (c.leader_of-one.ensures.long ∙ c.requires.classes.long);
-      small = omega (arith, c.leader_of-other.ensures.long, c.leader_of-one.ensures.long, c.requires.classes.small);
-      descending = c.leader_of-other.ensures.descending;
-      same = c.leader_of-other.ensures.kept f (c.leader_of-one.ensures.kept f c.requires.classes.same);
-    }
+returns-in-None-clause-classes c = kept (goal.at.returns-in-None-clause-classes c).After-leader_of-other
 
 pub returns-then-one-other-clause-compares : goal.returns-then-one-other-clause-compares
 returns-then-one-other-clause-compares c =

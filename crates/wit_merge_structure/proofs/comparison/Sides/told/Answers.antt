@@ -1,7 +1,7 @@
 use Rattle.std.proofs.Common.{◌≡◌, ◌∙◌, ◌++◌, ◌<◌, ◌-◌, ℕ, List, ap, arith, get_or, length, string_bytes, subst, sym}
 use Rattle.std.proofs.lemmas.Option.{slice_get-get_or}
 use Rattle.wit_data.specs.declared.types.TypeDefKind.{TypeDefKind}
-use Rattle.wit_merge_structure.specs.Structure.{parts_of}
+use Rattle.wit_data.specs.Kind.{kind_parts}
 use Rattle.wit_merge_structure.specs.declared.frames.Frame.{Frame}
 use Rattle.wit_merge_structure.specs.steps.ComparisonSteps.{frame_step}
 use Rattle.wit_merge_structure.specs.steps.Kinds.{step_at}
@@ -25,7 +25,7 @@ step_text-requires c =
     let none : Frame = record { from = 0; into = 0; next = 0 } in
     let f = get_or c.args.stack.now c.loop-index.index none in
     let part = c.requires.parts c.loop-index.index f (slice_get-get_or c.args.stack.now c.loop-index.index none (omega arith)) in
-    subst (λ (k : TypeDefKind). f.next - 1 < length (parts_of k)) (kind_is c.args.self.now.from.now f.from c.at.result.now c.at.ensures) (omega (arith, part.begun, part.within))
+    subst (λ (k : TypeDefKind). f.next - 1 < length (kind_parts k)) (kind_is c.args.self.now.from.now f.from c.at.result.now c.at.ensures) (omega (arith, part.begun, part.within))
 
 pub loop-index-preserved : goal.loop-index-preserved
 loop-index-preserved c =

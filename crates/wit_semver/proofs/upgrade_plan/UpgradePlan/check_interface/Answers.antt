@@ -1,5 +1,5 @@
 use Rattle.std.proofs.Common.{◌∙◌, inr, slice_get, sym, ap, subst}
-use Rattle.wit_graph_theory.specs.FunctionMismatch.{HaveFunctionMismatch}
+use Rattle.wit_remap_spec.specs.FunctionMismatch.{HaveFunctionMismatch}
 use Rattle.wit_semver.specs.steps.Replacing.{upgrade_of}
 use Rattle.wit_semver.proofs.Used.{they_agree, they_disagree}
 use Rattle.wit_semver.proofs.upgrade_plan.UpgradePlan.check_interface.Goals as goal

@@ -1,7 +1,7 @@
 use Rattle.std.proofs.Common.{ap, ◌∙◌, ◌++◌, ◌∷◌, [], List, ℕ, string_bytes, if◌then◌else◌}
 use Rattle.std.specs.List.{list_any}
 use Rattle.std.specs.Str.{bytes_eq}
-use Rattle.wit_values.specs.facts.NameSet.{texts_of}
+use Rattle.wit_values.specs.NameSet.{texts_of}
 use Rattle.wit_values.proofs.NameSetLemmas.{texts-insert}
 use Rattle.wit_values.proofs.name_set.NameSet.insert.Goals as goal
 

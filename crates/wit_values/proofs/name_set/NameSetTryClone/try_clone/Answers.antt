@@ -4,7 +4,7 @@ use Rattle.std.proofs.lemmas.Map.Iter.{rest_more, rest_all}
 use Rattle.std.specs.List.{IsDistinct}
 use Rattle.std.specs.Map.Iter.{deref}
 use Rattle.std.specs.Str.{bytes_eq}
-use Rattle.wit_values.specs.facts.NameSet.{texts_of}
+use Rattle.wit_values.specs.NameSet.{texts_of}
 use Rattle.wit_values.proofs.NameSetLemmas.{IsDistinct-texts, insert-next}
 use Rattle.wit_values.proofs.name_set.NameSetTryClone.try_clone.Goals as goal
 

@@ -1,5 +1,5 @@
 use Rattle.std.proofs.Common.{◌≡◌, ◌++◌}
-use Rattle.wit_values.specs.facts.NameSet.{texts_of}
+use Rattle.wit_values.specs.NameSet.{texts_of}
 use Rattle.wit_values.proofs.name_set.NameSetTryClone.try_clone.Given as goal
 
 -- the copies so far, and the texts that are left

@@ -1,5 +1,0 @@
-use Rattle.std.proofs.Common.{rules}
-use Rattle.wit_data.proofs.use_path.package_path.Goals as goal
-
-pub returns : goal.returns
-returns c = search rules

@@ -1,0 +1,18 @@
+use Rattle.std.proofs.Common.{◌≡◌, ◌<◌, List, length}
+use Rattle.wit_digraph.specs.PostOrder.{post_order}
+use Rattle.wit_data.specs.declared.function.Function.{Function}
+use Rattle.wit_data.specs.Uses.{alias_rows}
+use Rattle.wit_link_spec.specs.ValueRemap.{ValueRemap}
+use Rattle.wit_link_resources.specs.steps.IncomingTypes.{IsRemap, IsRemapped, leads_in}
+use Rattle.wit_link_resources.proofs.leading.end_of_way.Given as goal
+
+-- the way so far led along new aliases of which nothing is known
+abbrev pub invariant-loop-target : goal.invariant-loop-target
+invariant-loop-target l = record {
+  there : l.current < length l.incoming.types.now;
+  remapped : IsRemapped l.incoming.ids.now l.current;
+  same : (functions : List Function) (r : ValueRemap) → IsRemap l.incoming functions r → leads_in r l.index ≡ leads_in r l.current;
+}
+
+abbrev pub decreases-loop-target : goal.decreases-loop-target
+decreases-loop-target l = length (post_order (alias_rows l.incoming.types.now) l.current)

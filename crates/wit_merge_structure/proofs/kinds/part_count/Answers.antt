@@ -1,6 +1,0 @@
-use Rattle.std.proofs.Common.{rules}
-use Rattle.wit_merge_structure.proofs.PartsRead.{tuple_count}
-use Rattle.wit_merge_structure.proofs.kinds.part_count.Goals as goal
-
-pub returns-in-Tuple : goal.returns-in-Tuple
-returns-in-Tuple c = tuple_count c.args.kind.now c.in-Tuple.types c.len-in-Tuple.result (search rules) (search rules)

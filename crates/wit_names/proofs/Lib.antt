@@ -1,0 +1,5 @@
+pub mod Cuts
+pub mod Kebab
+pub mod Tracks
+pub mod UsePathGrammar
+pub mod VersionErrors

@@ -1,0 +1,6 @@
+pub mod PackageName
+pub mod PackageOrder
+pub mod Track
+pub mod UsePath
+pub mod examples
+pub mod facts

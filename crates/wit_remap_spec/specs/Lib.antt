@@ -1,0 +1,3 @@
+pub mod FunctionMismatch
+pub mod Image
+pub mod Kept
