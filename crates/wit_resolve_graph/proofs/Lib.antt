@@ -4,7 +4,6 @@ mod FilesAfter
 mod Grouped
 mod KeptRows
 mod Merged
-mod NamedWorlds
 mod OneOrder
 mod Runs
 mod RunsKeep

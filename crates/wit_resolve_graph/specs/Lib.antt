@@ -1,8 +1,10 @@
 pub mod Kept
 pub mod Merging
+pub mod Named
 pub mod Sources
 pub mod State
 pub mod Step
 pub mod examples
+pub mod facts
 pub mod laws
 pub mod steps

@@ -1,10 +1,9 @@
 -- What a command does, and runs of commands. A command changes the state and answers, or refuses with an
 -- error that has a reason and then leaves all but the sources as it was. Want of memory is no reason, but
 -- may always be answered where memory is taken. Only their own commands change features and the rule of tracks.
-use Rattle.std.specs.Prelude.{◌≡◌, ◌⊎◌, ◌≤◌, ◌<◌, ◌^◌, ℕ, Bool, true, List, [], ◌∷◌, ◌++◌, length, map, slice_get, Option, None, Some, if◌then◌else◌, Contains, bytes_eq}
+use Rattle.std.specs.Prelude.{◌≡◌, ◌⊎◌, ◌≤◌, ◌<◌, ◌^◌, ℕ, Bool, true, List, [], ◌∷◌, ◌++◌, length, map, slice_get, Option, None, Some, if◌then◌else◌, bytes_eq}
 use Rattle.std.specs.List.{AllByRecursion, list_any}
 use Rattle.wit_sources.specs.SourceMap.{Sources, with_sources}
-use Rattle.wit_data.specs.Each.{SomeAt}
 use Rattle.wit_data.specs.Shape.{IsGroupShaped}
 use Rattle.wit_names.specs.declared.package_name.PackageName.{PackageName}
 use Rattle.wit_data.specs.declared.unresolved.UnresolvedPackageGroup.{UnresolvedPackageGroup}
@@ -12,7 +11,6 @@ use Rattle.wit_data.specs.declared.world.WorldKey.{WorldKey}
 use Rattle.wit_graph_data.specs.Error.{NoCause}
 use Rattle.wit_graph_data.specs.declared.features.Features.{Features}
 use Rattle.wit_graph_data.specs.declared.graph.Graph.{Graph}
-use Rattle.wit_graph_data.specs.declared.graph.Package.{Package}
 use Rattle.wit_graph_data.specs.declared.error_kind.ResolveErrorKind.{ResolveErrorKind}
 use Rattle.wit_elaboration.specs.Entries.{Entry}
 use Rattle.wit_graph_data.specs.IdText.{key_text}
@@ -20,6 +18,7 @@ use Rattle.wit_graph_data.specs.declared.error_kind.ResolveErrorKind.TheVariants
 use Rattle.wit_link.specs.Appending.{ArePushed, IsGroupsCause, files_end, packages_of}
 use Rattle.wit_link_order.specs.GroupOrder.{AreSorted, IsSortCause, Unresolved}
 use Rattle.wit_resolve_graph.specs.Merging.{HasSourcesAfter, Merges, RefusesMerge}
+use Rattle.wit_resolve_graph.specs.Named.{world_named}
 use Rattle.wit_semver_spec.specs.Rewritten.{rewritten}
 use Rattle.wit_semver_spec.specs.TrackCause.{IsTrackCause}
 use Rattle.wit_transform.specs.TransformCause.{IsExportizeCause, IsImportizeCause, imports_at}
@@ -29,10 +28,6 @@ use Rattle.wit_resolve_graph.specs.declared.command.Command.{Command}
 use Rattle.wit_resolve_graph.specs.declared.command.Command.TheVariants.{AddFeature, Exportize, Importize, Merge, PushGroups, Semver, SetAllFeatures, SetTrackRule}
 use Rattle.wit_resolve_graph.specs.declared.command.Reply.{Reply}
 use Rattle.wit_resolve_graph.specs.declared.command.Reply.TheVariants.{Done, Pushed, Merged, NoWorld, Refused}
-
--- the graph has a world of this name in the package of that name
-abbrev pub HasWorld : Graph → PackageName → List ℕ → ℕ → Type 0
-HasWorld g home name w = (p : ℕ) × Contains g.package_names (home, p) × SomeAt g.packages p (λ (there : Package). Contains there.worlds (name, w))
 
 -- ---- features
 
@@ -77,22 +72,18 @@ pub record RefusesGroups (old : State) (main : UnresolvedPackageGroup) (deps : L
 
 -- ---- commands on a world
 
--- there is no world of this name in a package of that name
-abbrev pub IsAbsent : State → PackageName → List ℕ → Type 0
-IsAbsent state home name = (w : ℕ) → HasWorld state.graph home name w → ⊥
-
 -- the graph is changed at the world of a name in a package of a name: no cause holds against it, and all else is as
 -- it was
 pub record Transforms (old : State) (home : PackageName) (world : List ℕ) (changed : ℕ → Graph) (IsCauseOf : ℕ → ResolveErrorKind → Type 0) (new : State) : Type 0 where
   pub w : ℕ
-  pub there : HasWorld old.graph home world w
+  pub there : world_named old.graph home world ≡ Some w
   pub accepted : NoCause (IsCauseOf w)
   pub is_changed : new ≡ record old { graph = changed w }
 
 -- a change is refused, and nothing has changed
 pub record RefusesTransform (old : State) (home : PackageName) (world : List ℕ) (IsCauseOf : ℕ → ResolveErrorKind → Type 0) (error : ResolveErrorKind) (new : State) : Type 0 where
   pub w : ℕ
-  pub there : HasWorld old.graph home world w
+  pub there : world_named old.graph home world ≡ Some w
   pub cause : (error ≡ OutOfMemory) ⊎ IsCauseOf w error
   pub same : new ≡ old
 
@@ -130,16 +121,16 @@ Step old (PushGroups main deps) _ new = ⊥
 Step old (Merge other) (Merged remap) new = Merges old other remap new
 Step old (Merge other) (Refused error) new = RefusesMerge old other error new
 Step old (Merge other) _ new = ⊥
-Step old (Importize home world out) NoWorld new = IsAbsent old home world × (new ≡ old)
+Step old (Importize home world out) NoWorld new = (world_named old.graph home world ≡ None) × (new ≡ old)
 Step old (Importize home world out) Done new = Transforms old home world (λ w. transformed old.graph w (importized out)) (λ w. IsImportizeCause old.graph w out) new
 Step old (Importize home world out) (Refused error) new = RefusesTransform old home world (λ w. IsImportizeCause old.graph w out) error new
 Step old (Importize home world out) _ new = ⊥
-Step old (Exportize home world out keys) NoWorld new = IsAbsent old home world × (new ≡ old)
+Step old (Exportize home world out keys) NoWorld new = (world_named old.graph home world ≡ None) × (new ≡ old)
 Step old (Exportize home world out keys) Done new =
     Transforms old home world (λ w. transformed old.graph w (exportized (answers_at old keys w) out)) (λ w. IsExportizeCause old.graph w (answers_at old keys w) out) new
 Step old (Exportize home world out keys) (Refused error) new = RefusesTransform old home world (λ w. IsExportizeCause old.graph w (answers_at old keys w) out) error new
 Step old (Exportize home world out keys) _ new = ⊥
-Step old (Semver home world) NoWorld new = IsAbsent old home world × (new ≡ old)
+Step old (Semver home world) NoWorld new = (world_named old.graph home world ≡ None) × (new ≡ old)
 Step old (Semver home world) Done new = Transforms old home world (rewritten old.track_rule old.graph) (IsTrackCause old.track_rule old.graph) new
 Step old (Semver home world) (Refused error) new = RefusesTransform old home world (IsTrackCause old.track_rule old.graph) error new
 Step old (Semver home world) _ new = ⊥

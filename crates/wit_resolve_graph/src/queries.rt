@@ -1,16 +1,18 @@
 //! What is asked of a `Resolve`. Each call hands on to the question of the same name over its graph; the
 //! graph is valid, so what a question asks of a graph always holds.
-ghost use Rattle.std.specs.Prelude.{◌≡◌, ◌↔◌, ◌<◌, IfErr, IfOk, IsTrue, length, string_bytes};
+ghost use Rattle.std.specs.Prelude.{◌≡◌, ◌↔◌, ◌<◌, IfErr, IfOk, IfSome, IsTrue, length, string_bytes};
 ghost use Rattle.std.specs.Option.{option_map};
 ghost use Rattle.wit_data.specs.Uses.{type_interface_dep};
 ghost use Rattle.wit_graph_data.specs.Queries.{HasAllBitsValid, canonical_id_text, canonical_interface_id_at, canonical_key_text, external_id_value, futures_and_streams, implements_interface, interface_direct_deps, topological_packages, version_suffix_of};
 ghost use Rattle.wit_graph_data.specs.Relations.{package_direct_deps};
 ghost use Rattle.wit_graph_data.specs.declared.error_kind.ResolveErrorKind.TheVariants.{OutOfMemory};
+ghost use Rattle.wit_resolve_graph.specs.Named.{world_named};
 
 use crate::resolve::Resolve;
 use std::alloc::Global;
 use wit_data::{
-    Function, InterfaceId, PackageId, Type_, TypeId, WorldItem, WorldKey, type_interface_dep,
+    Function, InterfaceId, PackageId, PackageName, Type_, TypeId, WorldId, WorldItem, WorldKey,
+    type_interface_dep,
 };
 use wit_graph_data::ResolveResult;
 use wit_queries::canonical::{
@@ -21,6 +23,24 @@ use wit_queries::futures::find_futures_and_streams;
 use wit_queries::interface_deps::{InterfaceDirectDeps, interface_direct_deps};
 use wit_queries::package_deps::{PackageDirectDeps, package_direct_deps, topological_packages};
 use wit_queries::valid_bits::is_valid_by;
+
+/// Names.
+impl Resolve {
+    /// The world of a name in the package of a name; None where either isn't there. It is a world of this graph. It
+    /// takes no memory.
+    ///
+    /// Source: `Resolve::package_names` and `Package::worlds` of wit-parser 0.263.0.
+    pub fn world_named(&self, owner: &PackageName, name: &str) -> Option<WorldId>
+        ensures id { result ≡ world_named self.now.graph owner.now name.now }
+        ensures within { IfSome result (λ w. w < length self.now.graph.worlds) }
+    {
+        let graph = self.graph();
+        let id = graph.package_names.get(owner)?;
+        let package = graph.packages.get(id.index())?;
+        let world = package.worlds.get(name)?;
+        Some(*world)
+    }
+}
 
 /// Dependencies.
 impl Resolve {

@@ -1,12 +1,11 @@
 //! The commands that change a world.
-ghost use Rattle.std.specs.Prelude.{◌≡◌, ◌⊎◌, ◌<◌, IfErr, IfNone, IfOk, IfSome, OnErr, OnOk, length, string_bytes};
+ghost use Rattle.std.specs.Prelude.{◌≡◌, ◌⊎◌, ◌<◌, IfErr, IfOk, OnErr, OnOk, length, string_bytes};
 ghost use Rattle.std.specs.List.{list_any};
-ghost use Rattle.std.specs.Map.{lookup};
 ghost use Rattle.std.specs.Option.{option_map};
 ghost use Rattle.std.specs.Str.{bytes_eq};
 ghost use Rattle.wit_graph_data.specs.declared.error_kind.ResolveErrorKind.{ResolveErrorKind};
 ghost use Rattle.wit_graph_data.specs.declared.error_kind.ResolveErrorKind.TheVariants.{OutOfMemory};
-ghost use Rattle.wit_resolve_graph.specs.Step.{HasWorld, IsAbsent, Step, answers_at, is_listed_key, listed_answers};
+ghost use Rattle.wit_resolve_graph.specs.Step.{Step, answers_at, is_listed_key, listed_answers};
 ghost use Rattle.wit_resolve_graph.specs.declared.command.Command.TheVariants as command;
 ghost use Rattle.wit_transform.specs.TransformCause.{IsExportizeCause};
 ghost use Rattle.wit_transform.specs.Transformed.{exportized, transformed};
@@ -15,30 +14,7 @@ use crate::command::Reply;
 use crate::resolve::Resolve;
 use std::alloc::Global;
 use wit_data::{Items, PackageName, Table, Text, WorldId, WorldItem, WorldKey};
-use wit_graph_data::{Graph, Package, ResolveResult};
-
-/// The world of a name in a package.
-fn world_in(home: &Package, world: &str) -> Option<WorldId>
-    ensures { result ≡ lookup (bytes_eq world.now) home.now.worlds }
-{
-    match home.worlds.get(world) {
-        Some(id) => Some(*id),
-        None => None,
-    }
-}
-
-/// The world of a name in the package of a name.
-fn world_named(resolve: &Resolve, package: &PackageName, world: &Text) -> Option<WorldId>
-    ensures some { IfSome result (HasWorld resolve.now.graph «package».now world.now) }
-    ensures within { IfSome result (λ w. w < length resolve.now.graph.worlds) }
-    ensures none { IfNone result (IsAbsent resolve.now «package».now world.now) }
-{
-    let graph = resolve.graph();
-    match graph.package_names.get(package) {
-        Some(id) => world_in(graph.packages.at(id.index()), world.as_str()),
-        None => None,
-    }
-}
+use wit_graph_data::{Graph, ResolveResult};
 
 /// The text of a name, where there is one.
 fn out_name(out: Option<Text>) -> Option<String>
@@ -60,8 +36,7 @@ pub(crate) fn importize(
 ) -> Reply
     ensures { Step resolve.old (command.Importize «package» world out) result resolve.new }
 {
-    let found = world_named(resolve, &package, &world);
-    match found {
+    match resolve.world_named(&package, world.as_str()) {
         Some(id) => match resolve.importize(alloc, id, out_name(out)) {
             Ok(()) => Reply::Done,
             Err(refusal) => Reply::Refused(refusal),
@@ -166,8 +141,7 @@ pub(crate) fn exportize(
 ) -> Reply
     ensures { Step resolve.old (command.Exportize «package» world out keys) result resolve.new }
 {
-    let found = world_named(resolve, &package, &world);
-    match found {
+    match resolve.world_named(&package, world.as_str()) {
         Some(id) => match exportize_listed(alloc, resolve, id, out, keys) {
             Ok(()) => Reply::Done,
             Err(refusal) => Reply::Refused(refusal),
@@ -185,8 +159,7 @@ pub(crate) fn merge_world_imports(
 ) -> Reply
     ensures { Step resolve.old (command.Semver «package» world) result resolve.new }
 {
-    let found = world_named(resolve, &package, &world);
-    match found {
+    match resolve.world_named(&package, world.as_str()) {
         Some(id) => match resolve.merge_world_imports_based_on_semver(alloc, id) {
             Ok(()) => Reply::Done,
             Err(refusal) => Reply::Refused(refusal),

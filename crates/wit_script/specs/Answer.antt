@@ -1,7 +1,6 @@
 -- What the commands of a script answer. Between `other` and `merge` commands work on a second graph.
-use Rattle.std.specs.Prelude.{◌≡◌, ◌⊎◌, ℕ, Bool, true, false, List, [], ◌∷◌, ◌++◌, Option, None, Some, Result, Ok, Err, slice_get, option_and_then, codes, MatchOption, String, string_bytes, decimal, flat_map, bytes_eq}
+use Rattle.std.specs.Prelude.{◌≡◌, ◌⊎◌, ℕ, Bool, true, false, List, [], ◌∷◌, ◌++◌, Option, None, Some, Result, Ok, Err, slice_get, codes, MatchOption, String, string_bytes, decimal, flat_map}
 use Rattle.std.specs.declared.alloc.Global.{Global}
-use Rattle.std.specs.Map.{lookup}
 use Rattle.std.specs.Option.{option_map_or}
 use Rattle.wit_graph_data.specs.Error.{error_number}
 use Rattle.wit_graph_data.specs.ErrorText.{kind_text}
@@ -10,11 +9,11 @@ use Rattle.wit_graph_data.specs.declared.graph.Package.{Package}
 use Rattle.wit_graph_data.specs.declared.error_kind.ResolveErrorKind.{ResolveErrorKind}
 use Rattle.wit_graph_data.specs.declared.error_kind.ResolveErrorKind.TheVariants.{OutOfMemory}
 use Rattle.wit_names.specs.PackageName.{package_name_text}
-use Rattle.wit_names.specs.PackageOrder.{same_package}
 use Rattle.wit_names.specs.declared.package_name.PackageName.{PackageName}
 use Rattle.wit_script_lines.specs.declared.request.Request.{Request}
 use Rattle.wit_script_lines.specs.declared.request.Request.TheVariants as request
 use Rattle.wit_selection.specs.Selection.{IsSelection}
+use Rattle.wit_resolve_graph.specs.Named.{package_named, world_named}
 use Rattle.wit_resolve_graph.specs.State.{State, new_state}
 use Rattle.wit_resolve_graph.specs.Step.{IsCommandShaped}
 use Rattle.wit_resolve_graph.specs.declared.command.Command.{Command}
@@ -112,18 +111,6 @@ AnswersMerge runs before (Some second) text after = (new : State) × AnswersComm
 abbrev pub AnswersOther : Stage → Option State → List ℕ → Stage → Type 0
 AnswersOther before None text after = (text ≡ []) × (after ≡ record { first = before.first; second = Some new_state })
 AnswersOther before (Some second) text after = ⊥
-
--- the package of this name
-abbrev pub package_named : Graph → PackageName → Option ℕ
-package_named g name = lookup (same_package name) g.package_names
-
--- the world of this name in the package at a place
-abbrev pub world_in : Graph → List ℕ → ℕ → Option ℕ
-world_in g world id = option_and_then (λ (p : Package). lookup (bytes_eq world) p.worlds) (slice_get g.packages id)
-
--- the world of this name in the package of that name
-abbrev pub world_named : Graph → PackageName → List ℕ → Option ℕ
-world_named g owner world = option_and_then (world_in g world) (package_named g owner)
 
 -- `print`: the world, or want of memory; `no world` where it isn't there
 abbrev pub AnswersPrint : Graph → PackageName → List ℕ → List ℕ → Type 0

@@ -3,7 +3,7 @@ ghost use Rattle.std.specs.Prelude.{◌≡◌, ◌≢◌, ℕ, None, Some, Ok, E
 ghost use Rattle.std.specs.List.{flat_map};
 ghost use Rattle.wit_resolve_graph.specs.State.{new_state};
 ghost use Rattle.wit_resolve_graph.specs.Step.{IsCommandShaped, Run};
-ghost use Rattle.wit_script.specs.Answer.{Acts, AnswersCommand, IsActionShaped, IsChoice, Answers, AnswersAll, AnswersMerge, AnswersPrint, AnswersSelect, IsResultLine, AnswersByRun, action_of, open_after, working_state, only_first, line_of, refusal_text, selected_text, pushed_text, line_unless_done, reply_text, world_named};
+ghost use Rattle.wit_script.specs.Answer.{Acts, AnswersCommand, IsActionShaped, IsChoice, Answers, AnswersAll, AnswersMerge, AnswersPrint, AnswersSelect, IsResultLine, AnswersByRun, action_of, open_after, working_state, only_first, line_of, refusal_text, selected_text, pushed_text, line_unless_done, reply_text};
 ghost use Rattle.wit_script.specs.Ready.{CanAllBeAsked, CanBeAsked};
 ghost use Rattle.wit_script.specs.declared.answer.Action.TheVariants as does;
 ghost use Rattle.wit_script.specs.declared.answer.ReplyStyle.TheVariants.{Aloud, Quietly};
@@ -323,20 +323,10 @@ fn print(
 ) -> Result<String, AllocError>
     ensures { IfOk result (λ text. AnswersPrint resolve.now.graph owner.now world.now (string_bytes text)) }
 {
-    match world_named(resolve, owner, world) {
+    match resolve.world_named(owner, world.as_str()) {
         Some(id) => told(alloc, print_world(alloc, resolve, id)),
         None => String::from_str(alloc, "no world\n"),
     }
-}
-
-/// The world of this name in the package of that name.
-fn world_named(resolve: &Resolve, owner: &PackageName, world: &Text) -> Option<WorldId>
-    ensures { result ≡ world_named resolve.now.graph owner.now world.now }
-{
-    let id = resolve.package_names().get(owner)?;
-    let package = resolve.packages().get(id.index())?;
-    let world = package.worlds.get(world.as_str())?;
-    Some(*world)
 }
 
 /// The world that is chosen for a main package: `selected ID`, `no package`, or a refusal.

@@ -149,3 +149,20 @@ fn worlds_are_merged_and_transformed(rt: HostRuntime) {
         \x20 export foo:main/y\n",
     );
 }
+
+/// The id of a world by its name, and whether one is found of a package without it and in an empty graph.
+fn found(rt: &impl Abort, alloc: Global) -> String {
+    let resolve = resolve(rt, alloc, SCRIPT);
+    let x = resolve.packages().get(0).expect(rt, "a package");
+    let main = resolve.packages().get(2).expect(rt, "a package");
+    let v = resolve.world_named(&main.name, "v").expect(rt, "a world");
+    let elsewhere = resolve.world_named(&x.name, "v").is_some();
+    let nowhere = Resolve::new(alloc).world_named(&main.name, "v").is_some();
+    let v = v.index();
+    format!(in alloc; "{v} {elsewhere} {nowhere}").expect(rt, "memory")
+}
+
+#[test]
+fn worlds_are_found_by_their_names(rt: HostRuntime) {
+    assert_text(&rt, found(&rt, rt.alloc()), "1 false false");
+}

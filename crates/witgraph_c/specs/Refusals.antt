@@ -12,7 +12,8 @@ use Rattle.wit_resolve_graph.specs.declared.command.Command.{Command}
 use Rattle.wit_resolve_graph.specs.declared.command.Command.TheVariants.{PushGroups, Merge}
 use Rattle.wit_resolve_graph.specs.declared.command.Reply.{Reply}
 use Rattle.wit_resolve_graph.specs.declared.command.Reply.TheVariants as reply
-use Rattle.wit_script.specs.Answer.{IsChoice, action_of, package_named}
+use Rattle.wit_resolve_graph.specs.Named.{package_named}
+use Rattle.wit_script.specs.Answer.{IsChoice, action_of}
 use Rattle.wit_script.specs.Prints.{PrintsLine}
 use Rattle.wit_script.specs.Script.{IsUnderstood}
 use Rattle.wit_script.specs.declared.answer.Action.{Action}

@@ -8,7 +8,6 @@ ghost use Rattle.wit_script.specs.declared.ready.ScriptCommand.TheVariants as as
 ghost use Rattle.witgraph_dot.specs.Drawn.{Carries};
 
 use crate::listing::Listing;
-use crate::names::world_named;
 use crate::package_lines::list_groups;
 use std::alloc::Global;
 use wit_resolve_graph::{
@@ -126,7 +125,7 @@ impl ListedGraph {
         package: &PackageName,
         world: &Text,
     ) -> ResolveResult<Option<String>> {
-        match world_named(&self.resolve, package, world.as_str()) {
+        match self.resolve.world_named(package, world.as_str()) {
             Some(_) => Ok(None),
             None => no_world_note(alloc),
         }

@@ -1,24 +1,14 @@
 //! Worlds and interfaces by their names.
 use wit_resolve_graph::{
-    AstItem, InterfaceId, Package, PackageName, Resolve, UnresolvedPackage, WorldId,
+    AstItem, InterfaceId, PackageName, Resolve, UnresolvedPackage, WorldId,
 };
-
-/// The package of this name.
-fn package_named<'a>(resolve: &'a Resolve, name: &PackageName) -> Option<&'a Package> {
-    let id = resolve.package_names().get(name)?;
-    resolve.packages().get(id.index())
-}
-
-/// The world of this name in the package of that name.
-pub fn world_named(resolve: &Resolve, owner: &PackageName, name: &str) -> Option<WorldId> {
-    let id = package_named(resolve, owner)?.worlds.get(name)?;
-    Some(*id)
-}
 
 /// The interface of this name in the package of that name.
 fn interface_named(resolve: &Resolve, owner: &PackageName, name: &str) -> Option<InterfaceId> {
-    let id = package_named(resolve, owner)?.interfaces.get(name)?;
-    Some(*id)
+    let id = resolve.package_names().get(owner)?;
+    let package = resolve.packages().get(id.index())?;
+    let interface = package.interfaces.get(name)?;
+    Some(*interface)
 }
 
 /// Whether an item of another package is the interface of this id.
@@ -60,12 +50,12 @@ pub fn world_of(resolve: &Resolve, package: &UnresolvedPackage, id: WorldId) -> 
     for (owner, items) in package.foreign_deps.iter() {
         for (name, (item, _)) in items.iter() {
             if is_world(item, id) {
-                return world_named(resolve, owner, name);
+                return resolve.world_named(owner, name);
             }
         }
     }
     let world = package.worlds.get(id.index())?;
-    world_named(resolve, &package.name, world.name.as_str())
+    resolve.world_named(&package.name, world.name.as_str())
 }
 
 /// The package and the name of an interface of the graph, where it has both.

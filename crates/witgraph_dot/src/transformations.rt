@@ -7,7 +7,6 @@ ghost use Rattle.witgraph_dot.specs.Drawn.{Carries};
 use crate::entries::{own_exports, own_imports};
 use crate::listed_graph::ListedGraph;
 use crate::listing::Listing;
-use crate::names::world_named;
 use crate::track::are_versions_of_one;
 use std::alloc::{AllocError, Global};
 use wit_resolve_graph::{
@@ -25,7 +24,7 @@ impl ListedGraph {
     ) -> ResolveResult<Option<String>>
         ensures { OnOk result (Carries self.old.resolve (Importize «package» world out) self.new.resolve) }
     {
-        let id = world_named(&self.resolve, &package, world.as_str());
+        let id = self.resolve.world_named(&package, world.as_str());
         let exports = exports_of(alloc, &self.resolve, &id)?;
         let command = Command::Importize {
             package,
@@ -52,7 +51,7 @@ impl ListedGraph {
     ) -> ResolveResult<Option<String>>
         ensures { OnOk result (Carries self.old.resolve (Exportize «package» world out keys) self.new.resolve) }
     {
-        let id = world_named(&self.resolve, &package, world.as_str());
+        let id = self.resolve.world_named(&package, world.as_str());
         let command = Command::Exportize {
             package,
             world,
@@ -77,7 +76,7 @@ impl ListedGraph {
     ) -> ResolveResult<Option<String>>
         ensures { OnOk result (Carries self.old.resolve (Semver «package» world) self.new.resolve) }
     {
-        let id = world_named(&self.resolve, &package, world.as_str());
+        let id = self.resolve.world_named(&package, world.as_str());
         let note = self.change(alloc, Command::Semver { package, world })?;
         if note.is_none() {
             if let Some(id) = id {

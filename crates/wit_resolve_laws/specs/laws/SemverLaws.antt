@@ -4,8 +4,9 @@ use Rattle.wit_names.specs.declared.package_name.PackageName.{PackageName}
 use Rattle.wit_data.specs.declared.world.World.{World}
 use Rattle.wit_elaboration.specs.Entries.{keyed_interfaces}
 use Rattle.wit_graph_data.specs.declared.graph.Graph.{Graph}
+use Rattle.wit_resolve_graph.specs.Named.{world_named}
 use Rattle.wit_resolve_graph.specs.State.{State}
-use Rattle.wit_resolve_graph.specs.Step.{HasWorld, Step}
+use Rattle.wit_resolve_graph.specs.Step.{Step}
 use Rattle.wit_resolve_graph.specs.declared.command.Command.TheVariants.{Semver}
 use Rattle.wit_resolve_graph.specs.declared.command.Reply.TheVariants.{Done}
 use Rattle.wit_semver_spec.specs.Rewritten.{rewritten}
@@ -25,7 +26,7 @@ pub record ImportsLessReplaced (old : State) (w : ℕ) (new : Graph) : Type 0 wh
 -- so it is of the world that a command names, wherever the command is carried out
 abbrev pub CommandIsExact : State → Type 0
 CommandIsExact old = (home : PackageName) (name : List ℕ) (new : State) → Step old (Semver home name) Done new
-    → (w : ℕ) × HasWorld old.graph home name w × ImportsLessReplaced old w new.graph
+    → (w : ℕ) × (world_named old.graph home name ≡ Some w) × ImportsLessReplaced old w new.graph
 
 -- and of each world against whose semver merge no cause holds
 abbrev pub CallIsExact : State → Type 0
