@@ -1,3 +1,4 @@
+mod Arguments
 pub mod Each
 pub mod Forms
 pub mod Gated

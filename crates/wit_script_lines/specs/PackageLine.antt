@@ -51,28 +51,23 @@ signature_of token =
 
 -- one name
 abbrev pub named_line_of : List (List ℕ) → Option (List ℕ)
-named_line_of [] = None
 named_line_of (name ∷ []) = part_of name
-named_line_of (name ∷ next ∷ arguments) = None
+named_line_of _ = None
 
 -- one function
 abbrev pub signed_line_of : List (List ℕ) → Option Signature
-signed_line_of [] = None
 signed_line_of (token ∷ []) = signature_of token
-signed_line_of (token ∷ next ∷ arguments) = None
+signed_line_of _ = None
 
 -- `NAME TYPE`
 abbrev pub type_line_of : List (List ℕ) → Option PackageLine
-type_line_of [] = None
-type_line_of (name ∷ []) = None
 type_line_of (name ∷ ty ∷ []) = option_map (λ own. line.Type_ own (type_text_of ty)) (part_of name)
-type_line_of (name ∷ ty ∷ next ∷ arguments) = None
+type_line_of _ = None
 
 -- `NAME F:TYPE ..`, with at least one field
 abbrev pub record_line_of : List (List ℕ) → Option PackageLine
-record_line_of [] = None
-record_line_of (name ∷ []) = None
 record_line_of (name ∷ field ∷ fields) = option_and_then (λ own. option_map (line.Record own) (each_of typed_name_of (field ∷ fields))) (part_of name)
+record_line_of _ = None
 
 -- the use of a type of this name under a new one
 abbrev pub use_line_with : List ℕ → List ℕ → List ℕ → Option PackageLine
@@ -81,11 +76,9 @@ use_line_with path name new =
 
 -- `PATH NAME`, where the new name is the old one, or `PATH NAME NEW`
 abbrev pub use_line_of : List (List ℕ) → Option PackageLine
-use_line_of [] = None
-use_line_of (path ∷ []) = None
 use_line_of (path ∷ name ∷ []) = use_line_with path name name
 use_line_of (path ∷ name ∷ new ∷ []) = use_line_with path name new
-use_line_of (path ∷ name ∷ new ∷ next ∷ arguments) = None
+use_line_of _ = None
 
 -- a label, where there is one, and a path
 abbrev pub entry_by : List ℕ → Option (List ℕ × List ℕ) → Option (Option (List ℕ) × ParsedUsePath)
@@ -94,9 +87,8 @@ entry_by token (Some parts) = option_and_then (λ label. option_map (λ path. (S
 
 -- `PATH` or `LABEL=PATH`; the label ends at the first `=`
 abbrev pub entry_tokens : List (List ℕ) → Option (Option (List ℕ) × ParsedUsePath)
-entry_tokens [] = None
 entry_tokens (token ∷ []) = entry_by token (split_at 61 token)
-entry_tokens (token ∷ next ∷ arguments) = None
+entry_tokens _ = None
 
 -- another name for a label
 abbrev pub rename_with : List ℕ → List ℕ → Option IncludeName

@@ -21,9 +21,8 @@ alone_of asked (argument ∷ arguments) = None
 
 -- `NAME`
 abbrev pub feature_of : List (List ℕ) → Option Request
-feature_of [] = None
 feature_of (name ∷ []) = option_map request.Feature (part_of name)
-feature_of (name ∷ next ∷ arguments) = None
+feature_of _ = None
 
 -- `published` or `with-prereleases`
 abbrev pub track_rule_of : List ℕ → Option TrackRule
@@ -34,44 +33,27 @@ track_rule_of token =
 
 -- the rule of tracks of this name
 abbrev pub tracks_of : List (List ℕ) → Option Request
-tracks_of [] = None
 tracks_of (rule ∷ []) = option_map request.Tracks (track_rule_of rule)
-tracks_of (rule ∷ next ∷ arguments) = None
+tracks_of _ = None
 
 -- a world of a package
 abbrev pub world_in : List ℕ → List ℕ → Option (PackageName × List ℕ)
 world_in name world = option_and_then (λ owner. option_map (λ own. (owner, own)) (part_of world)) (package_name_of name)
 
 -- `PKG WORLD`
-abbrev pub world_only : List ℕ → List (List ℕ) → Option (PackageName × List ℕ)
-world_only name [] = None
-world_only name (world ∷ []) = world_in name world
-world_only name (world ∷ next ∷ arguments) = None
-
 abbrev pub world_of : List (List ℕ) → Option (PackageName × List ℕ)
-world_of [] = None
-world_of (name ∷ arguments) = world_only name arguments
+world_of (name ∷ world ∷ []) = world_in name world
+world_of _ = None
 
 -- the transformation of a world, which then has this name
 abbrev pub importize_to : List ℕ → List ℕ → Option (List ℕ) → Option Request
 importize_to name world out = option_map (λ (of_package : PackageName × List ℕ). request.Importize of_package.0 of_package.1 out) (world_in name world)
 
-abbrev pub importize_as : List ℕ → List ℕ → List ℕ → Option Request
-importize_as name world out = option_and_then (λ new. importize_to name world (Some new)) (part_of out)
-
 -- `PKG WORLD` or `PKG WORLD NAME`
-abbrev pub importize_world : List ℕ → List ℕ → List (List ℕ) → Option Request
-importize_world name world [] = importize_to name world None
-importize_world name world (out ∷ []) = importize_as name world out
-importize_world name world (out ∷ next ∷ arguments) = None
-
-abbrev pub importize_in : List ℕ → List (List ℕ) → Option Request
-importize_in name [] = None
-importize_in name (world ∷ arguments) = importize_world name world arguments
-
 abbrev pub importize_of : List (List ℕ) → Option Request
-importize_of [] = None
-importize_of (name ∷ arguments) = importize_in name arguments
+importize_of (name ∷ world ∷ []) = importize_to name world None
+importize_of (name ∷ world ∷ out ∷ []) = option_and_then (λ new. importize_to name world (Some new)) (part_of out)
+importize_of _ = None
 
 -- the new name of `exportize`, where `-` stands for none
 abbrev pub new_name_of : List ℕ → Option (List ℕ)
@@ -88,31 +70,19 @@ exportize_to name world out keys =
     option_map (λ (of_package : PackageName × List ℕ). request.Exportize of_package.0 of_package.1 (new_name_of out) (keys_of keys)) (world_in name world)
 
 -- `PKG WORLD NAME KEY ..`
-abbrev pub exportize_world : List ℕ → List ℕ → List (List ℕ) → Option Request
-exportize_world name world [] = None
-exportize_world name world (out ∷ keys) = exportize_to name world out keys
-
-abbrev pub exportize_in : List ℕ → List (List ℕ) → Option Request
-exportize_in name [] = None
-exportize_in name (world ∷ arguments) = exportize_world name world arguments
-
 abbrev pub exportize_of : List (List ℕ) → Option Request
-exportize_of [] = None
-exportize_of (name ∷ arguments) = exportize_in name arguments
+exportize_of (name ∷ world ∷ out ∷ keys) = exportize_to name world out keys
+exportize_of _ = None
 
 -- the choice of a world for a package
 abbrev pub select_with : List ℕ → Option (List ℕ) → Option Request
 select_with name said = option_map (λ owner. request.Select owner said) (package_name_of name)
 
-abbrev pub select_text : List ℕ → List ℕ → Option Request
-select_text name text = option_and_then (λ said. select_with name (Some said)) (part_of text)
-
 -- `PKG` or `PKG TEXT`
 abbrev pub select_of : List (List ℕ) → Option Request
-select_of [] = None
 select_of (name ∷ []) = select_with name None
-select_of (name ∷ text ∷ []) = select_text name text
-select_of (name ∷ text ∷ next ∷ arguments) = None
+select_of (name ∷ text ∷ []) = option_and_then (λ said. select_with name (Some said)) (part_of text)
+select_of _ = None
 
 -- such a command by its first token and its arguments
 abbrev pub request_by : List ℕ → List (List ℕ) → Option Request

@@ -9,9 +9,8 @@ use Rattle.wit_script_lines.specs.declared.statement.Statement.TheVariants as sa
 
 -- `package PKG`
 abbrev pub package_statement_of : List (List ℕ) → Option Statement
-package_statement_of [] = None
 package_statement_of (name ∷ []) = option_map says.Package (package_name_of name)
-package_statement_of (name ∷ next ∷ arguments) = None
+package_statement_of _ = None
 
 -- `push`
 abbrev pub push_statement_of : List (List ℕ) → Option Statement

@@ -1,7 +1,7 @@
 //! What a command of a script that brings no package says by its tokens alone.
 ghost use Rattle.std.specs.Prelude.{◌≡◌, map, IfOk};
 ghost use Rattle.wit_script_lines.specs.steps.ReadResult.{IsRead};
-ghost use Rattle.wit_script_lines.specs.Request.{alone_of, exportize_in, exportize_of, exportize_to, exportize_world, feature_of, importize_as, importize_in, importize_of, importize_to, importize_world, is_request, keys_of, new_name_of, request_by, select_of, select_text, select_with, track_rule_of, tracks_of, world_in, world_of, world_only};
+ghost use Rattle.wit_script_lines.specs.Request.{alone_of, exportize_of, exportize_to, feature_of, importize_of, importize_to, is_request, keys_of, new_name_of, request_by, select_of, select_with, track_rule_of, tracks_of, world_in, world_of};
 
 use crate::fault::LineFault;
 use crate::token::{read_package_name, read_part};
@@ -160,28 +160,9 @@ fn track_rule(token: &str) -> Result<TrackRule, LineFault>
 fn read_world(alloc: Global, arguments: &[&str]) -> Result<(PackageName, Text), LineFault>
     ensures { IsRead (world_of (map (λ t. t.now) arguments.now)) result }
 {
-    match arguments.split_first() {
-        Some((owner, rest)) => read_world_in(alloc, owner, rest),
-        None => Err(LineFault::NotUnderstood),
-    }
-}
-
-/// `WORLD` after a package.
-fn read_world_in(
-    alloc: Global,
-    owner: &str,
-    arguments: &[&str],
-) -> Result<(PackageName, Text), LineFault>
-    ensures { IsRead (world_only owner.now (map (λ t. t.now) arguments.now)) result }
-{
-    match arguments.split_first() {
-        Some((world, rest)) => {
-            if !rest.is_empty() {
-                return Err(LineFault::NotUnderstood);
-            }
-            world_in(alloc, owner, world)
-        }
-        None => Err(LineFault::NotUnderstood),
+    match arguments {
+        [owner, world] => world_in(alloc, owner, world),
+        _ => Err(LineFault::NotUnderstood),
     }
 }
 
@@ -198,48 +179,14 @@ fn world_in(alloc: Global, owner: &str, world: &str) -> Result<(PackageName, Tex
 fn importize(alloc: Global, arguments: &[&str]) -> Result<Request, LineFault>
     ensures { IsRead (importize_of (map (λ t. t.now) arguments.now)) result }
 {
-    match arguments.split_first() {
-        Some((owner, rest)) => importize_in(alloc, owner, rest),
-        None => Err(LineFault::NotUnderstood),
-    }
-}
-
-/// `WORLD` or `WORLD NAME` after a package.
-fn importize_in(alloc: Global, owner: &str, arguments: &[&str]) -> Result<Request, LineFault>
-    ensures { IsRead (importize_in owner.now (map (λ t. t.now) arguments.now)) result }
-{
-    match arguments.split_first() {
-        Some((world, rest)) => importize_world(alloc, owner, world, rest),
-        None => Err(LineFault::NotUnderstood),
-    }
-}
-
-/// Nothing or `NAME` after a package and its world.
-fn importize_world(
-    alloc: Global,
-    owner: &str,
-    world: &str,
-    arguments: &[&str],
-) -> Result<Request, LineFault>
-    ensures { IsRead (importize_world owner.now world.now (map (λ t. t.now) arguments.now)) result }
-{
-    match arguments.split_first() {
-        Some((out, rest)) => {
-            if !rest.is_empty() {
-                return Err(LineFault::NotUnderstood);
-            }
-            importize_as(alloc, owner, world, out)
+    match arguments {
+        [owner, world] => importize_to(alloc, owner, world, None),
+        [owner, world, out] => {
+            let out = read_part(alloc, out)?;
+            importize_to(alloc, owner, world, Some(out))
         }
-        None => importize_to(alloc, owner, world, None),
+        _ => Err(LineFault::NotUnderstood),
     }
-}
-
-/// The transformation of a world that gets a name.
-fn importize_as(alloc: Global, owner: &str, world: &str, out: &str) -> Result<Request, LineFault>
-    ensures { IsRead (importize_as owner.now world.now out.now) result }
-{
-    let out = read_part(alloc, out)?;
-    importize_to(alloc, owner, world, Some(out))
 }
 
 /// The transformation of a world, which then has this name.
@@ -263,34 +210,9 @@ fn importize_to(
 fn exportize(alloc: Global, arguments: &[&str]) -> Result<Request, LineFault>
     ensures { IsRead (exportize_of (map (λ t. t.now) arguments.now)) result }
 {
-    match arguments.split_first() {
-        Some((owner, rest)) => exportize_in(alloc, owner, rest),
-        None => Err(LineFault::NotUnderstood),
-    }
-}
-
-/// `WORLD NAME KEY ..` after a package.
-fn exportize_in(alloc: Global, owner: &str, arguments: &[&str]) -> Result<Request, LineFault>
-    ensures { IsRead (exportize_in owner.now (map (λ t. t.now) arguments.now)) result }
-{
-    match arguments.split_first() {
-        Some((world, rest)) => exportize_world(alloc, owner, world, rest),
-        None => Err(LineFault::NotUnderstood),
-    }
-}
-
-/// `NAME KEY ..` after a package and its world.
-fn exportize_world(
-    alloc: Global,
-    owner: &str,
-    world: &str,
-    arguments: &[&str],
-) -> Result<Request, LineFault>
-    ensures { IsRead (exportize_world owner.now world.now (map (λ t. t.now) arguments.now)) result }
-{
-    match arguments.split_first() {
-        Some((out, keys)) => exportize_to(alloc, owner, world, out, keys),
-        None => Err(LineFault::NotUnderstood),
+    match arguments {
+        [owner, world, out, keys @ ..] => exportize_to(alloc, owner, world, out, keys),
+        _ => Err(LineFault::NotUnderstood),
     }
 }
 
@@ -352,17 +274,12 @@ fn select(alloc: Global, arguments: &[&str]) -> Result<Request, LineFault>
 {
     match arguments {
         [owner] => select_with(alloc, owner, None),
-        [owner, text] => select_text(alloc, owner, text),
+        [owner, text] => {
+            let text = read_part(alloc, text)?;
+            select_with(alloc, owner, Some(text))
+        }
         _ => Err(LineFault::NotUnderstood),
     }
-}
-
-/// The choice of the world that a text names.
-fn select_text(alloc: Global, owner: &str, text: &str) -> Result<Request, LineFault>
-    ensures { IsRead (select_text owner.now text.now) result }
-{
-    let text = read_part(alloc, text)?;
-    select_with(alloc, owner, Some(text))
 }
 
 /// The choice of a world for a package.
