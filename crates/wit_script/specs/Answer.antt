@@ -81,10 +81,7 @@ with_working_state stage new = with_working_state_of stage.first stage.second ne
 -- the line of a reply, where a command that is carried out may answer nothing
 abbrev pub line_unless_done : Graph → Reply → List ℕ
 line_unless_done g reply.Done = []
-line_unless_done g (reply.Pushed id) = reply_text g (reply.Pushed id)
-line_unless_done g (reply.Merged remap) = reply_text g (reply.Merged remap)
-line_unless_done g reply.NoWorld = reply_text g reply.NoWorld
-line_unless_done g (reply.Refused kind) = reply_text g (reply.Refused kind)
+line_unless_done g other = reply_text g other
 
 -- the line of a reply that is told so
 abbrev pub line_of : ReplyStyle → Graph → Reply → List ℕ

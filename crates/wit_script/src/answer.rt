@@ -19,7 +19,9 @@ use wit_script_lines::Request;
 /// The graph of a script, and the second one between `other` and `merge`.
 #[derive(Drop)]
 pub struct Stage {
+    /// The graph of the script.
     pub first: Resolve,
+    /// The second graph, which goes into the first at `merge`.
     pub second: Option<Resolve>,
 }
 
@@ -119,7 +121,7 @@ fn aloud(command: Command) -> Action
 
 impl Stage {
     /// An empty graph, and no other.
-    fn new(alloc: Global) -> Stage
+    pub fn new(alloc: Global) -> Stage
         ensures { result ≡ only_first new_state }
     {
         Stage {
@@ -128,8 +130,8 @@ impl Stage {
         }
     }
 
-    /// The graph on which commands work.
-    fn working_state(&self) -> &Resolve
+    /// The graph on which commands work: the second, where there is one.
+    pub fn working_state(&self) -> &Resolve
         ensures { result.now ≡ working_state self.now }
     {
         match &self.second {

@@ -24,7 +24,7 @@ mod script;
 mod stream;
 mod watched;
 
-pub use crate::answer::{Action, ReplyStyle, action_of};
+pub use crate::answer::{Action, ReplyStyle, Stage, action_of};
 pub use crate::fault::{ReadFault, ScriptFault};
 pub use crate::printer::print_world;
 pub use crate::reader::read_script;

@@ -13,7 +13,7 @@ use Rattle.wit_script.specs.declared.answer.Action.{Action}
 use Rattle.wit_script.specs.declared.ready.ScriptCommand.{ScriptCommand}
 use Rattle.wit_script.specs.declared.ready.ScriptCommand.TheVariants as asks
 use Rattle.witgraph_c.specs.Refusals.{ExplainsAction, ExplainsCommand, ExplainsAll, ExplainsSelect, rendered_refusal}
-use Rattle.witgraph_c.specs.declared.refusals.Stage.{Stage}
+use Rattle.wit_script.specs.declared.answer.Stage.{Stage}
 
 -- one more command
 pub ExplainsAll-more : (before between after : Stage) (commands : List ScriptCommand) (command : ScriptCommand) (text more : List ℕ)

@@ -4,8 +4,9 @@ use Rattle.std.specs.Prelude.{IfOk}
 use Rattle.std.specs.declared.alloc.Global.{Global}
 use Rattle.wit_resolve_graph.specs.State.{State}
 use Rattle.wit_resolve_graph.specs.declared.command.Command.{Command}
-use Rattle.witgraph_c.specs.Refusals.{ExplainsRun, ExplainsWork, with_working_state_of, working_state_of}
-use Rattle.witgraph_c.specs.declared.refusals.Stage.{Stage}
+use Rattle.wit_script.specs.Answer.{with_working_state_of, working_state_of}
+use Rattle.wit_script.specs.declared.answer.Stage.{Stage}
+use Rattle.witgraph_c.specs.Refusals.{ExplainsRun, ExplainsWork}
 
 module _ {E : Type 0} (stage : Stage) (command : Command) (told : Result (String Global) E) where
   -- on the second graph

@@ -13,14 +13,14 @@ use Rattle.wit_resolve_graph.specs.declared.command.Command.TheVariants.{PushGro
 use Rattle.wit_resolve_graph.specs.declared.command.Reply.{Reply}
 use Rattle.wit_resolve_graph.specs.declared.command.Reply.TheVariants as reply
 use Rattle.wit_resolve_graph.specs.Named.{package_named}
-use Rattle.wit_script.specs.Answer.{IsChoice, action_of}
+use Rattle.wit_script.specs.Answer.{IsChoice, action_of, only_first, with_working_state, working_state}
 use Rattle.wit_script.specs.Prints.{PrintsLine}
 use Rattle.wit_script.specs.Script.{IsUnderstood}
 use Rattle.wit_script.specs.declared.answer.Action.{Action}
 use Rattle.wit_script.specs.declared.answer.Action.TheVariants as does
+use Rattle.wit_script.specs.declared.answer.Stage.{Stage}
 use Rattle.wit_script.specs.declared.ready.ScriptCommand.{ScriptCommand}
 use Rattle.wit_script.specs.declared.ready.ScriptCommand.TheVariants as asks
-use Rattle.witgraph_c.specs.declared.refusals.Stage.{Stage}
 
 -- `refused N TEXT`, N being the number of the refusal, with its line in these files and a mark
 abbrev pub rendered_refusal : List SourceFile → ResolveErrorKind → List ℕ
@@ -28,44 +28,21 @@ rendered_refusal files kind = codes "refused " ++ (decimal (error_number kind) +
 
 -- what is shown of a reply, in the state after it
 abbrev pub rendered_reply : State → Reply → List ℕ
-rendered_reply after reply.Done = []
-rendered_reply after (reply.Pushed id) = []
-rendered_reply after (reply.Merged remap) = []
-rendered_reply after reply.NoWorld = []
 rendered_reply after (reply.Refused kind) = rendered_refusal after.source_map.files kind
+rendered_reply after _ = []
 
 -- a run of one command, and what is shown of its replies
 abbrev pub ExplainsRun : State → Command → List ℕ → State → Type 0
 ExplainsRun before command text after = (replies : List Reply) × Run before (command ∷ []) replies after × (text ≡ flat_map (rendered_reply after) replies)
 
--- a graph, and no other
-abbrev pub alone : State → Stage
-alone state = record { first = state; second = None }
-
--- the graph on which commands work
-abbrev pub working_state_of : State → Option State → State
-working_state_of first None = first
-working_state_of first (Some second) = second
-
-abbrev pub active : Stage → State
-active stage = working_state_of stage.first stage.second
-
--- the stage after that graph has become another
-abbrev pub with_working_state_of : State → Option State → State → Stage
-with_working_state_of first None new = alone new
-with_working_state_of first (Some second) new = record { first = first; second = Some new }
-
-abbrev pub with_working_state : Stage → State → Stage
-with_working_state stage new = with_working_state_of stage.first stage.second new
-
 -- a run of one command on the graph on which commands work
 abbrev pub ExplainsWork : Stage → Command → List ℕ → Stage → Type 0
-ExplainsWork before command text after = (new : State) × ExplainsRun (active before) command text new × (after ≡ with_working_state before new)
+ExplainsWork before command text after = (new : State) × ExplainsRun (working_state before) command text new × (after ≡ with_working_state before new)
 
 -- `merge`: the second graph goes into the first, and is no longer there
 abbrev pub ExplainsMerge : Stage → Option State → List ℕ → Stage → Type 0
 ExplainsMerge before None text after = (text ≡ []) × (after ≡ before)
-ExplainsMerge before (Some second) text after = (new : State) × ExplainsRun before.first (Merge second) text new × (after ≡ alone new)
+ExplainsMerge before (Some second) text after = (new : State) × ExplainsRun before.first (Merge second) text new × (after ≡ only_first new)
 
 -- what is shown of a choice of a world
 abbrev pub rendered_choice : List SourceFile → Result ℕ ResolveErrorKind → List ℕ
@@ -83,7 +60,7 @@ ExplainsAction before (does.Run command style) text after = ExplainsWork before 
 ExplainsAction before does.Open text after = (text ≡ []) × (after ≡ record { first = before.first; second = Some new_state })
 ExplainsAction before does.Merge text after = ExplainsMerge before before.second text after
 ExplainsAction before (does.Print owner world) text after = (text ≡ []) × (after ≡ before)
-ExplainsAction before (does.Select owner said) text after = (after ≡ before) × ExplainsSelect (active before) owner said text
+ExplainsAction before (does.Select owner said) text after = (after ≡ before) × ExplainsSelect (working_state before) owner said text
 
 -- what is shown of a command, and the stage after it
 abbrev pub ExplainsCommand : Stage → ScriptCommand → List ℕ → Stage → Type 0
@@ -103,7 +80,7 @@ pub record ExplainsScript (input text : List ℕ) : Type 0 where
   pub commands : List ScriptCommand
   pub understood : IsUnderstood input commands
   pub after : Stage
-  pub shown : ExplainsAll (alone new_state) commands text after
+  pub shown : ExplainsAll (only_first new_state) commands text after
 
 -- what is shown of a script, and whether it is understood; of one that isn't, the line that a run answers
 abbrev pub Explains : List ℕ → Bool → List ℕ → Type 0

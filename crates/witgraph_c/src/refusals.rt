@@ -4,9 +4,9 @@ ghost use Rattle.std.specs.List.{flat_map};
 ghost use Rattle.std.specs.Str.{IsUtf8};
 ghost use Rattle.wit_resolve_graph.specs.Step.{IsCommandShaped};
 ghost use Rattle.wit_resolve_graph.specs.State.{new_state};
-ghost use Rattle.wit_script.specs.Answer.{IsActionShaped, IsChoice};
-ghost use Rattle.witgraph_c.specs.Refusals.{Explains, ExplainsMerge, ExplainsSelect, ExplainsRun, ExplainsCommand, ExplainsAll, ExplainsAction, ExplainsWork, active, alone, rendered_refusal, rendered_reply};
-ghost use Rattle.witgraph_c.specs.declared.refusals.Stage.{Stage};
+ghost use Rattle.wit_script.specs.Answer.{IsActionShaped, IsChoice, only_first};
+ghost use Rattle.wit_script.specs.declared.answer.Stage.{Stage};
+ghost use Rattle.witgraph_c.specs.Refusals.{Explains, ExplainsMerge, ExplainsSelect, ExplainsRun, ExplainsCommand, ExplainsAll, ExplainsAction, ExplainsWork, rendered_refusal, rendered_reply};
 
 use std::alloc::Global;
 use wit_resolve_graph::{
@@ -14,58 +14,8 @@ use wit_resolve_graph::{
     WorldId, run,
 };
 use wit_script::{
-    Action, ReadFault, ReadyCommand, ScriptCommand, ScriptFault, action_of, read_script,
+    Action, ReadFault, ReadyCommand, ScriptCommand, ScriptFault, Stage, action_of, read_script,
 };
-
-/// The graph of a script, and the second one between `other` and `merge`.
-#[derive(Drop)]
-pub struct Stage {
-    pub first: Resolve,
-    pub second: Option<Resolve>,
-}
-
-impl Stage {
-    /// An empty graph, and no other.
-    fn new(alloc: Global) -> Stage
-        ensures { result ≡ alone new_state }
-    {
-        Stage {
-            first: Resolve::new(alloc),
-            second: None,
-        }
-    }
-
-    /// The graph on which commands work.
-    fn active(&self) -> &Resolve
-        ensures { result.now ≡ active self.now }
-    {
-        match &self.second {
-            Some(second) => second,
-            None => &self.first,
-        }
-    }
-
-    /// Carries out a command on that graph, and answers its refusal, or an empty text.
-    fn work(&mut self, alloc: Global, command: Command) -> ResolveResult<String>
-        requires { IsCommandShaped command }
-        ensures { IfOk result (λ text. ExplainsWork self.old command (string_bytes text) self.new) }
-    {
-        match &mut self.second {
-            Some(second) => carry_out(alloc, second, command),
-            None => carry_out(alloc, &mut self.first, command),
-        }
-    }
-
-    /// `merge`: the second graph goes into the first, and is no longer there, whether it is refused or not.
-    fn merge(&mut self, alloc: Global) -> ResolveResult<String>
-        ensures { IfOk result (λ text. ExplainsMerge self.old self.old.second (string_bytes text) self.new) }
-    {
-        match self.second.take() {
-            Some(second) => carry_out(alloc, &mut self.first, Command::Merge(second)),
-            None => Ok(String::new(alloc)),
-        }
-    }
-}
 
 /// What there is to say of a script: its refusals where it is understood, and whether it is.
 pub fn explain(alloc: Global, input: &[u8]) -> Result<(bool, String), ScriptFault>
@@ -90,7 +40,7 @@ pub fn explain(alloc: Global, input: &[u8]) -> Result<(bool, String), ScriptFaul
 
 /// The refusals of commands on an empty graph, in order. The only error is want of memory outside a command.
 fn refusals_to(alloc: Global, commands: Items<ReadyCommand>) -> ResolveResult<String>
-    ensures { IfOk result (λ text. (after : Stage) × ExplainsAll (alone new_state) commands (string_bytes text) after) }
+    ensures { IfOk result (λ text. (after : Stage) × ExplainsAll (only_first new_state) commands (string_bytes text) after) }
 {
     let mut stage = Stage::new(alloc);
     let mut all = String::new(alloc);
@@ -107,7 +57,7 @@ fn refusal_to(alloc: Global, stage: &mut Stage, command: ReadyCommand) -> Resolv
 {
     match command.into_command() {
         ScriptCommand::Push { main, deps } => {
-            stage.work(alloc, Command::PushGroups { main, deps })
+            work(alloc, stage, Command::PushGroups { main, deps })
         }
         ScriptCommand::Request(request) => { refusal_to_action(alloc, stage, action_of(request)) }
     }
@@ -119,14 +69,35 @@ fn refusal_to_action(alloc: Global, stage: &mut Stage, action: Action) -> Resolv
     ensures { IfOk result (λ text. ExplainsAction stage.old action (string_bytes text) stage.new) }
 {
     match action {
-        Action::Run { command, .. } => stage.work(alloc, command),
+        Action::Run { command, .. } => work(alloc, stage, command),
         Action::Open => {
             stage.second = Some(Resolve::new(alloc));
             Ok(String::new(alloc))
         }
-        Action::Merge => stage.merge(alloc),
+        Action::Merge => merge(alloc, stage),
         Action::Print { .. } => Ok(String::new(alloc)),
-        Action::Select { package, text } => select(alloc, stage.active(), &package, &text),
+        Action::Select { package, text } => select(alloc, stage.working_state(), &package, &text),
+    }
+}
+
+/// Carries out a command on the graph on which commands work, and answers its refusal, or an empty text.
+fn work(alloc: Global, stage: &mut Stage, command: Command) -> ResolveResult<String>
+    requires { IsCommandShaped command }
+    ensures { IfOk result (λ text. ExplainsWork stage.old command (string_bytes text) stage.new) }
+{
+    match &mut stage.second {
+        Some(second) => carry_out(alloc, second, command),
+        None => carry_out(alloc, &mut stage.first, command),
+    }
+}
+
+/// `merge`: the second graph goes into the first, and is no longer there, whether it is refused or not.
+fn merge(alloc: Global, stage: &mut Stage) -> ResolveResult<String>
+    ensures { IfOk result (λ text. ExplainsMerge stage.old stage.old.second (string_bytes text) stage.new) }
+{
+    match stage.second.take() {
+        Some(second) => carry_out(alloc, &mut stage.first, Command::Merge(second)),
+        None => Ok(String::new(alloc)),
     }
 }
 

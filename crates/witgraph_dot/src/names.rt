@@ -1,7 +1,5 @@
 //! Worlds and interfaces by their names.
-use wit_resolve_graph::{
-    AstItem, InterfaceId, PackageName, Resolve, UnresolvedPackage, WorldId,
-};
+use wit_resolve_graph::{AstItem, InterfaceId, PackageName, Resolve, UnresolvedPackage, WorldId};
 
 /// The interface of this name in the package of that name.
 fn interface_named(resolve: &Resolve, owner: &PackageName, name: &str) -> Option<InterfaceId> {
