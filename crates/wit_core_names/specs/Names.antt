@@ -36,8 +36,7 @@ use Rattle.wit_core_names.specs.declared.import.WasmImport.TheVariants as import
 -- what stands before the name of what is imported, by the ABI
 abbrev pub import_prefix : LiftLowerAbi → List ℕ
 import_prefix Sync = []
-import_prefix AsyncCallback = codes "[async-lower]"
-import_prefix AsyncStackful = codes "[async-lower]"
+import_prefix _ = codes "[async-lower]"
 
 -- what stands before the name of what is exported, by the ABI
 abbrev pub export_prefix : LiftLowerAbi → List ℕ
@@ -79,16 +78,13 @@ stream_word stream.DropWritable = codes "drop-writable"
 
 -- what is done with a resource, and whether it serves an export
 abbrev pub resource_mark : ResourceIntrinsic → List ℕ
-resource_mark ImportedDrop = codes "[resource-drop]"
-resource_mark ExportedDrop = codes "[resource-drop]"
 resource_mark ExportedNew = codes "[resource-new]"
 resource_mark ExportedRep = codes "[resource-rep]"
+resource_mark _ = codes "[resource-drop]"
 
 abbrev pub is_export_intrinsic : ResourceIntrinsic → Bool
 is_export_intrinsic ImportedDrop = false
-is_export_intrinsic ExportedDrop = true
-is_export_intrinsic ExportedNew = true
-is_export_intrinsic ExportedRep = true
+is_export_intrinsic _ = true
 
 -- the name of a resource
 abbrev pub resource_name : List TypeDef → ℕ → List ℕ
@@ -130,8 +126,7 @@ import_names g Standard32 (imports.ResourceIntrinsic interface r ImportedDrop) =
 import_names g Standard32 (imports.ResourceIntrinsic interface r ExportedDrop) = (codes "cm32p2|_ex_" ++ standard_key g (option_copied interface), resource_name g.types r ++ codes "_drop")
 import_names g Standard32 (imports.ResourceIntrinsic interface r ExportedNew) = (codes "cm32p2|_ex_" ++ standard_key g (option_copied interface), resource_name g.types r ++ codes "_new")
 import_names g Standard32 (imports.ResourceIntrinsic interface r ExportedRep) = (codes "cm32p2|_ex_" ++ standard_key g (option_copied interface), resource_name g.types r ++ codes "_rep")
-import_names g Standard32 (imports.FutureIntrinsic interface func ty intrinsic exported async) = ([], [])
-import_names g Standard32 (imports.StreamIntrinsic interface func ty intrinsic exported async) = ([], [])
+import_names g Standard32 _ = ([], [])
 import_names g (Legacy abi) (imports.Func interface func) = (legacy_module g (option_copied interface), import_prefix abi ++ func.now.name)
 import_names g (Legacy abi) (imports.ResourceIntrinsic interface r intrinsic) =
     (exported_prefix (is_export_intrinsic intrinsic) ++ legacy_module g (option_copied interface), import_prefix abi ++ (resource_mark intrinsic ++ resource_name g.types r))
@@ -180,9 +175,7 @@ type_has_name types t = option_map_or (λ (def : TypeDef). is_some def.name) (sl
 -- what serves exports is of an interface
 abbrev pub is_within : Option WorldKey → ResourceIntrinsic → Bool
 is_within interface ImportedDrop = true
-is_within interface ExportedDrop = is_some interface
-is_within interface ExportedNew = is_some interface
-is_within interface ExportedRep = is_some interface
+is_within interface _ = is_some interface
 
 -- a type that is given is among the futures and streams of the function
 abbrev pub is_of_function : List TypeDef → Function → Option ℕ → Bool
@@ -191,25 +184,19 @@ is_of_function types f (Some t) = list_any (nat_eq t) (futures_and_streams types
 
 -- what may be asked `async` of a future: reading, writing, and cancelling either
 abbrev pub future_can_be_async : FutureIntrinsic → Bool
-future_can_be_async future.New = false
 future_can_be_async future.Read = true
 future_can_be_async future.Write = true
-future_can_be_async future.Forward = false
 future_can_be_async future.CancelRead = true
 future_can_be_async future.CancelWrite = true
-future_can_be_async future.DropReadable = false
-future_can_be_async future.DropWritable = false
+future_can_be_async _ = false
 
 -- what may be asked `async` of a stream: reading, writing, and cancelling either
 abbrev pub stream_can_be_async : StreamIntrinsic → Bool
-stream_can_be_async stream.New = false
 stream_can_be_async stream.Read = true
 stream_can_be_async stream.Write = true
-stream_can_be_async stream.Forward = false
 stream_can_be_async stream.CancelRead = true
 stream_can_be_async stream.CancelWrite = true
-stream_can_be_async stream.DropReadable = false
-stream_can_be_async stream.DropWritable = false
+stream_can_be_async _ = false
 
 -- what is done with a future or a stream has names under the older ones alone
 abbrev pub can_name_value : Graph → ManglingAndAbi → Option WorldKey → Function → Option ℕ → Bool → Bool
@@ -230,15 +217,11 @@ can_name_import g mangling (imports.StreamIntrinsic interface func ty intrinsic 
 abbrev pub has_callback : ManglingAndAbi → WasmExportKind → Bool
 has_callback mangling Normal = true
 has_callback mangling PostReturn = true
-has_callback Standard32 Callback = false
-has_callback (Legacy Sync) Callback = false
 has_callback (Legacy AsyncCallback) Callback = true
-has_callback (Legacy AsyncStackful) Callback = false
+has_callback _ Callback = false
 
 -- an export that has a name
 abbrev pub can_name_export : Graph → ManglingAndAbi → WasmExport → Bool
 can_name_export g mangling (exports.Func interface func kind) = has_callback mangling kind && interface_has_name g.interfaces (option_copied interface)
 can_name_export g mangling (exports.ResourceDtor interface r) = key_has_name g.interfaces interface.now && type_has_name g.types r
-can_name_export g mangling exports.Memory = true
-can_name_export g mangling exports.Initialize = true
-can_name_export g mangling exports.Realloc = true
+can_name_export g mangling _ = true

@@ -3,7 +3,7 @@ ghost use Rattle.std.specs.Prelude.{◌≡◌, IfErr, IfOk};
 ghost use Rattle.std.specs.Option.{option_copied};
 ghost use Rattle.wit_core_names.specs.Names.{can_name_export, can_name_import, can_name_value, future_can_be_async, has_callback, interface_has_name, is_of_function, is_within, key_has_name, stream_can_be_async, type_has_name};
 ghost use Rattle.wit_graph_data.specs.declared.error_kind.ResolveErrorKind.TheVariants.{OutOfMemory};
-ghost use Rattle.wit_data.specs.Reference.{type_references};
+ghost use Rattle.wit_data.specs.Kind.{type_references};
 ghost use Rattle.wit_digraph.specs.Relation.{IsAcyclic};
 
 use crate::export::{WasmExport, WasmExportKind};

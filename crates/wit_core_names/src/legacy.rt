@@ -3,7 +3,7 @@ ghost use Rattle.std.specs.Prelude.{◌≡◌, ◌∷◌, ◌++◌, IfErr, IfOk,
 ghost use Rattle.std.specs.Option.{option_copied};
 ghost use Rattle.wit_core_names.specs.Names.{async_prefix, export_name, exported_prefix, future_index_text, import_names, legacy_key, legacy_module};
 ghost use Rattle.wit_graph_data.specs.declared.error_kind.ResolveErrorKind.TheVariants.{OutOfMemory};
-ghost use Rattle.wit_data.specs.Reference.{type_references};
+ghost use Rattle.wit_data.specs.Kind.{type_references};
 ghost use Rattle.wit_data.specs.declared.abi.ManglingAndAbi.TheVariants.{Legacy};
 ghost use Rattle.wit_digraph.specs.Relation.{IsAcyclic};
 

@@ -2,7 +2,7 @@
 ghost use Rattle.std.specs.Prelude.{◌≡◌, IfErr, IfOk, nat_eq, position, string_bytes};
 ghost use Rattle.wit_core_names.specs.Names.{async_prefix, export_prefix, exported_prefix, future_index_text, future_word, import_prefix, is_export_intrinsic, resource_mark, resource_name, stream_word};
 ghost use Rattle.wit_graph_data.specs.declared.error_kind.ResolveErrorKind.TheVariants.{OutOfMemory};
-ghost use Rattle.wit_data.specs.Reference.{type_references};
+ghost use Rattle.wit_data.specs.Kind.{type_references};
 ghost use Rattle.wit_digraph.specs.Relation.{IsAcyclic};
 
 use crate::import::{FutureIntrinsic, ResourceIntrinsic, StreamIntrinsic};

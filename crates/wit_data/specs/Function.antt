@@ -24,16 +24,10 @@ resource_of (StaticSetter id) = Some id
 
 -- whether a function reads or writes a property: what the last word of its kind says
 abbrev pub accessor_of : FunctionKind → Option AccessorKind
-accessor_of Freestanding = None
-accessor_of AsyncFreestanding = None
-accessor_of (Method id) = None
-accessor_of (AsyncMethod id) = None
-accessor_of (Static id) = None
-accessor_of (AsyncStatic id) = None
-accessor_of (Constructor id) = None
 accessor_of kind.Getter = Some accessor.Getter
 accessor_of kind.Setter = Some accessor.Setter
 accessor_of (MethodGetter id) = Some accessor.Getter
 accessor_of (MethodSetter id) = Some accessor.Setter
 accessor_of (StaticGetter id) = Some accessor.Getter
 accessor_of (StaticSetter id) = Some accessor.Setter
+accessor_of _ = None

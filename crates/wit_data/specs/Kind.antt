@@ -1,6 +1,6 @@
 -- What a kind of type holds, and the kind with what it holds changed. Whatever is said of all kinds goes over these:
 -- what a kind refers to, what its values hold, its spans, its structure and its image under maps.
-use Rattle.std.specs.Prelude.{ℕ, List, [], ◌∷◌, map, codes, decimal, nat_eq, Option, None, Some, if◌then◌else◌, option_map}
+use Rattle.std.specs.Prelude.{ℕ, List, [], ◌∷◌, map, codes, decimal, nat_eq, Option, None, Some, if◌then◌else◌, option_map, Bool, ◌++◌, flat_map, option_to_list}
 use Rattle.std.specs.List.{enumerate_from}
 use Rattle.wit_sources.specs.Span.{OptionalSpan}
 use Rattle.wit_data.specs.declared.types.Case.{Case}
@@ -17,6 +17,10 @@ use Rattle.wit_data.specs.declared.kind.Variant.TheVariants as variants
 use Rattle.wit_data.specs.declared.types.Handle.TheVariants as handle
 use Rattle.wit_data.specs.declared.types.TypeDefKind.TheVariants as kind
 use Rattle.wit_data.specs.declared.types.Type_.TheVariants as type
+use Rattle.wit_data.specs.Function.{resource_of}
+use Rattle.wit_data.specs.declared.function.Function.{Function}
+use Rattle.wit_data.specs.declared.function.Param.{Param}
+use Rattle.wit_data.specs.declared.types.TypeDef.{TypeDef}
 
 -- the variant of a kind; `own` and `borrow` are two
 abbrev pub variant_of : TypeDefKind → Variant
@@ -130,6 +134,32 @@ map_kind go move (kind.Stream ty) = kind.Stream (option_map (map_type (go Value)
 map_kind go move (kind.Type_ ty) = kind.Type_ (map_type (go Target) ty)
 map_kind go move kind.Unknown = kind.Unknown
 
--- a part with its ids mapped by its role and its span moved
-abbrev pub map_part : (PartRole → ℕ → ℕ) → (OptionalSpan → OptionalSpan) → KindPart → KindPart
-map_part go move p = record p { ty = option_map (map_type (go p.role)) p.ty; span = option_map move p.span }
+-- What kinds of types and functions refer to: the types that they name, by id, in the order in which
+-- they name them, with repeats.
+
+-- the type of the list that a value's type names: none where it is a primitive
+abbrev pub named_type : Type_ → List ℕ
+named_type (type.Id id) = id ∷ []
+named_type _ = []
+
+-- the type of the list that a type names which may be left out: none where it is left out or a primitive
+abbrev pub named_option : Option Type_ → List ℕ
+named_option None = []
+named_option (Some ty) = named_type ty
+
+-- the types that a kind refers to: those of its parts
+abbrev pub referred : TypeDefKind → List ℕ
+referred k = flat_map (λ (p : KindPart). named_option p.ty) (kind_parts k)
+
+-- the same of its parts in some roles
+abbrev pub referred_in : (PartRole → Bool) → TypeDefKind → List ℕ
+referred_in roles k = flat_map (λ (p : KindPart). if roles p.role then named_option p.ty else []) (kind_parts k)
+
+-- which type refers to which, as adjacency lists: list i has what type i refers to
+abbrev pub type_references : List TypeDef → List (List ℕ)
+type_references types = map (λ (def : TypeDef). referred def.kind) types
+
+-- the types that a function refers to: the resource that it belongs to, then those of its parameters
+-- and of its result
+abbrev pub function_references : Function → List ℕ
+function_references f = option_to_list (resource_of f.kind) ++ (flat_map (λ (p : Param). named_type p.ty) f.params ++ named_option f.result_)

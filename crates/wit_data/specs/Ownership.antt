@@ -2,7 +2,7 @@
 use Rattle.std.specs.Prelude.{◌≡◌, ℕ, Bool, true, false, ◌<◌, ◌⊎◌, List, [], ◌∷◌, map, length, Option, Some, None, IsSome, IfSome, Contains, is_some, if◌then◌else◌, flat_map}
 use Rattle.wit_digraph.specs.Relation.{Reaches}
 use Rattle.wit_data.specs.Each.{Each, SomeAt}
-use Rattle.wit_data.specs.Reference.{referred, referred_in, function_references}
+use Rattle.wit_data.specs.Kind.{referred, referred_in, function_references}
 use Rattle.wit_data.specs.Uses.{alias_target}
 use Rattle.wit_data.specs.declared.function.Function.{Function}
 use Rattle.wit_data.specs.declared.interface.Interface.{Interface}

@@ -14,7 +14,7 @@ use Rattle.wit_data.specs.Each.{Each, EachAt, SomeAt}
 use Rattle.wit_data.specs.Entries.{EntriesUseOwn, ExportsAreAllowed, ImportsAreAllowed, IncludesEarlier, StandOnce}
 use Rattle.wit_data.specs.Foreign.{ForeignItem, AreFirst, AreForeignTypes, AreUnknownFirst, IsForeign, ListUnknownAlone, foreign_interfaces, foreign_worlds}
 use Rattle.wit_data.specs.Ownership.{AliasesNamed, FunctionsUseOwn, IsListed, IsPlain, ListsOwn, NamesFunctions, RefersToOwn}
-use Rattle.wit_data.specs.Reference.{referred}
+use Rattle.wit_data.specs.Kind.{referred}
 use Rattle.wit_names.specs.UsePath.{IsKebabName}
 use Rattle.wit_data.specs.Uses.{uses_of}
 use Rattle.wit_data.specs.declared.interface.Interface.{Interface}

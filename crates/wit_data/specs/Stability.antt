@@ -4,6 +4,5 @@ use Rattle.wit_data.specs.declared.stability.Stability.TheVariants.{Unknown, Sta
 
 -- the gate is `@since`
 abbrev pub IsStable : Stability → Type 0
-IsStable Unknown = ⊥
 IsStable (Stable since deprecated) = Unit {0}
-IsStable (Unstable feature deprecated) = ⊥
+IsStable _ = ⊥

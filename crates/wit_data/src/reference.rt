@@ -1,7 +1,7 @@
 //! What types and functions refer to.
 ghost use Rattle.std.specs.Prelude.{◌≡◌, ◌++◌, IfOk, OnOk};
 ghost use Rattle.std.specs.List.{flat_map};
-ghost use Rattle.wit_data.specs.Reference.{function_references, named_option, named_type, referred, type_references};
+ghost use Rattle.wit_data.specs.Kind.{function_references, named_option, named_type, referred, type_references};
 ghost use Rattle.wit_data.specs.declared.function.Param.{Param};
 
 use crate::function::{Function, Param};

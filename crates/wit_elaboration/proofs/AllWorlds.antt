@@ -7,12 +7,11 @@ use Rattle.wit_data.specs.Each.{EachAt}
 use Rattle.wit_data.specs.facts.EachFacts.{EachBelow, all, more}
 use Rattle.wit_data.specs.declared.world.World.{World}
 use Rattle.wit_elaboration.specs.Elaborated.{elaborated_exports, elaborated_imports}
-use Rattle.wit_elaboration.specs.Elaboration.{IsConflictError, graph_uses}
+use Rattle.wit_elaboration.specs.Elaboration.{IsConflictError, graph_uses, AreListsOf, IsRefusedWorld, elaborated_world, with_lists}
 use Rattle.wit_elaboration.specs.declared.entries.Lists.{Lists}
 use Rattle.wit_graph_data.specs.declared.graph.Graph.{Graph}
 use Rattle.wit_graph_data.specs.declared.error_kind.ResolveErrorKind.{ResolveErrorKind}
 use Rattle.wit_graph_data.specs.declared.error_kind.ResolveErrorKind.TheVariants.{PackageNotFound, WorldNotFound, InterfaceNotFound, InvalidTransitiveDependency, DuplicatePackage, PackageCycle, ItemShadowing, StabilityMismatch, Semantic, OffsetOverflow, OutOfMemory}
-use Rattle.wit_elaboration.specs.AllWorlds.{AreListsOf, IsRefusedWorld, elaborated_world, with_lists}
 
 -- ---- a refusal
 

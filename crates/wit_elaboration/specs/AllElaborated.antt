@@ -4,15 +4,15 @@
 -- those of interfaces and types are told, are rules of this project.
 use Rattle.std.specs.Prelude.{◌≡◌, ℕ, List, ◌++◌, Option, Some, codes, slice_get, Contains}
 use Rattle.wit_digraph.specs.Cycles.{IsOnCycle}
-use Rattle.wit_data.specs.Reference.{type_references}
+use Rattle.wit_data.specs.Kind.{type_references}
 use Rattle.wit_names.specs.declared.package_name.PackageName.{PackageName}
 use Rattle.wit_data.specs.declared.types.TypeDef.{TypeDef}
 use Rattle.wit_data.specs.declared.world.World.{World}
-pub use Rattle.wit_elaboration.specs.AllWorlds.{all_elaborated, elaborated_world}
+pub use Rattle.wit_elaboration.specs.Elaboration.{all_elaborated, elaborated_world}
 use Rattle.wit_elaboration.specs.Elaboration.{graph_uses}
 use Rattle.wit_graph_data.specs.IdText.{interface_id_at}
 use Rattle.wit_elaboration.specs.Imported.{HasTransitiveConflict, IsRefusedName}
-use Rattle.wit_graph_data.specs.Relations.{package_uses}
+use Rattle.wit_graph_data.specs.Queries.{package_uses}
 use Rattle.wit_graph_data.specs.declared.graph.Graph.{Graph}
 use Rattle.wit_graph_data.specs.declared.graph.Package.{Package}
 

@@ -1,5 +1,4 @@
 pub mod AllElaborated
-pub mod AllWorlds
 pub mod Elaborated
 pub mod Elaboration
 pub mod Entries

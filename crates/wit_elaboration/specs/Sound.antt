@@ -16,9 +16,7 @@ IsUnderOwnKey (Name label) item = Unit {0}
 abbrev pub IsRoleInRange : ℕ → Role → Type 0
 IsRoleInRange interfaces (Instance i) = i < interfaces
 IsRoleInRange interfaces (TypeUse i) = i < interfaces
-IsRoleInRange interfaces TypeDefinition = Unit {0}
-IsRoleInRange interfaces FreeFunction = Unit {0}
-IsRoleInRange interfaces ResourceFunction = Unit {0}
+IsRoleInRange interfaces _ = Unit {0}
 
 -- so it is of each entry
 pub record AreSound (types : List TypeDef) (interfaces : ℕ) (entries : List Entry) : Type 0 where

@@ -8,7 +8,7 @@ use Rattle.wit_digraph.specs.Relation.{IsAcyclic}
 use Rattle.wit_data.specs.Each.{Each, EachAt, SomeAt}
 use Rattle.wit_data.specs.Entries.{Entry, EntriesUseOwn, ExportsAreAllowed, ImportsAreAllowed, StandOnce}
 use Rattle.wit_data.specs.Ownership.{AliasesNamed, FunctionsUseOwn, IsListed, IsPlain, ListsOwn, NamesFunctions, RefersToOwn}
-use Rattle.wit_data.specs.Reference.{type_references}
+use Rattle.wit_data.specs.Kind.{type_references}
 use Rattle.wit_names.specs.UsePath.{IsKebabName}
 use Rattle.wit_data.specs.Uses.{uses_of}
 use Rattle.wit_data.specs.declared.interface.Interface.{Interface}
@@ -19,7 +19,7 @@ use Rattle.wit_data.specs.declared.world.WorldItem.{WorldItem}
 use Rattle.wit_data.specs.declared.types.TypeDefKind.TheVariants as kind
 use Rattle.wit_data.specs.declared.world.WorldItem.TheVariants as item
 use Rattle.wit_elaboration.specs.Elaborated.{Elaborated}
-use Rattle.wit_graph_data.specs.Relations.{package_uses}
+use Rattle.wit_graph_data.specs.Queries.{package_uses}
 use Rattle.wit_graph_data.specs.declared.graph.Graph.{Graph}
 use Rattle.wit_graph_data.specs.declared.graph.Package.{Package}
 

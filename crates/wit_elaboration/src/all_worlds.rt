@@ -1,13 +1,12 @@
 //! All worlds of a graph are elaborated, or none.
 ghost use Rattle.std.specs.Prelude.{◌≡◌, ◌⊎◌, IfErr, IfOk, OnErr, OnOk, length};
-ghost use Rattle.wit_elaboration.specs.Elaboration.{IsConflictError, graph_uses};
+ghost use Rattle.wit_elaboration.specs.Elaboration.{IsConflictError, graph_uses, AreListsOf, IsRefusedWorld, all_elaborated, elaborated_world, with_lists};
 ghost use Rattle.wit_elaboration.specs.Imported.{HasTransitiveConflict};
 ghost use Rattle.wit_elaboration.specs.Sound.{HasSoundEntries};
 ghost use Rattle.wit_graph_data.specs.declared.error_kind.ResolveErrorKind.TheVariants.{OutOfMemory};
 ghost use Rattle.wit_data.specs.Each.{Each};
 ghost use Rattle.wit_data.specs.declared.world.World.{World};
 ghost use Rattle.wit_digraph.specs.Relation.{IsAcyclic};
-ghost use Rattle.wit_elaboration.specs.AllWorlds.{AreListsOf, IsRefusedWorld, all_elaborated, elaborated_world, with_lists};
 
 use crate::closure::Closure;
 use crate::elaboration::Elaborator;

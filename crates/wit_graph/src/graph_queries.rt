@@ -1,11 +1,10 @@
 //! What is asked of a graph, as methods.
 ghost use Rattle.std.specs.Prelude.{◌≡◌, ◌<◌, IfErr, IfOk, length, string_bytes};
 ghost use Rattle.std.specs.Option.{option_map};
-ghost use Rattle.wit_data.specs.Reference.{type_references};
+ghost use Rattle.wit_data.specs.Kind.{type_references};
 ghost use Rattle.wit_data.specs.Uses.{type_interface_dep};
 ghost use Rattle.wit_digraph.specs.Relation.{IsAcyclic};
-ghost use Rattle.wit_graph_data.specs.Queries.{canonical_id_text, canonical_interface_id_at, canonical_key_text, futures_and_streams, interface_direct_deps, topological_packages};
-ghost use Rattle.wit_graph_data.specs.Relations.{package_direct_deps, package_uses};
+ghost use Rattle.wit_graph_data.specs.Queries.{canonical_id_text, canonical_interface_id_at, canonical_key_text, futures_and_streams, interface_direct_deps, topological_packages, package_direct_deps, package_uses};
 ghost use Rattle.wit_graph_data.specs.declared.error_kind.ResolveErrorKind.TheVariants.{OutOfMemory};
 ghost use Rattle.wit_graph_data.specs.declared.graph.Graph.{Graph};
 

@@ -3,7 +3,5 @@ pub mod ErrorLoan
 pub mod ErrorText
 pub mod IdText
 pub mod Queries
-pub mod Relations
-pub mod RenderedText
 pub mod examples
 pub mod facts

@@ -1,6 +1,6 @@
 //! Errors as they are told with their places.
 ghost use Rattle.std.specs.Prelude.{◌≡◌, IfErr, IfOk, string_bytes};
-ghost use Rattle.wit_graph_data.specs.RenderedText.{rendered_text, text_at};
+ghost use Rattle.wit_graph_data.specs.ErrorText.{rendered_text, text_at};
 ghost use Rattle.wit_graph_data.specs.declared.error_kind.ResolveErrorKind.TheVariants.{OutOfMemory};
 
 use crate::error::{ResolveError, ResolveResult};

@@ -22,9 +22,8 @@ use Rattle.wit_graph_data.specs.declared.error_kind.ResolveErrorKind.{ResolveErr
 use Rattle.wit_graph_data.specs.declared.error_kind.ResolveErrorKind.TheVariants.{Semantic}
 use Rattle.wit_graph_theory.specs.facts.OptionFacts.{some_same}
 use Rattle.wit_graph_theory.specs.examples.TestFacts.{all_are, implied, implies, only_one}
-use Rattle.wit_transform.specs.TransformCause.{ExportizeCause, HasNameTaken, ImportizeCause, export_conflict, exportized_name_taken, importized_name_taken, label_clash, name_taken_text, not_exported}
+use Rattle.wit_transform.specs.Transformed.{ExportizeCause, HasNameTaken, ImportizeCause, export_conflict, exportized_name_taken, importized_name_taken, label_clash, name_taken_text, not_exported, exportized, importized}
 use Rattle.wit_transform.specs.examples.TransformExamples.{a}
-use Rattle.wit_transform.specs.Transformed.{exportized, importized}
 use Rattle.wit_graph_examples.specs.TransformCauses.{ExamplesOfNamesInUse, of_w, w_imports_a}
 
 -- no other world than w has this name in the table

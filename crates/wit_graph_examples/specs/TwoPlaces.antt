@@ -1,7 +1,7 @@
 -- A package that is defined twice, told with both places.
 use Rattle.std.specs.Prelude.{◌≡◌, ◌≢◌, ℕ, List, [], ◌∷◌, Option, Some, None, codes}
 use Rattle.wit_sources.specs.declared.source_map.SourceFile.{SourceFile}
-use Rattle.wit_graph_data.specs.RenderedText.{rendered_text, text_with_locations}
+use Rattle.wit_graph_data.specs.ErrorText.{rendered_text, text_with_locations}
 use Rattle.wit_graph_data.specs.examples.Samples.{foo_bar}
 use Rattle.wit_graph_data.specs.declared.error_kind.ResolveErrorKind.TheVariants.{DuplicatePackage, PackageCycle}
 

@@ -1,5 +1,5 @@
 //! The names in core wasm of what is done with resources, and what has none.
-ghost use Rattle.wit_data.specs.Reference.{type_references};
+ghost use Rattle.wit_data.specs.Kind.{type_references};
 ghost use Rattle.wit_digraph.specs.Relation.{IsAcyclic};
 
 use crate::fixtures::{

@@ -4,7 +4,7 @@ use Rattle.std.proofs.lemmas.List.FromFn.{get_or-map-range_with_len, length-map-
 use Rattle.std.proofs.lemmas.Option.{slice_get-get_or, slice_get_within}
 use Rattle.std.specs.Map.{lookup}
 use Rattle.wit_sources.specs.Span.{moved_by}
-use Rattle.wit_names.specs.PackageOrder.{same_package}
+use Rattle.wit_names.specs.PackageName.{same_package}
 use Rattle.wit_data.specs.Shape.{IsShaped}
 use Rattle.wit_data.specs.declared.world.World.{World}
 use Rattle.wit_data.specs.declared.world.WorldInclude.{WorldInclude}
@@ -24,7 +24,7 @@ use Rattle.wit_link_spec.specs.WorldReasons.{WorldIsAccepted}
 use Rattle.wit_link_spec.specs.facts.PassedFacts.{has_image}
 use Rattle.wit_link_spec.specs.Reasons.{HasPackage, IsResolved}
 use Rattle.wit_link_spec.specs.facts.OwnThingFacts.{own_world_from}
-use Rattle.wit_remap.specs.steps.Added.{added_world}
+use Rattle.wit_remap.specs.steps.Fits.{added_world}
 use Rattle.wit_remap.specs.steps.Movers.{goes, id_or}
 use Rattle.wit_remap.specs.declared.worlds.PlacedWorld.{PlacedWorld}
 use Rattle.wit_link.specs.Appending.{IsAdded}

@@ -1,8 +1,7 @@
 -- A package fits exactly where no span of it passes the end.
 use Rattle.std.proofs.Common.{◌⊎◌, inl, inr, ℕ, ◌+◌, ◌<◌, ◌≤◌, ◌^◌, List, ◌++◌, map, Some, arith}
 use Rattle.wit_data.specs.declared.unresolved.UnresolvedPackage.{UnresolvedPackage}
-use Rattle.wit_link_spec.specs.Gates.{OptionalSpan}
-use Rattle.wit_link_spec.specs.Spans.{package_spans}
+use Rattle.wit_link_spec.specs.Gates.{OptionalSpan, package_spans}
 use Rattle.wit_graph_theory.specs.facts.ListFacts.{Each-map, place_of}
 use Rattle.wit_link_spec.specs.Addition.{Addition}
 use Rattle.wit_link_spec.specs.Reasons.{AdditionOverflows}

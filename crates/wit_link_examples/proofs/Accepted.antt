@@ -6,7 +6,7 @@ use Rattle.std.specs.Map.{lookup}
 use Rattle.std.specs.Prelude.{codes, is_some}
 use Rattle.wit_digraph.specs.PostOrder.{post_order, post_order_within}
 use Rattle.wit_data.specs.Entries.{Entry}
-use Rattle.wit_names.specs.PackageOrder.{same_package}
+use Rattle.wit_names.specs.PackageName.{same_package}
 use Rattle.wit_data.specs.declared.function.Function.{Function}
 use Rattle.wit_data.specs.declared.interface.Interface.{Interface}
 use Rattle.wit_data.specs.declared.world.World.{World}
@@ -17,10 +17,9 @@ use Rattle.wit_graph_theory.specs.examples.TestFacts.{all_are, all_at, at_are, i
 use Rattle.wit_link_spec.specs.Addition.{Addition, own_worlds}
 use Rattle.wit_link_spec.specs.Cause.{AdditionIsAccepted}
 use Rattle.wit_link_spec.specs.Cause as reason
-use Rattle.wit_link_spec.specs.Gates.{OptionalSpan}
+use Rattle.wit_link_spec.specs.Gates.{OptionalSpan, package_spans}
 use Rattle.wit_link_spec.specs.Reasons.{AdditionOverflows, IsActiveFunction, IsResolved}
 use Rattle.wit_link_spec.specs.Reasons as part
-use Rattle.wit_link_spec.specs.Spans.{package_spans}
 use Rattle.wit_link_spec.specs.WorldReasons.{AtInclude, AtWorld, IncludeIsAccepted, IsCauseAtWorld}
 use Rattle.wit_link_spec.specs.facts.WorldCauseFacts.{cause_world}
 use Rattle.wit_link_examples.proofs.AtWorlds.{all_fine, fine_without, no_include, of_first}

@@ -20,9 +20,7 @@ use Rattle.wit_link_spec.specs.Cause as reason
 use Rattle.wit_link_spec.specs.Gates.{OptionalSpan}
 use Rattle.wit_link_spec.specs.Include.{include_stability, is_other_package, lists_of}
 use Rattle.wit_link_spec.specs.Reasons.{IsResolved}
-use Rattle.wit_link_spec.specs.IncludeCause.{HasStability, mismatch_8, shadowing_7}
-use Rattle.wit_link_spec.specs.WorldReasons.{AtInclude, IncludeIsAccepted, IsCauseAtFinish, IsCauseAtInclude, of_finish}
-use Rattle.wit_link_spec.specs.FinishCause.{conflict_4, no_getter_18, not_strongly_unique_17}
+use Rattle.wit_link_spec.specs.WorldReasons.{HasStability, mismatch_8, shadowing_7, AtInclude, IncludeIsAccepted, IsCauseAtFinish, IsCauseAtInclude, of_finish, conflict_4, no_getter_18, not_strongly_unique_17}
 use Rattle.wit_link_examples.proofs.AtWorlds.{all_fine, include_same, list_world, of_first, of_first_include}
 use Rattle.wit_link_examples.proofs.HasImage.{image}
 use Rattle.wit_link_examples.proofs.Matching.{ClashAt, LonelySetterAt, apart_of, of_alike, of_conflict, of_getter, of_mismatch, of_shadowing}

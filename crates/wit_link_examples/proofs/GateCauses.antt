@@ -5,7 +5,7 @@ use Rattle.std.specs.Fmt.{digits}
 use Rattle.std.specs.Prelude.{codes}
 use Rattle.wit_digraph.specs.Relation.{IsPath}
 use Rattle.wit_sources.specs.Span.{end_of}
-use Rattle.wit_data.specs.Reference.{named_option}
+use Rattle.wit_data.specs.Kind.{named_option}
 use Rattle.wit_data.specs.declared.function.Function.{Function}
 use Rattle.wit_data.specs.declared.interface.Interface.{Interface}
 use Rattle.wit_data.specs.declared.stability.Stability.TheVariants.{Unknown}

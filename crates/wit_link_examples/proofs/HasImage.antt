@@ -13,8 +13,8 @@ use Rattle.wit_digraph.specs.facts.MemberFacts.{Contains-here}
 use Rattle.wit_data.specs.Entries.{Entry}
 use Rattle.wit_data.specs.Foreign.{ForeignItem}
 use Rattle.wit_names.specs.facts.PackageNameFacts.{same_name}
-use Rattle.wit_names.specs.PackageOrder.{same_package}
-use Rattle.wit_data.specs.Reference.{function_references}
+use Rattle.wit_names.specs.PackageName.{same_package}
+use Rattle.wit_data.specs.Kind.{function_references}
 use Rattle.wit_data.specs.Stability.{IsStable}
 use Rattle.wit_data.specs.declared.unresolved.AstItem.{AstItem}
 use Rattle.wit_data.specs.declared.function.Function.{Function}

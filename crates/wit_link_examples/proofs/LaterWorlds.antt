@@ -18,9 +18,8 @@ use Rattle.wit_link_spec.specs.Cause as reason
 use Rattle.wit_link_spec.specs.Gates as asked
 use Rattle.wit_link_spec.specs.Include.{EntryLists}
 use Rattle.wit_link_spec.specs.Reasons.{IsResolved, LacksVersion}
-use Rattle.wit_link_spec.specs.WorldReasons.{AtInclude, AtWorld, IncludeIsAccepted, IsCauseAtInclude, IsCauseAtWorld, WorldIsAccepted, written_no_getter_18, written_not_strongly_unique_17}
+use Rattle.wit_link_spec.specs.WorldReasons.{AtInclude, AtWorld, IncludeIsAccepted, IsCauseAtInclude, IsCauseAtWorld, WorldIsAccepted, written_no_getter_18, written_not_strongly_unique_17, mismatch_8, shadowing_7}
 use Rattle.wit_link_spec.specs.WorldReasons as world_reason
-use Rattle.wit_link_spec.specs.IncludeCause.{mismatch_8, shadowing_7}
 use Rattle.wit_link_spec.specs.facts.WorldCauseFacts.{includes_accepted}
 use Rattle.wit_link_examples.proofs.AtWorlds.{HaveLists, fine_without, list_world, made, no_include, of_first, world_same, written}
 use Rattle.wit_link_examples.proofs.HasImage.{image}

@@ -24,14 +24,10 @@ use Rattle.wit_link_spec.specs.Addition.{Addition}
 use Rattle.wit_link_spec.specs.Cause.{IsCause}
 use Rattle.wit_link_spec.specs.facts.Linked.{IncludeIsReached}
 use Rattle.wit_link_spec.specs.Cause as reason
-use Rattle.wit_link_spec.specs.FinishCause.{IsFinishCause, LabelsClash, SetterIsAlone, WorldIsInConflict}
-use Rattle.wit_link_spec.specs.FinishCause as finish
+use Rattle.wit_link_spec.specs.WorldReasons.{IsFinishCause, LabelsClash, SetterIsAlone, WorldIsInConflict, IsFirstUnmatched, IsIncludeCause, LabelIsTaken, StabilitiesAreApart, IsCauseAtFinish, IsCauseAtInclude, IsCauseAtWorld}
 use Rattle.wit_link_spec.specs.Gates.{OptionalSpan}
 use Rattle.wit_link_spec.specs.Include.{EntryLists, IsListCalled, PartiallyLinked, lists_of}
-use Rattle.wit_link_spec.specs.IncludeCause.{IsFirstUnmatched, IsIncludeCause, LabelIsTaken, StabilitiesAreApart}
-use Rattle.wit_link_spec.specs.IncludeCause as include
 use Rattle.wit_link_spec.specs.Reasons.{AdditionOverflows, ForeignTypeMissing, HasExcludedOwner, IsDuplicate, IsNoResource, IsUnreleased, LacksInterface, LacksPackage, LacksVersion, LacksWorld, RefersToExcluded, ReturnsBorrow}
-use Rattle.wit_link_spec.specs.WorldReasons.{IsCauseAtFinish, IsCauseAtInclude, IsCauseAtWorld}
 use Rattle.wit_link_spec.specs.WorldReasons as world
 use Rattle.wit_link_examples.proofs.AtWorlds.{HaveLists, made, written}
 
@@ -39,35 +35,35 @@ use Rattle.wit_link_examples.proofs.AtWorlds.{HaveLists, made, written}
 
 module _ (home : ℕ) (b : PartiallyLinked) (i : WorldInclude) (old : World) where
   pub taken_of : (span : OptionalSpan) (word name : List ℕ) → IsIncludeCause home b i old (ItemShadowing span word name) → LabelIsTaken b i old word name
-  taken_of _ _ _ (include.shadowing_7 word name is) = is
+  taken_of _ _ _ (world.shadowing_7 word name is) = is
 
   pub apart_of : (span : OptionalSpan) (brings has : Stability) → IsIncludeCause home b i old (StabilityMismatch span brings has) → StabilitiesAreApart home b old brings has
-  apart_of _ _ _ (include.mismatch_8 brings has is) = is
+  apart_of _ _ _ (world.mismatch_8 brings has is) = is
 
   pub unmatched_of : (span : OptionalSpan) (message : List ℕ) → IsIncludeCause home b i old (Semantic span message cause.RenameUnmatched) → (name : IncludeName) × IsFirstUnmatched old i.names name
-  unmatched_of _ _ (include.rename_unmatched_16 name is) = (name, is)
+  unmatched_of _ _ (world.rename_unmatched_16 name is) = (name, is)
 
   include_number : (numbers : List ℕ) → list_any (nat_eq 7) numbers ≡ true → list_any (nat_eq 8) numbers ≡ true → list_any (nat_eq 16) numbers ≡ true → (error : ResolveErrorKind) → IsIncludeCause home b i old error
       → list_any (nat_eq (error_number error)) numbers ≡ true
-  include_number numbers seven eight sixteen _ (include.shadowing_7 word name is) = seven
-  include_number numbers seven eight sixteen _ (include.mismatch_8 brings has is) = eight
-  include_number numbers seven eight sixteen _ (include.rename_unmatched_16 name is) = sixteen
+  include_number numbers seven eight sixteen _ (world.shadowing_7 word name is) = seven
+  include_number numbers seven eight sixteen _ (world.mismatch_8 brings has is) = eight
+  include_number numbers seven eight sixteen _ (world.rename_unmatched_16 name is) = sixteen
 
 module _ (g : Graph) (w : World) where
   pub conflict_in : (span : OptionalSpan) (name : List ℕ) → IsFinishCause g w (InvalidTransitiveDependency span name) → WorldIsInConflict g w name
-  conflict_in _ _ (finish.conflict_4 name is) = is
+  conflict_in _ _ (world.conflict_4 name is) = is
 
   clash_in : (span : OptionalSpan) (message : List ℕ) → IsFinishCause g w (Semantic span message cause.NotStronglyUnique) → (word : List ℕ) × (n : List ℕ) × (m : List ℕ) × LabelsClash w word n m
-  clash_in _ _ (finish.not_strongly_unique_17 word n m is) = (word, n, m, is)
+  clash_in _ _ (world.not_strongly_unique_17 word n m is) = (word, n, m, is)
 
   alone_in : (span : OptionalSpan) (message : List ℕ) → IsFinishCause g w (Semantic span message cause.NoGetter) → (word : List ℕ) × (label : List ℕ) × (f : Function) × SetterIsAlone w word label f
-  alone_in _ _ (finish.no_getter_18 word label f is) = (word, label, f, is)
+  alone_in _ _ (world.no_getter_18 word label f is) = (word, label, f, is)
 
   finish_number : (numbers : List ℕ) → list_any (nat_eq 4) numbers ≡ true → list_any (nat_eq 17) numbers ≡ true → list_any (nat_eq 18) numbers ≡ true → (error : ResolveErrorKind) → IsFinishCause g w error
       → list_any (nat_eq (error_number error)) numbers ≡ true
-  finish_number numbers four seventeen eighteen _ (finish.conflict_4 name is) = four
-  finish_number numbers four seventeen eighteen _ (finish.not_strongly_unique_17 word n m is) = seventeen
-  finish_number numbers four seventeen eighteen _ (finish.no_getter_18 word label f is) = eighteen
+  finish_number numbers four seventeen eighteen _ (world.conflict_4 name is) = four
+  finish_number numbers four seventeen eighteen _ (world.not_strongly_unique_17 word n m is) = seventeen
+  finish_number numbers four seventeen eighteen _ (world.no_getter_18 word label f is) = eighteen
 
 -- ---- a world
 

@@ -6,7 +6,7 @@ use Rattle.std.specs.Prelude.{IsSortedByKey}
 use Rattle.std.specs.Option.{option_cmp}
 use Rattle.wit_digraph.specs.Relation.{IsPath, direct}
 use Rattle.wit_digraph.specs.PostOrder.{first_of_each, post_order, post_order_within}
-use Rattle.wit_names.specs.PackageOrder.{package_cmp}
+use Rattle.wit_names.specs.PackageName.{package_cmp}
 use Rattle.wit_sources.specs.Span.{end_of, moved_by}
 use Rattle.wit_data.specs.Each.{SomeAt}
 use Rattle.wit_names.specs.declared.package_name.PackageName.{PackageName}

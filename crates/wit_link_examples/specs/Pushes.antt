@@ -12,7 +12,7 @@ use Rattle.wit_graph_data.specs.examples.Samples.{entry_of, foo_bar, interface_o
 use Rattle.wit_link_spec.specs.Addition.{Addition}
 use Rattle.wit_link_spec.specs.Cause.{AdditionIsAccepted}
 use Rattle.wit_link_spec.specs.Pushed.{pushed}
-use Rattle.wit_link_spec.specs.Spans.{package_spans}
+use Rattle.wit_link_spec.specs.Gates.{package_spans}
 use Rattle.wit_link_examples.specs.Packages.{adding, bare, feature_f, first_package, gate_f, gated, including_package, loose_interface, loose_world, main_name, naming_type, no_features}
 use Rattle.wit_link_examples.specs.Values.{field_of, with_resource}
 

@@ -4,7 +4,7 @@ use Rattle.wit_digraph.specs.facts.MemberFacts.{Contains-flat_map, Contains-flat
 use Rattle.wit_sources.specs.Span.{moved_by}
 use Rattle.wit_data.specs.Each.{Each, EachAt}
 use Rattle.wit_data.specs.Entries.{Entry}
-use Rattle.wit_data.specs.Reference.{function_references, named_type, referred}
+use Rattle.wit_data.specs.Kind.{function_references, named_type, referred}
 use Rattle.wit_data.specs.declared.types.Field.{Field}
 use Rattle.wit_data.specs.declared.function.Function.{Function}
 use Rattle.wit_data.specs.declared.types.TypeDef.{TypeDef}

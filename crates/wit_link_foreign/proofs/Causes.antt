@@ -7,7 +7,7 @@ use Rattle.wit_digraph.specs.facts.MemberFacts.{Contains-nil}
 use Rattle.wit_data.specs.facts.EachFacts.{nil_from_length}
 use Rattle.wit_data.specs.Foreign.{ForeignItem}
 use Rattle.wit_names.specs.facts.PackageNameFacts.{own_name, same_name}
-use Rattle.wit_names.specs.PackageOrder.{same_package}
+use Rattle.wit_names.specs.PackageName.{same_package}
 use Rattle.wit_data.specs.declared.unresolved.AstItem.{AstItem}
 use Rattle.wit_data.specs.declared.interface.Interface.{Interface}
 use Rattle.wit_names.specs.declared.package_name.PackageName.{PackageName}
@@ -27,7 +27,8 @@ use Rattle.wit_link_spec.specs.facts.ForeignFound.{named_into}
 use Rattle.wit_link_spec.specs.Gates.{OptionalSpan, interface_is_active, type_is_active}
 use Rattle.wit_link_spec.specs.Lookup.{foreign_interface_id, interface_type, is_foreign_type}
 use Rattle.wit_link_spec.specs.Reasons.{known_packages}
-use Rattle.wit_link_foreign.specs.steps.ForeignItems.{ArePackagesThere, AreTypesThere, IsHome, IsItemAt, IsTypeThere, NamesItem, interface_in, item_in, named_is_active, not_found, world_in}
+use Rattle.wit_link_foreign.specs.steps.ForeignItems.{ArePackagesThere, AreTypesThere, IsHome, IsTypeThere, NamesItem, interface_in, item_in, named_is_active, not_found, world_in}
+use Rattle.wit_link_foreign.proofs.PackageItems.{IsItemAt}
 
 not_there : {X : Type 0} (o : Option X) → o ≡ None → is_some o ≡ true → ⊥
 not_there None none some = cc

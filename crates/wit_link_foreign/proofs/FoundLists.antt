@@ -15,7 +15,8 @@ use Rattle.wit_link_spec.specs.facts.FlagFacts.{interface-flag, world-flag}
 use Rattle.wit_link_spec.specs.facts.ForeignFound.{named_at}
 use Rattle.wit_link_spec.specs.facts.RangeFacts.{range-inside, range-read}
 use Rattle.wit_link_spec.specs.steps.AdditionRefs.{activity_of}
-use Rattle.wit_link_foreign.specs.steps.ForeignItems.{HasEntryFor, IsItemOf, NamedItem, NamesItem, first_among, found_among, named_is_active}
+use Rattle.wit_link_foreign.specs.steps.ForeignItems.{HasEntryFor, NamedItem, NamesItem, first_among, found_among, named_is_active}
+use Rattle.wit_link_foreign.proofs.PackageItems.{IsItemOf}
 use Rattle.wit_link_foreign.specs.declared.foreign.Found.{Found}
 
 module _ (a : Addition) (named : List NamedItem) (found : Found) (is : found ≡ found_among a named) where

@@ -5,6 +5,7 @@ pub mod Firsts
 pub mod FoundLists
 pub mod ItemSteps
 pub mod NamedItems
+mod PackageItems
 pub mod Remapped
 pub mod Steps
 pub mod TypeSteps

@@ -12,7 +12,8 @@ use Rattle.wit_data.specs.declared.unresolved.AstItem.TheVariants as item
 use Rattle.wit_link_spec.specs.Addition.{Addition}
 use Rattle.wit_link_spec.specs.Lookup.{find_interface, find_package, find_world, named_items}
 use Rattle.wit_link_spec.specs.facts.RangeFacts.{range-same, range-set}
-use Rattle.wit_link_foreign.specs.steps.ForeignItems.{AreThere, IsItemOf, Lookup, NamedItem, first_among, found_among, found_item, item_in, named_is_active, with_item}
+use Rattle.wit_link_foreign.specs.steps.ForeignItems.{AreThere, Lookup, NamedItem, first_among, found_among, found_item, item_in, named_is_active, with_item}
+use Rattle.wit_link_foreign.proofs.PackageItems.{IsItemOf}
 use Rattle.wit_link_foreign.specs.declared.foreign.Found.{Found}
 use Rattle.wit_link_foreign.proofs.Firsts.{first_as_before, first_at_end, none_before}
 use Rattle.wit_link_foreign.proofs.NamedItems.{ids_named}

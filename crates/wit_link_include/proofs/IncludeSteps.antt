@@ -9,7 +9,7 @@ use Rattle.wit_values.specs.Table.{HasDistinctKeys}
 use Rattle.wit_sources.specs.Span.{moved_by}
 use Rattle.wit_data.specs.Entries.{Entry, IsExport, interfaces_in_worlds, is_unnamed}
 use Rattle.wit_data.specs.Ownership.{IsNamed}
-use Rattle.wit_data.specs.Reference.{type_references}
+use Rattle.wit_data.specs.Kind.{type_references}
 use Rattle.wit_data.specs.declared.world.IncludeName.{IncludeName}
 use Rattle.wit_data.specs.declared.interface.Interface.{Interface}
 use Rattle.wit_data.specs.declared.stability.Stability.{Stability}
@@ -34,10 +34,9 @@ use Rattle.wit_labels.specs.Rename.{renamed_label}
 use Rattle.wit_link_spec.specs.CauseText.{rename_text}
 use Rattle.wit_link_spec.specs.Gates.{OptionalSpan}
 use Rattle.wit_link_spec.specs.Include.{EntryLists, IsListCalled, PartiallyLinked, belongs_to, copy_maps, include_stability, interface_copy, is_other_package, is_owned_within, joined_entries, lists_of, with_copies, with_entry_lists, with_world_included}
-use Rattle.wit_link_spec.specs.IncludeCause.{Disagree, HasStability, IsFirstUnmatched, IsIncludeCause, IsShadowed, mismatch_8, rename_unmatched_16, renamed_key, shadowing_7}
+use Rattle.wit_link_spec.specs.WorldReasons.{Disagree, HasStability, IsFirstUnmatched, IsIncludeCause, IsShadowed, mismatch_8, rename_unmatched_16, renamed_key, shadowing_7}
 use Rattle.wit_link_laws.specs.laws.StageFacts.{CanInclude}
-use Rattle.wit_link_include.specs.steps.Copied.{StayApart}
-use Rattle.wit_link_include.specs.steps.Included.{AreRenamed, ComeOnce, HaveOwnKeys, IsCauseOfInclude, IsJoinCause, JoinIsAccepted, StandsWith, before_includes, item_shadowing_7, stability_mismatch_8, with_one}
+use Rattle.wit_link_include.specs.steps.Included.{StayApart, AreRenamed, ComeOnce, HaveOwnKeys, IsCauseOfInclude, IsJoinCause, JoinIsAccepted, StandsWith, before_includes, item_shadowing_7, stability_mismatch_8, with_one}
 
 -- ---- a list of a good world
 

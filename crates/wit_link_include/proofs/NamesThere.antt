@@ -6,7 +6,7 @@ use Rattle.std.specs.List.{flat_map}
 use Rattle.std.specs.Option.{option_map_or}
 use Rattle.wit_digraph.specs.facts.MemberFacts.{Contains-cons_cases, Contains-flat_map_cases, Contains-nil}
 use Rattle.wit_data.specs.Entries.{IsExport, IsImport, ItemUsesOwn}
-use Rattle.wit_data.specs.Reference.{function_references}
+use Rattle.wit_data.specs.Kind.{function_references}
 use Rattle.wit_data.specs.declared.function.Function.{Function}
 use Rattle.wit_data.specs.declared.interface.Interface.{Interface}
 use Rattle.wit_data.specs.declared.types.TypeDef.{TypeDef}
@@ -20,7 +20,7 @@ use Rattle.wit_graph_data.specs.declared.graph.Graph.{Graph}
 use Rattle.wit_graph_theory.specs.facts.ListFacts.{Contains-map_cases, found_at, place_of}
 use Rattle.wit_link_spec.specs.Include.{belongs_to, entry_mentions, interface_mentions}
 use Rattle.wit_link_laws.specs.laws.StageFacts.{CanInclude}
-use Rattle.wit_link_include.specs.steps.Copied.{NamesThere}
+use Rattle.wit_link_include.specs.steps.Included.{NamesThere}
 
 module _ (g : Graph) (from : ℕ) (old : World) (can : CanInclude g from old) where
   in_types : (i : ℕ) (interface : Interface) → slice_get g.interfaces i ≡ Some interface → (t : ℕ) → Contains (map (λ (e : List ℕ × ℕ). e.1) interface.types) t → t < length g.types

@@ -10,12 +10,12 @@ use Rattle.wit_digraph.specs.facts.MemberFacts.{Contains-cons_cases, Contains-fl
 use Rattle.wit_digraph.specs.Relation.{IsAcyclic, IsPath, Reaches, direct}
 use Rattle.wit_digraph.specs.facts.PostOrderFacts.{Reaches-from_post_order, post_order-from_IsPath, post_order_is}
 use Rattle.wit_digraph.specs.PostOrder.{post_order}
-use Rattle.wit_data.specs.Reference.{referred, type_references}
+use Rattle.wit_data.specs.Kind.{referred, type_references}
 use Rattle.wit_data.specs.declared.types.TypeDef.{TypeDef}
 use Rattle.wit_graph_theory.specs.facts.ListFacts.{at_map}
 use Rattle.wit_graph_theory.specs.facts.RowFacts.{Reaches-join, Reaches-self, Reaches-use}
 use Rattle.wit_link_spec.specs.Include.{is_owned_within, is_unnamed_type, owner_belongs_to}
-use Rattle.wit_link_include.specs.steps.Copied.{StayApart, def_leads_by, is_open_in, leads, leads_by, open_row, open_rows, said}
+use Rattle.wit_link_include.specs.steps.Included.{StayApart, def_leads_by, is_open_in, leads, leads_by, open_row, open_rows, said}
 use Rattle.wit_link_include.specs.declared.origin.Origin.{Origin}
 use Rattle.wit_link_include.proofs.Members.{any_alike, any_in, any_out, same_truth}
 

@@ -7,7 +7,7 @@ use Rattle.std.proofs.lemmas.Bool.{eq-eqb, eqb-true, false_from_ne_true}
 use Rattle.std.proofs.lemmas.Map.Keys.{below_from_sorted}
 use Rattle.std.proofs.lemmas.Option.{get_or_from_slice_get, slice_get_within}
 use Rattle.wit_digraph.specs.facts.MemberFacts.{Contains-cons_cases, Contains-here, Contains-nil, Contains-there}
-use Rattle.wit_link_include.specs.steps.Copied.{numbered}
+use Rattle.wit_link_include.specs.steps.Included.{numbered}
 
 -- earlier ids are lower
 pub rises : (ids : List ℕ) (i j a b : ℕ) → IsStrictlySortedBy nat_cmp ids → i < j → slice_get ids i ≡ Some a → slice_get ids j ≡ Some b → a < b

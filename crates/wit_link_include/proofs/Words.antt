@@ -18,7 +18,7 @@ use Rattle.wit_data.specs.declared.world.WorldKey.TheVariants as key
 use Rattle.wit_graph_theory.specs.facts.ListFacts.{contained_at, place_of}
 use Rattle.wit_labels.specs.Groups.{begins_group, groups_of, rest_of}
 use Rattle.wit_labels.specs.Rename.{behind, renamed_label_by, renamed_rest}
-use Rattle.wit_link_spec.specs.IncludeCause.{IsFirstUnmatched, IsRenamed}
+use Rattle.wit_link_spec.specs.WorldReasons.{IsFirstUnmatched, IsRenamed}
 use Rattle.wit_link_include.specs.steps.Included.{AreRenamed, has_word, word_of}
 
 -- ---- a renaming is of a label exactly where it is of its word

@@ -3,7 +3,7 @@ ghost use Rattle.std.specs.Prelude.{◌≡◌, IfOk, map};
 ghost use Rattle.std.specs.Option.{option_map};
 ghost use Rattle.wit_remap_spec.specs.Image.{entry_image, interface_image, key_image, item_image, type_image};
 ghost use Rattle.wit_labels.specs.Rename.{renamed_label};
-ghost use Rattle.wit_link_include.specs.steps.Copied.{maps_of};
+ghost use Rattle.wit_link_include.specs.steps.Included.{maps_of};
 
 use std::alloc::{AllocError, Global};
 use wit_data::{

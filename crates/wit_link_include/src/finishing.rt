@@ -2,9 +2,8 @@
 ghost use Rattle.std.specs.Prelude.{◌≡◌, ◌⊎◌, IfErr, IfOk, OnOk, OnErr, length};
 ghost use Rattle.wit_graph_data.specs.Error.{NoCause};
 ghost use Rattle.wit_link_spec.specs.Pushed.{with_finished, with_placed};
-ghost use Rattle.wit_link_spec.specs.FinishCause.{IsFinishCause};
-ghost use Rattle.wit_elaboration.specs.AllWorlds.{elaborated_world};
-ghost use Rattle.wit_elaboration.specs.Elaboration.{IsConflictError, graph_uses};
+ghost use Rattle.wit_link_spec.specs.WorldReasons.{IsFinishCause};
+ghost use Rattle.wit_elaboration.specs.Elaboration.{elaborated_world, IsConflictError, graph_uses};
 ghost use Rattle.wit_elaboration.specs.Imported.{HasTransitiveConflict};
 ghost use Rattle.wit_elaboration.specs.Sound.{HasSoundEntries};
 ghost use Rattle.wit_graph_data.specs.declared.error_kind.ResolveErrorKind.TheVariants.{OutOfMemory};

@@ -3,14 +3,14 @@ ghost use Rattle.std.specs.Prelude.{◌≡◌, ℕ, Bool, ◌<◌, Contains, IfO
 ghost use Rattle.std.specs.List.Sorted.{IsStrictlySortedBy};
 ghost use Rattle.std.specs.Map.{keys_of, lookup};
 ghost use Rattle.std.specs.Ordering.{nat_cmp};
-ghost use Rattle.wit_data.specs.Reference.{type_references};
+ghost use Rattle.wit_data.specs.Kind.{type_references};
 ghost use Rattle.wit_data.specs.declared.world.World.{World};
 ghost use Rattle.wit_digraph.specs.Relation.{IsAcyclic};
 ghost use Rattle.wit_link_spec.specs.Include.{belongs_to, copy_maps, is_copied, with_copies};
 ghost use Rattle.wit_link_spec.specs.Addition.{selected};
 ghost use Rattle.wit_remap_spec.specs.Image.{interface_image, type_image};
 ghost use Rattle.wit_remap.specs.Grown.{Grown};
-ghost use Rattle.wit_link_include.specs.steps.Copied.{IsOrigin, NamesBelonging, NamesThere, StayApart, maps_of, numbered, places, with_images};
+ghost use Rattle.wit_link_include.specs.steps.Included.{IsOrigin, NamesBelonging, NamesThere, StayApart, maps_of, numbered, places, with_images};
 
 use crate::belonging::belonging_interfaces;
 use crate::copies::Copies;

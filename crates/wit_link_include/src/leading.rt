@@ -2,9 +2,9 @@
 ghost use Rattle.std.specs.Prelude.{◌≡◌, ℕ, ◌<◌, ◌++◌, Contains, IfOk, OnOk, length, map, nat_eq};
 ghost use Rattle.std.specs.List.{list_any};
 ghost use Rattle.std.specs.Map.{lookup};
-ghost use Rattle.wit_data.specs.Reference.{type_references};
+ghost use Rattle.wit_data.specs.Kind.{type_references};
 ghost use Rattle.wit_digraph.specs.Relation.{IsAcyclic, direct};
-ghost use Rattle.wit_link_include.specs.steps.Copied.{IsOrigin, StayApart, known_of, leads_by, open_rows, said};
+ghost use Rattle.wit_link_include.specs.steps.Included.{IsOrigin, StayApart, known_of, leads_by, open_rows, said};
 ghost use Rattle.wit_link_include.specs.declared.leading.Step.TheVariants as step;
 
 use crate::origin::Origin;

@@ -2,10 +2,10 @@
 ghost use Rattle.std.specs.Prelude.{◌≡◌, ℕ, List, ◌++◌, [], IfOk, OnOk, map, slice_get};
 ghost use Rattle.std.specs.List.{flat_map};
 ghost use Rattle.std.specs.Option.{option_map_or};
-ghost use Rattle.wit_data.specs.Reference.{function_references};
+ghost use Rattle.wit_data.specs.Kind.{function_references};
 ghost use Rattle.wit_data.specs.declared.function.Function.{Function};
 ghost use Rattle.wit_link_spec.specs.Include.{entry_mentions, interface_mentions};
-ghost use Rattle.wit_link_include.specs.steps.Copied.{IsOrigin, roots_of};
+ghost use Rattle.wit_link_include.specs.steps.Included.{IsOrigin, roots_of};
 
 use crate::origin::Origin;
 use std::alloc::{AllocError, Global};

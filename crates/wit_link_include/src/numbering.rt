@@ -3,7 +3,7 @@ ghost use Rattle.std.specs.Prelude.{◌≡◌, ℕ, ◌+◌, ◌<◌, ◌^◌, I
 ghost use Rattle.std.specs.List.{list_any};
 ghost use Rattle.std.specs.List.Sorted.{IsStrictlySortedBy};
 ghost use Rattle.std.specs.Ordering.{nat_cmp};
-ghost use Rattle.wit_link_include.specs.steps.Copied.{numbered};
+ghost use Rattle.wit_link_include.specs.steps.Included.{numbered};
 
 use std::alloc::{AllocError, Global};
 use wit_data::{Id, Items, Table, TryClone};

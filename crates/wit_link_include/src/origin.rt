@@ -1,7 +1,7 @@
 //! A world of a graph that another one includes.
 ghost use Rattle.std.specs.Prelude.{◌≡◌};
 ghost use Rattle.wit_link_spec.specs.Include.{owner_belongs_to};
-ghost use Rattle.wit_link_include.specs.steps.Copied.{IsOrigin, is_open_in};
+ghost use Rattle.wit_link_include.specs.steps.Included.{IsOrigin, is_open_in};
 
 use wit_data::{InterfaceId, Table, TypeDef, TypeOwner, World, WorldId};
 use wit_graph_data::Graph;

@@ -8,7 +8,7 @@ ghost use Rattle.wit_link_spec.specs.CauseText.{rename_text};
 ghost use Rattle.wit_graph_data.specs.declared.cause.Cause.TheVariants as cause;
 ghost use Rattle.wit_graph_data.specs.declared.error_kind.ResolveErrorKind.TheVariants.{OutOfMemory, Semantic};
 ghost use Rattle.wit_data.specs.declared.world.IncludeName.{IncludeName};
-ghost use Rattle.wit_link_spec.specs.IncludeCause.{IsFirstUnmatched};
+ghost use Rattle.wit_link_spec.specs.WorldReasons.{IsFirstUnmatched};
 ghost use Rattle.wit_link_include.specs.steps.Included.{AreRenamed, has_word, word_of};
 
 use std::alloc::{AllocError, Global};

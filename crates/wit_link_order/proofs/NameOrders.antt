@@ -11,7 +11,7 @@ use Rattle.std.specs.Map.{keys_of, lookup, values_of}
 use Rattle.std.specs.Option.{option_cmp}
 use Rattle.std.specs.Ordering.{is_lt}
 use Rattle.wit_values.specs.facts.Lists.{AllByRecursion-at}
-use Rattle.wit_names.specs.PackageOrder.{package_cmp, same_package}
+use Rattle.wit_names.specs.PackageName.{package_cmp, same_package}
 use Rattle.wit_names.specs.declared.package_name.PackageName.{PackageName}
 use Rattle.wit_link_order.specs.steps.GroupOrderSteps.{AreByName, indices_of_names}
 use Rattle.wit_names.specs.facts.PackageNameFacts.{own_name, same_name}

@@ -15,7 +15,7 @@ use Rattle.wit_digraph.specs.Relation.{IsAcyclic, IsInRange, IsPath, direct}
 use Rattle.wit_digraph.specs.facts.PostOrderFacts.{Reaches-from_post_order}
 use Rattle.wit_digraph.specs.PostOrder.{first_of_each, post_order}
 use Rattle.wit_data.specs.Foreign.{ForeignItem}
-use Rattle.wit_names.specs.PackageOrder.{same_package}
+use Rattle.wit_names.specs.PackageName.{same_package}
 use Rattle.wit_names.specs.declared.package_name.PackageName.{PackageName}
 use Rattle.wit_data.specs.declared.unresolved.UnresolvedPackage.{UnresolvedPackage}
 use Rattle.wit_link_order.proofs.NameOrders.{apart, keys-places, lookup-places, roots-all, roots-by_name}

@@ -9,7 +9,7 @@ use Rattle.wit_digraph.specs.Relation.{Reaches}
 use Rattle.wit_digraph.specs.PostOrder.{first_of_each, post_order}
 use Rattle.wit_data.specs.Each.{Each, SomeAt}
 use Rattle.wit_data.specs.Foreign.{ForeignItem}
-use Rattle.wit_names.specs.PackageOrder.{package_cmp, same_package}
+use Rattle.wit_names.specs.PackageName.{package_cmp, same_package}
 use Rattle.wit_sources.specs.Span.{moved_by}
 pub use Rattle.wit_sources.specs.Span.{OptionalSpan}
 use Rattle.wit_names.specs.declared.package_name.PackageName.{PackageName}

@@ -6,7 +6,7 @@ use Rattle.std.proofs.lemmas.List.FromFn.{length-map-range_with_len}
 use Rattle.std.proofs.lemmas.Option.{slice_get_within}
 use Rattle.wit_digraph.specs.Relation.{IsAcyclic}
 use Rattle.wit_digraph.specs.facts.EarlierFacts.{IsAcyclic-earlier}
-use Rattle.wit_data.specs.Reference.{referred, type_references}
+use Rattle.wit_data.specs.Kind.{referred, type_references}
 use Rattle.wit_data.specs.Shape.{IsShaped}
 use Rattle.wit_data.specs.Uses.{alias_target}
 use Rattle.wit_data.specs.declared.function.Function.{Function}

@@ -2,9 +2,8 @@
 use Rattle.std.proofs.Common.{◌≡◌, ◌∙◌, ℕ, ◌<◌, ◌||◌, Bool, true, false, List, [], ◌∷◌, ◌++◌, length, option_to_list, Option, None, Some, slice_get, refl, ap, sym, subst, arith, Contains}
 use Rattle.std.specs.List.{flat_map, list_any}
 use Rattle.std.specs.Option.{option_map_or}
-use Rattle.std.proofs.lemmas.List.{length-append, length-map}
+use Rattle.std.proofs.lemmas.List.{length-append, length-map, append-nil}
 use Rattle.std.proofs.lemmas.List.Folds.{list_any-append}
-use Rattle.std.proofs.lemmas.List.{append-nil}
 use Rattle.std.proofs.lemmas.List.Elements.{All-contains}
 use Rattle.std.proofs.lemmas.Option.{get_or_from_slice_get, slice_get_within}
 use Rattle.wit_values.specs.facts.Lists.{slice_get-append}
@@ -12,7 +11,7 @@ use Rattle.wit_digraph.specs.facts.MemberFacts.{Contains-here}
 use Rattle.wit_digraph.specs.Relation.{IsAcyclic, direct}
 use Rattle.wit_digraph.specs.facts.PostOrderFacts.{post_order_is, uses_ind}
 use Rattle.wit_digraph.specs.PostOrder.{post_order}
-use Rattle.wit_data.specs.Reference.{type_references}
+use Rattle.wit_data.specs.Kind.{type_references}
 use Rattle.wit_data.specs.Uses.{alias_target, alias_rows}
 use Rattle.wit_data.specs.declared.types.TypeDef.{TypeDef}
 use Rattle.wit_data.specs.declared.types.TypeDefKind.{TypeDefKind}

@@ -7,6 +7,7 @@ mod Inserting
 pub mod Leads
 mod MayHold
 pub mod MetTypes
+mod NewPositions
 mod OwnFunctions
 mod Ranges
 mod Ranks

@@ -4,7 +4,7 @@ use Rattle.std.proofs.lemmas.List.{take_at, take_all, take-take}
 use Rattle.std.proofs.lemmas.List.Elements.{Contains-push_cases}
 use Rattle.wit_digraph.specs.facts.MemberFacts.{Contains-nil}
 use Rattle.wit_digraph.specs.Relation.{IsAcyclic}
-use Rattle.wit_data.specs.Reference.{type_references}
+use Rattle.wit_data.specs.Kind.{type_references}
 use Rattle.wit_data.specs.declared.types.TypeDef.{TypeDef}
 use Rattle.wit_data.specs.Uses.{alias_rows}
 use Rattle.wit_link_spec.specs.Resources.{leads_to_resource}

@@ -2,7 +2,7 @@
 use Rattle.std.proofs.Common.{ℕ, List, option_to_list, Contains}
 use Rattle.wit_digraph.specs.facts.MemberFacts.{Contains-nil}
 use Rattle.wit_digraph.specs.Relation.{IsAcyclic}
-use Rattle.wit_data.specs.Reference.{referred, type_references}
+use Rattle.wit_data.specs.Kind.{referred, type_references}
 use Rattle.wit_data.specs.Uses.{alias_target, alias_rows}
 use Rattle.wit_data.specs.declared.types.TypeDef.{TypeDef}
 use Rattle.wit_data.specs.declared.types.TypeDefKind.{TypeDefKind}

@@ -4,7 +4,7 @@ use Rattle.std.specs.List.{flat_map}
 use Rattle.std.proofs.lemmas.List.Elements.{Contains-append_left, Contains-append_right}
 use Rattle.wit_digraph.specs.facts.MemberFacts.{Contains-flat_map, Contains-here, Contains-there}
 use Rattle.wit_data.specs.Entries.{Entry}
-use Rattle.wit_data.specs.Reference.{named_option}
+use Rattle.wit_data.specs.Kind.{named_option}
 use Rattle.wit_data.specs.declared.function.Function.{Function}
 use Rattle.wit_data.specs.declared.function.Param.{Param}
 use Rattle.wit_data.specs.declared.world.WorldInclude.{WorldInclude}
@@ -16,11 +16,10 @@ use Rattle.wit_graph_theory.specs.facts.ListFacts.{Contains-map, contained_at}
 use Rattle.wit_link_spec.specs.Addition.{Addition}
 use Rattle.wit_link_spec.specs.Cause.{IsCause, borrow_in_result_15, not_a_resource_14, offset_overflow_27}
 use Rattle.wit_link_spec.specs.CauseText.{borrow_text, not_a_resource_text}
-use Rattle.wit_link_spec.specs.Gates.{OptionalSpan, type_is_active}
+use Rattle.wit_link_spec.specs.Gates.{OptionalSpan, type_is_active, function_spans, interface_spans, item_spans, package_spans, type_spans, world_spans}
 use Rattle.wit_link_spec.specs.Lookup.{foreign_type_id}
 use Rattle.wit_link_spec.specs.Reasons.{IsActiveFunction, MayHoldBorrow, of_interface, of_world}
 use Rattle.wit_link_spec.specs.Resources.{leads_to_resource}
-use Rattle.wit_link_spec.specs.Spans.{function_spans, interface_spans, item_spans, package_spans, type_spans, world_spans}
 use Rattle.wit_link_resources.specs.steps.Borrows.{IsErrorAtSpan}
 
 module _ (a : Addition) where

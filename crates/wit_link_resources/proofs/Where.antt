@@ -7,7 +7,7 @@ use Rattle.wit_digraph.specs.facts.FreshFacts.{contains_from_any}
 use Rattle.wit_digraph.specs.facts.MemberFacts.{Contains-flat_map, Contains-here}
 use Rattle.wit_data.specs.Foreign.{ForeignItem, foreign_interfaces, interface_id}
 use Rattle.wit_data.specs.Ownership.{IsListed}
-use Rattle.wit_data.specs.Reference.{referred}
+use Rattle.wit_data.specs.Kind.{referred}
 use Rattle.wit_data.specs.Shape.{IsShaped}
 use Rattle.wit_data.specs.Uses.{alias_target}
 use Rattle.wit_data.specs.declared.interface.Interface.{Interface}

@@ -1,7 +1,7 @@
 //! Which types hold a borrow.
 ghost use Rattle.std.specs.Prelude.{◌≡◌, ◌++◌, ◌<◌, ◌↔◌, [], false, IfOk, IsTrue, OnOk, ℕ, length};
 ghost use Rattle.wit_digraph.specs.Relation.{IsAcyclic};
-ghost use Rattle.wit_data.specs.Reference.{type_references};
+ghost use Rattle.wit_data.specs.Kind.{type_references};
 ghost use Rattle.wit_data.specs.Shape.{IsShaped};
 ghost use Rattle.wit_data.specs.declared.types.Handle.TheVariants as handle;
 ghost use Rattle.wit_data.specs.declared.types.TypeDefKind.TheVariants as kinds;

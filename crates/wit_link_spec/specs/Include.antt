@@ -8,7 +8,7 @@ use Rattle.std.specs.Map.{lookup}
 use Rattle.std.specs.Option.{option_eq, option_map_or}
 use Rattle.wit_digraph.specs.PostOrder.{post_order}
 use Rattle.wit_data.specs.Entries.{Entry, interfaces_in_worlds, is_unnamed}
-use Rattle.wit_data.specs.Reference.{function_references, type_references}
+use Rattle.wit_data.specs.Kind.{function_references, type_references}
 use Rattle.wit_data.specs.declared.function.Function.{Function}
 use Rattle.wit_data.specs.declared.world.IncludeName.{IncludeName}
 use Rattle.wit_data.specs.declared.interface.Interface.{Interface}

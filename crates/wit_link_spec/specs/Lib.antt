@@ -1,16 +1,13 @@
 pub mod Addition
 pub mod Cause
 pub mod CauseText
-pub mod FinishCause
 pub mod Gates
 pub mod Include
-pub mod IncludeCause
 pub mod Lookup
 pub mod Pushed
 pub mod Reasons
 pub mod Resources
 pub mod Selected
-pub mod Spans
 pub mod ValueRemap
 pub mod WorldReasons
 pub mod facts

@@ -7,7 +7,7 @@ use Rattle.wit_sources.specs.Span.{moved_by}
 use Rattle.wit_data.specs.declared.interface.Interface.{Interface}
 use Rattle.wit_data.specs.declared.world.World.{World}
 use Rattle.wit_data.specs.declared.world.WorldInclude.{WorldInclude}
-use Rattle.wit_elaboration.specs.AllWorlds.{elaborated_world}
+use Rattle.wit_elaboration.specs.Elaboration.{elaborated_world}
 use Rattle.wit_graph_data.specs.declared.graph.Graph.{Graph}
 use Rattle.wit_graph_data.specs.declared.graph.Package.{Package}
 use Rattle.wit_remap_spec.specs.Image.{interface_image, world_image}

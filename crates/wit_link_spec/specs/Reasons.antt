@@ -8,8 +8,8 @@ use Rattle.wit_values.specs.Version.{Parts, version_cmp}
 use Rattle.wit_digraph.specs.Relation.{Reaches}
 use Rattle.wit_data.specs.Each.{SomeAt}
 use Rattle.wit_data.specs.Foreign.{ForeignItem}
-use Rattle.wit_names.specs.PackageOrder.{same_package}
-use Rattle.wit_data.specs.Reference.{function_references, named_option, named_type, referred}
+use Rattle.wit_names.specs.PackageName.{same_package}
+use Rattle.wit_data.specs.Kind.{function_references, named_option, named_type, referred}
 use Rattle.wit_sources.specs.Span.{moved_by}
 use Rattle.wit_data.specs.Stability.{IsStable}
 use Rattle.wit_data.specs.declared.stability.Docs.{Docs}
@@ -34,10 +34,9 @@ use Rattle.wit_graph_data.specs.Queries.{type_contents}
 use Rattle.wit_graph_data.specs.declared.graph.Graph.{Graph}
 use Rattle.wit_link_spec.specs.Addition.{Addition}
 use Rattle.wit_link_spec.specs.CauseText.{borrow_text, excluded_owner_text, excluded_text, gate_unreleased_text, gate_without_version_text, not_a_resource_text, type_not_defined_text}
-use Rattle.wit_link_spec.specs.Gates.{OptionalSpan, HasEntry, IsAsked, IsExcludedInterface, IsExcludedType, IsExcludedWorld, function_is_active, include_is_active, interface_is_active, is_active, type_is_active, world_is_active}
+use Rattle.wit_link_spec.specs.Gates.{OptionalSpan, HasEntry, IsAsked, IsExcludedInterface, IsExcludedType, IsExcludedWorld, function_is_active, include_is_active, interface_is_active, is_active, type_is_active, world_is_active, package_spans}
 use Rattle.wit_link_spec.specs.Lookup.{find_interface, find_world, foreign_interface_id, foreign_type_id, interface_type, is_foreign_type, named_items}
 use Rattle.wit_link_spec.specs.Resources.{leads_to_resource}
-use Rattle.wit_link_spec.specs.Spans.{package_spans}
 
 -- does the graph have a package of this name?
 abbrev pub HasPackage : Graph → PackageName → Type 0

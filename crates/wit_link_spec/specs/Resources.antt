@@ -6,7 +6,7 @@ use Rattle.std.specs.List.{list_any}
 use Rattle.std.specs.Option.{option_map_or}
 use Rattle.wit_digraph.specs.PostOrder.{post_order}
 use Rattle.wit_data.specs.New.{new_type}
-use Rattle.wit_data.specs.Reference.{named_option, named_type, referred_in}
+use Rattle.wit_data.specs.Kind.{named_option, named_type, referred_in}
 use Rattle.wit_data.specs.declared.function.Function.{Function}
 use Rattle.wit_data.specs.declared.function.Param.{Param}
 use Rattle.wit_data.specs.declared.kind.PartRole.{PartRole}

@@ -15,9 +15,8 @@ use Rattle.wit_link_spec.specs.ValueRemap.{value_id}
 use Rattle.wit_remap.specs.steps.Movers.{goes, id_or, maps_of}
 use Rattle.wit_remap.specs.declared.mover.Mover.{Mover}
 use Rattle.wit_merge_spec.specs.Matches.{GraphMerge}
-use Rattle.wit_merge_spec.specs.Remapped.{merge_maps, merged_interface, merged_package, merged_type, merged_world, remap_of_merge}
-use Rattle.wit_merge.specs.steps.Joined.{EntryWithin, FunctionMoves, InterfaceMoves, TypeMoves}
-use Rattle.wit_merge.specs.steps.UnionSteps.{CanUnite, merging_of}
+use Rattle.wit_merge_spec.specs.United.{merge_maps, merged_interface, merged_package, merged_type, merged_world, remap_of_merge}
+use Rattle.wit_merge.specs.steps.UnionSteps.{EntryWithin, FunctionMoves, InterfaceMoves, TypeMoves, CanUnite, merging_of}
 use Rattle.wit_merge.specs.declared.union_plan.UnionPlan.{UnionPlan}
 use Rattle.wit_merge.proofs.NamesStay.{name_stays}
 use Rattle.wit_merge.proofs.SameImages.{Agree, each_same, entries_same, function_same, interface_same, type_same}

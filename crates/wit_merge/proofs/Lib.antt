@@ -1,4 +1,5 @@
 mod Agrees
+mod BroughtNames
 mod Chosen
 mod CounterpartSteps
 mod Elaborates

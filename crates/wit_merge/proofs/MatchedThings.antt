@@ -13,15 +13,13 @@ use Rattle.wit_data.specs.declared.world.WorldKey.TheVariants as key
 use Rattle.wit_elaboration.specs.Valid.{IsValid}
 use Rattle.wit_remap_spec.specs.Image.{entry_image, item_image}
 use Rattle.wit_link_spec.specs.Include.{joined_entry, joined_item}
-use Rattle.wit_merge_spec.specs.United.{is_under_id}
+use Rattle.wit_merge_spec.specs.United.{is_under_id, merge_maps, merged_interface, moves_interface}
 use Rattle.wit_merge_spec.specs.Matches.{GraphMerge, counterpart_interface}
-use Rattle.wit_merge_spec.specs.Remapped.{merge_maps, merged_interface, moves_interface}
 use Rattle.wit_merge_laws.specs.facts.InterfacesStand.{moved_interface_remapped}
 use Rattle.wit_merge_laws.specs.facts.ListedStand.{interfaces_apart}
 use Rattle.wit_merge_laws.specs.facts.MatchFacts.{goes_to}
 use Rattle.wit_merge_laws.specs.facts.TypesStand.{matched_some}
-use Rattle.wit_merge.specs.steps.Joined.{KeyWithin, entry_joined, stability_joined, stability_of, stability_under}
-use Rattle.wit_merge.specs.steps.UnionSteps.{CanUnite, first_from, merging_of}
+use Rattle.wit_merge.specs.steps.UnionSteps.{KeyWithin, entry_joined, stability_joined, stability_of, stability_under, CanUnite, first_from, merging_of}
 use Rattle.wit_merge.specs.declared.union_plan.UnionPlan.{UnionPlan}
 use Rattle.wit_merge.proofs.CounterpartSteps.{is_matched, none_matched}
 

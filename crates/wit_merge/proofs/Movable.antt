@@ -9,7 +9,7 @@ use Rattle.wit_values.specs.Table.{HasDistinctKeys}
 use Rattle.wit_data.specs.Each.{SomeAt}
 use Rattle.wit_data.specs.Entries.{Entry, IsExport, IsImport, ItemUsesOwn}
 use Rattle.wit_data.specs.Ownership.{IsNamed, IsTypeOf}
-use Rattle.wit_data.specs.Reference.{function_references}
+use Rattle.wit_data.specs.Kind.{function_references}
 use Rattle.wit_data.specs.declared.interface.Interface.{Interface}
 use Rattle.wit_data.specs.declared.types.TypeDef.{TypeDef}
 use Rattle.wit_data.specs.declared.types.TypeOwner.{TypeOwner}
@@ -29,16 +29,14 @@ use Rattle.wit_graph_theory.specs.facts.GraphSource.{mapped_is_good}
 use Rattle.wit_remap_spec.specs.Image.{identity}
 use Rattle.wit_graph_theory.specs.facts.ListFacts.{found_at, place_of}
 use Rattle.wit_graph_theory.specs.steps.Sources.{IsGoodSource, OwnerIsActive, Source}
-use Rattle.wit_merge_spec.specs.United.{joined_graph, joined_package, united, with_interface, with_package}
+use Rattle.wit_merge_spec.specs.United.{joined_graph, joined_package, united, with_interface, with_package, moves_package}
 use Rattle.wit_merge_spec.specs.Matches.{GraphMerge, counterpart_interface, counterpart_interface_by, counterpart_package, counterpart_world, named_in_counterpart}
-use Rattle.wit_merge_spec.specs.Remapped.{moves_package}
 use Rattle.wit_merge_laws.specs.facts.InterfacesStand.{counterpart_is, old_interface_at, with_counterpart}
 use Rattle.wit_merge_laws.specs.facts.JoinedGood.{joined_good}
 use Rattle.wit_merge_laws.specs.facts.ListedStand.{moved_comes}
 use Rattle.wit_merge_laws.specs.facts.MatchedOnce.{package_once}
 use Rattle.wit_merge_laws.specs.facts.PackagesStand.{old_package_at, packages_good}
-use Rattle.wit_merge.specs.steps.Joined.{EntryWithin, FunctionsMove, InterfaceJoins, InterfaceMoves, OwnerWithin, PackageJoins, PackageMoves, TypeMoves, Within, WorldJoins, WorldMoves}
-use Rattle.wit_merge.specs.steps.UnionSteps.{CanUnite, merging_of}
+use Rattle.wit_merge.specs.steps.UnionSteps.{EntryWithin, FunctionsMove, InterfaceJoins, InterfaceMoves, OwnerWithin, PackageJoins, PackageMoves, TypeMoves, Within, WorldJoins, WorldMoves, CanUnite, merging_of}
 use Rattle.wit_merge.specs.declared.union_plan.UnionPlan.{UnionPlan}
 use Rattle.wit_merge.proofs.Agrees.{of_any}
 

@@ -5,9 +5,8 @@ use Rattle.wit_elaboration.proofs.Filters.{Contains-filter}
 use Rattle.wit_merge_match.specs.steps.Matched.{moves}
 use Rattle.wit_remap.specs.steps.Movers.{goes}
 use Rattle.wit_merge_spec.specs.Matches.{GraphMerge, counterpart_interface, counterpart_type, counterpart_world}
-use Rattle.wit_merge_spec.specs.Remapped.{merged_interface, merged_type, merged_world, moves_interface, moves_type, moves_world}
-use Rattle.wit_merge.specs.steps.Joined.{moved_names}
-use Rattle.wit_merge.specs.steps.UnionSteps.{CanUnite, merging_of}
+use Rattle.wit_merge_spec.specs.United.{merged_interface, merged_type, merged_world, moves_interface, moves_type, moves_world}
+use Rattle.wit_merge.specs.steps.UnionSteps.{moved_names, CanUnite, merging_of}
 use Rattle.wit_merge.specs.declared.union_plan.UnionPlan.{UnionPlan}
 use Rattle.wit_merge.proofs.Agrees.{interfaces_go, types_go, worlds_go}
 use Rattle.wit_merge.proofs.SameImages.{each_same}

@@ -6,7 +6,7 @@ use Rattle.std.proofs.lemmas.List.Elements.{All-contains, Contains-append_cases,
 use Rattle.wit_digraph.specs.facts.MemberFacts.{Contains-flat_map_cases}
 use Rattle.wit_digraph.specs.Relation.{direct}
 use Rattle.wit_data.specs.Function.{resource_of}
-use Rattle.wit_data.specs.Reference.{function_references, referred, type_references}
+use Rattle.wit_data.specs.Kind.{function_references, referred, type_references}
 use Rattle.wit_data.specs.facts.ReferenceFacts.{in_referred}
 use Rattle.wit_data.specs.declared.function.Function.{Function}
 use Rattle.wit_data.specs.declared.types.TypeDef.{TypeDef}
@@ -18,7 +18,7 @@ use Rattle.wit_link_spec.specs.Addition.{selected_with_index}
 use Rattle.wit_link_spec.specs.Resources.{is_value, signature_positions, value_positions}
 use Rattle.wit_link_spec.specs.ValueRemap.{positions}
 use Rattle.wit_merge_spec.specs.Matches.{GraphMerge}
-use Rattle.wit_merge_spec.specs.Remapped.{moved_functions, moved_types, moves_type, remap_of_merge}
+use Rattle.wit_merge_spec.specs.United.{moved_functions, moved_types, moves_type, remap_of_merge}
 use Rattle.wit_merge_laws.specs.facts.FunctionsThere.{moved_refers}
 
 -- a value position of a function is a reference of it

@@ -5,7 +5,7 @@ use Rattle.std.proofs.lemmas.List.Elements.{Contains-append_right}
 use Rattle.std.proofs.lemmas.Option.{slice_get_within}
 use Rattle.wit_digraph.specs.facts.MemberFacts.{Contains-cons_cases, Contains-here, Contains-nil}
 use Rattle.wit_data.specs.Function.{resource_of}
-use Rattle.wit_data.specs.Reference.{named_option, named_type}
+use Rattle.wit_data.specs.Kind.{named_option, named_type}
 use Rattle.wit_data.specs.declared.function.Function.{Function}
 use Rattle.wit_data.specs.declared.function.Param.{Param}
 use Rattle.wit_data.specs.declared.types.TypeDef.{TypeDef}
@@ -23,9 +23,8 @@ use Rattle.wit_link_spec.specs.Reasons.{HoldsBorrow}
 use Rattle.wit_link_spec.specs.Resources.{signature_positions}
 use Rattle.wit_link_spec.specs.ValueRemap.{value_id}
 use Rattle.wit_merge_spec.specs.Matches.{GraphMerge}
-use Rattle.wit_merge_spec.specs.Remapped.{merge_maps, merged_type, moved_functions, remap_of_merge}
+use Rattle.wit_merge_spec.specs.United.{merge_maps, merged_type, moved_functions, remap_of_merge, joined_graph}
 use Rattle.wit_merge_spec.specs.Cause.{MergeReturnsBorrow}
-use Rattle.wit_merge_spec.specs.United.{joined_graph}
 use Rattle.wit_merge_laws.specs.facts.TypesStand.{type_stands, values_stand}
 use Rattle.wit_merge.specs.steps.UnionSteps.{ReturnsFree}
 use Rattle.wit_merge_laws.specs.facts.FunctionsThere.{moved_refers}

@@ -5,9 +5,8 @@ use Rattle.std.specs.List.{flat_map}
 use Rattle.wit_digraph.specs.facts.MemberFacts.{Contains-flat_map, Contains-here, Contains-there}
 use Rattle.wit_data.specs.Entries.{Entry}
 use Rattle.wit_data.specs.Function.{resource_of}
-use Rattle.wit_data.specs.Kind.{KindPart, kind_parts, map_part, map_type}
-use Rattle.wit_data.specs.facts.KindFacts.{kind_same as kinds_same}
-use Rattle.wit_data.specs.Reference.{function_references, named_option, named_type, referred}
+use Rattle.wit_data.specs.Kind.{KindPart, kind_parts, map_type, function_references, named_option, named_type, referred}
+use Rattle.wit_data.specs.facts.KindFacts.{kind_same as kinds_same, map_part}
 use Rattle.wit_data.specs.declared.function.Function.{Function}
 use Rattle.wit_data.specs.declared.function.FunctionKind.{FunctionKind}
 use Rattle.wit_data.specs.declared.interface.Interface.{Interface}
@@ -27,7 +26,7 @@ use Rattle.wit_data.specs.declared.world.WorldItem.TheVariants as item
 use Rattle.wit_data.specs.declared.world.WorldKey.TheVariants as key
 use Rattle.wit_sources.specs.Span.{moved_by}
 use Rattle.wit_graph_theory.specs.facts.ListFacts.{contained_at}
-use Rattle.wit_merge.specs.steps.Joined.{EntryWithin, ItemWithin, KeyWithin, OwnerWithin, Within}
+use Rattle.wit_merge.specs.steps.UnionSteps.{EntryWithin, ItemWithin, KeyWithin, OwnerWithin, Within}
 use Rattle.wit_remap_spec.specs.Image.{Maps, entry_image, function_image, function_kind_image, interface_image, item_image, key_image, kind_image, name_image, owner_image, param_image, role_remap, type_image, value_image}
 
 -- maps that send the first so many types, interfaces and worlds to the same places

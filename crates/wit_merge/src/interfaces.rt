@@ -1,11 +1,9 @@
 //! The interfaces of two graphs as one.
 ghost use Rattle.std.specs.Prelude.{◌≡◌, ◌++◌, IfOk, OnOk};
 ghost use Rattle.wit_remap_spec.specs.Image.{function_image, interface_image};
-ghost use Rattle.wit_merge_spec.specs.Remapped.{merge_maps};
-ghost use Rattle.wit_merge_spec.specs.United.{joined_graph};
-ghost use Rattle.wit_merge.specs.steps.Joined.{FunctionMoves, FunctionsMove, brought_matched, functions_image};
+ghost use Rattle.wit_merge_spec.specs.United.{merge_maps, joined_graph};
+ghost use Rattle.wit_merge.specs.steps.UnionSteps.{FunctionMoves, FunctionsMove, brought_matched, functions_image, CanUnite, merging_of};
 ghost use Rattle.wit_values.specs.Table.{HasDistinctKeys};
-ghost use Rattle.wit_merge.specs.steps.UnionSteps.{CanUnite, merging_of};
 
 use crate::names::push_moved;
 use crate::parts::{Part, joined_list};
@@ -19,7 +17,7 @@ use wit_remap::Place;
 /// the other is joined to its own.
 impl Part for Interface {
     ghost use Rattle.wit_merge_spec.specs.United.{with_interface};
-    ghost use Rattle.wit_merge.specs.steps.Joined.{InterfaceJoins, InterfaceMoves};
+    ghost use Rattle.wit_merge.specs.steps.UnionSteps.{InterfaceJoins, InterfaceMoves};
 
     ghost can_move = { InterfaceMoves };
 

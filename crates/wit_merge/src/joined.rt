@@ -1,8 +1,7 @@
 //! The two graphs as one, as they are listed.
 ghost use Rattle.std.specs.Prelude.{◌≡◌, IfOk};
-ghost use Rattle.wit_merge_spec.specs.United.{joined_graph};
+ghost use Rattle.wit_merge_spec.specs.United.{joined_graph, remap_of_merge};
 ghost use Rattle.wit_merge.specs.steps.UnionSteps.{CanUnite, merging_of};
-ghost use Rattle.wit_merge_spec.specs.Remapped.{remap_of_merge};
 ghost use Rattle.wit_link_spec.specs.ValueRemap.{owns as owns_of};
 
 use crate::interfaces::joined_interfaces;

@@ -2,8 +2,7 @@
 ghost use Rattle.std.specs.Prelude.{◌≡◌, ◌++◌, IfOk, OnOk};
 ghost use Rattle.wit_values.specs.Table.{HasDistinctKeys};
 ghost use Rattle.wit_merge_spec.specs.United.{joined_graph};
-ghost use Rattle.wit_merge.specs.steps.Joined.{moved_names};
-ghost use Rattle.wit_merge.specs.steps.UnionSteps.{CanUnite, merging_of};
+ghost use Rattle.wit_merge.specs.steps.UnionSteps.{moved_names, CanUnite, merging_of};
 
 use crate::names::{moves, push_moved};
 use crate::parts::{Part, joined_list};
@@ -15,7 +14,7 @@ use wit_graph_data::Package;
 /// Behind the interfaces and worlds of one that stays come those of the other that move.
 impl Part for Package {
     ghost use Rattle.wit_merge_spec.specs.United.{package_image, with_package};
-    ghost use Rattle.wit_merge.specs.steps.Joined.{PackageJoins, PackageMoves};
+    ghost use Rattle.wit_merge.specs.steps.UnionSteps.{PackageJoins, PackageMoves};
 
     ghost can_move = { PackageMoves };
 

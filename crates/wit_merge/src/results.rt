@@ -3,9 +3,8 @@ ghost use Rattle.std.specs.Prelude.{◌≡◌, ◌⊎◌, ℕ, List, None, Conta
 ghost use Rattle.wit_graph_data.specs.declared.cause.Cause.TheVariants as cause;
 ghost use Rattle.wit_graph_data.specs.declared.error_kind.ResolveErrorKind.TheVariants.{OutOfMemory, Semantic};
 ghost use Rattle.wit_link_spec.specs.CauseText.{borrow_text};
-ghost use Rattle.wit_merge_spec.specs.Remapped.{moved_functions};
+ghost use Rattle.wit_merge_spec.specs.United.{moved_functions, joined_graph};
 ghost use Rattle.wit_merge_spec.specs.Cause.{MergeReturnsBorrow};
-ghost use Rattle.wit_merge_spec.specs.United.{joined_graph};
 ghost use Rattle.wit_link_resources.specs.steps.Borrows.{AreFreeTypes};
 ghost use Rattle.wit_merge.specs.steps.UnionSteps.{CanUnite, IsBorrowError, ReturnsFree, merging_of};
 

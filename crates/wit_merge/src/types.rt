@@ -1,8 +1,7 @@
 //! The types of two graphs as one.
 ghost use Rattle.std.specs.Prelude.{◌≡◌, IfOk};
-ghost use Rattle.wit_merge_spec.specs.United.{joined_graph};
+ghost use Rattle.wit_merge_spec.specs.United.{joined_graph, remap_of_merge};
 ghost use Rattle.wit_merge.specs.steps.UnionSteps.{CanUnite, merging_of};
-ghost use Rattle.wit_merge_spec.specs.Remapped.{remap_of_merge};
 ghost use Rattle.wit_link_spec.specs.ValueRemap.{owns as owns_of};
 
 use crate::parts::{Part, joined_list};
@@ -15,9 +14,8 @@ use wit_remap::Place;
 /// One that moves takes its place; to one that stays the stability of the other is joined.
 impl Part for TypeDef {
     ghost use Rattle.wit_remap_spec.specs.Image.{type_image};
-    ghost use Rattle.wit_merge_spec.specs.United.{with_type};
-    ghost use Rattle.wit_merge_spec.specs.Remapped.{merge_maps};
-    ghost use Rattle.wit_merge.specs.steps.Joined.{TypeMoves};
+    ghost use Rattle.wit_merge_spec.specs.United.{with_type, merge_maps};
+    ghost use Rattle.wit_merge.specs.steps.UnionSteps.{TypeMoves};
 
     ghost can_move = { TypeMoves };
 

@@ -1,6 +1,6 @@
 //! Two graphs that become one.
 ghost use Rattle.std.specs.Prelude.{◌≡◌, ◌<◌, Some, length, ℕ};
-ghost use Rattle.wit_merge_spec.specs.Remapped.{merged_package};
+ghost use Rattle.wit_merge_spec.specs.United.{merged_package};
 ghost use Rattle.wit_merge.specs.steps.UnionSteps.{CanUnite, merging_of};
 
 use wit_data::{Items, PackageId, TypeId};

@@ -5,9 +5,8 @@ ghost use Rattle.wit_graph_data.specs.declared.error_kind.ResolveErrorKind.{Reso
 ghost use Rattle.wit_graph_data.specs.declared.error_kind.ResolveErrorKind.TheVariants.{OutOfMemory};
 ghost use Rattle.wit_merge_match.specs.Differing.{merge_of_graphs_by};
 ghost use Rattle.wit_merge_match.specs.steps.Matched.{AreMatches, merge_remap_of};
-ghost use Rattle.wit_merge_spec.specs.Remapped.{merge_remap as ids_of};
+ghost use Rattle.wit_merge_spec.specs.United.{merge_remap as ids_of, joined_graph, united};
 ghost use Rattle.wit_merge_spec.specs.Cause.{IsMergeCause, MergeReturnsBorrow};
-ghost use Rattle.wit_merge_spec.specs.United.{joined_graph, united};
 ghost use Rattle.wit_merge.specs.steps.UnionSteps.{DoAgree};
 ghost use Rattle.wit_merge.specs.Remapped.{remap_of};
 

@@ -3,8 +3,7 @@ ghost use Rattle.std.specs.Prelude.{◌≡◌, IfOk, None, get_or, map};
 ghost use Rattle.std.specs.Option.{option_copied};
 ghost use Rattle.wit_values.specs.Table.{HasDistinctKeys};
 ghost use Rattle.wit_merge_spec.specs.United.{joined_graph};
-ghost use Rattle.wit_merge.specs.steps.Joined.{entry_joined, stability_joined, stability_of, stability_under};
-ghost use Rattle.wit_merge.specs.steps.UnionSteps.{CanUnite, merging_of};
+ghost use Rattle.wit_merge.specs.steps.UnionSteps.{entry_joined, stability_joined, stability_of, stability_under, CanUnite, merging_of};
 
 use crate::parts::{Part, joined_list};
 use crate::stabilities::join_stability;
@@ -18,9 +17,8 @@ use wit_remap::{Moves, placed_entries};
 /// stabilities of the other are joined.
 impl Part for World {
     ghost use Rattle.wit_remap_spec.specs.Image.{world_image};
-    ghost use Rattle.wit_merge_spec.specs.United.{with_world};
-    ghost use Rattle.wit_merge_spec.specs.Remapped.{merge_maps};
-    ghost use Rattle.wit_merge.specs.steps.Joined.{WorldJoins, WorldMoves};
+    ghost use Rattle.wit_merge_spec.specs.United.{with_world, merge_maps};
+    ghost use Rattle.wit_merge.specs.steps.UnionSteps.{WorldJoins, WorldMoves};
 
     ghost can_move = { WorldMoves };
 

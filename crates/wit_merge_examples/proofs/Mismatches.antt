@@ -17,9 +17,7 @@ use Rattle.wit_graph_data.specs.declared.cause.Cause.TheVariants as cause
 use Rattle.wit_graph_data.specs.declared.error_kind.ResolveErrorKind.TheVariants.{Semantic}
 use Rattle.wit_remap_spec.specs.FunctionMismatch.{FunctionMismatch, HaveFunctionMismatch, function_mismatch_text, kinds_differ, parameter_counts_differ, parameter_names_differ, parameter_types_differ, result_counts_differ, results_differ}
 use Rattle.wit_graph_theory.specs.examples.TestFacts.{none_some}
-use Rattle.wit_merge_spec.specs.Agreement.{EntriesDiffer, StructuresDiffer}
-use Rattle.wit_merge_spec.specs.Agreement as mismatch
-use Rattle.wit_merge_spec.specs.Cause.{IsMergeCause}
+use Rattle.wit_merge_spec.specs.Cause.{EntriesDiffer, StructuresDiffer, IsMergeCause}
 use Rattle.wit_merge_spec.specs.Cause as reason
 use Rattle.wit_merge_spec.specs.Matches.{GraphMerge, TypePair, type_pairs}
 use Rattle.wit_merge_spec.specs.MismatchText.{linked, part_links, side_word, type_link}
@@ -41,20 +39,20 @@ of_function : (f g : Function) (text : List ℕ) → f.name ≡ g.name → Funct
     → IsMergeCause (merge_of_graphs (holding f) (holding g)) (Semantic None (linked (part_links foo_bar (codes "interface") (codes "i")) (function_mismatch_text g.name text)) cause.MergeMismatch)
 of_function f g text same apart =
     reason.merge_mismatch_24 _
-    (mismatch.interfaces (record { x = 0; from = _; x' = 0; into = _; from_is = refl; matched = refl; into_is = refl }) 0 _ (codes "i") _ refl refl refl
+    (reason.interfaces (record { x = 0; from = _; x' = 0; into = _; from_is = refl; matched = refl; into_is = refl }) 0 _ (codes "i") _ refl refl refl
     (disagreeing _ _ f g text same (0, lit< tt, refl) (0, lit< tt, refl) apart))
 
 -- a difference of the imports of w is told of w
 of_imports : (into from : List Entry) (text : List ℕ) → EntriesDiffer (merge_of_graphs (importing into) (importing from)) (side_word false) from into text
     → IsMergeCause (merge_of_graphs (importing into) (importing from)) (Semantic None (linked (part_links foo_bar (codes "world") (codes "w")) text) cause.MergeMismatch)
 of_imports into from text differs =
-    reason.merge_mismatch_24 _ (mismatch.worlds (record { x = 0; from = _; x' = 0; into = _; from_is = refl; matched = refl; into_is = refl }) 0 _ false _ refl refl differs)
+    reason.merge_mismatch_24 _ (reason.worlds (record { x = 0; from = _; x' = 0; into = _; from_is = refl; matched = refl; into_is = refl }) 0 _ false _ refl refl differs)
 
 -- a difference of matched types is told of the first of them
 of_types : (m : GraphMerge) (pair : TypePair) (after : List TypePair) (ending : List ℕ) → type_pairs m ≡ pair ∷ after → StructuresDiffer m pair.from pair.into ending → IsMergeCause m (Semantic None (linked pair.links ending) cause.MergeMismatch)
 of_types m pair after ending is differs =
     reason.merge_mismatch_24 _
-    (mismatch.types _ (record { before = []; pair = pair; after = after; pairs_are = is; alike = λ p e among d. Contains-nil among; ending = ending; differs = differs; message_is = refl }))
+    (reason.types _ (record { before = []; pair = pair; after = after; pairs_are = is; alike = λ p e among d. Contains-nil among; ending = ending; differs = differs; message_is = refl }))
 
 pub mismatches : ExamplesOfMismatches
 unfolding post_order post_order_within structure structure_within
@@ -93,30 +91,30 @@ mismatches = record {
       });
   same_target = differs_in_nothing _ refl refl refl;
   other_type = differs_in_nothing _ refl refl refl;
-  import_counts = of_imports (entry_of 0 ∷ []) [] _ (mismatch.count (λ same. absurd (omega (arith, same))));
+  import_counts = of_imports (entry_of 0 ∷ []) [] _ (reason.count (λ same. absurd (omega (arith, same))));
   export_counts =
-      reason.merge_mismatch_24 _ (mismatch.worlds (record { x = 0; from = _; x' = 0; into = _; from_is = refl; matched = refl; into_is = refl }) 0 _ true _ refl refl (mismatch.count (λ same. absurd (omega (arith, same)))));
+      reason.merge_mismatch_24 _ (reason.worlds (record { x = 0; from = _; x' = 0; into = _; from_is = refl; matched = refl; into_is = refl }) 0 _ true _ refl refl (reason.count (λ same. absurd (omega (arith, same)))));
   same_imports = differs_in_nothing _ refl refl refl;
-  absent = of_imports (entry_of 0 ∷ []) (entry_of 1 ∷ []) _ (mismatch.absent (entry_of 1) (0, lit< tt, refl) refl);
+  absent = of_imports (entry_of 0 ∷ []) (entry_of 1 ∷ []) _ (reason.absent (entry_of 1) (0, lit< tt, refl) refl);
   reordered = differs_in_nothing _ refl refl refl;
   sorts = of_imports ((key.Name (codes "x"), instance 0) ∷ []) ((key.Name (codes "x"), item.Function (function_of (codes "x") [] None)) ∷ []) _
-      (mismatch.apart _ _ _ (0, lit< tt, refl) refl (mismatch.sorts refl));
+      (reason.apart _ _ _ (0, lit< tt, refl) refl (reason.sorts refl));
   other_interfaces = of_imports ((key.Name (codes "x"), instance 0) ∷ []) ((key.Name (codes "x"), instance 1) ∷ []) _
-      (mismatch.apart _ _ _ (0, lit< tt, refl) refl (mismatch.interfaces 1 0 refl refl (λ same. absurd (omega (arith, some_number same)))));
+      (reason.apart _ _ _ (0, lit< tt, refl) refl (reason.interfaces 1 0 refl refl (λ same. absurd (omega (arith, some_number same)))));
   named_there =
       reason.merge_mismatch_24 _
-      (mismatch.worlds (record { x = 0; from = _; x' = 0; into = _; from_is = refl; matched = refl; into_is = refl }) 0 _ false _ refl refl
-      (mismatch.apart _ _ _ (0, lit< tt, refl) refl (mismatch.interfaces 0 0 refl refl (λ same. none_some 0 same))));
+      (reason.worlds (record { x = 0; from = _; x' = 0; into = _; from_is = refl; matched = refl; into_is = refl }) 0 _ false _ refl refl
+      (reason.apart _ _ _ (0, lit< tt, refl) refl (reason.interfaces 0 0 refl refl (λ same. none_some 0 same))));
   named_comes =
       reason.merge_mismatch_24 _
-      (mismatch.worlds (record { x = 0; from = _; x' = 0; into = _; from_is = refl; matched = refl; into_is = refl }) 0 _ false _ refl refl
-      (mismatch.apart _ _ _ (0, lit< tt, refl) refl (mismatch.interfaces 0 0 refl refl (λ same. none_some 0 same))));
+      (reason.worlds (record { x = 0; from = _; x' = 0; into = _; from_is = refl; matched = refl; into_is = refl }) 0 _ false _ refl refl
+      (reason.apart _ _ _ (0, lit< tt, refl) refl (reason.interfaces 0 0 refl refl (λ same. none_some 0 same))));
   world_functions = differs_in_nothing _ refl refl refl;
   unnamed_functions =
       reason.merge_mismatch_24 _
-      (mismatch.worlds (record { x = 0; from = _; x' = 0; into = _; from_is = refl; matched = refl; into_is = refl }) 0 _ false _ refl refl
-      (mismatch.apart _ _ _ (0, lit< tt, refl) refl
-      (mismatch.unnamed _ (record { x = 0; from = _; x' = 0; into = _; from_is = refl; matched = refl; into_is = refl }) refl refl refl
+      (reason.worlds (record { x = 0; from = _; x' = 0; into = _; from_is = refl; matched = refl; into_is = refl }) 0 _ false _ refl refl
+      (reason.apart _ _ _ (0, lit< tt, refl) refl
+      (reason.unnamed _ (record { x = 0; from = _; x' = 0; into = _; from_is = refl; matched = refl; into_is = refl }) refl refl refl
       (disagreeing _ _ (returning None) (taking_x type.U32) _ refl (0, lit< tt, refl) (0, lit< tt, refl) (parameter_counts_differ (λ same. absurd (omega (arith, same))) refl)))));
   unnamed_agree = differs_in_nothing _ refl refl refl;
 }

@@ -9,7 +9,7 @@ use Rattle.std.specs.Str.{bytes_eq}
 use Rattle.wit_digraph.specs.facts.MemberFacts.{Contains-cons_cases, Contains-here, Contains-nil}
 use Rattle.wit_digraph.specs.Relation.{direct}
 use Rattle.wit_data.specs.Entries.{Entry, item_interface, entries_of}
-use Rattle.wit_data.specs.Reference.{named_option}
+use Rattle.wit_data.specs.Kind.{named_option}
 use Rattle.wit_data.specs.declared.function.Function.{Function}
 use Rattle.wit_data.specs.declared.interface.Interface.{Interface}
 use Rattle.wit_data.specs.declared.stability.Stability.{Stability}
@@ -35,15 +35,12 @@ use Rattle.wit_graph_theory.specs.facts.ListFacts.{contained_at, found_at}
 use Rattle.wit_graph_theory.specs.examples.TestFacts.{all_are, all_at, all_uses, at_are, falls, implied, implies, is_empty, no_cycle, none_some, nothing_in, some_passes}
 use Rattle.wit_link_spec.specs.Gates.{OptionalSpan}
 use Rattle.wit_link_spec.specs.Reasons.{HoldsBorrow}
-use Rattle.wit_link_spec.specs.IncludeCause.{Disagree, HasStability}
-use Rattle.wit_merge_spec.specs.Agreement.{EntriesDiffer, ItemsDiffer, StructuresDiffer, same_sort}
-use Rattle.wit_merge_spec.specs.Agreement as differ
-use Rattle.wit_merge_spec.specs.Cause.{AreJoined, HasNoMismatch, IsMergeCause, MergeIsAccepted, MergeOverflows, MergeReturnsBorrow, StabilitiesMismatch, graph_spans}
+use Rattle.wit_link_spec.specs.WorldReasons.{Disagree, HasStability}
+use Rattle.wit_merge_spec.specs.Cause.{EntriesDiffer, ItemsDiffer, StructuresDiffer, same_sort, AreJoined, HasNoMismatch, IsMergeCause, MergeIsAccepted, MergeOverflows, MergeReturnsBorrow, StabilitiesMismatch, graph_spans}
 use Rattle.wit_merge_spec.specs.Cause as merging
 use Rattle.wit_merge_spec.specs.Matches.{FirstDiffers, GraphMerge, Pair, TypePair, counterpart_interface, counterpart_item, counterpart_type, counterpart_world, matched_interface, matched_world, type_pairs}
 use Rattle.wit_merge_spec.specs.MismatchText.{side_word}
-use Rattle.wit_merge_spec.specs.Remapped.{merge_maps, moved_functions}
-use Rattle.wit_merge_spec.specs.United.{joined_graph}
+use Rattle.wit_merge_spec.specs.United.{merge_maps, moved_functions, joined_graph}
 use Rattle.wit_merge_structure.specs.facts.DifferenceFacts.{same_no_first}
 use Rattle.wit_merge_structure.specs.Structure.{Feature, structure}
 use Rattle.wit_merge_laws.specs.facts.InterfacesStand.{option_is, option_so}
@@ -108,18 +105,18 @@ types_fine m same message first =
 
 module _ (m : GraphMerge) (interfaces : interfaces_pass m ≡ true) where
   items_fine : (from there : WorldItem) → items_pass m from there ≡ true → (text : List ℕ) → ItemsDiffer m from there text → ⊥
-  items_fine from there all _ (differ.sorts off) = false≢true (sym off ∙ (and_parts _ _ all).0)
-  items_fine from there all _ (differ.interfaces i i' from_is there_is apart) =
+  items_fine from there all _ (merging.sorts off) = false≢true (sym off ∙ (and_parts _ _ all).0)
+  items_fine from there all _ (merging.interfaces i i' from_is there_is apart) =
       let one = all_are (λ i. list_all (λ i'. option_eq nat_eq (counterpart_interface m i) (Some i')) (item_interface there)) (item_interface from) (and_parts (same_sort from there) _ all).1 i (one_in (item_interface from) i from_is) in
       let two = all_are (λ i'. option_eq nat_eq (counterpart_interface m i) (Some i')) (item_interface there) one i' (one_in (item_interface there) i' there_is) in
       apart (option_is (counterpart_interface m i) i' two)
-  items_fine from there all _ (differ.unnamed text p from_is there_is nameless apart) = pair_fine m interfaces p text apart
+  items_fine from there all _ (merging.unnamed text p from_is there_is nameless apart) = pair_fine m interfaces p text apart
 
   entries_fine : (word : List ℕ) (from into : List Entry) → entries_pass m from into ≡ true → (text : List ℕ) → EntriesDiffer m word from into text → ⊥
-  entries_fine word from into all _ (differ.count apart) = apart (eqb-true _ _ (and_parts (nat_eq (length from) (length into)) _ all).0)
-  entries_fine word from into all _ (differ.absent e listed none) =
+  entries_fine word from into all _ (merging.count apart) = apart (eqb-true _ _ (and_parts (nat_eq (length from) (length into)) _ all).0)
+  entries_fine word from into all _ (merging.absent e listed none) =
       there_passes (items_pass m e.1) (counterpart_item m into e.0) (all_are (λ (e : Entry). option_map_or (items_pass m e.1) (counterpart_item m into e.0) false) from (and_parts (nat_eq (length from) (length into)) _ all).1 e listed) none
-  entries_fine word from into all _ (differ.apart e there text listed is apart) =
+  entries_fine word from into all _ (merging.apart e there text listed is apart) =
       items_fine e.1 there
       (some_passes (items_pass m e.1) false (counterpart_item m into e.0) there is
       (all_are (λ (e : Entry). option_map_or (items_pass m e.1) (counterpart_item m into e.0) false) from (and_parts (nat_eq (length from) (length into)) _ all).1 e listed)) text apart
@@ -127,9 +124,9 @@ module _ (m : GraphMerge) (interfaces : interfaces_pass m ≡ true) where
   module _ (worlds : worlds_pass m ≡ true) (types : structures_from m ≡ structures_into m) where
     -- what passes differs in nothing
     pub are_one : HasNoMismatch m
-    are_one _ (differ.interfaces p home there name text named of is differs) = pair_fine m interfaces p text differs
-    are_one _ (differ.types message first) = types_fine m types message first
-    are_one _ (differ.worlds p home there exported text of is differs) = by exported differs
+    are_one _ (merging.interfaces p home there name text named of is differs) = pair_fine m interfaces p text differs
+    are_one _ (merging.types message first) = types_fine m types message first
+    are_one _ (merging.worlds p home there exported text of is differs) = by exported differs
       where
         beside : matched_world m p.x ≡ Some p.into
         beside = ap (λ (o : Option ℕ). option_and_then (slice_get m.graph.worlds) o) p.matched ∙ p.into_is

@@ -4,7 +4,7 @@ use Rattle.std.specs.Prelude.{codes}
 use Rattle.wit_values.specs.facts.Lists.{differ}
 use Rattle.wit_digraph.specs.Relation.{direct}
 use Rattle.wit_digraph.specs.PostOrder.{post_order, post_order_within}
-use Rattle.wit_data.specs.Reference.{type_references}
+use Rattle.wit_data.specs.Kind.{type_references}
 use Rattle.wit_names.specs.declared.package_name.PackageName.{PackageName}
 use Rattle.wit_data.specs.declared.world.WorldKey.TheVariants as key
 use Rattle.wit_elaboration.specs.Elaboration.{graph_uses}
@@ -17,9 +17,7 @@ use Rattle.wit_elaboration.specs.AllElaborated.{HasWorldInConflict, UsesItself}
 use Rattle.wit_remap_spec.specs.FunctionMismatch.{FunctionMismatch, parameter_names_differ}
 use Rattle.wit_graph_theory.specs.examples.TestFacts.{no_cycle, none_in, one_of_two, only_one}
 use Rattle.wit_link_spec.specs.Gates.{OptionalSpan}
-use Rattle.wit_merge_spec.specs.Agreement.{GraphsDiffer}
-use Rattle.wit_merge_spec.specs.Agreement as mismatch
-use Rattle.wit_merge_spec.specs.Cause.{HasNoMismatch, IsMergeCause, MergeReturnsBorrow}
+use Rattle.wit_merge_spec.specs.Cause.{GraphsDiffer, HasNoMismatch, IsMergeCause, MergeReturnsBorrow}
 use Rattle.wit_merge_spec.specs.Cause as merging
 use Rattle.wit_merge_spec.specs.Matches.{GraphMerge}
 use Rattle.wit_merge_spec.specs.United.{joined_graph}
@@ -54,22 +52,22 @@ names_apart = parameter_names_differ 0 _ _ refl refl (differ (codes "q") (codes 
 
 l_differ : GraphsDiffer l_differs (codes "failed to merge package `foo:a` into existing copy: failed to merge interface `l`: mismatch in function `g`: different function parameter names: q != p")
 l_differ =
-    mismatch.interfaces (record { x = 1; from = _; x' = 2; into = _; from_is = refl; matched = refl; into_is = refl }) 1 _ (codes "l") _ refl refl refl
+    merging.interfaces (record { x = 1; from = _; x' = 2; into = _; from_is = refl; matched = refl; into_is = refl }) 1 _ (codes "l") _ refl refl refl
     (disagreeing _ _ (g_of (codes "p")) (g_of (codes "q")) _ refl (0, lit< tt, refl) (0, lit< tt, refl) names_apart)
 
 x_differ : GraphsDiffer x_differs (codes "failed to merge package `foo:bar` into existing copy: failed to merge interface `x`: mismatch in function `g`: different function parameter names: q != p")
 x_differ =
-    mismatch.interfaces (record { x = 0; from = _; x' = 1; into = _; from_is = refl; matched = refl; into_is = refl }) 0 _ (codes "x") _ refl refl refl
+    merging.interfaces (record { x = 0; from = _; x' = 1; into = _; from_is = refl; matched = refl; into_is = refl }) 0 _ (codes "x") _ refl refl refl
     (disagreeing _ _ (g_of (codes "p")) (g_of (codes "q")) _ refl (0, lit< tt, refl) (0, lit< tt, refl) names_apart)
 
 t_differ : GraphsDiffer t_differs (codes "failed to merge package `foo:bar` into existing copy: failed to merge interface `i`: mismatch in function `g`: different function parameter names: q != p")
 t_differ =
-    mismatch.interfaces (record { x = 0; from = _; x' = 0; into = _; from_is = refl; matched = refl; into_is = refl }) 0 _ (codes "i") _ refl refl refl
+    merging.interfaces (record { x = 0; from = _; x' = 0; into = _; from_is = refl; matched = refl; into_is = refl }) 0 _ (codes "i") _ refl refl refl
     (disagreeing _ _ (g_of (codes "p")) (g_of (codes "q")) _ refl (1, lit< tt, refl) (0, lit< tt, refl) names_apart)
 
 i_differ : GraphsDiffer all_wrong (codes "failed to merge package `foo:bar` into existing copy: failed to merge interface `i`: mismatch in function `g`: different function parameter names: q != p")
 i_differ =
-    mismatch.interfaces (record { x = 0; from = _; x' = 0; into = _; from_is = refl; matched = refl; into_is = refl }) 0 _ (codes "i") _ refl refl refl
+    merging.interfaces (record { x = 0; from = _; x' = 0; into = _; from_is = refl; matched = refl; into_is = refl }) 0 _ (codes "i") _ refl refl refl
     (disagreeing _ _ (g_of (codes "p")) (g_of (codes "q")) _ refl (0, lit< tt, refl) (0, lit< tt, refl) names_apart)
 
 -- ---- 4 and 6

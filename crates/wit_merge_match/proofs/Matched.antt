@@ -5,7 +5,7 @@ use Rattle.std.specs.Option.{option_map_or}
 use Rattle.std.specs.Str.{bytes_eq}
 use Rattle.wit_data.specs.Entries.{is_unnamed}
 use Rattle.wit_data.specs.Ownership.{world_types}
-use Rattle.wit_names.specs.PackageOrder.{same_package}
+use Rattle.wit_names.specs.PackageName.{same_package}
 use Rattle.wit_data.specs.declared.interface.Interface.{Interface}
 use Rattle.wit_data.specs.declared.types.TypeDef.{TypeDef}
 use Rattle.wit_data.specs.declared.types.TypeOwner.{TypeOwner}

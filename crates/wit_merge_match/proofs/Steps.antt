@@ -13,11 +13,10 @@ use Rattle.wit_graph_data.specs.declared.graph.Package.{Package}
 use Rattle.wit_remap_spec.specs.FunctionMismatch.{HaveFunctionMismatch}
 use Rattle.wit_graph_theory.specs.facts.ListFacts.{contained_at, place_of}
 use Rattle.wit_graph_theory.specs.facts.OptionFacts.{some_parts, some_same, some_whole}
-use Rattle.wit_merge_spec.specs.Agreement as agreement
-use Rattle.wit_merge_spec.specs.Agreement.{EntriesDiffer, GraphsDiffer, ItemsDiffer, same_sort}
+use Rattle.wit_merge_spec.specs.Cause as agreement
+use Rattle.wit_merge_spec.specs.Cause.{EntriesDiffer, GraphsDiffer, ItemsDiffer, same_sort, HasNoMismatch}
 use Rattle.wit_merge_spec.specs.Matches.{GraphMerge, Pair, TypePair, counterpart_interface, counterpart_world, type_pairs}
 use Rattle.wit_merge_spec.specs.MismatchText.{entry_count_text, entry_link, linked, other_interface_text, other_sort_text, part_links, type_link}
-use Rattle.wit_merge_spec.specs.Cause.{HasNoMismatch}
 use Rattle.wit_merge_match.specs.Differing as differing
 use Rattle.wit_merge_match.specs.Differing.{DifferAt, EntryDiffers, HeldDiffer, InterfaceDiffersAt, InterfacesDiffer, PartDiffers, WorldDiffersAt, WorldsDiffer}
 use Rattle.wit_merge_match.specs.steps.Structures.{FirstMismatch, NoneDiffer}

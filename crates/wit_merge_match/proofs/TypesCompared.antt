@@ -21,7 +21,7 @@ use Rattle.wit_elaboration.proofs.FreshEntries.{same_key-true}
 use Rattle.wit_elaboration.specs.Entries.{same_key}
 use Rattle.wit_graph_theory.specs.facts.ListFacts.{found_at, place_of}
 use Rattle.wit_graph_theory.specs.facts.OptionFacts.{some_parts}
-use Rattle.wit_merge_spec.specs.Agreement.{StructuresDiffer}
+use Rattle.wit_merge_spec.specs.Cause.{StructuresDiffer}
 use Rattle.wit_merge_spec.specs.Matches.{GraphMerge, TypePair, counterpart_interface, counterpart_item, counterpart_key, counterpart_type, counterpart_world, matched_interface, matched_world, paired}
 use Rattle.wit_merge_spec.specs.MismatchText.{linked, type_link}
 use Rattle.wit_merge_structure.specs.steps.ComparisonSteps.{IsSound, from_structure, into_structure, matched_by}

@@ -9,7 +9,7 @@ use Rattle.wit_graph_data.specs.IdText.{key_text}
 use Rattle.wit_graph_data.specs.declared.graph.Graph.{Graph}
 use Rattle.wit_graph_data.specs.declared.graph.Package.{Package}
 use Rattle.wit_remap_spec.specs.FunctionMismatch.{HaveFunctionMismatch}
-use Rattle.wit_merge_spec.specs.Agreement.{EntriesDiffer, ItemsDiffer}
+use Rattle.wit_merge_spec.specs.Cause.{EntriesDiffer, ItemsDiffer}
 use Rattle.wit_merge_spec.specs.Matches.{GraphMerge, counterpart_interface, counterpart_item, counterpart_world}
 use Rattle.wit_merge_spec.specs.MismatchText.{absent_text, entry_link, linked, other_interface_text, part_links, side_word}
 use Rattle.wit_merge_match.specs.steps.Matched.{AreMatches, merge_of_graphs}

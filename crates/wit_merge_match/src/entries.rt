@@ -1,6 +1,6 @@
 //! What differs in the entries of matched worlds.
 ghost use Rattle.std.specs.Prelude.{◌≡◌, ◌↔◌, ℕ, IfNone, IfOk, IfSome, IsTrue, List, Some, string_bytes};
-ghost use Rattle.wit_merge_spec.specs.Agreement.{EntriesDiffer, ItemsDiffer, same_sort};
+ghost use Rattle.wit_merge_spec.specs.Cause.{EntriesDiffer, ItemsDiffer, same_sort};
 ghost use Rattle.wit_merge_spec.specs.Matches.{counterpart_interface};
 ghost use Rattle.wit_merge_match.specs.Differing.{AreKnown, EntryDiffers, HeldDiffer, SidesDiffer, merging_of};
 

@@ -1,8 +1,7 @@
 //! What differs of what is matched of two graphs, which have to agree to become one.
 ghost use Rattle.std.specs.Prelude.{ℕ, IfNone, IfOk, IfSome, List, string_bytes};
 ghost use Rattle.wit_elaboration.specs.Valid.{IsValid};
-ghost use Rattle.wit_merge_spec.specs.Agreement.{GraphsDiffer};
-ghost use Rattle.wit_merge_spec.specs.Cause.{HasNoMismatch};
+ghost use Rattle.wit_merge_spec.specs.Cause.{GraphsDiffer, HasNoMismatch};
 ghost use Rattle.wit_merge_match.specs.steps.Matched.{AreMatches, merge_of_graphs};
 ghost use Rattle.wit_merge_match.specs.Differing.{AreKnown, InterfaceDiffersAt, WorldDiffersAt, merging_of};
 

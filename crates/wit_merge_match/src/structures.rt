@@ -1,9 +1,8 @@
 //! What differs in the structure of matched types, in the order in which they are compared.
 ghost use Rattle.std.specs.Prelude.{◌≡◌, ◌∷◌, ◌++◌, ◌<◌, [], IfNone, IfOk, IfSome, length, string_bytes};
 ghost use Rattle.std.specs.List.{flat_map};
-ghost use Rattle.wit_graph_data.specs.Queries.{topological_packages};
+ghost use Rattle.wit_graph_data.specs.Queries.{topological_packages, package_uses};
 ghost use Rattle.wit_digraph.specs.Relation.{IsAcyclic};
-ghost use Rattle.wit_graph_data.specs.Relations.{package_uses};
 ghost use Rattle.wit_merge_spec.specs.Matches.{entry_pairs, interface_pairs, item_pairs, paired, type_pairs, world_pairs};
 ghost use Rattle.wit_merge_match.specs.Differing.{merging_of};
 ghost use Rattle.wit_merge_match.specs.steps.Structures.{AreComparable, FirstMismatch, IsOf, IsThere, ListsThere, NoneDiffer, TypesThere, common_pair, package_interface_pairs, package_world_pairs, side_pairs, unnamed_pairs};

@@ -2,7 +2,7 @@
 ghost use Rattle.std.specs.Prelude.{◌≡◌, IfOk, None, get_or, map, option_and_then, slice_get};
 ghost use Rattle.std.specs.Map.{lookup};
 ghost use Rattle.std.specs.Str.{bytes_eq};
-ghost use Rattle.wit_names.specs.PackageOrder.{same_package};
+ghost use Rattle.wit_names.specs.PackageName.{same_package};
 ghost use Rattle.wit_graph_data.specs.declared.graph.Package.{Package};
 ghost use Rattle.wit_merge_match.specs.steps.Matched.{interface_under, world_under};
 

@@ -7,11 +7,10 @@ use Rattle.wit_data.specs.declared.types.TypeDef.{TypeDef}
 use Rattle.wit_data.specs.declared.types.Type_.{Type_}
 use Rattle.wit_data.specs.declared.types.Type_.TheVariants as type
 use Rattle.wit_digraph.specs.Relation.{IsAcyclic}
-use Rattle.wit_data.specs.Reference.{type_references}
+use Rattle.wit_data.specs.Kind.{type_references, variant_of}
 use Rattle.wit_merge_structure.specs.steps.ComparisonSteps.{AreSides, AreThere, DifferHere, from_held, from_structure, id_of, into_held, into_structure, kind_at, matched_by, structure_of}
 use Rattle.wit_merge_structure.specs.facts.DifferenceFacts.{first_front, first_here}
 use Rattle.wit_merge_structure.specs.steps.Kinds.{HeadsDiffer, ending_text}
-use Rattle.wit_data.specs.Kind.{variant_of}
 use Rattle.wit_merge_structure.specs.Structure.{Content, Feature, FirstDifference, absent, difference_text, head_features, held_features, here, is_named, kind_features, named, part_features, primitive, structure, variant}
 use Rattle.wit_merge_structure.specs.declared.comparison.Sides.{Sides}
 use Rattle.wit_merge_structure.specs.declared.heads.Ending.{Ending}

@@ -14,13 +14,21 @@ use Rattle.wit_data.specs.declared.kind.Variant.{Variant}
 use Rattle.wit_data.specs.declared.types.Handle.TheVariants as handle
 use Rattle.wit_data.specs.declared.types.TypeDefKind.TheVariants as kind
 use Rattle.wit_merge_structure.specs.facts.DifferenceFacts.{first_behind, first_here}
-use Rattle.wit_merge_structure.specs.steps.Kinds.{HeadsDiffer, has_names, name_at, step_at, steps_of}
+use Rattle.wit_merge_structure.specs.steps.Kinds.{HeadsDiffer, name_at, step_at, steps_of}
 use Rattle.wit_data.specs.Kind.{KindPart, fixed_length, kind_parts, named_part, part_name, plain_part, plain_step, variant_of}
 use Rattle.wit_data.specs.facts.KindFacts.{plain_read}
 use Rattle.wit_data.specs.declared.kind.PartRole.TheVariants.{Value}
 use Rattle.wit_merge_structure.specs.Structure.{Content, Feature, FirstDifference, fixed, head_features, here, names, variant}
 use Rattle.wit_merge_structure.specs.declared.heads.Ending.TheVariants.{Kinds, Lengths, Names}
 use Rattle.wit_data.specs.declared.kind.Variant.TheVariants as variants
+
+-- have the parts of such kinds names?
+abbrev pub has_names : Variant → Bool
+has_names variants.Record = true
+has_names variants.Flags = true
+has_names variants.Variant_ = true
+has_names variants.Enum = true
+has_names other = false
 
 -- ---- parts without names
 

@@ -8,7 +8,7 @@ use Rattle.std.proofs.lemmas.List.Elements.{All-contains}
 use Rattle.std.proofs.lemmas.Option.{get_or_from_slice_get, slice_get-map, slice_get_within}
 use Rattle.wit_values.specs.facts.Lists.{push-cases, take-next_at}
 use Rattle.wit_digraph.specs.Relation.{IsAcyclic, direct}
-use Rattle.wit_data.specs.Reference.{named_option, referred, type_references}
+use Rattle.wit_data.specs.Kind.{named_option, referred, type_references, kind_parts, KindPart}
 use Rattle.wit_data.specs.facts.ReferenceFacts.{length-references, references_at}
 use Rattle.wit_data.specs.declared.types.TypeDef.{TypeDef}
 use Rattle.wit_data.specs.declared.types.TypeDefKind.{TypeDefKind}
@@ -18,7 +18,6 @@ use Rattle.wit_data.specs.declared.types.Type_.TheVariants as type
 use Rattle.wit_merge_structure.specs.steps.ComparisonSteps.{AreAtParts, AreSides, AreThere, IsAtPart, frame_step, from_held, from_structure, into_held, into_structure, kind_at, matched_by, path_of}
 use Rattle.wit_merge_structure.specs.facts.DifferenceFacts.{first_behind, first_front, first_within}
 use Rattle.wit_merge_structure.specs.steps.Kinds.{step_at, steps_of}
-use Rattle.wit_data.specs.Kind.{kind_parts, KindPart}
 use Rattle.wit_merge_structure.specs.Structure.{Content, Feature, FirstDifference, absent, head_features, held_features, here, is_named, kind_features, named, names, part_features, structure, within}
 use Rattle.wit_merge_structure.specs.facts.StructureFacts.{part_refers, structure_at}
 use Rattle.wit_merge_structure.specs.declared.comparison.Sides.{Sides}

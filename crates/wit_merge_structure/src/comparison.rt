@@ -5,7 +5,7 @@
 //! class less, or with a difference, however often and in whatever pairs the types are shared.
 ghost use Rattle.std.specs.Prelude.{◌≡◌, ◌<◌, ◌++◌, IfNone, IfOk, IfSome, IsTrue, ◌↔◌, Some, false, length, string_bytes};
 ghost use Rattle.wit_digraph.specs.Relation.{IsAcyclic};
-ghost use Rattle.wit_data.specs.Reference.{type_references};
+ghost use Rattle.wit_data.specs.Kind.{type_references};
 ghost use Rattle.wit_merge_structure.specs.steps.ComparisonSteps.{AreAtParts, AreSides, AreThere, Compares, HasClasses, IsSound, from_structure, id_of, into_structure, kind_at, matched_by, path_of};
 ghost use Rattle.wit_merge_structure.specs.steps.Kinds.{ending_text};
 ghost use Rattle.wit_merge_structure.specs.Structure.{DifferInStructure, head_features, is_named, path_text};

@@ -1,5 +1,4 @@
 pub mod PackageName
-pub mod PackageOrder
 pub mod Track
 pub mod UsePath
 pub mod examples

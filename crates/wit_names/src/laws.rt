@@ -1,7 +1,7 @@
 //! What the definitions say of what the code computes and of small examples. The functions without a body
 //! have a contract alone, which is what is proved.
 ghost use Rattle.std.specs.Prelude.{◌≡◌};
-ghost use Rattle.wit_names.specs.PackageOrder.{package_cmp, same_package};
+ghost use Rattle.wit_names.specs.PackageName.{package_cmp, same_package};
 ghost use Rattle.wit_names.specs.examples.TrackExamples.{ExamplesOfTracks};
 
 use crate::package_name::PackageName;

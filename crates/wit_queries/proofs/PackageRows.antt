@@ -7,7 +7,7 @@ use Rattle.std.proofs.lemmas.Option.{get_or_from_slice_get, slice_get_within}
 use Rattle.wit_data.specs.declared.interface.Interface.{Interface}
 use Rattle.wit_data.specs.declared.types.TypeDef.{TypeDef}
 use Rattle.wit_data.specs.declared.world.World.{World}
-use Rattle.wit_graph_data.specs.Relations.{package_direct_deps, package_needs, package_uses}
+use Rattle.wit_graph_data.specs.Queries.{package_direct_deps, package_needs, package_uses}
 use Rattle.wit_graph_data.specs.declared.graph.Package.{Package}
 
 -- what f gives of the element at a place and the place

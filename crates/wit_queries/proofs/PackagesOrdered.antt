@@ -6,7 +6,7 @@ use Rattle.std.proofs.lemmas.List.Elements.{All-contains}
 use Rattle.wit_digraph.specs.laws.Laws.{FirstsAreOnce, PostOrdersKeepOrder, PostOrdersReach}
 use Rattle.wit_digraph.specs.Relation.{IsAcyclic, IsPath, direct}
 use Rattle.wit_digraph.specs.PostOrder.{first_of_each, post_order}
-use Rattle.wit_graph_data.specs.Relations.{package_uses}
+use Rattle.wit_graph_data.specs.Queries.{package_uses}
 use Rattle.wit_queries.specs.laws.PackageOrder.{IsOrder, PackagesAreInOrder}
 use Rattle.wit_queries.proofs.PackageRows.{length-rows, range-below}
 

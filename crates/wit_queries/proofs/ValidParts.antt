@@ -6,8 +6,7 @@ use Rattle.std.specs.Option.{option_map_or}
 use Rattle.std.proofs.lemmas.Bool.{and_cases, and_from, and_left, and_parts, and_right, false≢true}
 use Rattle.std.proofs.lemmas.List.Elements.{Contains-append_cases, Contains-append_left, Contains-append_right}
 use Rattle.wit_digraph.specs.facts.MemberFacts.{Contains-cons_cases, Contains-here, Contains-nil}
-use Rattle.wit_data.specs.Kind.{KindPart, kind_parts, named_part, plain_part, variant_of}
-use Rattle.wit_data.specs.Reference.{named_option, named_type}
+use Rattle.wit_data.specs.Kind.{KindPart, kind_parts, named_part, plain_part, variant_of, named_option, named_type}
 use Rattle.wit_data.specs.declared.kind.PartRole.TheVariants.{Value}
 use Rattle.wit_data.specs.declared.types.Field.{Field}
 use Rattle.wit_data.specs.declared.types.Handle.{Handle}

@@ -5,7 +5,7 @@ use Rattle.wit_data.specs.Uses.{interface_uses}
 use Rattle.wit_data.specs.declared.interface.Interface.{Interface}
 use Rattle.wit_data.specs.declared.types.TypeDef.{TypeDef}
 use Rattle.wit_data.specs.declared.world.World.{World}
-use Rattle.wit_graph_data.specs.Relations.{other_package, world_interfaces}
+use Rattle.wit_graph_data.specs.Queries.{other_package, world_interfaces}
 
 -- of what the interfaces of a table use: those of the one that is begun, and of the ones after it
 abbrev pub remaining_uses : List TypeDef → List Interface → Option (List ℕ) → List (List ℕ × ℕ) → List ℕ

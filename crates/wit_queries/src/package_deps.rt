@@ -2,8 +2,7 @@
 ghost use Rattle.std.specs.Prelude.{◌≡◌, ◌∷◌, [], ◌<◌, IfErr, IfOk, MatchOption, length};
 ghost use Rattle.std.specs.Iterator.{YieldsFirst, item_count};
 ghost use Rattle.std.specs.List.{range_with_len};
-ghost use Rattle.wit_graph_data.specs.Queries.{topological_packages};
-ghost use Rattle.wit_graph_data.specs.Relations.{package_direct_deps, package_interfaces, package_uses};
+ghost use Rattle.wit_graph_data.specs.Queries.{topological_packages, package_direct_deps, package_interfaces, package_uses};
 ghost use Rattle.wit_graph_data.specs.declared.error_kind.ResolveErrorKind.TheVariants.{OutOfMemory};
 ghost use Rattle.wit_queries.specs.RemainingUses.{other_packages};
 ghost use Rattle.wit_digraph.specs.Relation.{IsAcyclic};

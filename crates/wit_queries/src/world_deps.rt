@@ -2,7 +2,7 @@
 ghost use Rattle.std.specs.Prelude.{◌≡◌, slice_get};
 ghost use Rattle.std.specs.Iterator.{YieldsFirst, item_count};
 ghost use Rattle.std.specs.Option.{option_map};
-ghost use Rattle.wit_graph_data.specs.Relations.{world_interfaces};
+ghost use Rattle.wit_graph_data.specs.Queries.{world_interfaces};
 
 use crate::next::next_named;
 use indexmap::map::Iter;
@@ -20,7 +20,7 @@ pub(crate) struct WorldInterfaces<'a> {
 
 impl<'a> Model for WorldInterfaces<'a> {
     ghost use Rattle.std.specs.Prelude.{List, ℕ, ◌++◌};
-    ghost use Rattle.wit_graph_data.specs.Relations.{entry_interfaces};
+    ghost use Rattle.wit_graph_data.specs.Queries.{entry_interfaces};
 
     ghost Value = { List ℕ };
 

@@ -20,7 +20,7 @@ use Rattle.wit_link_spec.specs.facts.ActivePart.{part}
 use Rattle.wit_link_spec.specs.facts.ApartFacts.{KeyIsActive, keys_apart}
 use Rattle.wit_link_spec.specs.facts.ClosedCut.{closed_part}
 use Rattle.wit_link_spec.specs.Reasons.{IsResolved}
-use Rattle.wit_remap.specs.steps.Added.{HasKeysApart}
+use Rattle.wit_remap.specs.steps.Fits.{HasKeysApart}
 
 module _ (f : Entry → Entry) (kept : Entry → Bool) where
   -- a key that no other has

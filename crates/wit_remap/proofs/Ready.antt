@@ -5,7 +5,7 @@ use Rattle.std.specs.Map.{keys_of, lookup}
 use Rattle.std.specs.Str.{bytes_eq}
 use Rattle.std.proofs.lemmas.Bool.{lt-ltb}
 use Rattle.wit_data.specs.Foreign.{foreign_interfaces, foreign_worlds}
-use Rattle.wit_names.specs.PackageOrder.{same_package}
+use Rattle.wit_names.specs.PackageName.{same_package}
 use Rattle.wit_data.specs.Shape.{IsShaped}
 use Rattle.wit_data.specs.declared.interface.Interface.{Interface}
 use Rattle.wit_data.specs.declared.types.TypeDef.{TypeDef}
@@ -26,7 +26,7 @@ use Rattle.wit_link_spec.specs.declared.addition.NewIds.{NewIds}
 use Rattle.wit_link_spec.specs.ValueRemap.{owns}
 use Rattle.wit_link_spec.specs.steps.NewThings.{is_new}
 use Rattle.wit_link_spec.specs.facts.NewFacts.{new_interfaces, new_types, new_worlds}
-use Rattle.wit_remap.specs.steps.Added.{CanMoveParts, added_world, added_worlds, interfaces_at, moved_package, moved_parts, placed_world, worlds_at}
+use Rattle.wit_remap.specs.steps.Fits.{CanMoveParts, added_world, added_worlds, interfaces_at, moved_package, moved_parts, placed_world, worlds_at}
 use Rattle.wit_remap.specs.steps.Movers.{maps_with}
 use Rattle.wit_remap.specs.steps.Parts.{kept_of}
 use Rattle.wit_remap.specs.declared.part.Part.{Part}

@@ -1,4 +1,3 @@
-pub mod Added
 pub mod Fits
 pub mod Movers
 pub mod Parts

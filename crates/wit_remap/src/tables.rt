@@ -4,7 +4,7 @@ ghost use Rattle.std.specs.List.{IsDistinct};
 ghost use Rattle.std.specs.Map.{keys_of};
 ghost use Rattle.std.specs.Str.{bytes_eq};
 ghost use Rattle.wit_remap.specs.steps.Movers.{maps_of};
-ghost use Rattle.wit_remap.specs.steps.Added.{interfaces_at, worlds_at};
+ghost use Rattle.wit_remap.specs.steps.Fits.{interfaces_at, worlds_at};
 
 use crate::mover::Mover;
 use crate::moves::Moves;

@@ -5,10 +5,9 @@ ghost use Rattle.std.specs.Map.{keys_of};
 ghost use Rattle.wit_remap_spec.specs.Image.{entry_image, item_image, key_image};
 ghost use Rattle.wit_data.specs.Each.{Each};
 ghost use Rattle.wit_data.specs.facts.WorldKeyFacts.{same_key};
-ghost use Rattle.wit_remap.specs.steps.Fits.{EntriesFit, Fits, ItemFits, WorldFits};
+ghost use Rattle.wit_remap.specs.steps.Fits.{EntriesFit, Fits, ItemFits, WorldFits, HasKeysApart, placed_world};
 ghost use Rattle.wit_remap.specs.steps.Movers.{maps_of};
 ghost use Rattle.wit_remap.specs.steps.Parts.{kept_of};
-ghost use Rattle.wit_remap.specs.steps.Added.{HasKeysApart, placed_world};
 
 use crate::mover::Mover;
 use crate::moves::Moves;

@@ -15,7 +15,7 @@ use Rattle.wit_sources.specs.SourceMap.{AreLaidOut, Sources, moved_file, with_so
 use Rattle.wit_sources.specs.Span.{moved_by}
 use Rattle.wit_data.specs.Each.{Each}
 use Rattle.wit_names.specs.facts.PackageNameFacts.{own_name}
-use Rattle.wit_names.specs.PackageOrder.{same_package}
+use Rattle.wit_names.specs.PackageName.{same_package}
 use Rattle.wit_data.specs.Shape.{IsGroupShaped, IsShaped}
 use Rattle.wit_names.specs.declared.package_name.PackageName.{PackageName}
 use Rattle.wit_data.specs.declared.unresolved.UnresolvedPackage.{UnresolvedPackage}

@@ -14,7 +14,7 @@ use Rattle.wit_queries.specs.ValidBits.{AreValidBits, AreValidBitsOf}
 use Rattle.wit_queries.specs.facts.ValidBitsFacts.{flags_stay}
 use Rattle.wit_transform.specs.Transformed.{WorldLists, transformed, transformed_at}
 use Rattle.wit_link.specs.Appending.{KnowsLeads}
-use Rattle.wit_resolve_graph.specs.Kept.{AreKept}
+use Rattle.wit_resolve_graph.specs.State.{AreKept}
 use Rattle.wit_resolve_graph.specs.declared.kept.Kept.{Kept}
 
 -- a transformation leaves types and interfaces as they are

@@ -1,6 +1,4 @@
-pub mod Kept
 pub mod Merging
-pub mod Named
 pub mod Sources
 pub mod State
 pub mod Step

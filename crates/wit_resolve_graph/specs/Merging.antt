@@ -7,8 +7,7 @@ use Rattle.wit_remap.specs.declared.remap.Remap.{Remap}
 use Rattle.wit_merge.specs.Remapped.{remap_of}
 use Rattle.wit_merge_spec.specs.Cause.{IsMergeCause, MergeIsAccepted}
 use Rattle.wit_merge_spec.specs.Matches.{GraphMerge}
-use Rattle.wit_merge_spec.specs.Remapped.{merge_remap}
-use Rattle.wit_merge_spec.specs.United.{united}
+use Rattle.wit_merge_spec.specs.United.{merge_remap, united}
 use Rattle.wit_resolve_graph.specs.State.{State}
 
 -- the graph of another state goes into that of a state; its spans move to the end of the sources, as its files do

@@ -8,7 +8,7 @@ use Rattle.wit_sources.specs.Span.{end_of, moved_by}
 use Rattle.wit_sources.specs.declared.source_map.SourceFile.{SourceFile}
 use Rattle.wit_data.specs.declared.unresolved.UnresolvedPackageGroup.{UnresolvedPackageGroup}
 use Rattle.wit_graph_data.specs.Error.{NoCause}
-use Rattle.wit_graph_data.specs.RenderedText.{rendered_text, text_at}
+use Rattle.wit_graph_data.specs.ErrorText.{rendered_text, text_at}
 use Rattle.wit_graph_data.specs.declared.error_kind.ResolveErrorKind.{ResolveErrorKind}
 use Rattle.wit_graph_data.specs.declared.error_kind.ResolveErrorKind.TheVariants.{OffsetOverflow, OutOfMemory}
 use Rattle.wit_link.specs.Appending.{IsGroupsCause}

@@ -8,7 +8,7 @@ ghost use Rattle.wit_link_spec.specs.Cause.{IsCause};
 ghost use Rattle.wit_link.specs.Appending.{IsAdded, addition};
 ghost use Rattle.wit_remap.specs.Grown.{cut_at};
 ghost use Rattle.wit_queries.specs.ValidBits.{AreValidBits, AreValidBitsOf};
-ghost use Rattle.wit_resolve_graph.specs.Kept.{AreKept};
+ghost use Rattle.wit_resolve_graph.specs.State.{AreKept};
 
 use std::alloc::{AllocError, Global};
 use wit_data::{Items, PackageId, Table, TryClone, TypeId, UnresolvedPackage};

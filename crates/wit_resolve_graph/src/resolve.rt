@@ -16,10 +16,8 @@ ghost use Rattle.wit_selection.specs.Selection.{IsSelectionError, selected_world
 ghost use Rattle.wit_resolve_graph.specs.Merging.{FilesPass, Merges, RefusesMerge, merge_of};
 ghost use Rattle.wit_resolve_graph.specs.State.{new_state};
 ghost use Rattle.wit_resolve_graph.specs.Step.{PushesGroups, RefusesGroups, with_feature};
-ghost use Rattle.wit_semver_spec.specs.Rewritten.{rewritten};
-ghost use Rattle.wit_semver_spec.specs.TrackCause.{IsTrackCause};
-ghost use Rattle.wit_transform.specs.TransformCause.{AreAnswers, Exportizes, IsExportizeCause, IsImportizeCause, RefusesExportize, imports_at};
-ghost use Rattle.wit_transform.specs.Transformed.{exportized, importized, transformed};
+ghost use Rattle.wit_semver_spec.specs.Rewritten.{rewritten, IsTrackCause};
+ghost use Rattle.wit_transform.specs.Transformed.{AreAnswers, Exportizes, IsExportizeCause, IsImportizeCause, RefusesExportize, imports_at, exportized, importized, transformed};
 
 use crate::groups::{add_packages, place_groups};
 use crate::kept::{Kept, append_kept};
@@ -53,8 +51,7 @@ pub struct Resolve {
 }
 
 impl Model for Resolve {
-    ghost use Rattle.wit_resolve_graph.specs.Kept.{AreKept};
-    ghost use Rattle.wit_resolve_graph.specs.State.{State};
+    ghost use Rattle.wit_resolve_graph.specs.State.{AreKept, State};
 
     ghost Value = { State };
 

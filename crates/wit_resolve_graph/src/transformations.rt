@@ -7,8 +7,7 @@ ghost use Rattle.wit_graph_data.specs.declared.error_kind.ResolveErrorKind.{Reso
 ghost use Rattle.wit_graph_data.specs.declared.error_kind.ResolveErrorKind.TheVariants.{OutOfMemory};
 ghost use Rattle.wit_resolve_graph.specs.Step.{Step, answers_at, is_listed_key, listed_answers};
 ghost use Rattle.wit_resolve_graph.specs.declared.command.Command.TheVariants as command;
-ghost use Rattle.wit_transform.specs.TransformCause.{IsExportizeCause};
-ghost use Rattle.wit_transform.specs.Transformed.{exportized, transformed};
+ghost use Rattle.wit_transform.specs.Transformed.{IsExportizeCause, exportized, transformed};
 
 use crate::command::Reply;
 use crate::resolve::Resolve;

@@ -5,10 +5,10 @@ ghost use Rattle.wit_elaboration.specs.Valid.{IsValid};
 ghost use Rattle.wit_graph_data.specs.declared.error_kind.ResolveErrorKind.{ResolveErrorKind};
 ghost use Rattle.wit_graph_data.specs.declared.error_kind.ResolveErrorKind.TheVariants.{OutOfMemory};
 ghost use Rattle.wit_merge_spec.specs.Cause.{IsMergeCause};
-ghost use Rattle.wit_merge_spec.specs.Remapped as moved;
+ghost use Rattle.wit_merge_spec.specs.United as moved;
 ghost use Rattle.wit_merge_spec.specs.United.{united};
 ghost use Rattle.wit_merge.specs.Remapped.{remap_of};
-ghost use Rattle.wit_resolve_graph.specs.Kept.{AreKept};
+ghost use Rattle.wit_resolve_graph.specs.State.{AreKept};
 
 use crate::kept::Kept;
 use std::alloc::Global;

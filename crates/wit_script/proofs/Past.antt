@@ -6,7 +6,7 @@ use Rattle.wit_script_package.specs.Naming.{OptionalSpan}
 use Rattle.wit_script_package.specs.declared.mention.Mention.{Mention}
 use Rattle.wit_script_lines.specs.declared.statement.Statement.{Statement}
 use Rattle.wit_script_lines.specs.declared.statement.Statement.TheVariants as says
-use Rattle.wit_script.specs.LinesAhead.{mentions_at_line, mentions_past, mentions_then, mentions_with}
+use Rattle.wit_script.specs.Script.{mentions_at_line, mentions_past, mentions_then, mentions_with}
 use Rattle.wit_script.specs.declared.ahead.Ahead.{Ahead}
 
 module _ (at : ℕ) (line : List ℕ) where

@@ -13,8 +13,7 @@ use Rattle.wit_names.specs.declared.package_name.PackageName.{PackageName}
 use Rattle.wit_script_lines.specs.declared.request.Request.{Request}
 use Rattle.wit_script_lines.specs.declared.request.Request.TheVariants as request
 use Rattle.wit_selection.specs.Selection.{IsSelection}
-use Rattle.wit_resolve_graph.specs.Named.{package_named, world_named}
-use Rattle.wit_resolve_graph.specs.State.{State, new_state}
+use Rattle.wit_resolve_graph.specs.State.{package_named, world_named, State, new_state}
 use Rattle.wit_resolve_graph.specs.Step.{IsCommandShaped}
 use Rattle.wit_resolve_graph.specs.declared.command.Command.{Command}
 use Rattle.wit_resolve_graph.specs.declared.command.Command.TheVariants.{AddFeature, SetAllFeatures, SetTrackRule, PushGroups, Merge, Importize, Exportize, Semver}
@@ -168,14 +167,10 @@ Acts runs chooses before does.Merge text after = AnswersMerge runs before before
 Acts runs chooses before (does.Print owner world) text after = (after ≡ before) × AnswersPrint (working_state before).graph owner world text
 Acts runs chooses before (does.Select owner said) text after = (after ≡ before) × AnswersSelect chooses (working_state before).graph owner said text
 
--- the answer to a command that brings no packages, and the stage after it
-abbrev pub Replies : Runs → Chooses → Stage → Request → List ℕ → Stage → Type 0
-Replies runs chooses before asked text after = Acts runs chooses before (action_of asked) text after
-
 -- the answer to a command, and the stage after it
 abbrev pub Answers : Runs → Chooses → Stage → ScriptCommand → List ℕ → Stage → Type 0
 Answers runs chooses before (asks.Push main deps) text after = AnswersByRun runs reply_text before (PushGroups main deps) text after
-Answers runs chooses before (asks.Request asked) text after = Replies runs chooses before asked text after
+Answers runs chooses before (asks.Request asked) text after = Acts runs chooses before (action_of asked) text after
 
 -- the answers to commands, one after another
 abbrev pub AnswersAll : Runs → Chooses → Stage → List ScriptCommand → List ℕ → Stage → Type 0

@@ -1,5 +1,4 @@
 pub mod Answer
-pub mod LinesAhead
 pub mod Prints
 pub mod Ready
 pub mod Script

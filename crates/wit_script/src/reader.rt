@@ -10,7 +10,8 @@ ghost use Rattle.wit_script_package.specs.steps.Pushable.{IsPushable};
 ghost use Rattle.wit_script_lines.specs.Line.{is_blank_or_comment, last_statement_line};
 ghost use Rattle.wit_script.specs.Ready.{AreReady};
 ghost use Rattle.wit_script.specs.steps.BuiltReading.{AreBuilt, AreShapedIfPushable};
-ghost use Rattle.wit_script.specs.Script.{GoesOn, HasLineFault, HasReadFault, IsReadingResult, IsUnderstood, after_line, after_statement_in, new_reading, reading_of, with_groups, with_package, with_package_line, with_push, with_request};
+ghost use Rattle.wit_script_package.specs.steps.DraftResult.{DraftResult};
+ghost use Rattle.wit_script.specs.Script.{GoesOn, HasLineFault, HasReadFault, IsUnderstood, after_line, after_statement_in, new_reading, reading_of, with_groups, with_package, with_package_line, with_push, with_request};
 
 use crate::ahead::mentions_ahead;
 use crate::fault::ReadFault;
@@ -122,7 +123,7 @@ impl Reading {
         line: &str,
         ahead: &[&str],
     ) -> Result<(), LineFault>
-        ensures next { IsReadingResult (with_package self.old name line.now (map (λ line. line.now) ahead.now)) result self.new }
+        ensures next { DraftResult (with_package self.old name line.now (map (λ line. line.now) ahead.now)) result self.new }
         ensures commands { self.new.commands ≡ self.old.commands }
     {
         let mentions = mentions_ahead(alloc, line.len() + 1, ahead)?;
@@ -141,7 +142,7 @@ impl Reading {
         gate: Stability,
         line: &str,
     ) -> Result<(), LineFault>
-        ensures next { IsReadingResult (with_package_line self.old said gate line.now) result self.new }
+        ensures next { DraftResult (with_package_line self.old said gate line.now) result self.new }
         ensures commands { self.new.commands ≡ self.old.commands }
     {
         match &mut self.current {

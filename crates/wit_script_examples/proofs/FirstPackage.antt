@@ -10,7 +10,7 @@ use Rattle.wit_digraph.specs.PostOrder.{first_of_each, post_order, post_order_wi
 use Rattle.wit_sources.specs.SourceMap.{Sources}
 use Rattle.wit_sources.specs.Span.{OptionalSpan, moved_by}
 use Rattle.wit_data.specs.Each.{SomeAt}
-use Rattle.wit_names.specs.PackageOrder.{same_package}
+use Rattle.wit_names.specs.PackageName.{same_package}
 use Rattle.wit_data.specs.declared.function.Function.{Function}
 use Rattle.wit_names.specs.declared.package_name.PackageName.{PackageName}
 use Rattle.wit_data.specs.declared.stability.Stability.{Stability}

@@ -11,9 +11,7 @@ use Rattle.wit_graph_data.specs.declared.graph.Package.{Package}
 use Rattle.wit_elaboration.specs.AllElaborated.{graph_package_uses}
 use Rattle.wit_remap_spec.specs.FunctionMismatch.{HaveFunctionMismatch}
 use Rattle.wit_graph_theory.specs.examples.TestFacts.{all_uses, falls, no_cycle, none_some, only_one}
-use Rattle.wit_merge_spec.specs.Agreement.{GraphsDiffer}
-use Rattle.wit_merge_spec.specs.Agreement as differ
-use Rattle.wit_merge_spec.specs.Cause.{AreJoined, IsMergeCause, MergeIsAccepted, StabilitiesMismatch}
+use Rattle.wit_merge_spec.specs.Cause.{GraphsDiffer, AreJoined, IsMergeCause, MergeIsAccepted, StabilitiesMismatch}
 use Rattle.wit_merge_spec.specs.Cause as merging
 use Rattle.wit_merge_spec.specs.Matches.{GraphMerge, Pair, counterpart_interface, counterpart_type, counterpart_world}
 use Rattle.wit_merge_spec.specs.United.{joined_graph}
@@ -49,9 +47,9 @@ module _ (ps : List Package) (ns : List (PackageName × ℕ)) (qs : List Package
   none_joined from into (merging.entries p exported i i' _ _ matched comes there) = no_pair (counterpart_world of_packages) [] p
 
   none_differ : (message : List ℕ) → GraphsDiffer of_packages message → ⊥
-  none_differ _ (differ.interfaces p home there name text named of is told) = no_pair (counterpart_interface of_packages) [] p
-  none_differ _ (differ.worlds p home there exported text of is told) = no_pair (counterpart_world of_packages) [] p
-  none_differ _ (differ.types message first) = no_types (counterpart_type of_packages) first.pair.from first.pair.into first.ending first.differs
+  none_differ _ (merging.interfaces p home there name text named of is told) = no_pair (counterpart_interface of_packages) [] p
+  none_differ _ (merging.worlds p home there exported text of is told) = no_pair (counterpart_world of_packages) [] p
+  none_differ _ (merging.types message first) = no_types (counterpart_type of_packages) first.pair.from first.pair.into first.ending first.differs
 
   module _ (falling : all_uses (falls (λ p. p)) (graph_package_uses (joined_graph of_packages)) ≡ true) where
     pub packages_merge : MergeIsAccepted of_packages
@@ -94,9 +92,9 @@ module _ (f g : List ℕ) (offset : ℕ) where
   no_function from into k text at have = Contains-nil (subst (λ (i : Interface). Contains i.functions (have.name, have.function)) (sym (the_one _ from k at)) have.has)
 
   agree : (message : List ℕ) → GraphsDiffer of_gates message → ⊥
-  agree _ (differ.interfaces p home there name text named of is told) = no_function p.from p.into p.x text p.from_is told
-  agree _ (differ.worlds p home there exported text of is told) = no_pair (counterpart_world of_gates) [] p
-  agree _ (differ.types message first) = no_types (counterpart_type of_gates) first.pair.from first.pair.into first.ending first.differs
+  agree _ (merging.interfaces p home there name text named of is told) = no_function p.from p.into p.x text p.from_is told
+  agree _ (merging.worlds p home there exported text of is told) = no_pair (counterpart_world of_gates) [] p
+  agree _ (merging.types message first) = no_types (counterpart_type of_gates) first.pair.from first.pair.into first.ending first.differs
 
   module _ (same : gate g ≡ gate f) where
     join : (from into : Stability) → StabilitiesMismatch of_gates from into → ⊥

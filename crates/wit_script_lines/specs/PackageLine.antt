@@ -138,13 +138,9 @@ gate_of last = gate_by (after_prefix (codes "@since=") last) (after_prefix (code
 abbrev pub last_of : List (List ℕ) → Option (List ℕ)
 last_of arguments = slice_get arguments (length arguments - 1)
 
-abbrev pub gate_of_last : Option (List ℕ) → Option Stability
-gate_of_last None = Some Unknown
-gate_of_last (Some last) = gate_of last
-
 -- the gate of a line of these arguments
 abbrev pub gate_of_line : List (List ℕ) → Option Stability
-gate_of_line arguments = gate_of_last (last_of arguments)
+gate_of_line arguments = option_map_or gate_of (last_of arguments) (Some Unknown)
 
 -- a line of these arguments ends with a gate
 abbrev pub has_gate : List (List ℕ) → Bool

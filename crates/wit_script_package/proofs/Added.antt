@@ -11,7 +11,7 @@ use Rattle.wit_data.specs.facts.EachFacts.{SomeAt-of}
 use Rattle.wit_data.specs.facts.WorldKeyFacts.{key_is, same_key}
 use Rattle.wit_data.specs.Entries.{IsExport, IsImport, ItemUsesOwn}
 use Rattle.wit_data.specs.Ownership.{IsListed, IsNamedInterface, IsOwn, IsPlain, IsTypeOf, UsesOwn, entry_type, parts, world_types}
-use Rattle.wit_data.specs.Reference.{referred}
+use Rattle.wit_data.specs.Kind.{referred}
 use Rattle.wit_data.specs.Uses.{alias_target, other_owner}
 use Rattle.wit_data.specs.declared.function.Function.{Function}
 use Rattle.wit_data.specs.declared.interface.Interface.{Interface}

@@ -18,8 +18,8 @@ use Rattle.wit_names.specs.facts.PackageNameFacts.{own_name, same_name, same_pac
 use Rattle.wit_data.specs.Entries.{IsExport, IsImport, ItemUsesOwn}
 use Rattle.wit_data.specs.Foreign.{ForeignItem, ForeignItems, IsForeign, IsForeignType, IsNameOnly, IsNameOnlyInterface, IsNameOnlyWorld, foreign_interfaces, foreign_worlds, interface_id, world_id}
 use Rattle.wit_data.specs.Ownership.{IsListed, IsOwn, IsTypeOf, UsesOwn, parts}
-use Rattle.wit_names.specs.PackageOrder.{same_package}
-use Rattle.wit_data.specs.Reference.{referred}
+use Rattle.wit_names.specs.PackageName.{same_package}
+use Rattle.wit_data.specs.Kind.{referred}
 use Rattle.wit_data.specs.Uses.{alias_target}
 use Rattle.wit_data.specs.declared.unresolved.AstItem.{AstItem}
 use Rattle.wit_data.specs.declared.function.Function.{Function}

@@ -11,8 +11,8 @@ use Rattle.wit_data.specs.Foreign.{ForeignItem, IsNameOnly, IsNameOnlyInterface}
 use Rattle.wit_data.specs.Ownership.{IsNamed, IsNamedInterface, IsOwn, IsTypeOf, UsesOwn, is_no_target, parts}
 use Rattle.wit_data.specs.facts.KindFacts.{roles_are}
 use Rattle.wit_data.specs.facts.ReferenceFacts.{all_referred, record_refers}
-use Rattle.wit_names.specs.PackageOrder.{same_package}
-use Rattle.wit_data.specs.Reference.{named_type, referred}
+use Rattle.wit_names.specs.PackageName.{same_package}
+use Rattle.wit_data.specs.Kind.{named_type, referred}
 use Rattle.wit_data.specs.Uses.{alias_target, other_owner}
 use Rattle.wit_data.specs.declared.unresolved.AstItem.{AstItem}
 use Rattle.wit_data.specs.declared.types.Field.{Field}

@@ -1,5 +1,6 @@
 -- What the texts of types make is sound, and refers to types of the owner of what lines add.
 use Rattle.std.proofs.Common.{◌≡◌, ◌≢◌, ◌∙◌, ℕ, ◌<◌, ◌++◌, zero, suc, Bool, true, false, cond, List, [], ◌∷◌, length, Option, Some, None, IfSome, IsSome, slice_get, refl, sym, ap, subst, codes, bytes_eq, flat_map, option_and_then, option_map, option_to_list}
+use Rattle.std.specs.Option.{option_or}
 use Rattle.std.specs.Map.{lookup}
 use Rattle.std.proofs.lemmas.Slice.Eq.{bytes_eq-Decides}
 use Rattle.wit_values.specs.facts.Lists.{slice_get-push}
@@ -10,7 +11,7 @@ use Rattle.wit_data.specs.facts.KindFacts.{names_same}
 use Rattle.wit_data.specs.facts.WorldKeyFacts.{key_is, same_key}
 use Rattle.wit_data.specs.Entries.{IsImport}
 use Rattle.wit_data.specs.Ownership.{IsOwn, IsPlain, IsTypeOf, UsesOwn}
-use Rattle.wit_data.specs.Reference.{named_option, named_type, referred}
+use Rattle.wit_data.specs.Kind.{named_option, named_type, referred}
 use Rattle.wit_data.specs.Uses.{alias_target}
 use Rattle.wit_data.specs.declared.types.Field.{Field}
 use Rattle.wit_data.specs.declared.function.Function.{Function}
@@ -41,7 +42,7 @@ use Rattle.wit_script_lines.specs.declared.type_text.Written.{Written}
 use Rattle.wit_script_lines.specs.declared.type_text.Written.TheVariants as written
 use Rattle.wit_script_package.specs.Adding.{type_with, with_type}
 use Rattle.wit_script_package.specs.Making.{answer_made, around, each_made, field_made, forms_made, function_by, function_made, function_with, handle_argument, kind_made, param_made, type_made, type_of, with_resource, with_root, with_root_at, written_made}
-use Rattle.wit_script_package.specs.Naming.{OptionalSpan, earlier, earlier_in, open_interface, open_world, or_else, type_at, type_item, type_named, world_type_at}
+use Rattle.wit_script_package.specs.Naming.{OptionalSpan, earlier, earlier_in, open_interface, open_world, type_at, type_item, type_named, world_type_at}
 use Rattle.wit_script_package.specs.Role.{constructor_resource, freestanding_kind, function_kind_of, is_plain, member_of, method_role, or_group, static_role}
 use Rattle.wit_script_package.specs.declared.draft.Draft.{Draft}
 use Rattle.wit_script_package.specs.declared.draft.LineContext.{LineContext}
@@ -184,7 +185,7 @@ module _ (p : Draft) (sound : IsSound p) where
       one own zero x at = subst (IsOwn p.types (open_owner p)) (some_is id x at) own
       one own (suc i) x at = cc
 
-  named-made : (name : List ℕ) (o : Option Type_) (e : Option ℕ) (ty : Type_) → IsNoId o → earlier p name ≡ e → or_else o (option_map type.Id e) ≡ Some ty → IsMadeKind p (kind.Type_ ty)
+  named-made : (name : List ℕ) (o : Option Type_) (e : Option ℕ) (ty : Type_) → IsNoId o → earlier p name ≡ e → option_or o (option_map type.Id e) ≡ Some ty → IsMadeKind p (kind.Type_ ty)
   named-made name (Some primitive) e ty no_id is found = primitive-made ty (subst (λ (x : Type_). named_type x ≡ []) (some_is primitive ty found) no_id)
   named-made name None (Some id) ty no_id is found = subst (λ (x : Type_). IsMadeKind p (kind.Type_ x)) (some_is (type.Id id) ty found) (earlier-made name id is)
   named-made name None None ty no_id is found = cc

@@ -7,7 +7,7 @@ use Rattle.std.specs.List.{AllByRecursion, position_or_len}
 use Rattle.std.specs.Map.{lookup}
 use Rattle.std.specs.Option.{option_map, option_map_or, option_or}
 use Rattle.wit_data.specs.Foreign.{ForeignItem, ForeignItems}
-use Rattle.wit_names.specs.PackageOrder.{same_package}
+use Rattle.wit_names.specs.PackageName.{same_package}
 use Rattle.wit_data.specs.declared.unresolved.AstItem.{AstItem}
 use Rattle.wit_data.specs.declared.interface.Interface.{Interface}
 use Rattle.wit_names.specs.declared.package_name.PackageName.{PackageName}

@@ -6,7 +6,7 @@ use Rattle.wit_digraph.specs.facts.MemberFacts.{Contains-nil}
 use Rattle.wit_data.specs.Each.{Each, EachAt, SomeAt}
 use Rattle.wit_data.specs.facts.EachFacts.{SomeAt-is, SomeAt-of}
 use Rattle.wit_data.specs.Ownership.{IsOwn, through_unnamed}
-use Rattle.wit_data.specs.Reference.{referred}
+use Rattle.wit_data.specs.Kind.{referred}
 use Rattle.wit_data.specs.declared.types.TypeDef.{TypeDef}
 use Rattle.wit_data.specs.declared.types.TypeOwner.{TypeOwner}
 use Rattle.wit_script_package.proofs.Places.{Each-contains, get_at, same_at}

@@ -2,7 +2,7 @@
 use Rattle.std.proofs.Common.{◌≡◌, ℕ, Bool, true, false, ◌&&◌, List, Option, None, Some, refl, ap, bytes_eq, Decides}
 use Rattle.std.proofs.lemmas.Slice.Eq.{bytes_eq-Decides}
 use Rattle.wit_names.specs.facts.PackageNameFacts.{own_name as own_package, same_name as same_package-is}
-use Rattle.wit_names.specs.PackageOrder.{same_package}
+use Rattle.wit_names.specs.PackageName.{same_package}
 use Rattle.wit_names.specs.declared.package_name.PackageName.{PackageName}
 use Rattle.wit_script_package.specs.Mention.{same_item, same_name, same_parent, same_type, used_type_name}
 use Rattle.wit_script_package.specs.declared.mention.Mention.{Mention}

@@ -7,7 +7,7 @@ use Rattle.wit_data.specs.Each.{Each, EachAt, SomeAt}
 use Rattle.wit_data.specs.Entries.{EntriesUseOwn, ExportsAreAllowed, ImportsAreAllowed, IsExport, IsImport, ItemUsesOwn}
 use Rattle.wit_data.specs.Foreign.{IsForeignType}
 use Rattle.wit_data.specs.Ownership.{AliasesNamed, FunctionsUseOwn, IsListed, IsNamed, IsNamedInterface, IsOwn, IsPlain, ListsOwn, NamesFunctions, RefersToOwn, parts, world_types}
-use Rattle.wit_data.specs.Reference.{function_references, referred}
+use Rattle.wit_data.specs.Kind.{function_references, referred}
 use Rattle.wit_data.specs.Uses.{alias_target, other_owner, type_interface_dep}
 use Rattle.wit_data.specs.declared.interface.Interface.{Interface}
 use Rattle.wit_data.specs.declared.types.TypeDef.{TypeDef}

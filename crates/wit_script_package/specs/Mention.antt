@@ -3,7 +3,7 @@
 use Rattle.std.specs.Prelude.{◌≡◌, ℕ, ◌&&◌, ◌||◌, codes, not, Bool, true, false, List, [], ◌∷◌, map, filter, Option, Some, None, if◌then◌else◌, bytes_eq}
 use Rattle.std.specs.List.{position_or_len}
 use Rattle.wit_data.specs.Foreign.{ForeignItem, ForeignItems}
-use Rattle.wit_names.specs.PackageOrder.{same_package}
+use Rattle.wit_names.specs.PackageName.{same_package}
 use Rattle.wit_data.specs.declared.interface.Interface.{Interface}
 use Rattle.wit_names.specs.declared.use_path.ParsedUsePath.{ParsedUsePath}
 use Rattle.wit_data.specs.declared.stability.Stability.{Stability}
@@ -28,15 +28,13 @@ use Rattle.wit_script_package.specs.declared.mention.MentionKind.TheVariants as 
 
 -- a line takes a name for that of a world
 abbrev pub is_world : MentionKind → Bool
-is_world taken.Interface = false
-is_world (taken.Type_ name) = false
 is_world taken.World = true
+is_world _ = false
 
 -- the name of the type that a line uses
 abbrev pub used_type_name : MentionKind → Option (List ℕ)
-used_type_name taken.Interface = None
 used_type_name (taken.Type_ name) = Some name
-used_type_name taken.World = None
+used_type_name _ = None
 
 -- what a path mentions: a name of the same package is no mention
 abbrev pub path_mention : ParsedUsePath → MentionKind → Stability → OptionalSpan → List Mention

@@ -1,7 +1,8 @@
 -- What the names in the lines of a package name.
 use Rattle.std.specs.Prelude.{ℕ, ◌-◌, ◌==◌, List, length, slice_get, Option, Some, None, option_and_then, if◌then◌else◌, option_map, bytes_eq}
 use Rattle.std.specs.Map.{lookup}
-use Rattle.wit_names.specs.PackageOrder.{same_package}
+use Rattle.std.specs.Option.{option_or}
+use Rattle.wit_names.specs.PackageName.{same_package}
 use Rattle.wit_data.specs.declared.unresolved.AstItem.{AstItem}
 use Rattle.wit_data.specs.declared.interface.Interface.{Interface}
 use Rattle.wit_names.specs.declared.package_name.PackageName.{PackageName}
@@ -28,18 +29,16 @@ last_place count = if count == 0 then None else Some (count - 1)
 
 -- the place of the interface into which lines go: the last, where an interface was begun last
 abbrev pub open_interface_index : Draft → Scope → Option ℕ
-open_interface_index p scope.Package = None
 open_interface_index p scope.Interface = last_place (length p.interfaces)
-open_interface_index p scope.World = None
+open_interface_index p _ = None
 
 abbrev pub open_interface : Draft → Option ℕ
 open_interface p = open_interface_index p p.scope
 
 -- the place of the world into which lines go: the last, where a world was begun last
 abbrev pub open_world_index : Draft → Scope → Option ℕ
-open_world_index p scope.Package = None
-open_world_index p scope.Interface = None
 open_world_index p scope.World = last_place (length p.worlds)
+open_world_index p _ = None
 
 abbrev pub open_world : Draft → Option ℕ
 open_world p = open_world_index p p.scope
@@ -54,9 +53,8 @@ interface_type p name = option_and_then (type_at p name) (open_interface p)
 
 -- the type that an entry of a world is
 abbrev pub type_item : WorldItem → Option ℕ
-type_item (item.Interface id stability docs span external_id) = None
-type_item (item.Function function) = None
 type_item (item.Type_ id span) = Some id
+type_item _ = None
 
 -- the type of this name among the imports of the world at a place
 abbrev pub world_type_at : Draft → List ℕ → ℕ → Option ℕ
@@ -75,14 +73,9 @@ earlier_in p scope.World name = world_type p name
 abbrev pub earlier : Draft → List ℕ → Option ℕ
 earlier p name = earlier_in p p.scope name
 
--- the first, or else the second
-abbrev pub or_else : {A : Type 0} → Option A → Option A → Option A
-or_else None second = second
-or_else (Some first) second = Some first
-
 -- what the name of a type names: a primitive, or else an earlier type
 abbrev pub type_named : Draft → List ℕ → Option Type_
-type_named p name = or_else (primitive_of name) (option_map type.Id (earlier p name))
+type_named p name = option_or (primitive_of name) (option_map type.Id (earlier p name))
 
 -- the interface or world of another package that this names
 abbrev pub foreign_named : Draft → PackageName → List ℕ → Option AstItem

@@ -2,7 +2,7 @@
 ghost use Rattle.std.specs.Prelude.{◌≡◌, [], OnOk, IfOk, Some};
 ghost use Rattle.std.specs.List.{fold};
 ghost use Rattle.std.specs.Str.{bytes_eq};
-ghost use Rattle.wit_names.specs.PackageOrder.{same_package};
+ghost use Rattle.wit_names.specs.PackageName.{same_package};
 ghost use Rattle.wit_script_package.specs.steps.Mentioning.{changed_at, with_counted, with_foreign, with_foreign_gate, with_foreign_type, with_gate, with_item_gate, with_key, with_mention, with_mention_of, with_package_gate, with_use_as};
 
 use crate::adding::{new_interface, new_type, new_world};

@@ -7,8 +7,7 @@ use Rattle.std.specs.Map.{lookup}
 use Rattle.std.specs.Option.{option_map_or}
 use Rattle.semver.specs.Identifiers.{parts_text}
 use Rattle.wit_values.specs.Version.{Parts}
-use Rattle.wit_names.specs.PackageName.{package_name_text}
-use Rattle.wit_names.specs.PackageOrder.{same_package}
+use Rattle.wit_names.specs.PackageName.{package_name_text, same_package}
 use Rattle.wit_names.specs.UsePath.{use_path_of}
 use Rattle.wit_names.specs.declared.package_name.PackageName.{PackageName}
 use Rattle.wit_names.specs.declared.use_path.ParsedUsePath.{ParsedUsePath}
@@ -98,14 +97,9 @@ only_version name [] = Err (unknown_text name)
 only_version name (e ∷ []) = Ok e.1
 only_version name (a ∷ b ∷ rest) = Err (several_versions_text name a.0 b.0)
 
--- a package, or else another choice
-abbrev pub package_or : Option ℕ → Choice → Choice
-package_or None other = other
-package_or (Some p) other = Ok p
-
 -- the package of exactly that name, else without a version the one versioned package of that name
 abbrev pub named_package : List (PackageName × ℕ) → PackageName → Choice
-named_package names name = package_or (lookup (same_package name) names) (only_version name (versions_of name names))
+named_package names name = option_map_or Ok (lookup (same_package name) names) (only_version name (versions_of name names))
 
 -- ---- worlds
 
@@ -134,8 +128,7 @@ by_path g [] chosen = Err no_main_text
 by_path g (p ∷ mains) (Some (path.Package home name)) = in_named g name (named_package g.package_names home)
 by_path g (p ∷ []) (Some (path.Name name)) = in_package g p (named_world name)
 by_path g (p ∷ []) None = in_package g p (λ (home : Package). only_world g p home home.worlds)
-by_path g (p ∷ q ∷ mains) (Some (path.Name name)) = Err (several_mains_text g)
-by_path g (p ∷ q ∷ mains) None = Err (several_mains_text g)
+by_path g (p ∷ q ∷ mains) chosen = Err (several_mains_text g)
 
 -- by a text, as it reads
 abbrev pub by_reading : Graph → List ℕ → List ℕ → Option ParsedUsePath → Choice

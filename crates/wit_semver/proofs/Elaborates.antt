@@ -5,7 +5,7 @@ use Rattle.std.proofs.lemmas.List.Elements.{Contains-get_or}
 use Rattle.wit_digraph.specs.facts.MemberFacts.{Contains-here, Contains-there}
 use Rattle.wit_digraph.specs.Relation.{IsPath, direct}
 use Rattle.wit_data.specs.Ownership.{IsPlain}
-use Rattle.wit_data.specs.Reference.{referred, type_references}
+use Rattle.wit_data.specs.Kind.{referred, type_references}
 use Rattle.wit_data.specs.Uses.{interface_uses}
 use Rattle.wit_names.specs.declared.track.TrackRule.{TrackRule}
 use Rattle.wit_data.specs.declared.types.TypeDef.{TypeDef}
@@ -22,9 +22,7 @@ use Rattle.wit_graph_theory.specs.facts.ListFacts.{from_row, in_row}
 use Rattle.wit_graph_theory.specs.facts.NamedUses.{used_is_named}
 use Rattle.wit_graph_theory.specs.facts.OptionFacts.{option_cases}
 use Rattle.wit_graph_theory.specs.facts.PackageCycleFacts.{used_package}
-use Rattle.wit_semver_spec.specs.Rewritten.{new_target, retargeted, rewritten, rewritten_types, with_new_entries_at}
-use Rattle.wit_semver_spec.specs.TrackCause.{Disagrees, IsComplete, SemverMergeIsAccepted, UpgradeCause, conflict_4, functions_disagree_25, interface_cycle_22, package_cycle_6, type_cycle_23, type_missing_25}
-use Rattle.wit_semver_spec.specs.Tracks.{Upgrade}
+use Rattle.wit_semver_spec.specs.Rewritten.{new_target, retargeted, rewritten, rewritten_types, with_new_entries_at, Upgrade, Disagrees, IsComplete, SemverMergeIsAccepted, UpgradeCause, conflict_4, functions_disagree_25, interface_cycle_22, package_cycle_6, type_cycle_23, type_missing_25}
 use Rattle.wit_semver_laws.proofs.Accepting.{id_of_named, in_order, new_aliases, relisted_worlds, rewritten_is}
 use Rattle.wit_semver_laws.proofs.TypesAfter.{type_after}
 use Rattle.wit_semver_laws.proofs.TypesGood.{refers_in_range, unnamed_plain}

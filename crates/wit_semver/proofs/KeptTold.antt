@@ -10,8 +10,7 @@ use Rattle.wit_data.specs.contracts.world.WorldKeyPartialEq.TheImpl.{eq-value}
 use Rattle.wit_data.specs.declared.world.WorldKey.{WorldKey}
 use Rattle.wit_elaboration.proofs.Filters.{Contains-filter}
 use Rattle.wit_elaboration.specs.Entries.{Entry, key_interface}
-use Rattle.wit_semver_spec.specs.Rewritten.{is_replaced_entry}
-use Rattle.wit_semver_spec.specs.Tracks.{Upgrade, is_replaced, newest}
+use Rattle.wit_semver_spec.specs.Rewritten.{is_replaced_entry, Upgrade, is_replaced, newest}
 use Rattle.wit_transform.proofs.Looked.{new_at}
 use Rattle.wit_semver.specs.steps.Replacing.{AreReplacements}
 

@@ -25,9 +25,7 @@ use Rattle.wit_graph_theory.specs.facts.EntryFacts.{key_entry}
 use Rattle.wit_graph_theory.specs.facts.ListFacts.{found_at, place_of}
 use Rattle.wit_graph_theory.specs.facts.OptionFacts.{some_by, some_parts, some_same}
 use Rattle.wit_graph_theory.specs.facts.PackagesAcyclic.{numbered_from}
-use Rattle.wit_semver_spec.specs.Rewritten.{entry_types, interface_type, kept_imports, new_target, retargeted, rewritable_types, rewritten_types, types_of, with_new_entries_at}
-use Rattle.wit_semver_spec.specs.TrackCause.{NewestLacksType, target_name}
-use Rattle.wit_semver_spec.specs.Tracks.{Upgrade, is_replaced, newest}
+use Rattle.wit_semver_spec.specs.Rewritten.{entry_types, interface_type, kept_imports, new_target, retargeted, rewritable_types, rewritten_types, types_of, with_new_entries_at, Upgrade, is_replaced, newest, NewestLacksType, target_name}
 use Rattle.wit_semver_laws.proofs.TypesAfter.{Turned, transformed_from, transformed_into}
 use Rattle.wit_semver.specs.steps.Replacing.{IsFilled, LackTypes, replaced_use, upgrade, used_target, with_lists, with_targets}
 

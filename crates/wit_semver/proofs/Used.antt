@@ -6,8 +6,7 @@ use Rattle.wit_data.specs.declared.interface.Interface.{Interface}
 use Rattle.wit_data.specs.declared.world.WorldKey.TheVariants as key
 use Rattle.wit_graph_data.specs.IdText.{key_text}
 use Rattle.wit_remap_spec.specs.FunctionMismatch.{HaveFunctionMismatch}
-use Rattle.wit_semver_spec.specs.TrackCause.{Disagrees, disagreement_text, upgrade_text}
-use Rattle.wit_semver_spec.specs.Tracks.{Upgrade, is_replaced, newest}
+use Rattle.wit_semver_spec.specs.Rewritten.{Disagrees, disagreement_text, upgrade_text, Upgrade, is_replaced, newest}
 use Rattle.wit_semver.specs.steps.Replacing.{AreReplacements, DisagreesAt, LackTypes, LacksTypeAt}
 
 -- one type more, which lacks nothing

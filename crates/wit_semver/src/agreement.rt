@@ -2,7 +2,7 @@
 ghost use Rattle.std.specs.Prelude.{◌≡◌, ◌⊎◌, ℕ, List, IfErr, None, OnOk};
 ghost use Rattle.wit_graph_data.specs.declared.cause.Cause.TheVariants as cause;
 ghost use Rattle.wit_graph_data.specs.declared.error_kind.ResolveErrorKind.TheVariants.{OutOfMemory, Semantic};
-ghost use Rattle.wit_semver_spec.specs.TrackCause.{Disagrees};
+ghost use Rattle.wit_semver_spec.specs.Rewritten.{Disagrees};
 ghost use Rattle.wit_semver.specs.steps.Replacing.{DisagreesAt, IsUpgradeReady, upgrade_of};
 
 use crate::refusal::functions_disagree;

@@ -3,8 +3,7 @@ ghost use Rattle.std.specs.Prelude.{◌≡◌, ◌⊎◌, ◌<◌, IfErr, IfOk, 
 ghost use Rattle.wit_elaboration.specs.Valid.{IsValid};
 ghost use Rattle.wit_graph_data.specs.declared.error_kind.ResolveErrorKind.{ResolveErrorKind};
 ghost use Rattle.wit_graph_data.specs.declared.error_kind.ResolveErrorKind.TheVariants.{OutOfMemory};
-ghost use Rattle.wit_semver_spec.specs.Rewritten.{rewritten};
-ghost use Rattle.wit_semver_spec.specs.TrackCause.{IsTrackCause};
+ghost use Rattle.wit_semver_spec.specs.Rewritten.{rewritten, IsTrackCause};
 ghost use Rattle.wit_semver.specs.steps.Replacing.{HasNewEntries};
 
 use crate::kept_imports::types_of_entries;

@@ -4,7 +4,7 @@ ghost use Rattle.wit_graph_data.specs.declared.cause.Cause.TheVariants as cause;
 ghost use Rattle.wit_graph_data.specs.declared.error_kind.ResolveErrorKind.TheVariants.{OutOfMemory, Semantic};
 ghost use Rattle.wit_graph_data.specs.IdText.{key_text};
 ghost use Rattle.wit_data.specs.declared.world.WorldKey.TheVariants as key;
-ghost use Rattle.wit_semver_spec.specs.TrackCause.{disagreement_text, missing_text, upgrade_text};
+ghost use Rattle.wit_semver_spec.specs.Rewritten.{disagreement_text, missing_text, upgrade_text};
 
 use std::alloc::Global;
 use wit_data::{InterfaceId, Span, Text, WorldKey};

@@ -4,7 +4,7 @@ ghost use Rattle.std.specs.Option.{option_map_or};
 ghost use Rattle.wit_elaboration.specs.Valid.{IsValid};
 ghost use Rattle.wit_elaboration.specs.Entries.{keyed_interfaces};
 ghost use Rattle.wit_data.specs.declared.world.World.{World};
-ghost use Rattle.wit_semver_spec.specs.Tracks.{is_below, versioned};
+ghost use Rattle.wit_semver_spec.specs.Rewritten.{is_below, versioned};
 ghost use Rattle.wit_semver.specs.steps.Replacing.{AreReplacements, IsNewestTable, replacement, told, upgrade};
 
 use crate::newest::newest_by_track;

@@ -5,7 +5,7 @@ use Rattle.std.specs.List.{list_all}
 use Rattle.std.specs.Option.{option_map_or}
 use Rattle.wit_digraph.specs.Cycles.{IsOnCycle}
 use Rattle.wit_digraph.specs.Relation.{IsPath, direct}
-use Rattle.wit_data.specs.Reference.{type_references}
+use Rattle.wit_data.specs.Kind.{type_references}
 use Rattle.wit_data.specs.Uses.{type_interface_dep}
 use Rattle.wit_data.specs.declared.interface.Interface.{Interface}
 use Rattle.wit_names.specs.declared.track.TrackRule.{TrackRule}
@@ -19,9 +19,7 @@ use Rattle.wit_elaboration.specs.AllElaborated.{graph_package_uses}
 use Rattle.wit_graph_theory.specs.facts.ListFacts.{contained_at}
 use Rattle.wit_graph_theory.specs.facts.OptionFacts.{some_same}
 use Rattle.wit_graph_theory.specs.examples.TestFacts.{all_are, all_uses, falls, is_empty, no_cycle, nothing_in}
-use Rattle.wit_semver_spec.specs.Rewritten.{interface_type, rewritable_types, with_new_entries_at}
-use Rattle.wit_semver_spec.specs.TrackCause.{Disagrees, IsComplete, IsTrackCause, UpgradeCause, conflict_4, functions_disagree_25, interface_cycle_22, package_cycle_6, target_name, type_cycle_23, type_missing_25}
-use Rattle.wit_semver_spec.specs.Tracks.{Upgrade, is_replaced, newest}
+use Rattle.wit_semver_spec.specs.Rewritten.{interface_type, rewritable_types, with_new_entries_at, Upgrade, is_replaced, newest, Disagrees, IsComplete, IsTrackCause, UpgradeCause, conflict_4, functions_disagree_25, interface_cycle_22, package_cycle_6, target_name, type_cycle_23, type_missing_25}
 
 module _ (u : Upgrade) where
   -- does the newest have the type of this name?

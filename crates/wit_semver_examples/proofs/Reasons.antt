@@ -7,7 +7,7 @@ use Rattle.semver.specs.Order.{strip_zeros}
 use Rattle.wit_digraph.specs.Cycles.{IsOnCycle}
 use Rattle.wit_digraph.specs.facts.MemberFacts.{Contains-cons_cases, Contains-here, Contains-nil, Contains-there}
 use Rattle.wit_digraph.specs.Relation.{Reaches, direct}
-use Rattle.wit_data.specs.Reference.{referred, type_references}
+use Rattle.wit_data.specs.Kind.{referred, type_references}
 use Rattle.wit_data.specs.declared.function.Function.{Function}
 use Rattle.wit_data.specs.declared.interface.Interface.{Interface}
 use Rattle.wit_names.specs.declared.package_name.PackageName.{PackageName}
@@ -31,9 +31,7 @@ use Rattle.wit_elaboration.specs.AllElaborated.{DependsOnItself, RefersToItself,
 use Rattle.wit_remap_spec.specs.FunctionMismatch.{FunctionMismatch, parameter_names_differ}
 use Rattle.wit_graph_theory.specs.facts.OptionFacts.{some_same}
 use Rattle.wit_graph_theory.specs.examples.TestFacts.{all_are, all_uses, falls, is_empty, no_cycle, not_on_cycle, only_one}
-use Rattle.wit_semver_spec.specs.Rewritten.{listed_world, rewritable_types, with_new_entries_at}
-use Rattle.wit_semver_spec.specs.TrackCause.{Disagrees, IsComplete, IsTrackCause, NewestLacksType, UpgradeCause, conflict_4, functions_disagree_25, interface_cycle_22, package_cycle_6, type_cycle_23, type_missing_25}
-use Rattle.wit_semver_spec.specs.Tracks.{Upgrade, is_replaced, newest}
+use Rattle.wit_semver_spec.specs.Rewritten.{listed_world, rewritable_types, with_new_entries_at, Upgrade, is_replaced, newest, Disagrees, IsComplete, IsTrackCause, NewestLacksType, UpgradeCause, conflict_4, functions_disagree_25, interface_cycle_22, package_cycle_6, type_cycle_23, type_missing_25}
 use Rattle.wit_semver_examples.proofs.Fine.{Clear, complete, has_target, is_fine, no_functions}
 use Rattle.wit_semver_examples.proofs.Mismatches.{x_is_not_y, x_of, y_of}
 use Rattle.wit_semver_examples.specs.CauseExamples.{ExamplesOfCauses, IsCauseOf, IsFine, around_main, around_z, exporting, f_of, failed, foo_app, newer_x, older_x, with_functions, with_newer, without_type, without_type_but_cycle}

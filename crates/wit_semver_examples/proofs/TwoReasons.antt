@@ -4,7 +4,7 @@ use Rattle.std.specs.Fmt.{digits}
 use Rattle.std.specs.Prelude.{Option}
 use Rattle.semver.specs.Order.{strip_zeros}
 use Rattle.wit_digraph.specs.Relation.{direct}
-use Rattle.wit_data.specs.Reference.{type_references}
+use Rattle.wit_data.specs.Kind.{type_references}
 use Rattle.wit_names.specs.declared.package_name.PackageName.{PackageName}
 use Rattle.wit_data.specs.declared.world.World.{World}
 use Rattle.wit_names.specs.declared.track.TrackRule.TheVariants.{Published}
@@ -17,9 +17,7 @@ use Rattle.wit_graph_data.specs.declared.cause.Cause.TheVariants.{InterfaceCycle
 use Rattle.wit_graph_data.specs.declared.error_kind.ResolveErrorKind.TheVariants.{InvalidTransitiveDependency, PackageCycle, Semantic}
 use Rattle.wit_elaboration.specs.AllElaborated.{DependsOnItself, HasWorldInConflict, RefersToItself, UsesItself}
 use Rattle.wit_graph_theory.specs.examples.TestFacts.{no_cycle, none_in, one_of_two, only_one}
-use Rattle.wit_semver_spec.specs.Rewritten.{with_new_entries_at}
-use Rattle.wit_semver_spec.specs.TrackCause.{IsComplete, NewestLacksType, UpgradeCause, conflict_4, interface_cycle_22, package_cycle_6, type_cycle_23, type_missing_25}
-use Rattle.wit_semver_spec.specs.Tracks.{Upgrade}
+use Rattle.wit_semver_spec.specs.Rewritten.{with_new_entries_at, Upgrade, IsComplete, NewestLacksType, UpgradeCause, conflict_4, interface_cycle_22, package_cycle_6, type_cycle_23, type_missing_25}
 use Rattle.wit_semver_examples.proofs.Fine.{complete, of_world, upgrade_of}
 use Rattle.wit_semver_examples.proofs.Reasons.{t_refers_to_itself}
 use Rattle.wit_semver_examples.specs.Releases.{alias_in, foo_main, keyed, world_in}

@@ -17,7 +17,7 @@ use Rattle.wit_graph_data.specs.declared.graph.Graph.{Graph}
 use Rattle.wit_graph_data.specs.declared.error_kind.ResolveErrorKind.{ResolveErrorKind}
 use Rattle.wit_graph_data.specs.declared.error_kind.ResolveErrorKind.TheVariants.{InvalidTransitiveDependency, PackageCycle, Semantic}
 use Rattle.wit_remap_spec.specs.FunctionMismatch.{FunctionMismatch}
-use Rattle.wit_semver_spec.specs.TrackCause.{IsTrackCause}
+use Rattle.wit_semver_spec.specs.Rewritten.{IsTrackCause}
 use Rattle.wit_semver_examples.specs.Releases.{Names, alias_in, called, foo_main, foo_x, graph_of, interface_in, keyed, number_in, package_of, release, two, with_function, world_in}
 use Rattle.wit_semver_examples.specs.RewrittenExamples.{first_release, of_three}
 

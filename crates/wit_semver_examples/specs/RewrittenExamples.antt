@@ -6,8 +6,7 @@ use Rattle.wit_data.specs.declared.world.World.{World}
 use Rattle.wit_elaboration.specs.Entries.{Entry}
 use Rattle.wit_graph_data.specs.examples.Samples.{labelled_entry}
 use Rattle.wit_graph_data.specs.declared.graph.Graph.{Graph}
-use Rattle.wit_semver_spec.specs.Rewritten.{rewritten, upgraded_types}
-use Rattle.wit_semver_spec.specs.Tracks.{Upgrade}
+use Rattle.wit_semver_spec.specs.Rewritten.{rewritten, upgraded_types, Upgrade}
 use Rattle.wit_semver_examples.specs.Releases.{alias_in, called, graph_of, importing, interface_in, keyed, number_in, prerelease, release, two, world_in}
 
 -- ---- three versions, and an interface that uses one

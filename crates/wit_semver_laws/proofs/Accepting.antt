@@ -38,9 +38,7 @@ use Rattle.wit_graph_theory.specs.facts.NamedUses.{used_is_named}
 use Rattle.wit_transform.proofs.UnnamedOnceTransformed.{set_split}
 use Rattle.wit_elaboration.specs.AllElaborated.{DependsOnItself, RefersToItself, UsesItself, all_elaborated, elaborated_world, interface_cycle_text}
 use Rattle.wit_graph_theory.specs.facts.OptionFacts.{some_same, some_there}
-use Rattle.wit_semver_spec.specs.Rewritten.{listed_world, new_target, retargeted, rewritten, rewritten_types, with_new_entries_at}
-use Rattle.wit_semver_spec.specs.TrackCause.{IsComplete, SemverMergeIsAccepted, conflict_4, interface_cycle_22, package_cycle_6, type_cycle_23, type_missing_25}
-use Rattle.wit_semver_spec.specs.Tracks.{Upgrade, is_replaced, newest}
+use Rattle.wit_semver_spec.specs.Rewritten.{listed_world, new_target, retargeted, rewritten, rewritten_types, with_new_entries_at, Upgrade, is_replaced, newest, IsComplete, SemverMergeIsAccepted, conflict_4, interface_cycle_22, package_cycle_6, type_cycle_23, type_missing_25}
 use Rattle.wit_semver_laws.proofs.Greatest.{newest_stays}
 use Rattle.wit_semver_laws.proofs.TypesAfter.{retargeted_name, retargeted_owner, transformed_from, transformed_type, type_after, type_into}
 

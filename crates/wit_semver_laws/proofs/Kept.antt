@@ -12,10 +12,8 @@ use Rattle.wit_graph_data.specs.declared.graph.Graph.{Graph}
 use Rattle.wit_graph_theory.specs.facts.ListFacts.{at_map, found_at, same_at, some_at}
 use Rattle.wit_elaboration.specs.AllElaborated.{all_elaborated, elaborated_world}
 use Rattle.wit_values.specs.facts.Lists.{kept-cases, slice_get-set}
-use Rattle.wit_semver_spec.specs.Rewritten.{listed_world, new_target, retargeted, rewritten_types, with_new_entries_at}
-use Rattle.wit_semver_spec.specs.TrackCause.{name_of, target_name}
+use Rattle.wit_semver_spec.specs.Rewritten.{listed_world, new_target, retargeted, rewritten_types, with_new_entries_at, Upgrade, newest, name_of, target_name}
 use Rattle.wit_semver_spec.specs.laws.Unchanged.{SameButLists, SameButTarget}
-use Rattle.wit_semver_spec.specs.Tracks.{Upgrade, newest}
 use Rattle.wit_semver_laws.specs.laws.TrackLaws.{AliasesKeepNames, KeepsThings, RewrittenKeep}
 use Rattle.wit_semver_laws.proofs.TypesAfter.{after, retargeted_name, rewritten_from, transformed_from, transformed_type, type_after, type_into}
 

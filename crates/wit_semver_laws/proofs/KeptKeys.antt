@@ -29,9 +29,7 @@ use Rattle.wit_graph_theory.specs.facts.ListFacts.{Contains-map, from_row, in_ro
 use Rattle.wit_graph_theory.specs.facts.OptionFacts.{some_same}
 use Rattle.wit_graph_theory.specs.laws.PackageCycles.{ListsKey, ListsUses}
 use Rattle.wit_graph_theory.specs.facts.PackagesAcyclic.{is_there}
-use Rattle.wit_semver_spec.specs.Rewritten.{entry_types, is_replaced_entry, kept_imports, listed_world, rewritable_types, rewritten_types, types_of}
-use Rattle.wit_semver_spec.specs.TrackCause.{IsComplete}
-use Rattle.wit_semver_spec.specs.Tracks.{Upgrade, imported, is_replaced, newest}
+use Rattle.wit_semver_spec.specs.Rewritten.{entry_types, is_replaced_entry, kept_imports, listed_world, rewritable_types, rewritten_types, types_of, Upgrade, imported, is_replaced, newest, IsComplete}
 use Rattle.wit_semver_laws.proofs.Greatest.{both_true, newest_stays}
 use Rattle.wit_semver_laws.proofs.TypesAfter.{needs_after}
 

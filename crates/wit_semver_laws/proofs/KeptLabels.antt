@@ -25,9 +25,7 @@ use Rattle.wit_graph_theory.specs.facts.ListFacts.{found_at, place_of, same_at}
 use Rattle.wit_elaboration.specs.AllElaborated.{elaborated_world}
 use Rattle.wit_graph_theory.specs.facts.LawsOfElaboration.{LawsOfElaboration}
 use Rattle.wit_graph_theory.specs.facts.OptionFacts.{option_cases}
-use Rattle.wit_semver_spec.specs.Rewritten.{is_replaced_entry, kept_imports, listed_world, new_target, retargeted, rewritten_types, with_new_entries_at}
-use Rattle.wit_semver_spec.specs.TrackCause.{IsComplete}
-use Rattle.wit_semver_spec.specs.Tracks.{Upgrade, newest}
+use Rattle.wit_semver_spec.specs.Rewritten.{is_replaced_entry, kept_imports, listed_world, new_target, retargeted, rewritten_types, with_new_entries_at, Upgrade, newest, IsComplete}
 use Rattle.wit_semver_laws.proofs.Accepting.{complete, elaborates, in_order, listed_there, new_types, new_uses, uses_acyclic}
 use Rattle.wit_semver_laws.proofs.Merged.{is_done}
 use Rattle.wit_semver_laws.proofs.TypesAfter.{after, needs_after, retargeted_owner, transformed_from, transformed_type, type_into}

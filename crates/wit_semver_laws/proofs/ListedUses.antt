@@ -31,9 +31,7 @@ use Rattle.wit_graph_theory.specs.facts.UnnamedOnceFrom.{StandsOnceOnly-from_onc
 use Rattle.wit_graph_theory.specs.laws.PackageCycles.{ListsUses}
 use Rattle.wit_graph_theory.specs.facts.PackagesAcyclic.{there_is}
 use Rattle.wit_transform.proofs.UnnamedOnceTransformed.{set_split}
-use Rattle.wit_semver_spec.specs.Rewritten.{entry_types, is_replaced_entry, kept_imports, listed_world, rewritable_types, rewritten_types, types_of}
-use Rattle.wit_semver_spec.specs.TrackCause.{IsComplete}
-use Rattle.wit_semver_spec.specs.Tracks.{Upgrade}
+use Rattle.wit_semver_spec.specs.Rewritten.{entry_types, is_replaced_entry, kept_imports, listed_world, rewritable_types, rewritten_types, types_of, Upgrade, IsComplete}
 use Rattle.wit_semver_laws.proofs.Accepting.{new_uses, relisted_worlds}
 use Rattle.wit_semver_laws.proofs.KeptKeys.{named_lists_uses}
 use Rattle.wit_semver_laws.proofs.TypesAfter.{needs_after}

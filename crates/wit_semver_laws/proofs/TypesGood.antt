@@ -8,7 +8,7 @@ use Rattle.wit_digraph.specs.facts.MemberFacts.{Contains-cons_cases, Contains-ni
 use Rattle.wit_digraph.specs.Relation.{IsPath, direct, Reaches}
 use Rattle.wit_data.specs.Entries.{ItemUsesOwn}
 use Rattle.wit_data.specs.Ownership.{IsOwn, IsPlain, NamesThroughUnnamed, RefersToOwn, UsesOwn, through_unnamed}
-use Rattle.wit_data.specs.Reference.{referred, type_references}
+use Rattle.wit_data.specs.Kind.{referred, type_references}
 use Rattle.wit_data.specs.Uses.{alias_target}
 use Rattle.wit_data.specs.declared.function.Function.{Function}
 use Rattle.wit_data.specs.declared.interface.Interface.{Interface}
@@ -26,8 +26,7 @@ use Rattle.wit_graph_theory.specs.facts.ListFacts.{found_at, from_row, in_row, s
 use Rattle.wit_graph_theory.specs.facts.OptionFacts.{option_cases}
 use Rattle.wit_graph_theory.specs.facts.OwnedFacts.{row, row_from, row_into}
 use Rattle.wit_graph_theory.specs.facts.PackagesAcyclic.{length-numbered}
-use Rattle.wit_semver_spec.specs.Rewritten.{new_target, retargeted, rewritten_types}
-use Rattle.wit_semver_spec.specs.Tracks.{Upgrade, newest}
+use Rattle.wit_semver_spec.specs.Rewritten.{new_target, retargeted, rewritten_types, Upgrade, newest}
 use Rattle.wit_semver_laws.proofs.Accepting.{stays_so}
 use Rattle.wit_semver_laws.proofs.TypesAfter.{after, retargeted_name, retargeted_owner, rewritten_from, transformed_from, transformed_type, type_after}
 

@@ -12,8 +12,7 @@ use Rattle.wit_elaboration.proofs.Filters.{Contains-filter, Contains-filtered}
 use Rattle.wit_graph_theory.specs.facts.DependencyFacts.{filter_map_from, filter_map_into}
 use Rattle.wit_graph_theory.specs.facts.ListFacts.{Contains-map}
 use Rattle.wit_graph_theory.specs.facts.OptionFacts.{some_same, some_there}
-use Rattle.wit_semver_spec.specs.Rewritten.{interface_type, type_table, upgraded_in, upgraded_types}
-use Rattle.wit_semver_spec.specs.Tracks.{Upgrade, imported, is_replaced, newest}
+use Rattle.wit_semver_spec.specs.Rewritten.{interface_type, type_table, upgraded_in, upgraded_types, Upgrade, imported, is_replaced, newest}
 
 -- a pair that an option gives
 pair_parts : (s : ℕ) (o : Option ℕ) (old new : ℕ) → option_map {U = ℕ × ℕ} (λ (n : ℕ). (s, n)) o ≡ Some (old, new) → (s ≡ old) × (o ≡ Some new)

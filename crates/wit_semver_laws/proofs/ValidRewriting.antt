@@ -3,7 +3,7 @@ use Rattle.std.proofs.Common.{◌≡◌, ◌∙◌, inl, inr, ℕ, List, Option,
 use Rattle.wit_values.specs.facts.Lists.{kept-cases}
 use Rattle.wit_data.specs.Each.{SomeAt}
 use Rattle.wit_data.specs.Ownership.{IsListed, world_types}
-use Rattle.wit_data.specs.Reference.{type_references}
+use Rattle.wit_data.specs.Kind.{type_references}
 use Rattle.wit_data.specs.Uses.{uses_of}
 use Rattle.wit_digraph.specs.Relation.{IsAcyclic, direct}
 use Rattle.std.proofs.lemmas.List.Elements.{Contains-get_or}
@@ -24,9 +24,7 @@ use Rattle.wit_graph_theory.specs.facts.UnnamedOnceFacts.{StandOnce-from_entries
 use Rattle.wit_graph_theory.specs.facts.PackageCycleFacts.{acyclic_packages, packages_stay_acyclic}
 use Rattle.wit_elaboration.specs.AllElaborated.{elaborated_world, graph_package_uses, type_cycle_text}
 use Rattle.wit_graph_theory.specs.facts.LawsOfElaboration.{LawsOfElaboration}
-use Rattle.wit_semver_spec.specs.Rewritten.{listed_world, new_target, rewritten, with_new_entries_at}
-use Rattle.wit_semver_spec.specs.TrackCause.{SemverMergeIsAccepted}
-use Rattle.wit_semver_spec.specs.Tracks.{Upgrade}
+use Rattle.wit_semver_spec.specs.Rewritten.{listed_world, new_target, rewritten, with_new_entries_at, Upgrade, SemverMergeIsAccepted}
 use Rattle.wit_semver_laws.proofs.Accepting.{complete, elaborates, listed_there, new_aliases, new_exports, new_imports, no_package_cycle, no_type_cycle, relisted_worlds, rewritten_is, uses_acyclic}
 use Rattle.wit_semver_laws.proofs.ListedUses.{listed_lists_uses}
 use Rattle.wit_semver_laws.proofs.TypesAfter.{retargeted_name, retargeted_owner, type_after}

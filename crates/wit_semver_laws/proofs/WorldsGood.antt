@@ -35,9 +35,7 @@ use Rattle.wit_graph_theory.specs.facts.UnnamedOnceFrom.{StandsOnceOnly-from_onc
 use Rattle.wit_elaboration.specs.AllElaborated.{all_elaborated, elaborated_world}
 use Rattle.wit_graph_theory.specs.facts.ElaboratedCome.{interface_without_span}
 use Rattle.wit_graph_theory.specs.facts.LawsOfElaboration.{LawsOfElaboration}
-use Rattle.wit_semver_spec.specs.Rewritten.{is_replaced_entry, with_new_entries_at}
-use Rattle.wit_semver_spec.specs.TrackCause.{SemverMergeIsAccepted}
-use Rattle.wit_semver_spec.specs.Tracks.{Upgrade, is_replaced}
+use Rattle.wit_semver_spec.specs.Rewritten.{is_replaced_entry, with_new_entries_at, Upgrade, is_replaced, SemverMergeIsAccepted}
 use Rattle.wit_semver_laws.proofs.Accepting.{Relisted, elaborates, in_order, new_aliases, new_exports, new_imports, new_types, new_uses, relisted_from, relisted_worlds, uses_acyclic}
 use Rattle.wit_semver_laws.proofs.TypesGood.{item_own_after}
 

@@ -1,4 +1,2 @@
 pub mod Rewritten
-pub mod TrackCause
-pub mod Tracks
 pub mod laws

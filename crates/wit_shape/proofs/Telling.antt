@@ -8,7 +8,7 @@ use Rattle.wit_digraph.specs.facts.MemberFacts.{Contains-nil, Contains-here, Con
 use Rattle.wit_digraph.specs.Relation.{IsPath, direct}
 use Rattle.wit_data.specs.Each.{SomeAt}
 use Rattle.wit_data.specs.Ownership.{NamesThroughUnnamed, through_unnamed}
-use Rattle.wit_data.specs.Reference.{referred}
+use Rattle.wit_data.specs.Kind.{referred}
 use Rattle.wit_shape.specs.steps.NamedOwners.{IsNamedOwners, IsOnly, joined, same_owner}
 use Rattle.wit_shape.specs.declared.named_owners.NamedOwners.{NamedOwners}
 use Rattle.wit_shape.specs.declared.named_owners.NamedOwners.TheVariants.{Nothing, One, Several}

@@ -4,7 +4,7 @@
 //! stands after those that it refers to.
 ghost use Rattle.std.specs.Prelude.{◌≡◌, ◌↔◌, ◌<◌, ℕ, [], length, Contains, IfOk, IsTrue};
 ghost use Rattle.wit_data.specs.Ownership.{IsOwn, NamesThroughUnnamed};
-ghost use Rattle.wit_data.specs.Reference.{type_references};
+ghost use Rattle.wit_data.specs.Kind.{type_references};
 ghost use Rattle.wit_shape.specs.steps.NamedOwners.{AreNamedOwners, IsNamedOwners, IsOnly, IsTold, joined};
 ghost use Rattle.wit_digraph.specs.Relation.{IsAcyclic};
 ghost use Rattle.wit_digraph.specs.PostOrder.{UsesFirst};

@@ -2,7 +2,7 @@
 ghost use Rattle.std.specs.Prelude.{◌≡◌, ◌↔◌, ◌<◌, ◌⊎◌, None, IfOk, IsSome, IsTrue};
 ghost use Rattle.wit_data.specs.Each.{Each, EachAt, SomeAt};
 ghost use Rattle.wit_data.specs.Ownership.{AliasesNamed, IsNamed, IsNamedInterface, IsPlain};
-ghost use Rattle.wit_data.specs.Reference.{referred};
+ghost use Rattle.wit_data.specs.Kind.{referred};
 ghost use Rattle.wit_data.specs.Shape.{HasUnresolvedReferences};
 ghost use Rattle.wit_data.specs.declared.types.TypeDef.{TypeDef};
 

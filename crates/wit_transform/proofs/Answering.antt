@@ -8,7 +8,7 @@ use Rattle.wit_values.specs.facts.Lists.{push-cases, take-next_at}
 use Rattle.wit_data.specs.declared.world.WorldItem.{WorldItem}
 use Rattle.wit_data.specs.declared.world.WorldKey.{WorldKey}
 use Rattle.wit_elaboration.specs.Entries.{Entry}
-use Rattle.wit_transform.specs.TransformCause.{AreAnswers, MayAnswer}
+use Rattle.wit_transform.specs.Transformed.{AreAnswers, MayAnswer}
 
 module _ {F : Type 0} (calls : Shared F (Bor WorldKey × (Bor WorldItem × Unit {0})) Bool) (filter : Option F) where
   -- one answer more, at the end

@@ -16,8 +16,7 @@ use Rattle.wit_graph_theory.specs.facts.Covered.{IsNoType}
 use Rattle.wit_graph_theory.specs.facts.CutIsGood.{distinct_kept}
 use Rattle.wit_graph_theory.specs.facts.ListFacts.{contained_at, place_of}
 use Rattle.wit_transform.proofs.Distinct.{head_apart, joined_distinct, key_of_entry, more_distinct, tail_distinct}
-use Rattle.wit_transform.specs.TransformCause.{HasClash, type_label, type_labels}
-use Rattle.wit_transform.specs.Transformed.{AreUnderLabels, WorldLists, entries_by_answer, exportized, importized, is_type, type_entries}
+use Rattle.wit_transform.specs.Transformed.{HasClash, type_label, type_labels, AreUnderLabels, WorldLists, entries_by_answer, exportized, importized, is_type, type_entries}
 
 -- the new lists are made of the entries of the old ones: no key comes twice in one, none of the types is
 -- exported nor lost, and no entry is imported and exported

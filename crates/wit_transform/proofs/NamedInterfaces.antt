@@ -14,7 +14,7 @@ use Rattle.wit_elaboration.specs.Elaboration.{graph_uses}
 use Rattle.wit_elaboration.specs.Entries.{Entry, keyed_interfaces, item_interface, role_of}
 use Rattle.wit_elaboration.specs.Imported.{HasTransitiveConflict}
 use Rattle.wit_elaboration.specs.laws.Imports.{IsImported, Needed, roots_of}
-use Rattle.wit_graph_data.specs.Relations.{entry_interface, entry_interfaces, world_interfaces}
+use Rattle.wit_graph_data.specs.Queries.{entry_interface, entry_interfaces, world_interfaces}
 use Rattle.wit_elaboration.specs.Valid.{IsValid}
 use Rattle.wit_graph_data.specs.declared.graph.Graph.{Graph}
 use Rattle.wit_graph_theory.specs.facts.DependencyFacts.{filter_map_from}

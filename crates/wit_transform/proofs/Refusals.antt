@@ -4,7 +4,7 @@ use Rattle.wit_elaboration.specs.Entries.{Entry}
 use Rattle.wit_graph_data.specs.declared.cause.Cause.TheVariants.{TypeExported}
 use Rattle.wit_graph_data.specs.declared.error_kind.ResolveErrorKind.{ResolveErrorKind}
 use Rattle.wit_graph_data.specs.declared.error_kind.ResolveErrorKind.TheVariants.{Semantic}
-use Rattle.wit_transform.specs.TransformCause.{export_refusal, first_refusal, type_exported_text, type_labels, type_refusal}
+use Rattle.wit_transform.specs.Transformed.{export_refusal, first_refusal, type_exported_text, type_labels, type_refusal}
 
 -- where none of some refusals is there, the first isn't
 first_none : (o : Option ResolveErrorKind) (rest : List (Option ResolveErrorKind)) → first_refusal (o ∷ rest) ≡ None → o ≡ None

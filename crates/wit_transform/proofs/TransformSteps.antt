@@ -16,8 +16,7 @@ use Rattle.wit_transform.proofs.Accepted.{home_at, under_labels}
 use Rattle.wit_transform.proofs.ListsFrom.{exportized_comes, importized_comes}
 use Rattle.wit_transform.proofs.Refusals.{no_types}
 use Rattle.wit_transform.proofs.TransformedWorlds.{in_order_over}
-use Rattle.wit_transform.specs.TransformCause.{ExportizeCause, ExportsAreInConflict, HasClash, HasPackageAt, ImportizeCause, IsExportizeCause, IsImportizeCause, NameIsFreeAt, export_conflict, export_refusal, exportized_name_taken, importized_name_taken, label_clash, not_exported}
-use Rattle.wit_transform.specs.Transformed.{WorldLists, entries_by_answer, exportized, importized, listed_world, transformed, transformed_at, type_entries}
+use Rattle.wit_transform.specs.Transformed.{ExportizeCause, ExportsAreInConflict, HasClash, HasPackageAt, ImportizeCause, IsExportizeCause, IsImportizeCause, NameIsFreeAt, export_conflict, export_refusal, exportized_name_taken, importized_name_taken, label_clash, not_exported, WorldLists, entries_by_answer, exportized, importized, listed_world, transformed, transformed_at, type_entries}
 
 -- ---- the world and its package
 

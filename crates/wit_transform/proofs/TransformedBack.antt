@@ -32,9 +32,8 @@ use Rattle.wit_transform.proofs.Distinct.{entry_of_key, key_of_entry}
 use Rattle.wit_transform.proofs.ListsFrom.{answered_from, answered_into}
 use Rattle.wit_transform.proofs.NamedInterfaces.{import_uses}
 use Rattle.wit_transform.proofs.TransformedWorlds.{in_order, is_elaborated, listed}
-use Rattle.wit_transform.specs.TransformCause.{IsExportizeCause, imports_at}
+use Rattle.wit_transform.specs.Transformed.{IsExportizeCause, imports_at, WorldLists, entries_by_answer, exportized, importized, transformed, transformed_at, transformed_world, type_entries}
 use Rattle.wit_transform.specs.laws.TransformLaws.{AreFormerExports, ExportizedImportsNothing, ImportizedExportsNothing, ImportizedThenExportized, IsBehind}
-use Rattle.wit_transform.specs.Transformed.{WorldLists, entries_by_answer, exportized, importized, transformed, transformed_at, transformed_world, type_entries}
 
 inside : {X : Type 0} (x y : X) → Some x ≡ Some y → x ≡ y
 inside x y h = cc

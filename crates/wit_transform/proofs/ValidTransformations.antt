@@ -18,7 +18,7 @@ use Rattle.wit_elaboration.proofs.Filters.{Contains-filter, Contains-filtered}
 use Rattle.wit_elaboration.specs.Elaborated.{Elaborated}
 use Rattle.wit_elaboration.specs.Elaboration.{graph_uses}
 use Rattle.wit_elaboration.specs.Imported.{HasTransitiveConflict}
-use Rattle.wit_graph_data.specs.Relations.{other_package, package_interfaces, package_needs, package_uses, world_interfaces}
+use Rattle.wit_graph_data.specs.Queries.{other_package, package_interfaces, package_needs, package_uses, world_interfaces}
 use Rattle.wit_values.specs.Table.{HasDistinctKeys}
 use Rattle.wit_elaboration.specs.Valid.{HasPackageNames, IsValid, IsWorldInTable, IsWorldOf}
 use Rattle.wit_graph_data.specs.declared.graph.Graph.{Graph}
@@ -38,8 +38,7 @@ use Rattle.wit_transform.proofs.Looked.{differs, is_other}
 use Rattle.wit_transform.proofs.NamedInterfaces.{done_named, fewer_acyclic}
 use Rattle.wit_transform.proofs.UnnamedOnceTransformed.{set_split, unnamed_once_transformed}
 use Rattle.wit_transform.proofs.TransformedWorlds.{done, done_is_canonical, done_is_good, types_stay}
-use Rattle.wit_transform.specs.TransformCause.{NameIsTakenIn}
-use Rattle.wit_transform.specs.Transformed.{WorldLists, put_last, transformed_at, with_renamed}
+use Rattle.wit_transform.specs.Transformed.{NameIsTakenIn, WorldLists, put_last, transformed_at, with_renamed}
 
 some_and : (P Q : ℕ → Type 0) (o : Option ℕ) → ((q : ℕ) → P q → Q q) → IsSomeAnd o P → IsSomeAnd o Q
 some_and P Q None weaker h = absurd h

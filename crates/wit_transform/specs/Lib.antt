@@ -1,4 +1,3 @@
-pub mod TransformCause
 pub mod Transformed
 pub mod examples
 pub mod laws

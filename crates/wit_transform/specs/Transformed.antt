@@ -1,6 +1,6 @@
 -- Turned worlds: a world whose exports become its imports, or whose imports become its exports.
 -- Source: `importize` and `exportize` of wit-parser 0.263.0.
-use Rattle.std.specs.Prelude.{ℕ, ◌≡◌, Bool, true, false, not, List, [], ◌∷◌, ◌++◌, Option, Some, None, codes, filter, filter_map, nat_eq, slice_get, slice_set, Contains, if◌then◌else◌, zip}
+use Rattle.std.specs.Prelude.{ℕ, ◌≡◌, Bool, true, false, not, List, [], ◌∷◌, ◌++◌, Option, Some, None, codes, filter, filter_map, nat_eq, slice_get, slice_set, Contains, if◌then◌else◌, zip, ◌≢◌, ◌<◌, length, IsSomeAnd, option_map}
 use Rattle.std.specs.Map.{keys_of}
 use Rattle.std.specs.Option.{option_map_or}
 use Rattle.wit_data.specs.declared.world.World.{World}
@@ -8,10 +8,20 @@ use Rattle.wit_data.specs.declared.world.WorldItem.{WorldItem}
 use Rattle.wit_data.specs.declared.world.WorldKey.{WorldKey}
 use Rattle.wit_data.specs.declared.world.WorldItem.TheVariants as item
 use Rattle.wit_data.specs.declared.world.WorldKey.TheVariants as key
-use Rattle.wit_elaboration.specs.AllWorlds.{elaborated_world}
+use Rattle.wit_elaboration.specs.Elaboration.{elaborated_world, graph_uses}
 use Rattle.wit_elaboration.specs.Entries.{Entry}
 use Rattle.wit_graph_data.specs.declared.graph.Graph.{Graph}
 use Rattle.wit_graph_data.specs.declared.graph.Package.{Package}
+use Rattle.std.specs.Borrow.{Bor}
+use Rattle.std.specs.Fn.{Shared}
+use Rattle.wit_data.specs.Each.{SomeAt}
+use Rattle.wit_names.specs.PackageName.{package_name_text}
+use Rattle.wit_names.specs.declared.package_name.PackageName.{PackageName}
+use Rattle.wit_graph_data.specs.Error.{NoCause}
+use Rattle.wit_graph_data.specs.declared.cause.Cause.TheVariants.{LabelClash, NameTaken, TypeExported}
+use Rattle.wit_graph_data.specs.declared.error_kind.ResolveErrorKind.{ResolveErrorKind}
+use Rattle.wit_graph_data.specs.declared.error_kind.ResolveErrorKind.TheVariants.{InvalidTransitiveDependency, Semantic}
+use Rattle.wit_elaboration.specs.Imported.{HasTransitiveConflict, IsRefusedName}
 
 -- what a world transformation makes of a world: its new name, and its new lists before they are elaborated
 pub record WorldLists : Type 0 where
@@ -102,3 +112,150 @@ with_table packages p table = option_map_or (λ (home : Package). slice_set pack
 -- the graph with another world at a place, and with this table of worlds in package p
 abbrev pub with_world : Graph → ℕ → World → ℕ → List (List ℕ × ℕ) → Graph
 with_world g w world p table = record g { worlds = slice_set g.worlds w world; packages = with_table g.packages p table }
+
+-- Why a transformation of a world is refused. After a refusal by 19, 20 or 21 there is no transformed world, so no
+-- conflict (4) is a reason beside these. Of what the new exports refuse the first is told; else, of several reasons any
+-- may be told.
+-- Source: wit-parser 0.263.0; that a taken name and an exported type are refused, and their texts, are rules
+-- of this project.
+
+-- ---- texts
+
+-- 19: an export has the label of an import that stays
+abbrev pub label_clash_text : List ℕ → List ℕ
+label_clash_text label = codes "world export `" ++ (label ++ codes "` conflicts with import of same name")
+
+-- 20: the package has another world of the new name
+abbrev pub name_taken_text : List ℕ → PackageName → List ℕ
+name_taken_text name home = codes "world `" ++ (name ++ (codes "` is already defined in package `" ++ (package_name_text home ++ codes "`")))
+
+-- 21: a type would be exported
+abbrev pub type_exported_text : List ℕ → List ℕ
+type_exported_text label = codes "type import `" ++ (label ++ codes "` cannot be exported")
+
+-- ---- what holds against a transformation
+
+-- an export has the label of a type among the imports
+abbrev pub HasClash : World → List ℕ → Type 0
+HasClash world label = Contains (keys_of world.exports) (key.Name label) × Contains (keys_of (type_entries world.imports)) (key.Name label)
+
+-- the package of world w has another world of this name
+abbrev pub NameIsTakenIn : Package → ℕ → List ℕ → Type 0
+NameIsTakenIn home w name = (v : ℕ) × Contains home.worlds (name, v) × (v ≢ w)
+
+-- the package of world w is `home`, and has another world of this name
+abbrev pub HasNameTaken : Graph → ℕ → World → List ℕ → Package → Type 0
+HasNameTaken g w world name home = (p : ℕ) × (world.package ≡ Some p) × (slice_get g.packages p ≡ Some home) × NameIsTakenIn home w name
+
+-- ---- what exports are refused for
+
+-- the first of some refusals
+abbrev pub first_refusal : List (Option ResolveErrorKind) → Option ResolveErrorKind
+first_refusal [] = None
+first_refusal (None ∷ rest) = first_refusal rest
+first_refusal (Some error ∷ rest) = Some error
+
+-- the label of an entry that is a type
+abbrev pub type_label : WorldKey → WorldItem → Option (List ℕ)
+type_label (key.Name label) held = if is_type held then Some label else None
+type_label (key.Interface i) held = None
+
+-- the labels under which types stand among some entries
+abbrev pub type_labels : List Entry → List (List ℕ)
+type_labels entries = filter_map (λ (e : Entry). type_label e.0 e.1) entries
+
+-- 21: a type would be exported; the first one is told
+abbrev pub type_refusal : List Entry → Option ResolveErrorKind
+type_refusal exports = option_map (λ label. Semantic None (type_exported_text label) TypeExported) (slice_get (type_labels exports) 0)
+
+-- why these can't be the exports of a world: the first of these refusals
+abbrev pub export_refusal : List Entry → Option ResolveErrorKind
+export_refusal exports = first_refusal (type_refusal exports ∷ [])
+
+-- ---- the reasons, by their numbers
+
+-- why exports of a world can't become its imports
+pub data ImportizeCause (g : Graph) (w : ℕ) (world : World) (lists : WorldLists) (error : ResolveErrorKind) : Type 0 where
+  -- 19: an export has the label of a type import
+  label_clash : (label : List ℕ) → HasClash world label → error ≡ Semantic None (label_clash_text label) LabelClash → ImportizeCause g w world lists error
+  -- 20: the new name is another world's of the package
+  importized_name_taken : (home : Package) → HasNameTaken g w world lists.name home → error ≡ Semantic None (name_taken_text lists.name home.name) NameTaken → ImportizeCause g w world lists error
+
+-- why imports of a world can't become its exports
+pub data ExportizeCause (g : Graph) (w : ℕ) (world : World) (lists : WorldLists) (error : ResolveErrorKind) : Type 0 where
+  -- 4: the new exports are in conflict, where there is a transformed world
+  export_conflict : (name : List ℕ) → ((home : Package) → HasNameTaken g w world lists.name home → ⊥) → export_refusal lists.exports ≡ None
+      → HasTransitiveConflict (graph_uses g) lists.exports → IsRefusedName g.packages g.interfaces (graph_uses g) lists.exports name
+      → error ≡ InvalidTransitiveDependency world.span name → ExportizeCause g w world lists error
+  -- 20: the new name is another world's of the package
+  exportized_name_taken : (home : Package) → HasNameTaken g w world lists.name home → error ≡ Semantic None (name_taken_text lists.name home.name) NameTaken → ExportizeCause g w world lists error
+  -- 21: the new exports can't be
+  not_exported : export_refusal lists.exports ≡ Some error → ExportizeCause g w world lists error
+
+-- a cause of importizing world w
+abbrev pub IsImportizeCause : Graph → ℕ → Option (List ℕ) → ResolveErrorKind → Type 0
+IsImportizeCause g w out error = (world : World) × (slice_get g.worlds w ≡ Some world) × ImportizeCause g w world (importized out world) error
+
+-- a cause of exportizing world w by these answers
+abbrev pub IsExportizeCause : Graph → ℕ → List Bool → Option (List ℕ) → ResolveErrorKind → Type 0
+IsExportizeCause g w answers out error = (world : World) × (slice_get g.worlds w ≡ Some world) × ExportizeCause g w world (exportized answers out world) error
+
+-- ---- the same of the world at a place
+
+-- world w has a package that is there
+abbrev pub HasPackageAt : Graph → ℕ → Type 0
+HasPackageAt g w = SomeAt g.worlds w (λ (world : World). IsSomeAnd world.package (λ p. p < length g.packages))
+
+-- no other world of world w's package has this name
+abbrev pub NameIsFreeAt : Graph → ℕ → List ℕ → Type 0
+NameIsFreeAt g w name = (world : World) (home : Package) → slice_get g.worlds w ≡ Some world → HasNameTaken g w world name home → ⊥
+
+-- another world of the package has the new name of world w, and the error says so
+abbrev pub HasNameTakenAt : Graph → ℕ → List ℕ → Option (List ℕ) → ResolveErrorKind → Type 0
+HasNameTakenAt g w suffix out error =
+    (world : World) × (home : Package) × (slice_get g.worlds w ≡ Some world) × HasNameTaken g w world (new_name suffix out world.name) home
+    × (error ≡ Semantic None (name_taken_text (new_name suffix out world.name) home.name) NameTaken)
+
+-- these exports of world w are in conflict, and the error says so
+abbrev pub ExportsAreInConflict : Graph → ℕ → List Entry → ResolveErrorKind → Type 0
+ExportsAreInConflict g w exports error =
+    (world : World) × (name : List ℕ) × (slice_get g.worlds w ≡ Some world) × HasTransitiveConflict (graph_uses g) exports × IsRefusedName g.packages g.interfaces (graph_uses g) exports name
+    × (error ≡ InvalidTransitiveDependency world.span name)
+
+-- the imports of world w, none where it isn't there
+abbrev pub imports_at : Graph → ℕ → List Entry
+imports_at g w = option_map_or (λ (world : World). world.imports) (slice_get g.worlds w) []
+
+-- ---- what a filter answered
+
+module _ {F : Type 0} (calls : Shared F (Bor WorldKey × (Bor WorldItem × Unit {0})) Bool) where
+  -- a call of f at the key and the item of an entry may give this answer
+  pub record MayGive (f : F) (e : Entry) (answer : Bool) : Type 0 where
+    pub key : Bor WorldKey
+    pub item : Bor WorldItem
+    pub key_is : key.now ≡ e.0
+    pub item_is : item.now ≡ e.1
+    pub given : calls.post f (key, (item, tt)) answer
+
+  -- a filter may answer so of an entry, and without a filter the answer is true
+  abbrev pub MayAnswer : Option F → Entry → Bool → Type 0
+  MayAnswer None e answer = answer ≡ true
+  MayAnswer (Some f) e answer = MayGive f e answer
+
+  -- one answer for each entry, in order
+  pub record AreAnswers (filter : Option F) (entries : List Entry) (answers : List Bool) : Type 0 where
+    pub count : length answers ≡ length entries
+    pub each : (i : ℕ) (e : Entry) (answer : Bool) → slice_get entries i ≡ Some e → slice_get answers i ≡ Some answer → MayAnswer filter e answer
+
+  -- the filter gave answers, by which a transformation is refused with this error
+  pub record RefusesExportize (filter : Option F) (old : Graph) (w : ℕ) (out : Option (List ℕ)) (error : ResolveErrorKind) : Type 0 where
+    pub answers : List Bool
+    pub given : AreAnswers filter (imports_at old w) answers
+    pub cause : IsExportizeCause old w answers out error
+
+  -- the filter gave answers, by which no cause holds against the transformation, and the graph is transformed by them
+  pub record Exportizes (filter : Option F) (old : Graph) (w : ℕ) (out : Option (List ℕ)) (new : Graph) : Type 0 where
+    pub answers : List Bool
+    pub given : AreAnswers filter (imports_at old w) answers
+    pub accepted : NoCause (IsExportizeCause old w answers out)
+    pub is_transformed : new ≡ transformed old w (exportized answers out)

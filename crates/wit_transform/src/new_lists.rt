@@ -7,8 +7,7 @@ ghost use Rattle.wit_graph_data.specs.declared.cause.Cause.TheVariants as cause;
 ghost use Rattle.wit_graph_data.specs.declared.error_kind.ResolveErrorKind.TheVariants.{OutOfMemory, Semantic};
 ghost use Rattle.wit_data.specs.declared.world.WorldKey.{WorldKey};
 ghost use Rattle.wit_data.specs.declared.world.WorldKey.TheVariants as key;
-ghost use Rattle.wit_transform.specs.TransformCause.{HasClash, export_refusal, label_clash_text, name_taken_text, type_exported_text, type_labels, type_refusal};
-ghost use Rattle.wit_transform.specs.Transformed.{AreUnderLabels, entries_by_answer, is_type, type_entries};
+ghost use Rattle.wit_transform.specs.Transformed.{HasClash, export_refusal, label_clash_text, name_taken_text, type_exported_text, type_labels, type_refusal, AreUnderLabels, entries_by_answer, is_type, type_entries};
 
 use std::alloc::{AllocError, Global};
 use wit_data::{Items, Span, Table, Text, World, WorldItem, WorldKey};

@@ -3,8 +3,7 @@ ghost use Rattle.std.specs.Prelude.{◌≡◌, ◌↔◌, ◌++◌, ◌∷◌, [
 ghost use Rattle.std.specs.Map.{lookup};
 ghost use Rattle.std.specs.Option.{option_map};
 ghost use Rattle.std.specs.Str.{bytes_eq};
-ghost use Rattle.wit_transform.specs.TransformCause.{NameIsTakenIn};
-ghost use Rattle.wit_transform.specs.Transformed.{new_name, put_last};
+ghost use Rattle.wit_transform.specs.Transformed.{NameIsTakenIn, new_name, put_last};
 
 use std::alloc::{AllocError, Global};
 use wit_data::{Names, Text, WorldId};

@@ -4,8 +4,7 @@
 //! and the table of its package. All else stays.
 ghost use Rattle.std.specs.Prelude.{◌≡◌, ◌⊎◌, ◌<◌, Bool, IfErr, IfOk, IfSome, IsSome, List, OnErr, OnOk, Some, length, slice_get, string_bytes};
 ghost use Rattle.std.specs.Option.{option_map};
-ghost use Rattle.wit_elaboration.specs.AllWorlds.{elaborated_world};
-ghost use Rattle.wit_elaboration.specs.Elaboration.{IsConflictError, graph_uses};
+ghost use Rattle.wit_elaboration.specs.Elaboration.{elaborated_world, IsConflictError, graph_uses};
 ghost use Rattle.wit_elaboration.specs.Imported.{HasTransitiveConflict};
 ghost use Rattle.wit_elaboration.specs.Sound.{HasSoundEntries};
 ghost use Rattle.wit_elaboration.specs.Valid.{IsValid};
@@ -13,8 +12,7 @@ ghost use Rattle.wit_graph_data.specs.declared.error_kind.ResolveErrorKind.{Reso
 ghost use Rattle.wit_graph_data.specs.declared.error_kind.ResolveErrorKind.TheVariants.{OutOfMemory};
 ghost use Rattle.wit_data.specs.declared.world.World.{World};
 ghost use Rattle.wit_digraph.specs.Relation.{IsAcyclic};
-ghost use Rattle.wit_transform.specs.TransformCause.{AreAnswers, Exportizes, ExportsAreInConflict, HasNameTakenAt, HasPackageAt, IsExportizeCause, IsImportizeCause, MayAnswer, MayGive, NameIsFreeAt, RefusesExportize, imports_at};
-ghost use Rattle.wit_transform.specs.Transformed.{exportized, importized, listed_world, new_name, transformed, with_world};
+ghost use Rattle.wit_transform.specs.Transformed.{AreAnswers, Exportizes, ExportsAreInConflict, HasNameTakenAt, HasPackageAt, IsExportizeCause, IsImportizeCause, MayAnswer, MayGive, NameIsFreeAt, RefusesExportize, imports_at, exportized, importized, listed_world, new_name, transformed, with_world};
 
 use crate::laws::{exportized_stay_valid, importized_stay_valid};
 use crate::new_lists::{exportized_lists, importized_lists, name_taken};

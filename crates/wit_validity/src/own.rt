@@ -1,7 +1,7 @@
 //! Whether owners, references and worlds are in order, where no type refers to itself.
 ghost use Rattle.std.specs.Prelude.{◌↔◌, IfOk, IsTrue};
 ghost use Rattle.wit_elaboration.specs.Valid.{HasOwners, HasReferences, HasWorlds};
-ghost use Rattle.wit_data.specs.Reference.{type_references};
+ghost use Rattle.wit_data.specs.Kind.{type_references};
 ghost use Rattle.wit_shape.specs.steps.NamedOwners.{AreNamedOwners};
 ghost use Rattle.wit_digraph.specs.Relation.{IsAcyclic};
 ghost use Rattle.wit_validity.specs.steps.Parts.{IsOwned};

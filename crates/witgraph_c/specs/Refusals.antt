@@ -4,15 +4,14 @@ use Rattle.std.specs.Prelude.{◌≡◌, ℕ, Bool, true, false, List, [], ◌�
 use Rattle.wit_sources.specs.declared.source_map.SourceFile.{SourceFile}
 use Rattle.wit_names.specs.declared.package_name.PackageName.{PackageName}
 use Rattle.wit_graph_data.specs.Error.{error_number}
-use Rattle.wit_graph_data.specs.RenderedText.{rendered_text}
+use Rattle.wit_graph_data.specs.ErrorText.{rendered_text}
 use Rattle.wit_graph_data.specs.declared.error_kind.ResolveErrorKind.{ResolveErrorKind}
-use Rattle.wit_resolve_graph.specs.State.{State, new_state}
+use Rattle.wit_resolve_graph.specs.State.{State, new_state, package_named}
 use Rattle.wit_resolve_graph.specs.Step.{Run}
 use Rattle.wit_resolve_graph.specs.declared.command.Command.{Command}
 use Rattle.wit_resolve_graph.specs.declared.command.Command.TheVariants.{PushGroups, Merge}
 use Rattle.wit_resolve_graph.specs.declared.command.Reply.{Reply}
 use Rattle.wit_resolve_graph.specs.declared.command.Reply.TheVariants as reply
-use Rattle.wit_resolve_graph.specs.Named.{package_named}
 use Rattle.wit_script.specs.Answer.{IsChoice, action_of, only_first, with_working_state, working_state}
 use Rattle.wit_script.specs.Prints.{PrintsLine}
 use Rattle.wit_script.specs.Script.{IsUnderstood}

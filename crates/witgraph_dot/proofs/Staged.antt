@@ -5,7 +5,7 @@ use Rattle.wit_names.specs.declared.package_name.PackageName.{PackageName}
 use Rattle.wit_data.specs.declared.unresolved.UnresolvedPackageGroup.{UnresolvedPackageGroup}
 use Rattle.wit_graph_data.specs.declared.error_kind.ResolveErrorKind.TheVariants.{OutOfMemory}
 use Rattle.wit_graph_data.specs.declared.graph.Graph.{Graph}
-use Rattle.wit_resolve_graph.specs.State.{new_state}
+use Rattle.wit_resolve_graph.specs.State.{new_state, package_named, world_named}
 use Rattle.wit_resolve_graph.specs.Step.{Run}
 use Rattle.wit_resolve_graph.specs.declared.command.Command.{Command}
 use Rattle.wit_resolve_graph.specs.declared.command.Command.TheVariants.{Merge, PushGroups}
@@ -13,7 +13,6 @@ use Rattle.wit_resolve_graph.specs.declared.command.Reply.{Reply}
 use Rattle.wit_script_lines.specs.declared.request.Request.{Request}
 use Rattle.wit_script.proofs.Answered.{AnswersAll-more}
 use Rattle.wit_script.proofs.Waiting.{others-come}
-use Rattle.wit_resolve_graph.specs.Named.{package_named, world_named}
 use Rattle.wit_script.specs.Answer.{AnswersByRun, AnswersPrint, AnswersSelect, IsChoice, PrintsChoice, action_of, line_of, only_first, refusal_text, reply_text, working_state}
 use Rattle.wit_script.specs.Ready.{CanAllBeAsked}
 use Rattle.wit_script.specs.World.{world_text_at}

@@ -1,5 +1,6 @@
 -- The graphs of a script while it is carried out, and what stands in a world under the ids of interfaces.
 use Rattle.std.specs.Prelude.{ℕ, List, [], ◌∷◌, Option, None, Some}
+use Rattle.std.specs.Option.{option_map_or}
 use Rattle.wit_elaboration.specs.Entries.{keyed_interfaces}
 use Rattle.wit_data.specs.declared.world.World.{World}
 use Rattle.wit_resolve_graph.specs.State.{State, new_state}
@@ -39,10 +40,8 @@ FollowsAll commands after = (text : List ℕ) × AnswersAll Run IsChoice (only_f
 
 -- the interfaces that a world imports under their own ids
 abbrev pub own_imports : Option World → List ℕ
-own_imports None = []
-own_imports (Some world) = keyed_interfaces world.imports
+own_imports world = option_map_or (λ (there : World). keyed_interfaces there.imports) world []
 
 -- those that it exports so
 abbrev pub own_exports : Option World → List ℕ
-own_exports None = []
-own_exports (Some world) = keyed_interfaces world.exports
+own_exports world = option_map_or (λ (there : World). keyed_interfaces there.exports) world []

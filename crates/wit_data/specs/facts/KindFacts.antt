@@ -6,9 +6,8 @@ use Rattle.std.proofs.lemmas.List.{append-nil}
 use Rattle.std.proofs.lemmas.List.Folds.{flat_map-map}
 use Rattle.wit_sources.specs.Span.{OptionalSpan}
 use Rattle.wit_data.specs.Each.{Each}
-use Rattle.wit_data.specs.Reference.{named_option, named_type, referred}
+use Rattle.wit_data.specs.Kind.{named_option, named_type, referred, KindPart, fixed_length, handle_resource, kind_parts, map_handle, map_kind, map_type, named_part, plain_part, variant_of}
 use Rattle.wit_data.specs.facts.EachFacts.{EachAt-nil, EachAt-one, EachAt-two}
-use Rattle.wit_data.specs.Kind.{KindPart, fixed_length, handle_resource, kind_parts, map_handle, map_kind, map_part, map_type, named_part, plain_part, variant_of}
 use Rattle.wit_data.specs.declared.types.Case.{Case}
 use Rattle.wit_data.specs.declared.types.EnumCase.{EnumCase}
 use Rattle.wit_data.specs.declared.types.Field.{Field}
@@ -23,6 +22,10 @@ use Rattle.wit_data.specs.declared.kind.Variant.TheVariants as variants
 use Rattle.wit_data.specs.declared.types.Handle.TheVariants as handle
 use Rattle.wit_data.specs.declared.types.TypeDefKind.TheVariants as kind
 use Rattle.wit_data.specs.declared.types.Type_.TheVariants as type
+
+-- a part with its ids mapped by its role and its span moved
+abbrev pub map_part : (PartRole → ℕ → ℕ) → (OptionalSpan → OptionalSpan) → KindPart → KindPart
+map_part go move p = record p { ty = option_map (map_type (go p.role)) p.ty; span = option_map move p.span }
 
 -- ---- lists of parts
 

@@ -9,8 +9,7 @@ use Rattle.wit_digraph.specs.facts.EarlierFacts.{IsAcyclic-earlier}
 use Rattle.wit_digraph.specs.facts.MemberFacts.{Contains-flat_map, Contains-flat_map_cases, Contains-nil}
 use Rattle.wit_digraph.specs.Relation.{IsAcyclic, direct}
 use Rattle.wit_data.specs.Each.{Each, EachAt}
-use Rattle.wit_data.specs.Kind.{KindPart, kind_parts, named_part}
-use Rattle.wit_data.specs.Reference.{named_option, named_type, referred, referred_in, type_references}
+use Rattle.wit_data.specs.Kind.{KindPart, kind_parts, named_part, named_option, named_type, referred, referred_in, type_references}
 use Rattle.wit_data.specs.declared.types.Field.{Field}
 use Rattle.wit_data.specs.declared.kind.PartRole.{PartRole}
 use Rattle.wit_data.specs.declared.types.TypeDef.{TypeDef}

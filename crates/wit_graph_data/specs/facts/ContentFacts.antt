@@ -5,7 +5,7 @@ use Rattle.std.proofs.lemmas.List.{length-map}
 use Rattle.std.proofs.lemmas.Option.{get_or_from_slice_get, slice_get-map}
 use Rattle.wit_digraph.specs.facts.AmongFacts.{IsAcyclic-among}
 use Rattle.wit_digraph.specs.Relation.{IsAcyclic, direct}
-use Rattle.wit_data.specs.Reference.{referred, type_references}
+use Rattle.wit_data.specs.Kind.{referred, type_references}
 use Rattle.wit_data.specs.facts.ReferenceFacts.{in_referred}
 use Rattle.wit_data.specs.declared.kind.PartRole.{PartRole}
 use Rattle.wit_data.specs.declared.types.TypeDef.{TypeDef}

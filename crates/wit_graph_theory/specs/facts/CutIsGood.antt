@@ -5,7 +5,7 @@ use Rattle.wit_digraph.specs.facts.MemberFacts.{Contains-cons_cases, Contains-fl
 use Rattle.wit_data.specs.Each.{Each}
 use Rattle.wit_data.specs.Entries.{Entry, IsExport, IsImport}
 use Rattle.wit_data.specs.Ownership.{IsListed, IsNamed, IsNamedInterface, entry_type, world_types}
-use Rattle.wit_data.specs.Reference.{function_references, referred}
+use Rattle.wit_data.specs.Kind.{function_references, referred}
 use Rattle.wit_data.specs.Uses.{alias_target}
 use Rattle.wit_data.specs.declared.function.Function.{Function}
 use Rattle.wit_data.specs.declared.interface.Interface.{Interface}

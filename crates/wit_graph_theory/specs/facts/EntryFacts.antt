@@ -23,7 +23,7 @@ use Rattle.wit_elaboration.specs.Imported.{exported_keys}
 use Rattle.wit_elaboration.specs.laws.Imports.{roots_of}
 use Rattle.wit_elaboration.specs.laws.KeptByElaboration.{HoldsImports, ImportsAreLeast}
 use Rattle.wit_elaboration.specs.facts.SoundFacts.{dep_is_named, lists_in_order, named_within}
-use Rattle.wit_graph_data.specs.Relations.{entry_interface, entry_interfaces, world_interfaces}
+use Rattle.wit_graph_data.specs.Queries.{entry_interface, entry_interfaces, world_interfaces}
 use Rattle.wit_graph_theory.specs.facts.DependencyFacts.{filter_map_into}
 use Rattle.wit_graph_theory.specs.facts.ListFacts.{place_of}
 use Rattle.wit_graph_theory.specs.facts.NamedUses.{used_is_named}

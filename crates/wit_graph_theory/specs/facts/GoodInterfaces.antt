@@ -2,7 +2,7 @@
 use Rattle.std.proofs.Common.{◌≡◌, ◌∙◌, ℕ, true, List, Option, Some, option_map, sym, ap, subst, IfSome}
 use Rattle.wit_data.specs.Each.{Each}
 use Rattle.wit_data.specs.Ownership.{IsOwn, IsTypeOf}
-use Rattle.wit_data.specs.Reference.{function_references}
+use Rattle.wit_data.specs.Kind.{function_references}
 use Rattle.wit_names.specs.UsePath.{IsKebabName}
 use Rattle.wit_data.specs.declared.function.Function.{Function}
 use Rattle.wit_data.specs.declared.interface.Interface.{Interface}

@@ -3,7 +3,7 @@ use Rattle.std.proofs.Common.{◌≡◌, ◌∙◌, ◌⊎◌, inl, inr, ℕ, tr
 use Rattle.wit_digraph.specs.facts.MemberFacts.{Contains-here}
 use Rattle.wit_data.specs.Each.{SomeAt}
 use Rattle.wit_data.specs.Ownership.{IsListed, IsNamed, IsNamedInterface, IsOwn, IsPlain, is_no_target, parts, world_types}
-use Rattle.wit_data.specs.Reference.{referred}
+use Rattle.wit_data.specs.Kind.{referred}
 use Rattle.wit_data.specs.facts.ReferenceFacts.{in_referred}
 use Rattle.wit_data.specs.Uses.{alias_target}
 use Rattle.wit_data.specs.declared.interface.Interface.{Interface}

@@ -9,7 +9,7 @@ use Rattle.wit_digraph.specs.Relation.{IsAcyclic, direct}
 use Rattle.wit_data.specs.Each.{Each, EachAt, SomeAt}
 use Rattle.wit_data.specs.Entries.{Entry, IsExport, IsImport, ItemUsesOwn}
 use Rattle.wit_data.specs.Ownership.{IsListed, IsNamed, entry_type, world_types}
-use Rattle.wit_data.specs.Reference.{referred, type_references}
+use Rattle.wit_data.specs.Kind.{referred, type_references}
 use Rattle.wit_data.specs.declared.interface.Interface.{Interface}
 use Rattle.wit_data.specs.declared.types.TypeDef.{TypeDef}
 use Rattle.wit_data.specs.declared.types.TypeDefKind.{TypeDefKind}

@@ -20,7 +20,7 @@ use Rattle.wit_elaboration.specs.Entries.{Entry, item_interface, role_of}
 use Rattle.wit_elaboration.specs.laws.Imports.{IsImported, roots_of}
 use Rattle.wit_elaboration.specs.laws.KeptByElaboration.{ElaboratedEntries}
 use Rattle.wit_elaboration.specs.facts.SoundFacts.{lists_in_order}
-use Rattle.wit_graph_data.specs.Relations.{entry_interface, entry_interfaces, other_package, package_interfaces, package_needs, package_uses, world_interfaces}
+use Rattle.wit_graph_data.specs.Queries.{entry_interface, entry_interfaces, other_package, package_interfaces, package_needs, package_uses, world_interfaces}
 use Rattle.wit_elaboration.specs.Valid.{IsInTable}
 use Rattle.wit_graph_data.specs.declared.graph.Package.{Package}
 use Rattle.wit_graph_theory.specs.facts.DependencyFacts.{filter_map_from, filter_map_into}

@@ -12,7 +12,7 @@ use Rattle.wit_data.specs.Uses.{interface_uses, type_interface_dep}
 use Rattle.wit_data.specs.declared.world.World.{World}
 use Rattle.wit_data.specs.declared.world.WorldItem.{WorldItem}
 use Rattle.wit_data.specs.declared.world.WorldItem.TheVariants as item
-use Rattle.wit_graph_data.specs.Relations.{entry_interface, entry_interfaces, other_package, package_interfaces, package_needs, package_uses, world_interfaces}
+use Rattle.wit_graph_data.specs.Queries.{entry_interface, entry_interfaces, other_package, package_interfaces, package_needs, package_uses, world_interfaces}
 use Rattle.wit_graph_data.specs.declared.graph.Graph.{Graph}
 use Rattle.wit_graph_data.specs.declared.graph.Package.{Package}
 use Rattle.wit_graph_theory.specs.facts.Growth.{PackagesGrow}

@@ -4,10 +4,9 @@ use Rattle.std.proofs.lemmas.List.{map-append}
 use Rattle.std.proofs.lemmas.List.Elements.{Contains-append_cases, Contains-append_left, Contains-append_right}
 use Rattle.std.specs.List.{flat_map}
 use Rattle.wit_data.specs.Function.{resource_of}
-use Rattle.wit_data.specs.Kind.{KindPart, kind_parts, map_part, map_type, variant_of}
-use Rattle.wit_data.specs.facts.KindFacts.{parts_mapped, variant_mapped}
+use Rattle.wit_data.specs.Kind.{KindPart, kind_parts, map_type, variant_of, function_references, named_type, named_option, referred, referred_in}
+use Rattle.wit_data.specs.facts.KindFacts.{parts_mapped, variant_mapped, map_part}
 use Rattle.wit_data.specs.Ownership.{IsPlain, is_no_target, parts}
-use Rattle.wit_data.specs.Reference.{function_references, named_type, named_option, referred, referred_in}
 use Rattle.wit_data.specs.facts.ReferenceFacts.{in_role, in_those}
 use Rattle.wit_data.specs.Uses.{alias_target}
 use Rattle.wit_data.specs.declared.function.Function.{Function}

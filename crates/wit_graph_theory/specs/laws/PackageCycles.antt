@@ -11,7 +11,7 @@ use Rattle.wit_data.specs.declared.types.TypeDef.{TypeDef}
 use Rattle.wit_data.specs.declared.world.World.{World}
 use Rattle.wit_elaboration.specs.Elaborated.{Elaborated}
 use Rattle.wit_elaboration.specs.Entries.{Entry, keyed_interfaces, item_interface}
-use Rattle.wit_graph_data.specs.Relations.{package_uses}
+use Rattle.wit_graph_data.specs.Queries.{package_uses}
 use Rattle.wit_elaboration.specs.Valid.{IsInTable}
 use Rattle.wit_graph_data.specs.declared.graph.Package.{Package}
 

@@ -13,7 +13,7 @@ use Rattle.std.specs.Prelude.{◌≡◌, ◌≢◌, ◌⊎◌, ◌<◌, ℕ, Boo
 use Rattle.wit_data.specs.Each.{Each, SomeAt}
 use Rattle.wit_data.specs.Entries.{Entry}
 use Rattle.wit_data.specs.Ownership.{IsNamedInterface, IsPlain, parts, world_types}
-use Rattle.wit_data.specs.Reference.{function_references, referred}
+use Rattle.wit_data.specs.Kind.{function_references, referred}
 use Rattle.wit_data.specs.Uses.{alias_target}
 use Rattle.wit_data.specs.declared.function.Function.{Function}
 use Rattle.wit_data.specs.declared.interface.Interface.{Interface}

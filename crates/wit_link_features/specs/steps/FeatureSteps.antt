@@ -8,7 +8,7 @@ use Rattle.wit_values.specs.Version.{Parts, version_cmp}
 use Rattle.wit_data.specs.Each.{Each, SomeAt}
 use Rattle.wit_data.specs.Entries.{Entry}
 use Rattle.wit_data.specs.Foreign.{ForeignItem, interface_id, world_id}
-use Rattle.wit_data.specs.Reference.{function_references, named_type}
+use Rattle.wit_data.specs.Kind.{function_references, named_type}
 use Rattle.wit_data.specs.Shape.{IsShaped}
 use Rattle.wit_data.specs.declared.unresolved.AstItem.{AstItem}
 use Rattle.wit_data.specs.declared.types.Field.{Field}

@@ -56,16 +56,6 @@ abbrev pub named_is_active : Addition → AstItem → Bool
 named_is_active a (item.Interface i) = interface_is_active a.features a.unresolved i
 named_is_active a (item.World w) = world_is_active a.features a.unresolved w
 
--- the package has the item
-abbrev pub IsItemOf : UnresolvedPackage → AstItem → Type 0
-IsItemOf u (item.Interface i) = i < length u.interfaces
-IsItemOf u (item.World w) = w < length u.worlds
-
--- it has the item there
-abbrev pub IsItemAt : UnresolvedPackage → AstItem → OptionalSpan → Type 0
-IsItemAt u (item.Interface i) span = SomeAt u.interfaces i (λ (interface : Interface). span ≡ interface.span)
-IsItemAt u (item.World w) span = SomeAt u.worlds w (λ (world : World). span ≡ world.span)
-
 -- the error that tells that the item isn't in its package
 abbrev pub not_found : AstItem → OptionalSpan → List ℕ → PackageName → ResolveErrorKind
 not_found (item.Interface i) span requested home = InterfaceNotFound span requested home

@@ -21,14 +21,12 @@ use Rattle.wit_labels.specs.Setters.{getter_label}
 use Rattle.wit_labels.specs.Strong.{Clashes}
 use Rattle.wit_link_spec.specs.Addition.{Addition, active_includes, addition_maps, own_worlds, remapped_world}
 use Rattle.wit_link_spec.specs.Cause.{IsCause, IsReached, of_world}
-use Rattle.wit_link_spec.specs.FinishCause.{IsFinishCause, LabelsClash, SetterIsAlone, no_getter_18, not_strongly_unique_17}
+use Rattle.wit_link_spec.specs.WorldReasons.{IsFinishCause, LabelsClash, SetterIsAlone, no_getter_18, not_strongly_unique_17, IsIncludeCause, AtWorld, IncludeIsAccepted, IsCauseAtFinish, IsCauseAtInclude, WorldIsAccepted, of_finish, of_include, written_no_getter_18, written_not_strongly_unique_17}
 use Rattle.wit_link_spec.specs.Gates.{include_is_active}
 use Rattle.wit_link_spec.specs.Include.{IsListCalled, PartiallyLinked, lists_of, with_entry_lists, with_include_of}
-use Rattle.wit_link_spec.specs.IncludeCause.{IsIncludeCause}
 use Rattle.wit_link_spec.specs.Pushed.{placed_include, with_all_includes, with_finished, with_include, with_includes, with_parts, with_world, with_worlds}
 use Rattle.wit_link_spec.specs.facts.Linked.{placed_includes}
 use Rattle.wit_link_spec.specs.Reasons.{IsResolved}
-use Rattle.wit_link_spec.specs.WorldReasons.{AtWorld, IncludeIsAccepted, IsCauseAtFinish, IsCauseAtInclude, WorldIsAccepted, of_finish, of_include, written_no_getter_18, written_not_strongly_unique_17}
 use Rattle.wit_link_include.specs.steps.Included as local
 use Rattle.wit_link_include.specs.facts.SeveralFacts.{one_worlds}
 

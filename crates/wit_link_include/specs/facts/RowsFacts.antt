@@ -6,7 +6,7 @@ use Rattle.std.proofs.lemmas.List.Elements.{All-contains}
 use Rattle.wit_values.specs.facts.Lists.{slice_get-append}
 use Rattle.wit_data.specs.Each.{EachAt}
 use Rattle.wit_data.specs.Ownership.{ListsOwn}
-use Rattle.wit_data.specs.Reference.{referred, type_references}
+use Rattle.wit_data.specs.Kind.{referred, type_references}
 use Rattle.wit_data.specs.Uses.{alias_target, interface_uses, other_owner, type_interface_dep, uses_of}
 use Rattle.wit_data.specs.declared.interface.Interface.{Interface}
 use Rattle.wit_data.specs.declared.types.TypeDef.{TypeDef}

@@ -8,7 +8,7 @@ use Rattle.wit_digraph.specs.Relation.{IsPath, Reaches, direct}
 use Rattle.wit_data.specs.Each.{SomeAt}
 use Rattle.wit_data.specs.Ownership.{IsNamedInterface, IsOwn, is_no_target, parts, through_unnamed}
 use Rattle.wit_data.specs.facts.KindFacts.{roles_are}
-use Rattle.wit_data.specs.Reference.{referred, type_references}
+use Rattle.wit_data.specs.Kind.{referred, type_references}
 use Rattle.wit_data.specs.facts.ReferenceFacts.{all_referred}
 use Rattle.wit_data.specs.Uses.{alias_target}
 use Rattle.wit_data.specs.declared.kind.PartRole.TheVariants.{Value}

@@ -11,7 +11,7 @@ use Rattle.wit_digraph.specs.facts.MemberFacts.{Contains-cons_cases, Contains-fl
 use Rattle.wit_data.specs.Entries.{Entry, IsImport, interfaces_in_worlds, interfaces_of_entries, is_unnamed, item_interface}
 use Rattle.wit_data.specs.Ownership.{IsListed, IsNamed, entry_type, world_types}
 use Rattle.wit_elaboration.specs.facts.SoundFacts.{named_within}
-use Rattle.wit_data.specs.Reference.{function_references, referred}
+use Rattle.wit_data.specs.Kind.{function_references, referred}
 use Rattle.wit_data.specs.declared.function.Function.{Function}
 use Rattle.wit_data.specs.declared.interface.Interface.{Interface}
 use Rattle.wit_data.specs.declared.types.TypeDef.{TypeDef}

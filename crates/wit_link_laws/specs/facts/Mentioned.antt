@@ -12,7 +12,7 @@ use Rattle.wit_digraph.specs.facts.PostOrderFacts.{Contains-post_order_end, Reac
 use Rattle.wit_digraph.specs.PostOrder.{post_order}
 use Rattle.wit_data.specs.Entries.{Entry, IsImport, ItemUsesOwn, interfaces_in_worlds, is_unnamed}
 use Rattle.wit_data.specs.Ownership.{IsListed, IsNamedInterface, IsOwn}
-use Rattle.wit_data.specs.Reference.{function_references, referred, type_references}
+use Rattle.wit_data.specs.Kind.{function_references, referred, type_references}
 use Rattle.wit_data.specs.declared.function.Function.{Function}
 use Rattle.wit_data.specs.declared.interface.Interface.{Interface}
 use Rattle.wit_data.specs.declared.types.TypeDef.{TypeDef}

@@ -8,7 +8,7 @@ use Rattle.wit_values.specs.Table.{HasDistinctKeys}
 use Rattle.wit_digraph.specs.facts.MemberFacts.{Contains-cons_cases, Contains-nil}
 use Rattle.wit_data.specs.Each.{SomeAt}
 use Rattle.wit_names.specs.facts.PackageNameFacts.{own_name}
-use Rattle.wit_names.specs.PackageOrder.{same_package}
+use Rattle.wit_names.specs.PackageName.{same_package}
 use Rattle.wit_names.specs.declared.package_name.PackageName.{PackageName}
 use Rattle.wit_elaboration.specs.Valid.{HasPackageNames, IsValid}
 use Rattle.wit_graph_data.specs.declared.graph.Graph.{Graph}

@@ -4,7 +4,7 @@ use Rattle.std.specs.List.{range_with_len}
 use Rattle.std.proofs.lemmas.Option.{slice_get_within}
 use Rattle.wit_data.specs.Each.{Each}
 use Rattle.wit_data.specs.Ownership.{AliasesNamed, IsNamed, IsNamedInterface}
-use Rattle.wit_data.specs.Reference.{referred}
+use Rattle.wit_data.specs.Kind.{referred}
 use Rattle.wit_data.specs.Shape.{IsShaped}
 use Rattle.wit_data.specs.Uses.{alias_target}
 use Rattle.wit_data.specs.declared.interface.Interface.{Interface}

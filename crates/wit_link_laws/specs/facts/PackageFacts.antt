@@ -21,7 +21,7 @@ use Rattle.wit_data.specs.declared.types.TypeOwner.TheVariants as owner
 use Rattle.wit_data.specs.declared.world.WorldItem.TheVariants as item
 use Rattle.wit_data.specs.declared.world.WorldKey.TheVariants as key
 use Rattle.wit_elaboration.specs.facts.SoundFacts.{dep_is_named}
-use Rattle.wit_graph_data.specs.Relations.{entry_interface, entry_interfaces, other_package, package_interfaces, package_needs, package_uses, world_interfaces}
+use Rattle.wit_graph_data.specs.Queries.{entry_interface, entry_interfaces, other_package, package_interfaces, package_needs, package_uses, world_interfaces}
 use Rattle.wit_elaboration.specs.Valid.{IsValid}
 use Rattle.wit_graph_data.specs.declared.graph.Graph.{Graph}
 use Rattle.wit_graph_data.specs.declared.graph.Package.{Package}

@@ -1,6 +1,6 @@
 -- A partially linked graph: so many worlds of a package are finished, and those to come stand behind them as they are listed.
 use Rattle.wit_digraph.specs.Relation.{IsAcyclic}
-use Rattle.wit_data.specs.Reference.{type_references}
+use Rattle.wit_data.specs.Kind.{type_references}
 use Rattle.wit_data.specs.Uses.{uses_of}
 use Rattle.wit_graph_data.specs.declared.graph.Graph.{Graph}
 use Rattle.wit_graph_theory.specs.facts.Good.{HasGoodItems}

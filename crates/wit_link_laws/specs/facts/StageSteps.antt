@@ -17,7 +17,7 @@ use Rattle.wit_link_spec.specs.Addition.{Addition, remapped_world}
 use Rattle.wit_link_spec.specs.Include.{PartiallyLinked, with_world_included}
 use Rattle.wit_link_spec.specs.Pushed.{unfinished_world, with_include, with_placed}
 use Rattle.wit_link_spec.specs.facts.Linked.{linked_world}
-use Rattle.wit_link_spec.specs.IncludeCause.{IsShadowed, renamed_key}
+use Rattle.wit_link_spec.specs.WorldReasons.{IsShadowed, renamed_key}
 use Rattle.wit_labels.specs.Setters.{placed}
 use Rattle.wit_link_laws.specs.facts.ListedStage.{listed_images}
 use Rattle.wit_link_laws.specs.facts.CopiesCarried.{IsUnshadowed}

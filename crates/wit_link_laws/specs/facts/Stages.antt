@@ -27,9 +27,7 @@ use Rattle.wit_link_spec.specs.Include.{IsListCalled, PartiallyLinked, lists_of}
 use Rattle.wit_link_spec.specs.Pushed.{unfinished_world, with_all_includes, with_include, with_includes, with_parts, with_placed, with_world, with_worlds}
 use Rattle.wit_link_spec.specs.facts.Linked.{linked_world}
 use Rattle.wit_link_spec.specs.Reasons.{IsResolved}
-use Rattle.wit_link_spec.specs.FinishCause.{conflict_4}
-use Rattle.wit_link_spec.specs.IncludeCause.{IsShadowed, renamed_key, shadowing_7}
-use Rattle.wit_link_spec.specs.WorldReasons.{IncludeIsAccepted, WorldIsAccepted, of_finish}
+use Rattle.wit_link_spec.specs.WorldReasons.{conflict_4, IsShadowed, renamed_key, shadowing_7, IncludeIsAccepted, WorldIsAccepted, of_finish}
 use Rattle.wit_link_spec.specs.facts.WorldCauseFacts.{includes_accepted}
 use Rattle.wit_labels.specs.Setters.{placed}
 use Rattle.wit_link_laws.specs.facts.ListedStage.{listed_images}

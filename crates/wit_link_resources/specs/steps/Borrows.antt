@@ -2,7 +2,7 @@
 use Rattle.std.specs.Prelude.{◌≡◌, ◌⊎◌, ℕ, true, List, Some, Contains, ◌≤◌, ◌+◌, ◌^◌}
 use Rattle.wit_digraph.specs.Relation.{direct}
 use Rattle.wit_sources.specs.Span.{moved_by}
-use Rattle.wit_data.specs.Reference.{named_option}
+use Rattle.wit_data.specs.Kind.{named_option}
 use Rattle.wit_data.specs.declared.function.Function.{Function}
 use Rattle.wit_data.specs.declared.types.TypeDef.{TypeDef}
 use Rattle.wit_graph_data.specs.Queries.{type_contents}

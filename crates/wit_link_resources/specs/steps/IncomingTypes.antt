@@ -4,7 +4,7 @@ use Rattle.std.specs.Prelude.{◌≡◌, ◌⊎◌, ◌<◌, ◌+◌, ℕ, Bool,
 use Rattle.std.specs.List.{range_with_len}
 use Rattle.std.specs.Option.{option_map_or}
 use Rattle.wit_digraph.specs.Relation.{IsAcyclic}
-use Rattle.wit_data.specs.Reference.{type_references}
+use Rattle.wit_data.specs.Kind.{type_references}
 use Rattle.wit_data.specs.Uses.{alias_target}
 use Rattle.wit_data.specs.declared.function.Function.{Function}
 use Rattle.wit_data.specs.declared.types.TypeDef.{TypeDef}
@@ -42,10 +42,6 @@ CanComeIn s = CanCome s.graph_types.now s.types.now s.ids.now
 -- the types at those of new types and of functions
 abbrev pub positions_of : Incoming → List Function → List ℕ
 positions_of s functions = flat_map (λ (def : TypeDef). value_positions def.kind) (selected (new_of s) s.types.now) ++ flat_map signature_positions functions
-
--- those of type t, where it is new
-abbrev pub positions_at : Incoming → ℕ → List ℕ
-positions_at s t = if new_of s t then option_map_or (λ (def : TypeDef). value_positions def.kind) (slice_get s.types.now t) [] else []
 
 -- ---- the remap
 

@@ -12,7 +12,7 @@ use Rattle.wit_data.specs.Each.{Each, SomeAt}
 use Rattle.wit_data.specs.Entries.{Entry}
 use Rattle.wit_data.specs.Foreign.{AreFirst, ForeignItem, IsForeign, IsForeignType, IsNameOnlyWorld, foreign_interfaces, foreign_worlds, interface_id, world_id}
 use Rattle.wit_data.specs.Ownership.{IsListed, entry_type, world_types}
-use Rattle.wit_data.specs.Reference.{function_references, named_type, referred}
+use Rattle.wit_data.specs.Kind.{function_references, named_type, referred}
 use Rattle.wit_data.specs.facts.ReferenceFacts.{record_refers}
 use Rattle.wit_data.specs.Shape.{IsShaped}
 use Rattle.wit_data.specs.declared.types.Field.{Field}

@@ -22,11 +22,10 @@ use Rattle.wit_graph_data.specs.declared.graph.Package.{Package}
 use Rattle.wit_remap_spec.specs.FunctionMismatch.{HaveFunctionMismatch}
 use Rattle.wit_graph_theory.specs.facts.ListFacts.{found_at}
 use Rattle.wit_graph_theory.specs.facts.OptionFacts.{some_same, some_whole}
-use Rattle.wit_merge_spec.specs.Agreement.{EntriesDiffer, GraphsDiffer, ItemsDiffer, StructuresDiffer, same_sort}
-use Rattle.wit_merge_spec.specs.Agreement as differ
+use Rattle.wit_merge_spec.specs.Cause.{EntriesDiffer, GraphsDiffer, ItemsDiffer, StructuresDiffer, same_sort, HasNoMismatch}
+use Rattle.wit_merge_spec.specs.Cause as differ
 use Rattle.wit_merge_spec.specs.Matches.{FirstDiffers, GraphMerge, Pair, TypePair, counterpart_interface, counterpart_item, counterpart_key, counterpart_type, counterpart_world, type_pairs}
 use Rattle.wit_merge_spec.specs.MismatchText.{side_word}
-use Rattle.wit_merge_spec.specs.Cause.{HasNoMismatch}
 use Rattle.wit_merge_laws.specs.facts.FoundBack.{lookup_finds_entry, interface_back, type_back, world_back}
 use Rattle.wit_merge_laws.specs.facts.FunctionsBack.{functions_back}
 use Rattle.wit_merge_laws.specs.facts.MatchFacts.{interface_is}

@@ -9,9 +9,8 @@ use Rattle.std.proofs.lemmas.Option.{slice_get_within}
 use Rattle.wit_digraph.specs.facts.MemberFacts.{Contains-cons_cases, Contains-flat_map_cases, Contains-here, Contains-nil}
 use Rattle.wit_digraph.specs.Relation.{IsPath}
 use Rattle.wit_data.specs.Function.{resource_of}
-use Rattle.wit_data.specs.Kind.{KindPart, kind_parts, variant_of}
+use Rattle.wit_data.specs.Kind.{KindPart, kind_parts, variant_of, function_references, named_option, named_type, referred}
 use Rattle.wit_data.specs.facts.KindFacts.{roles_are, variant_role}
-use Rattle.wit_data.specs.Reference.{function_references, named_option, named_type, referred}
 use Rattle.wit_data.specs.facts.ReferenceFacts.{all_referred, in_role}
 use Rattle.wit_data.specs.declared.function.Function.{Function}
 use Rattle.wit_data.specs.declared.function.Param.{Param}
@@ -35,9 +34,8 @@ use Rattle.wit_link_spec.specs.Resources.{own_of}
 use Rattle.wit_link_spec.specs.ValueRemap.{needs_own, value_id}
 use Rattle.wit_merge_structure.specs.Structure.{held_features, structure}
 use Rattle.wit_merge_structure.specs.facts.StructureFacts.{part_refers}
-use Rattle.wit_merge_spec.specs.United.{joined_graph, joined_type}
+use Rattle.wit_merge_spec.specs.United.{joined_graph, joined_type, merge_maps, merged_type, moves_type, remap_of_merge}
 use Rattle.wit_merge_spec.specs.Matches.{GraphMerge, counterpart_type}
-use Rattle.wit_merge_spec.specs.Remapped.{merge_maps, merged_type, moves_type, remap_of_merge}
 use Rattle.wit_merge_spec.specs.Cause.{HasNoMismatch}
 use Rattle.wit_merge_laws.specs.laws.BorrowLaws.{MergesMakeNoBorrow}
 use Rattle.wit_merge_laws.specs.facts.FunctionsThere.{moved_refers}

@@ -7,7 +7,7 @@ use Rattle.std.specs.Str.{bytes_eq}
 use Rattle.std.proofs.lemmas.List.Elements.{Contains-append_cases}
 use Rattle.wit_digraph.specs.facts.MemberFacts.{Contains-cons_cases, Contains-flat_map_cases, Contains-nil}
 use Rattle.wit_data.specs.Entries.{Entry, ItemUsesOwn}
-use Rattle.wit_data.specs.Reference.{function_references}
+use Rattle.wit_data.specs.Kind.{function_references}
 use Rattle.wit_data.specs.declared.function.Function.{Function}
 use Rattle.wit_data.specs.declared.interface.Interface.{Interface}
 use Rattle.wit_data.specs.declared.world.World.{World}
@@ -21,7 +21,7 @@ use Rattle.wit_graph_theory.specs.facts.PackagesAcyclic.{numbered_from}
 use Rattle.wit_link_spec.specs.facts.RankFacts.{selected_with_index-from}
 use Rattle.wit_link_spec.specs.ValueRemap.{item_function, world_functions}
 use Rattle.wit_merge_spec.specs.Matches.{GraphMerge, matched_interface}
-use Rattle.wit_merge_spec.specs.Remapped.{brought_functions, interface_functions, moved_functions, moved_worlds, moves_world}
+use Rattle.wit_merge_spec.specs.United.{brought_functions, interface_functions, moved_functions, moved_worlds, moves_world}
 
 module _ (m : GraphMerge) (valid : IsValid m.other) where
   abbrev RefersThere : Function → Type 0

@@ -37,9 +37,8 @@ use Rattle.wit_link_spec.specs.Lookup.{interface_type}
 use Rattle.wit_link_spec.specs.facts.RankFacts.{selected-at, selected_with_index-from}
 use Rattle.wit_link_spec.specs.Addition.{rank, selected_with_index}
 use Rattle.wit_link_laws.specs.facts.KeysApart.{joined_apart}
-use Rattle.wit_merge_spec.specs.United.{joined_graph, joined_interface, with_interface}
+use Rattle.wit_merge_spec.specs.United.{joined_graph, joined_interface, with_interface, brought_functions, brought_types, merge_maps, merged_interface, merged_type, moved_interfaces, moves_interface, moves_type}
 use Rattle.wit_merge_spec.specs.Matches.{GraphMerge, counterpart_interface, counterpart_of, counterpart_type, counterpart_type_by}
-use Rattle.wit_merge_spec.specs.Remapped.{brought_functions, brought_types, merge_maps, merged_interface, merged_type, moved_interfaces, moves_interface, moves_type}
 use Rattle.wit_merge_laws.specs.facts.MatchFacts.{goes_to, interface_is}
 use Rattle.wit_merge_laws.specs.facts.MatchedOnce.{interface_once}
 use Rattle.wit_merge_laws.specs.facts.TypesStand.{matched_some, moved_next}

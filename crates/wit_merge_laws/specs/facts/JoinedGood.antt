@@ -17,9 +17,8 @@ use Rattle.wit_remap_spec.specs.Kept.{everything}
 use Rattle.wit_graph_theory.specs.Operations.{merge_sources}
 use Rattle.wit_graph_theory.specs.steps.Sources.{Source}
 use Rattle.wit_merge_spec.specs.Matches.{GraphMerge}
-use Rattle.wit_merge_spec.specs.Remapped.{merge_maps}
+use Rattle.wit_merge_spec.specs.United.{merge_maps, joined_graph}
 use Rattle.wit_merge_spec.specs.Cause.{HasNoMismatch}
-use Rattle.wit_merge_spec.specs.United.{joined_graph}
 use Rattle.wit_merge_laws.specs.facts.WorldsStand.{joined_covered, joined_stands, sources_good}
 
 -- in two graphs as one no interface uses itself, and no world is in conflict

@@ -10,7 +10,7 @@ use Rattle.wit_digraph.specs.facts.MemberFacts.{Contains-cons_cases, Contains-he
 use Rattle.wit_digraph.specs.Relation.{IsAcyclic, IsPath, Reaches, direct}
 use Rattle.wit_digraph.specs.facts.PostOrderFacts.{Reaches-from_post_order, post_order-from_IsPath}
 use Rattle.wit_digraph.specs.PostOrder.{post_order, post_order_within}
-use Rattle.wit_data.specs.Reference.{type_references}
+use Rattle.wit_data.specs.Kind.{type_references, variant_of}
 use Rattle.wit_data.specs.Uses.{alias_target, alias_rows}
 use Rattle.wit_data.specs.declared.types.TypeDef.{TypeDef}
 use Rattle.wit_data.specs.declared.types.TypeDefKind.{TypeDefKind}
@@ -22,10 +22,8 @@ use Rattle.wit_remap_spec.specs.Image.{kind_image, type_image}
 use Rattle.wit_graph_theory.specs.facts.ListFacts.{from_row, in_row}
 use Rattle.wit_graph_theory.specs.facts.ReferredFacts.{alias_image}
 use Rattle.wit_link_spec.specs.Resources.{is_resource, is_resource_kind, leads_to_resource}
-use Rattle.wit_data.specs.Kind.{variant_of}
-use Rattle.wit_merge_spec.specs.United.{joined_graph, joined_type}
+use Rattle.wit_merge_spec.specs.United.{joined_graph, joined_type, merge_maps, merged_type, moves_type}
 use Rattle.wit_merge_spec.specs.Matches.{GraphMerge, counterpart_type}
-use Rattle.wit_merge_spec.specs.Remapped.{merge_maps, merged_type, moves_type}
 use Rattle.wit_merge_spec.specs.Cause.{HasNoMismatch}
 use Rattle.wit_merge_laws.specs.facts.MatchFacts.{goes_to, type_is}
 use Rattle.wit_merge_laws.specs.facts.MatchedTypes.{alias_matched, variant_matched}

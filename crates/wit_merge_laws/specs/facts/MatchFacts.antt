@@ -12,10 +12,9 @@ use Rattle.std.specs.Str.{bytes_eq}
 use Rattle.wit_digraph.specs.facts.MemberFacts.{Contains-cons_cases, Contains-flat_map_cases, Contains-nil}
 use Rattle.wit_data.specs.Each.{SomeAt}
 use Rattle.wit_data.specs.Entries.{Entry, IsImport, is_unnamed, item_interface, entries_of}
-use Rattle.wit_data.specs.Ownership.{IsTypeOf, world_types}
-use Rattle.wit_data.specs.Ownership.{entry_type as listed_type_of}
+use Rattle.wit_data.specs.Ownership.{IsTypeOf, world_types, entry_type as listed_type_of}
 use Rattle.wit_names.specs.facts.PackageNameFacts.{same_package-Decides}
-use Rattle.wit_names.specs.PackageOrder.{same_package}
+use Rattle.wit_names.specs.PackageName.{same_package}
 use Rattle.wit_data.specs.declared.interface.Interface.{Interface}
 use Rattle.wit_data.specs.declared.types.TypeDef.{TypeDef}
 use Rattle.wit_data.specs.declared.types.TypeOwner.{TypeOwner}
@@ -38,7 +37,7 @@ use Rattle.wit_graph_theory.specs.facts.PackagesAcyclic.{numbered_from}
 use Rattle.wit_link_spec.specs.Lookup.{interface_type}
 use Rattle.wit_link_spec.specs.facts.Standing.{listed_is}
 use Rattle.wit_merge_spec.specs.Matches.{GraphMerge, WorldLabel, counterpart_at_label, counterpart_interface, counterpart_interface_by, counterpart_package, counterpart_type, counterpart_type_by, counterpart_world, interface_at_label, labels_of_world, matched_world, named_in_counterpart, unnamed_item, world_labels}
-use Rattle.wit_merge_spec.specs.Remapped.{merge_maps, merged_package}
+use Rattle.wit_merge_spec.specs.United.{merge_maps, merged_package}
 
 -- ---- options
 

@@ -11,7 +11,7 @@ use Rattle.wit_data.specs.declared.world.WorldKey.TheVariants as key
 use Rattle.wit_elaboration.proofs.FreshEntries.{same_key-true}
 use Rattle.wit_elaboration.specs.Valid.{IsValid}
 use Rattle.wit_graph_theory.specs.facts.ListFacts.{place_of, same_at}
-use Rattle.wit_merge_spec.specs.Agreement as differ
+use Rattle.wit_merge_spec.specs.Cause as differ
 use Rattle.wit_merge_spec.specs.Matches.{GraphMerge, counterpart_key, counterpart_world}
 use Rattle.wit_merge_spec.specs.Cause.{HasNoMismatch}
 use Rattle.wit_merge_laws.specs.facts.Covering.{covers}

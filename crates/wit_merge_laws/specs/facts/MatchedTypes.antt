@@ -36,8 +36,7 @@ use Rattle.wit_data.specs.declared.world.WorldKey.TheVariants as key
 use Rattle.wit_elaboration.proofs.FreshEntries.{same_key-true}
 use Rattle.wit_elaboration.specs.Entries.{same_key}
 use Rattle.wit_elaboration.specs.Valid.{IsValid}
-use Rattle.wit_graph_data.specs.Queries.{topological_packages}
-use Rattle.wit_graph_data.specs.Relations.{package_needs, package_uses}
+use Rattle.wit_graph_data.specs.Queries.{topological_packages, package_needs, package_uses}
 use Rattle.wit_graph_data.specs.declared.graph.Graph.{Graph}
 use Rattle.wit_graph_data.specs.declared.graph.Package.{Package}
 use Rattle.wit_graph_theory.specs.facts.GoodTypes.{IsAliased, from_if}
@@ -48,11 +47,10 @@ use Rattle.wit_link_spec.specs.Lookup.{interface_type}
 use Rattle.wit_data.specs.Kind.{variant_of}
 use Rattle.wit_merge_structure.specs.Structure.{Content, Feature, FirstDifference, difference_text, held_features, here, is_named, named, names, path_text, primitive, structure, variant, within}
 use Rattle.wit_data.specs.declared.kind.Variant.TheVariants as variants
-use Rattle.wit_merge_spec.specs.Agreement.{StructuresDiffer}
-use Rattle.wit_merge_spec.specs.Agreement as differ
+use Rattle.wit_merge_spec.specs.Cause.{StructuresDiffer, HasNoMismatch}
+use Rattle.wit_merge_spec.specs.Cause as differ
 use Rattle.wit_merge_spec.specs.Matches.{FirstDiffers, GraphMerge, TypePair, common_entries, common_types, counterpart_interface, counterpart_type, counterpart_type_by, counterpart_world, entry_pairs, in_package_order, interface_pairs, item_pairs, matched_interface, matched_world, paired as pair_of, type_pairs, world_labels, world_pairs}
 use Rattle.wit_merge_spec.specs.MismatchText.{entry_link, linked, part_links, side_word, type_link}
-use Rattle.wit_merge_spec.specs.Cause.{HasNoMismatch}
 use Rattle.wit_merge_laws.specs.facts.MatchFacts.{stands_at}
 use Rattle.wit_merge_laws.specs.facts.MatchedOnce.{in_own_table, lists_distinct, one_under, world_in_table}
 use Rattle.wit_merge_laws.specs.facts.OnceStand.{spot_of}

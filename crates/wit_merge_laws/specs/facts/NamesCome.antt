@@ -24,9 +24,8 @@ use Rattle.wit_graph_theory.specs.facts.ListFacts.{found_at, from_map, place_of,
 use Rattle.wit_graph_theory.specs.Operations.{merge_sources}
 use Rattle.wit_graph_theory.specs.steps.Sources.{Source}
 use Rattle.wit_merge_spec.specs.Matches.{GraphMerge, counterpart_interface, counterpart_world, world_labels}
-use Rattle.wit_merge_spec.specs.Remapped.{merge_maps, merged_interface, merged_world, moves_interface, moves_world}
+use Rattle.wit_merge_spec.specs.United.{merge_maps, merged_interface, merged_world, moves_interface, moves_world, joined_graph, united}
 use Rattle.wit_merge_spec.specs.Cause.{HasNoMismatch}
-use Rattle.wit_merge_spec.specs.United.{joined_graph, united}
 use Rattle.wit_merge_laws.specs.facts.InterfacesStand.{interface_at_from, interfaces_come, moved_interface_remapped}
 use Rattle.wit_merge_laws.specs.facts.InterfacesStand as interfaces
 use Rattle.wit_merge_laws.specs.facts.JoinedGood.{UnionCanElaborate}

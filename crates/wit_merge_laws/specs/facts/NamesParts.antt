@@ -29,12 +29,10 @@ use Rattle.wit_graph_theory.specs.facts.ListFacts.{Contains-map, at_map, found_a
 use Rattle.wit_data.specs.Entries.{entries_of}
 use Rattle.wit_graph_theory.specs.facts.OptionFacts.{some_same}
 use Rattle.wit_graph_theory.specs.steps.Sources.{InterfaceStands}
-use Rattle.wit_merge_spec.specs.Agreement.{same_sort}
-use Rattle.wit_merge_spec.specs.Agreement as differ
-use Rattle.wit_merge_spec.specs.United.{joined_graph, joined_interface, joined_world, united, with_interface}
+use Rattle.wit_merge_spec.specs.Cause.{same_sort, HasNoMismatch}
+use Rattle.wit_merge_spec.specs.Cause as differ
+use Rattle.wit_merge_spec.specs.United.{joined_graph, joined_interface, joined_world, united, with_interface, brought_functions, merge_maps, merged_interface, merged_package, merged_type, merged_world, moves_interface, moves_world}
 use Rattle.wit_merge_spec.specs.Matches.{GraphMerge, counterpart_interface, counterpart_of, counterpart_world}
-use Rattle.wit_merge_spec.specs.Remapped.{brought_functions, merge_maps, merged_interface, merged_package, merged_type, merged_world, moves_interface, moves_world}
-use Rattle.wit_merge_spec.specs.Cause.{HasNoMismatch}
 use Rattle.wit_merge_laws.specs.facts.InterfacesStand as interfaces
 use Rattle.wit_merge_laws.specs.facts.InterfacesStand.{option_is, option_so}
 use Rattle.wit_merge_laws.specs.facts.JoinedGood.{UnionCanElaborate}

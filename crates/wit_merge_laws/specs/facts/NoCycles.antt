@@ -11,7 +11,7 @@ use Rattle.wit_digraph.specs.Relation.{IsAcyclic, IsPath, direct}
 use Rattle.wit_digraph.specs.PostOrder.{post_order}
 use Rattle.wit_data.specs.Each.{SomeAt}
 use Rattle.wit_data.specs.Ownership.{IsNamed}
-use Rattle.wit_data.specs.Reference.{referred, type_references}
+use Rattle.wit_data.specs.Kind.{referred, type_references}
 use Rattle.wit_data.specs.Uses.{interface_uses}
 use Rattle.wit_data.specs.declared.interface.Interface.{Interface}
 use Rattle.wit_data.specs.declared.types.TypeDef.{TypeDef}
@@ -37,9 +37,8 @@ use Rattle.wit_graph_theory.specs.facts.RowFacts.{post_order_shorter}
 use Rattle.wit_graph_theory.specs.steps.Sources.{Source}
 use Rattle.wit_graph_theory.specs.facts.TypesAcyclic.{types_acyclic}
 use Rattle.wit_merge_spec.specs.Cause.{HasNoMismatch, MergeIsAccepted, conflict_4, interface_cycle_22, merge_mismatch_24}
-use Rattle.wit_merge_spec.specs.United.{joined_graph, joined_type}
+use Rattle.wit_merge_spec.specs.United.{joined_graph, joined_type, merge_maps, merged_type, moves_type, remap_of_merge}
 use Rattle.wit_merge_spec.specs.Matches.{GraphMerge, counterpart_type}
-use Rattle.wit_merge_spec.specs.Remapped.{merge_maps, merged_type, moves_type, remap_of_merge}
 use Rattle.wit_merge_laws.specs.facts.JoinedGood.{UnionCanElaborate, aliases, in_order}
 use Rattle.wit_merge_laws.specs.facts.MatchFacts.{goes_to, type_is}
 use Rattle.wit_merge_laws.specs.facts.PackagesStand.{interfaces_in_tables}

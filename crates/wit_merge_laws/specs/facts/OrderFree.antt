@@ -29,11 +29,9 @@ use Rattle.wit_graph_theory.specs.facts.ListFacts.{at_map, found_at, from_map, g
 use Rattle.wit_data.specs.Entries.{entries_of}
 use Rattle.wit_graph_theory.specs.Operations.{merge_sources}
 use Rattle.wit_graph_theory.specs.facts.OptionFacts.{some_there}
-use Rattle.wit_merge_spec.specs.Agreement.{same_sort}
+use Rattle.wit_merge_spec.specs.Cause.{same_sort, HasNoMismatch}
 use Rattle.wit_merge_spec.specs.Matches.{GraphMerge, counterpart_world}
-use Rattle.wit_merge_spec.specs.Remapped.{merge_maps, merged_world, moves_world}
-use Rattle.wit_merge_spec.specs.Cause.{HasNoMismatch}
-use Rattle.wit_merge_spec.specs.United.{joined_graph, united}
+use Rattle.wit_merge_spec.specs.United.{merge_maps, merged_world, moves_world, joined_graph, united}
 use Rattle.wit_merge_laws.specs.facts.AgreementBack.{agreement_is_symmetric}
 use Rattle.wit_merge_laws.specs.facts.BothNames.{names_of_both}
 use Rattle.wit_merge_laws.specs.facts.BothOrders.{Corresponds, InBothOrders, flip, of_graph, of_other, other_way}

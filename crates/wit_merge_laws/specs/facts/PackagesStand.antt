@@ -13,7 +13,7 @@ use Rattle.wit_values.specs.facts.Lists.{slice_get-append}
 use Rattle.wit_digraph.specs.facts.MemberFacts.{Contains-cons_cases, Contains-nil}
 use Rattle.wit_data.specs.Each.{EachAt, SomeAt}
 use Rattle.wit_names.specs.facts.PackageNameFacts.{own_name}
-use Rattle.wit_names.specs.PackageOrder.{same_package}
+use Rattle.wit_names.specs.PackageName.{same_package}
 use Rattle.wit_data.specs.declared.interface.Interface.{Interface}
 use Rattle.wit_names.specs.declared.package_name.PackageName.{PackageName}
 use Rattle.wit_data.specs.declared.world.World.{World}
@@ -32,9 +32,8 @@ use Rattle.wit_graph_theory.specs.laws.Theory.{HasGoodTables}
 use Rattle.wit_link_spec.specs.facts.RankFacts.{selected-at, selected_with_index-from}
 use Rattle.wit_link_spec.specs.Addition.{rank, selected, selected_with_index}
 use Rattle.wit_link_laws.specs.facts.KeysApart.{joined_apart}
-use Rattle.wit_merge_spec.specs.United.{joined_graph, joined_interface, joined_package, joined_world, package_image, united, with_package, with_world}
+use Rattle.wit_merge_spec.specs.United.{joined_graph, joined_interface, joined_package, joined_world, package_image, united, with_package, with_world, merge_maps, merged_interface, merged_package, merged_world, moves_interface, moves_package, moves_world}
 use Rattle.wit_merge_spec.specs.Matches.{GraphMerge, counterpart_interface, counterpart_interface_by, counterpart_of, counterpart_package, counterpart_world, named_in_counterpart}
-use Rattle.wit_merge_spec.specs.Remapped.{merge_maps, merged_interface, merged_package, merged_world, moves_interface, moves_package, moves_world}
 use Rattle.wit_merge_laws.specs.facts.InterfacesStand as interfaces
 use Rattle.wit_merge_laws.specs.facts.InterfacesStand.{counterpart_from, counterpart_is}
 use Rattle.wit_merge_laws.specs.facts.ListedStand as worlds

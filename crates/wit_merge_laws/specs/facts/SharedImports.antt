@@ -30,9 +30,8 @@ use Rattle.wit_graph_theory.specs.facts.EntryFacts.{key_entry}
 use Rattle.wit_graph_theory.specs.facts.LawsOfElaboration.{LawsOfElaboration}
 use Rattle.wit_graph_theory.specs.facts.ListFacts.{at_map, found_at, place_of, same_at, some_at}
 use Rattle.wit_graph_theory.specs.facts.OptionFacts.{some_same}
-use Rattle.wit_merge_spec.specs.United.{joined_graph, joined_world, united}
+use Rattle.wit_merge_spec.specs.United.{joined_graph, joined_world, united, merged_interface, merged_world, moves_world}
 use Rattle.wit_merge_spec.specs.Matches.{GraphMerge, counterpart_world}
-use Rattle.wit_merge_spec.specs.Remapped.{merged_interface, merged_world, moves_world}
 use Rattle.wit_merge_spec.specs.Cause.{HasNoMismatch}
 use Rattle.wit_merge_laws.specs.facts.JoinedGood.{UnionCanElaborate, in_order, listed_imports}
 use Rattle.wit_merge_laws.specs.facts.ListedStand.{moved_world_remapped, old_world_at}

@@ -24,7 +24,7 @@ use Rattle.wit_elaboration.specs.Elaboration.{graph_uses}
 use Rattle.wit_elaboration.specs.Entries.{keyed_interfaces, role_of, same_key, type_role}
 use Rattle.wit_elaboration.specs.laws.Imports.{Needed, roots_of}
 use Rattle.wit_elaboration.specs.laws.KeptByElaboration.{HoldsImports, ImportsAreLeast}
-use Rattle.wit_graph_data.specs.Relations.{entry_interface}
+use Rattle.wit_graph_data.specs.Queries.{entry_interface}
 use Rattle.wit_elaboration.specs.Valid.{IsValid}
 use Rattle.wit_graph_data.specs.declared.graph.Graph.{Graph}
 use Rattle.wit_graph_theory.specs.facts.DependencyFacts.{needs_from, needs_into}
@@ -34,11 +34,9 @@ use Rattle.wit_graph_theory.specs.facts.GoodWorlds.{same_one}
 use Rattle.wit_graph_theory.specs.facts.ListFacts.{Contains-map_cases, found_at, place_of}
 use Rattle.wit_graph_theory.specs.laws.PackageCycles.{ListsKey}
 use Rattle.wit_link_spec.specs.Include.{joined_entry, joined_item}
-use Rattle.wit_merge_spec.specs.Agreement.{same_sort}
-use Rattle.wit_merge_spec.specs.United.{joined_graph, joined_world, with_world}
+use Rattle.wit_merge_spec.specs.Cause.{same_sort, HasNoMismatch}
+use Rattle.wit_merge_spec.specs.United.{joined_graph, joined_world, with_world, merged_interface}
 use Rattle.wit_merge_spec.specs.Matches.{GraphMerge, counterpart_key, counterpart_of, counterpart_world}
-use Rattle.wit_merge_spec.specs.Remapped.{merged_interface}
-use Rattle.wit_merge_spec.specs.Cause.{HasNoMismatch}
 use Rattle.wit_merge_laws.specs.facts.ListedStand.{interfaces_apart}
 use Rattle.wit_merge_laws.specs.facts.MatchedEntries.{covered}
 use Rattle.wit_merge_laws.specs.facts.MatchedOnce.{lists_distinct, one_under}

@@ -6,7 +6,7 @@ use Rattle.std.specs.Option.{option_map_or}
 use Rattle.std.proofs.lemmas.Bool.{cases_Bool, eq-eqb, eqb-true, false≢true}
 use Rattle.std.proofs.lemmas.Option.{slice_get_within}
 use Rattle.wit_digraph.specs.Relation.{IsAcyclic}
-use Rattle.wit_data.specs.Reference.{type_references}
+use Rattle.wit_data.specs.Kind.{type_references, KindPart, fixed_length, kind_parts, variant_of}
 use Rattle.wit_data.specs.Uses.{alias_target}
 use Rattle.wit_data.specs.declared.types.Handle.TheVariants as handle
 use Rattle.wit_data.specs.declared.types.TypeDef.{TypeDef}
@@ -15,7 +15,6 @@ use Rattle.wit_data.specs.declared.types.Type_.{Type_}
 use Rattle.wit_data.specs.declared.kind.Variant.{Variant}
 use Rattle.wit_data.specs.declared.types.TypeDefKind.TheVariants as kind
 use Rattle.wit_data.specs.declared.types.Type_.TheVariants as type
-use Rattle.wit_data.specs.Kind.{KindPart, fixed_length, kind_parts, variant_of}
 use Rattle.wit_data.specs.facts.KindFacts.{all_variants, variant_number, variant_numbered}
 use Rattle.wit_merge_structure.specs.Structure.{Feature, fixed, held_features, here, kind_features, names, part_features, structure, variant, within}
 use Rattle.wit_merge_structure.specs.facts.StructureFacts.{structure_at}

@@ -9,7 +9,7 @@ use Rattle.std.proofs.lemmas.Option.{slice_get_within}
 use Rattle.wit_digraph.specs.facts.MemberFacts.{Contains-cons_cases, Contains-here, Contains-nil, Contains-there}
 use Rattle.wit_digraph.specs.Relation.{IsAcyclic, direct}
 use Rattle.wit_digraph.specs.facts.PostOrderFacts.{uses_ind}
-use Rattle.wit_data.specs.Reference.{named_option, type_references}
+use Rattle.wit_data.specs.Kind.{named_option, type_references, fixed_length, kind_parts, KindPart, variant_of}
 use Rattle.wit_data.specs.facts.ReferenceFacts.{length-references, references_at}
 use Rattle.wit_data.specs.declared.types.Handle.TheVariants as handle
 use Rattle.wit_data.specs.declared.types.TypeDef.{TypeDef}
@@ -18,7 +18,6 @@ use Rattle.wit_data.specs.declared.types.Type_.{Type_}
 use Rattle.wit_data.specs.declared.kind.Variant.{Variant}
 use Rattle.wit_data.specs.declared.types.TypeDefKind.TheVariants as kind
 use Rattle.wit_data.specs.declared.types.Type_.TheVariants as type
-use Rattle.wit_data.specs.Kind.{fixed_length, kind_parts, KindPart, variant_of}
 use Rattle.wit_merge_structure.specs.Structure.{Content, Feature, FirstDifference, absent, fixed, head_features, held_features, here, is_named, kind_features, named, names, part_features, primitive, structure, variant, within}
 use Rattle.wit_merge_structure.specs.facts.StructureFacts.{part_refers, structure_at}
 use Rattle.wit_data.specs.declared.kind.Variant.TheVariants as variants

@@ -31,9 +31,8 @@ use Rattle.wit_graph_theory.specs.facts.NamedUses.{IsUsed_named}
 use Rattle.wit_graph_theory.specs.Operations.{merge_sources}
 use Rattle.wit_graph_theory.specs.steps.Sources.{Carries, Source, WorldStands}
 use Rattle.wit_merge_spec.specs.Matches.{GraphMerge}
-use Rattle.wit_merge_spec.specs.Remapped.{merge_maps}
+use Rattle.wit_merge_spec.specs.United.{merge_maps, joined_graph, united}
 use Rattle.wit_merge_spec.specs.Cause.{HasNoMismatch}
-use Rattle.wit_merge_spec.specs.United.{joined_graph, united}
 use Rattle.wit_merge_laws.specs.facts.InterfacesStand as interfaces
 use Rattle.wit_merge_laws.specs.facts.JoinedGood.{UnionCanElaborate, aliases, in_order, listed_exports}
 use Rattle.wit_merge_laws.specs.facts.ListedStand.{worlds_come}

@@ -29,9 +29,8 @@ use Rattle.wit_graph_theory.specs.facts.UnnamedOnceCarried.{unnamed_same}
 use Rattle.wit_graph_theory.specs.laws.PackageCycles.{ListsKey, ListsUses}
 use Rattle.wit_graph_theory.specs.steps.Sources.{InterfaceStands}
 use Rattle.wit_link_spec.specs.Include.{joined_entry}
-use Rattle.wit_merge_spec.specs.United.{is_under_id, joined_graph, joined_interface, joined_world, with_world}
+use Rattle.wit_merge_spec.specs.United.{is_under_id, joined_graph, joined_interface, joined_world, with_world, merge_maps, merged_interface, moves_interface, moves_world}
 use Rattle.wit_merge_spec.specs.Matches.{GraphMerge, counterpart_interface, counterpart_key, counterpart_of, counterpart_world, world_labels}
-use Rattle.wit_merge_spec.specs.Remapped.{merge_maps, merged_interface, moves_interface, moves_world}
 use Rattle.wit_merge_spec.specs.Cause.{HasNoMismatch}
 use Rattle.wit_merge_laws.specs.facts.InterfacesStand.{interface_stands, joined_keeps, moved_interface_remapped, old_interface_at}
 use Rattle.wit_merge_laws.specs.facts.ListedStand.{WorldFrom, interfaces_apart, of_graph, of_other, world_at_from}

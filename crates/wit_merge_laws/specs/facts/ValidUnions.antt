@@ -18,8 +18,7 @@ use Rattle.wit_graph_theory.specs.facts.PackageCycleFacts.{acyclic_packages, pac
 use Rattle.wit_graph_theory.specs.laws.PackageCycles.{AreElaboratedFrom}
 use Rattle.wit_merge_spec.specs.Cause.{HasNoMismatch, MergeIsAccepted, package_cycle_6}
 use Rattle.wit_merge_spec.specs.Matches.{GraphMerge}
-use Rattle.wit_merge_spec.specs.Remapped.{merge_maps}
-use Rattle.wit_merge_spec.specs.United.{joined_graph, united}
+use Rattle.wit_merge_spec.specs.United.{merge_maps, joined_graph, united}
 use Rattle.wit_merge_laws.specs.facts.JoinedGood.{UnionCanElaborate, aliases, listed_exports, listed_imports}
 use Rattle.wit_merge_laws.specs.laws.MergingLaws.{UnionsStayValid}
 use Rattle.wit_merge_laws.specs.facts.NoCycles.{are_one, can_elaborate, joined_types_acyclic}

@@ -35,13 +35,11 @@ use Rattle.wit_graph_theory.specs.Operations.{merge_sources}
 use Rattle.wit_graph_theory.specs.facts.OptionFacts.{some_by, some_parts, some_same}
 use Rattle.wit_graph_theory.specs.steps.Sources.{Carries, IsGoodSource, WorldStands}
 use Rattle.wit_link_spec.specs.Include.{joined_entry, joined_item}
-use Rattle.wit_merge_spec.specs.Agreement.{same_sort}
-use Rattle.wit_merge_spec.specs.Agreement as differ
-use Rattle.wit_merge_spec.specs.United.{is_under_id, joined_graph, joined_world, with_world}
+use Rattle.wit_merge_spec.specs.Cause.{same_sort, HasNoMismatch}
+use Rattle.wit_merge_spec.specs.Cause as differ
+use Rattle.wit_merge_spec.specs.United.{is_under_id, joined_graph, joined_world, with_world, merge_maps, merged_type, merged_world, moves_world}
 use Rattle.wit_merge_spec.specs.Matches.{GraphMerge, counterpart_item, counterpart_key, counterpart_of, counterpart_type, counterpart_type_by, counterpart_world, matched_world}
 use Rattle.wit_merge_spec.specs.MismatchText.{side_word}
-use Rattle.wit_merge_spec.specs.Remapped.{merge_maps, merged_type, merged_world, moves_world}
-use Rattle.wit_merge_spec.specs.Cause.{HasNoMismatch}
 use Rattle.wit_merge_laws.specs.facts.InterfacesStand as interfaces
 use Rattle.wit_merge_laws.specs.facts.InterfacesStand.{counterpart_is}
 use Rattle.wit_merge_laws.specs.facts.ListedStand.{new_world_at, old_world_at, worlds_come}

@@ -1,11 +1,11 @@
 -- A law of the borrows that results of functions hold, of two graphs that agree in all that a merge demands.
 use Rattle.std.specs.Prelude.{ℕ, List, Contains}
-use Rattle.wit_data.specs.Reference.{named_option}
+use Rattle.wit_data.specs.Kind.{named_option}
 use Rattle.wit_data.specs.declared.function.Function.{Function}
 use Rattle.wit_elaboration.specs.Valid.{IsValid}
 use Rattle.wit_link_spec.specs.Reasons.{HoldsBorrow}
 use Rattle.wit_merge_spec.specs.Matches.{GraphMerge}
-use Rattle.wit_merge_spec.specs.Remapped.{moved_functions}
+use Rattle.wit_merge_spec.specs.United.{moved_functions}
 use Rattle.wit_merge_spec.specs.Cause.{HasNoMismatch, MergeReturnsBorrow}
 
 -- a function that moves returns a borrow in the incoming graph already

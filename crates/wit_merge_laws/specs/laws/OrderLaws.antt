@@ -10,11 +10,9 @@ use Rattle.wit_elaboration.specs.Valid.{IsValid}
 use Rattle.wit_graph_data.specs.IdText.{key_text}
 use Rattle.wit_graph_data.specs.declared.graph.Graph.{Graph}
 use Rattle.wit_link_spec.specs.Resources.{leads_to_resource}
-use Rattle.wit_merge_spec.specs.Agreement.{same_sort}
+use Rattle.wit_merge_spec.specs.Cause.{same_sort, HasNoMismatch}
 use Rattle.wit_merge_spec.specs.Matches.{GraphMerge}
-use Rattle.wit_merge_spec.specs.Remapped.{merged_type}
-use Rattle.wit_merge_spec.specs.Cause.{HasNoMismatch}
-use Rattle.wit_merge_spec.specs.United.{united}
+use Rattle.wit_merge_spec.specs.United.{merged_type, united}
 use Rattle.wit_merge_laws.specs.facts.JoinedGood.{UnionCanElaborate}
 use Rattle.wit_merge_laws.specs.laws.MergingLaws.{merge_of_graphs}
 use Rattle.wit_merge_laws.specs.laws.Names.{HasLabel, HaveSameNames, IsWorld, Label}

@@ -4,28 +4,26 @@ use Rattle.wit_data.specs.Entries.{Entry}
 use Rattle.wit_data.specs.declared.stability.Stability.{Stability}
 use Rattle.wit_data.specs.declared.world.WorldItem.{WorldItem}
 use Rattle.wit_graph_data.specs.declared.graph.Graph.{Graph}
-use Rattle.wit_merge_spec.specs.Agreement as agreement
-use Rattle.wit_merge_spec.specs.Agreement.{EntriesDiffer, GraphsDiffer, ItemsDiffer}
+use Rattle.wit_merge_spec.specs.Cause.{EntriesDiffer, GraphsDiffer, ItemsDiffer, AreJoined, HasNoMismatch, StabilitiesMismatch}
 use Rattle.wit_merge_spec.specs.Cause as reasons
-use Rattle.wit_merge_spec.specs.Cause.{AreJoined, HasNoMismatch, StabilitiesMismatch}
 use Rattle.wit_merge_match.specs.Differing.{merge_of_graphs_by}
 
 module _ (g other : Graph) (a b : ℕ) where
   items_by : (from into : WorldItem) (text : List ℕ) → ItemsDiffer (merge_of_graphs_by g other a) from into text → ItemsDiffer (merge_of_graphs_by g other b) from into text
-  items_by from into _ (agreement.sorts off) = agreement.sorts off
-  items_by from into _ (agreement.interfaces i i' from_is into_is apart) = agreement.interfaces i i' from_is into_is apart
-  items_by from into _ (agreement.unnamed text p from_is into_is nameless apart) = agreement.unnamed text p from_is into_is nameless apart
+  items_by from into _ (reasons.sorts off) = reasons.sorts off
+  items_by from into _ (reasons.interfaces i i' from_is into_is apart) = reasons.interfaces i i' from_is into_is apart
+  items_by from into _ (reasons.unnamed text p from_is into_is nameless apart) = reasons.unnamed text p from_is into_is nameless apart
 
   entries_by : (word : List ℕ) (from into : List Entry) (text : List ℕ) → EntriesDiffer (merge_of_graphs_by g other a) word from into text → EntriesDiffer (merge_of_graphs_by g other b) word from into text
-  entries_by word from into _ (agreement.count apart) = agreement.count apart
-  entries_by word from into _ (agreement.absent e listed none) = agreement.absent e listed none
-  entries_by word from into _ (agreement.apart e there text listed found d) = agreement.apart e there text listed found (items_by e.1 there text d)
+  entries_by word from into _ (reasons.count apart) = reasons.count apart
+  entries_by word from into _ (reasons.absent e listed none) = reasons.absent e listed none
+  entries_by word from into _ (reasons.apart e there text listed found d) = reasons.apart e there text listed found (items_by e.1 there text d)
 
   -- a message of a mismatch is one by any offset
   pub differ_by : (message : List ℕ) → GraphsDiffer (merge_of_graphs_by g other a) message → GraphsDiffer (merge_of_graphs_by g other b) message
-  differ_by _ (agreement.interfaces p home there name text named of is apart) = agreement.interfaces p home there name text named of is apart
-  differ_by _ (agreement.worlds p home there exported text of is d) = agreement.worlds p home there exported text of is (entries_by _ _ _ text d)
-  differ_by _ (agreement.types message first) = agreement.types message first
+  differ_by _ (reasons.interfaces p home there name text named of is apart) = reasons.interfaces p home there name text named of is apart
+  differ_by _ (reasons.worlds p home there exported text of is d) = reasons.worlds p home there exported text of is (entries_by _ _ _ text d)
+  differ_by _ (reasons.types message first) = reasons.types message first
 
   joined_by : (from into : Stability) → AreJoined (merge_of_graphs_by g other a) from into → AreJoined (merge_of_graphs_by g other b) from into
   joined_by _ _ (reasons.types p) = reasons.types p

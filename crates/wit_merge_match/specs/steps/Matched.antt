@@ -18,7 +18,7 @@ use Rattle.wit_graph_data.specs.declared.graph.Package.{Package}
 use Rattle.wit_link_spec.specs.Lookup.{interface_type}
 use Rattle.wit_link_spec.specs.Addition.{rank}
 use Rattle.wit_merge_spec.specs.Matches.{GraphMerge, WorldLabel, counterpart_at_label, counterpart_interface, counterpart_package, counterpart_type, counterpart_world, unnamed_item}
-use Rattle.wit_merge_spec.specs.Remapped as moved
+use Rattle.wit_merge_spec.specs.United as moved
 use Rattle.wit_merge_match.specs.declared.matches.Matches.{Matches}
 use Rattle.wit_merge_match.specs.declared.merge_remap.MergeRemap.{MergeRemap}
 use Rattle.wit_merge_match.specs.declared.world_labels.LabelNotes.{LabelNotes}

@@ -6,13 +6,12 @@ use Rattle.std.specs.Option.{option_map_or}
 use Rattle.wit_digraph.specs.facts.MemberFacts.{Contains-flat_map, Contains-here, flat_map-same}
 use Rattle.wit_digraph.specs.Relation.{IsAcyclic, direct}
 use Rattle.wit_digraph.specs.facts.PostOrderFacts.{HasShortPaths, IsAcyclic-short}
-use Rattle.wit_data.specs.Reference.{named_option, referred, type_references}
+use Rattle.wit_data.specs.Kind.{named_option, referred, type_references, kind_parts, KindPart}
 use Rattle.wit_data.specs.facts.ReferenceFacts.{length-references, references_at}
 use Rattle.wit_data.specs.declared.types.TypeDef.{TypeDef}
 use Rattle.wit_data.specs.declared.types.TypeDefKind.{TypeDefKind}
 use Rattle.wit_data.specs.declared.types.Type_.{Type_}
 use Rattle.wit_data.specs.declared.types.Type_.TheVariants as type
-use Rattle.wit_data.specs.Kind.{kind_parts, KindPart}
 use Rattle.wit_merge_structure.specs.Structure.{Feature, head_features, held_features, here, is_named, kind_features, named, part_features, structure, structure_within, within}
 
 -- what a part of a kind names is what the kind refers to

@@ -2,7 +2,7 @@
 use Rattle.std.specs.Prelude.{◌≡◌, ◌<◌, ◌≤◌, ◌+◌, ◌-◌, ◌^◌, ℕ, List, [], ◌∷◌, map, length, get_or, nat_lt, slice_get, Contains, Option, None, Some, if◌then◌else◌}
 use Rattle.std.specs.Option.{option_map_or}
 use Rattle.wit_digraph.specs.Relation.{IsAcyclic}
-use Rattle.wit_data.specs.Reference.{named_option, type_references}
+use Rattle.wit_data.specs.Kind.{named_option, type_references, kind_parts}
 use Rattle.wit_data.specs.declared.types.TypeDef.{TypeDef}
 use Rattle.wit_data.specs.declared.types.TypeDefKind.{TypeDefKind}
 use Rattle.wit_data.specs.declared.types.Type_.{Type_}
@@ -10,7 +10,6 @@ use Rattle.wit_data.specs.declared.types.TypeDefKind.TheVariants as kind
 use Rattle.wit_data.specs.declared.types.Type_.TheVariants as type
 use Rattle.wit_merge_structure.specs.steps.Classes.{AreSame, IsDescending}
 use Rattle.wit_merge_structure.specs.steps.Kinds.{ending_text, step_at}
-use Rattle.wit_data.specs.Kind.{kind_parts}
 use Rattle.wit_merge_structure.specs.Structure.{Content, Feature, FirstDifference, difference_text, head_features, held_features, here, structure}
 use Rattle.wit_merge_structure.specs.declared.comparison.Comparison.{Comparison}
 use Rattle.wit_merge_structure.specs.declared.comparison.Held.{Held}

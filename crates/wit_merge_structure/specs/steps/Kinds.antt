@@ -8,14 +8,6 @@ use Rattle.wit_merge_structure.specs.declared.heads.Ending.{Ending}
 use Rattle.wit_merge_structure.specs.declared.heads.Ending.TheVariants.{Kinds, Lengths, Names, Types}
 use Rattle.wit_data.specs.declared.kind.Variant.TheVariants as variants
 
--- have the parts of such kinds names?
-abbrev pub has_names : Variant → Bool
-has_names variants.Record = true
-has_names variants.Flags = true
-has_names variants.Variant_ = true
-has_names variants.Enum = true
-has_names other = false
-
 -- what the parts of a kind are called, and one of them
 abbrev pub steps_of : TypeDefKind → List (List ℕ)
 steps_of k = map (λ (p : KindPart). p.step) (kind_parts k)

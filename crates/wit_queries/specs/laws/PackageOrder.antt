@@ -6,8 +6,7 @@ use Rattle.wit_digraph.specs.PostOrder.{UsesFirst}
 use Rattle.wit_data.specs.declared.interface.Interface.{Interface}
 use Rattle.wit_data.specs.declared.types.TypeDef.{TypeDef}
 use Rattle.wit_data.specs.declared.world.World.{World}
-use Rattle.wit_graph_data.specs.Queries.{topological_packages}
-use Rattle.wit_graph_data.specs.Relations.{package_uses}
+use Rattle.wit_graph_data.specs.Queries.{topological_packages, package_uses}
 use Rattle.wit_graph_data.specs.declared.graph.Package.{Package}
 
 -- an order of all of so many things: it lists each once, and each after those that it uses

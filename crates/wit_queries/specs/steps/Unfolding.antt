@@ -23,9 +23,3 @@ KeepsOthers types held old new t =
 -- the places of a list that are there
 abbrev pub places_within : ℕ → List ℕ → List ℕ
 places_within count places = filter (λ t. nat_lt t count) places
-
--- what was told and what the types on the stack still tell is what the roots tell
-pub record IsUnfolding (types : List TypeDef) (held : List (List ℕ)) (roots stack told : List ℕ) : Type 0 where
-  pub in_range : (t : ℕ) → Contains stack t → t < length held
-  pub reached : (t : ℕ) → Contains stack t → Contains (first_of_each (flat_map (post_order held) roots)) t
-  pub tells : flat_map (futures_of types held) stack ++ reverse told ≡ flat_map (futures_of types held) roots

@@ -1,6 +1,6 @@
 -- Spans that still end within the last position, 4294967295, when they are moved: those of types, interfaces and
 -- entries, of whole worlds, and of all three together.
-use Rattle.std.specs.Prelude.{ℕ, ◌+◌, ◌<◌, ◌^◌, List}
+use Rattle.std.specs.Prelude.{ℕ, ◌+◌, ◌<◌, ◌^◌, List, ◌≡◌, Bool, [], ◌∷◌, ◌++◌, map, length, None, filter, Option, filter_map, option_map, bytes_eq}
 use Rattle.wit_data.specs.Each.{Each}
 use Rattle.wit_data.specs.Entries.{Entry}
 use Rattle.wit_sources.specs.Span.{end_of}
@@ -13,8 +13,22 @@ use Rattle.wit_data.specs.declared.world.World.{World}
 use Rattle.wit_data.specs.declared.world.WorldInclude.{WorldInclude}
 use Rattle.wit_data.specs.declared.world.WorldItem.{WorldItem}
 use Rattle.wit_data.specs.declared.world.WorldItem.TheVariants as item
-use Rattle.wit_link_spec.specs.Gates.{OptionalSpan}
-use Rattle.wit_link_spec.specs.Spans.{kind_spans}
+use Rattle.wit_link_spec.specs.Gates.{OptionalSpan, kind_spans, include_is_active}
+use Rattle.std.specs.List.{IsDistinct}
+use Rattle.std.specs.Map.{keys_of, lookup}
+use Rattle.wit_names.specs.PackageName.{same_package}
+use Rattle.wit_data.specs.declared.unresolved.UnresolvedPackage.{UnresolvedPackage}
+use Rattle.wit_data.specs.facts.WorldKeyFacts.{same_key}
+use Rattle.wit_graph_data.specs.declared.graph.Graph.{Graph}
+use Rattle.wit_graph_data.specs.declared.graph.Package.{Package}
+use Rattle.wit_remap_spec.specs.Kept.{KeptIds, cut_interface, cut_world}
+use Rattle.wit_remap_spec.specs.Image.{Maps, entry_image, interface_image, type_image, world_image}
+use Rattle.wit_link_spec.specs.Addition.{Addition, active_includes, addition_maps, own_worlds, selected, selected_with_index}
+use Rattle.wit_link_spec.specs.declared.addition.NewIds.{NewIds}
+use Rattle.wit_link_spec.specs.steps.NewThings.{is_new}
+use Rattle.wit_remap.specs.steps.Parts.{kept_of}
+use Rattle.wit_remap.specs.declared.part.Part.{Part}
+use Rattle.wit_remap.specs.declared.worlds.PlacedWorld.{PlacedWorld}
 
 -- the place still ends within the last position
 abbrev pub Fits : ℕ → OptionalSpan → Type 0
@@ -65,3 +79,87 @@ pub record PartsFit (offset : ℕ) (types : List TypeDef) (interfaces : List Int
   pub of_types : Each (TypeFits (Fits offset)) types
   pub of_interfaces : Each (InterfaceFits (Fits offset)) interfaces
   pub of_worlds : Each (WholeWorldFits offset) worlds
+
+-- The parts of a package at the ends of a graph, its tables and its worlds at their places.
+
+-- the name of an interface that has one, with its id
+abbrev pub named_at : Maps → ℕ × Interface → Option (List ℕ × ℕ)
+named_at m e = option_map (λ (name : List ℕ). (name, m.interfaces e.0)) e.1.name
+
+-- the interfaces that have a name under it, each with its id
+abbrev pub interfaces_at : Maps → List (ℕ × Interface) → List (List ℕ × ℕ)
+interfaces_at m interfaces = filter_map (named_at m) interfaces
+
+-- a world under its name, with its id
+abbrev pub world_at : Maps → ℕ × World → List ℕ × ℕ
+world_at m e = (e.1.name, m.worlds e.0)
+
+-- the worlds under their names
+abbrev pub worlds_at : Maps → List (ℕ × World) → List (List ℕ × ℕ)
+worlds_at m worlds = map (world_at m) worlds
+
+-- the keys of what is active still differ at their places
+pub record HasKeysApart (m : Maps) (kept : KeptIds) (world : World) : Type 0 where
+  pub imports : IsDistinct same_key (keys_of (map (entry_image m 0) (filter (λ (e : Entry). kept.items e.1) world.imports)))
+  pub exports : IsDistinct same_key (keys_of (map (entry_image m 0) (filter (λ (e : Entry). kept.items e.1) world.exports)))
+
+-- a world at its place, with what it includes
+abbrev pub placed_world : Maps → Part → ℕ × World → PlacedWorld
+placed_world m part e = record {
+  place = e.0;
+  world = world_image m e.0 (cut_world (kept_of part) e.1);
+  includes = filter (include_is_active part.features.now) e.1.includes;
+}
+
+-- the addition of a package to a graph
+abbrev pub addition : Part → Graph → UnresolvedPackage → ℕ → Addition
+addition part g u offset = record { features = part.features.now; graph = g; unresolved = u; offset = offset }
+
+-- the worlds of its own of a package, at their places, each with the includes that are active
+abbrev pub added_world : Addition → ℕ × World → PlacedWorld
+added_world a e = record { place = e.0; world = world_image (addition_maps a) e.0 e.1; includes = active_includes a e.1 }
+
+abbrev pub added_worlds : Addition → List PlacedWorld
+added_worlds a = map (added_world a) (own_worlds a)
+
+-- ---- the same by what ids are remapped to, whatever the addition
+
+-- what can be moved to the ends of a graph: its spans fit, and names and keys differ at their places
+pub record CanMoveParts (places : NewIds) (m : Maps) (kept : KeptIds) (g : Graph) (u : UnresolvedPackage) : Type 0 where
+  pub new : lookup (same_package u.name) g.package_names ≡ None
+  pub types : Each (TypeFits (Fits m.offset)) u.types
+  pub interfaces : Each (InterfaceFits (Fits m.offset)) u.interfaces
+  pub worlds : Each (WorldFits (Fits m.offset)) u.worlds
+  pub interface_names : IsDistinct bytes_eq (keys_of (interfaces_at m (selected_with_index (is_new (length g.interfaces) places.interfaces) u.interfaces)))
+  pub world_names : IsDistinct bytes_eq (keys_of (worlds_at m (selected_with_index (is_new (length g.worlds) places.worlds) u.worlds)))
+  pub keys : Each (λ (e : ℕ × World). HasKeysApart m kept e.1) (selected_with_index (is_new (length g.worlds) places.worlds) u.worlds)
+
+-- the package with the tables of what goes to new ids
+abbrev pub moved_package : Maps → UnresolvedPackage → (ℕ → Bool) → (ℕ → Bool) → Package
+moved_package m u own_interface own_world = record {
+  name = u.name;
+  docs = u.docs;
+  interfaces = interfaces_at m (selected_with_index own_interface u.interfaces);
+  worlds = worlds_at m (selected_with_index own_world u.worlds);
+}
+
+-- the graph with the parts that go to new ids
+abbrev pub moved_parts : NewIds → Maps → KeptIds → List TypeDef → UnresolvedPackage → Graph → Graph
+moved_parts places m kept owns u g = record {
+  types = g.types ++ (map (type_image m) (selected (is_new (length g.types) places.types) u.types) ++ owns);
+  interfaces = g.interfaces ++ map (interface_image m) (map (cut_interface kept) (selected (is_new (length g.interfaces) places.interfaces) u.interfaces));
+  worlds = g.worlds;
+  packages = g.packages ++ moved_package m u (is_new (length g.interfaces) places.interfaces) (is_new (length g.worlds) places.worlds) ∷ [];
+  package_names = g.package_names ++ (u.name, length g.packages) ∷ [];
+}
+
+-- the graph with its interfaces and the package, with a table of worlds
+abbrev pub with_interfaces : NewIds → Maps → KeptIds → UnresolvedPackage → List (List ℕ × ℕ) → Graph → Graph
+with_interfaces places m kept u worlds g =
+    let own = is_new (length g.interfaces) places.interfaces in
+    let home : Package = record { name = u.name; docs = u.docs; interfaces = interfaces_at m (selected_with_index own u.interfaces); worlds = worlds } in
+    record g {
+      interfaces = g.interfaces ++ map (interface_image m) (map (cut_interface kept) (selected own u.interfaces));
+      packages = g.packages ++ home ∷ [];
+      package_names = g.package_names ++ (u.name, length g.packages) ∷ [];
+    }

@@ -4,14 +4,11 @@ use Rattle.wit_names.specs.declared.package_name.PackageName.{PackageName}
 use Rattle.wit_data.specs.declared.world.World.{World}
 use Rattle.wit_elaboration.specs.Entries.{keyed_interfaces}
 use Rattle.wit_graph_data.specs.declared.graph.Graph.{Graph}
-use Rattle.wit_resolve_graph.specs.Named.{world_named}
-use Rattle.wit_resolve_graph.specs.State.{State}
+use Rattle.wit_resolve_graph.specs.State.{world_named, State}
 use Rattle.wit_resolve_graph.specs.Step.{Step}
 use Rattle.wit_resolve_graph.specs.declared.command.Command.TheVariants.{Semver}
 use Rattle.wit_resolve_graph.specs.declared.command.Reply.TheVariants.{Done}
-use Rattle.wit_semver_spec.specs.Rewritten.{rewritten}
-use Rattle.wit_semver_spec.specs.TrackCause.{SemverMergeIsAccepted}
-use Rattle.wit_semver_spec.specs.Tracks.{is_replaced}
+use Rattle.wit_semver_spec.specs.Rewritten.{rewritten, is_replaced, SemverMergeIsAccepted}
 
 -- world w is in both graphs, and the interfaces that it imports under their own keys in the new one are exactly the
 -- former ones less the replaced

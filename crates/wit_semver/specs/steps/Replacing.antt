@@ -11,9 +11,7 @@ use Rattle.wit_data.specs.declared.world.World.{World}
 use Rattle.wit_elaboration.specs.Entries.{Entry}
 use Rattle.wit_graph_data.specs.declared.graph.Graph.{Graph}
 use Rattle.wit_remap_spec.specs.FunctionMismatch.{HaveFunctionMismatch}
-use Rattle.wit_semver_spec.specs.Rewritten.{interface_type, retargeted, with_new_entries_at}
-use Rattle.wit_semver_spec.specs.TrackCause.{Disagrees, IsComplete, disagreement_text, missing_text, target_name, upgrade_message}
-use Rattle.wit_semver_spec.specs.Tracks.{Upgrade, Versioned, both, is_below, is_replaced, newest, track_key, versioned}
+use Rattle.wit_semver_spec.specs.Rewritten.{interface_type, retargeted, with_new_entries_at, Upgrade, Versioned, both, is_below, is_replaced, newest, track_key, versioned, Disagrees, IsComplete, disagreement_text, missing_text, target_name, upgrade_message}
 use Rattle.wit_semver.specs.contracts.tracks.TrackKeyPartialEq.TheImpl.{eq-value}
 use Rattle.wit_semver.specs.declared.tracks.TrackKey.{TrackKey}
 use Rattle.wit_semver.specs.declared.tracks.VersionedInterface.{VersionedInterface}

@@ -15,10 +15,8 @@ use Rattle.wit_elaboration.specs.Entries.{keyed_interfaces}
 use Rattle.wit_elaboration.specs.laws.KeptByElaboration.{labelled}
 use Rattle.wit_elaboration.specs.Valid.{IsValid}
 use Rattle.wit_graph_data.specs.declared.graph.Graph.{Graph}
-use Rattle.wit_semver_spec.specs.Rewritten.{interface_type, rewritable_types, rewritten, with_new_entries}
+use Rattle.wit_semver_spec.specs.Rewritten.{interface_type, rewritable_types, rewritten, with_new_entries, Upgrade, Versioned, are_on_one_track, imported, is_replaced, newest, versioned, SemverMergeIsAccepted, target_name}
 use Rattle.wit_semver_spec.specs.laws.Unchanged.{SameButLists, SameButTarget}
-use Rattle.wit_semver_spec.specs.TrackCause.{SemverMergeIsAccepted, target_name}
-use Rattle.wit_semver_spec.specs.Tracks.{Upgrade, Versioned, are_on_one_track, imported, is_replaced, newest, versioned}
 
 -- what stands for a replaced interface is an import on its track, which stays, and no import there is of a greater
 -- version

@@ -3,7 +3,7 @@
 use Rattle.std.specs.Prelude.{◌≡◌, ◌≢◌, ◌==◌, ℕ, Bool, true, false, List, Some, length, slice_get, if◌then◌else◌}
 use Rattle.wit_data.specs.Each.{Each, EachAt, SomeAt}
 use Rattle.wit_data.specs.Ownership.{NamesThroughUnnamed}
-use Rattle.wit_data.specs.Reference.{referred}
+use Rattle.wit_data.specs.Kind.{referred}
 use Rattle.wit_shape.specs.declared.named_owners.NamedOwners.{NamedOwners}
 use Rattle.wit_shape.specs.declared.named_owners.NamedOwners.TheVariants.{Nothing, One, Several}
 use Rattle.wit_data.specs.declared.types.TypeDef.{TypeDef}

@@ -11,8 +11,7 @@ use Rattle.wit_graph_data.specs.declared.error_kind.ResolveErrorKind.TheVariants
 use Rattle.wit_graph_data.specs.declared.graph.Graph.{Graph}
 use Rattle.wit_elaboration.specs.Entries.{Entry}
 use Rattle.wit_graph_data.specs.examples.Samples.{entry_of, foo_bar_of, function_of, sample, type_in, type_of, interface_of, world_of}
-use Rattle.wit_transform.specs.TransformCause.{IsExportizeCause, IsImportizeCause}
-use Rattle.wit_transform.specs.Transformed.{exportized, importized, transformed}
+use Rattle.wit_transform.specs.Transformed.{IsExportizeCause, IsImportizeCause, exportized, importized, transformed}
 
 -- the sample with its world under another name
 abbrev pub named : List ℕ → List Entry → List Entry → Graph

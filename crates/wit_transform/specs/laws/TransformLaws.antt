@@ -13,8 +13,7 @@ use Rattle.wit_elaboration.specs.laws.KeptByElaboration.{IsListedWithoutSpan, is
 use Rattle.wit_elaboration.specs.Valid.{IsValid}
 use Rattle.wit_graph_data.specs.Error.{NoCause}
 use Rattle.wit_graph_data.specs.declared.graph.Graph.{Graph}
-use Rattle.wit_transform.specs.TransformCause.{IsExportizeCause, IsImportizeCause, imports_at}
-use Rattle.wit_transform.specs.Transformed.{exportized, importized, transformed, type_entries}
+use Rattle.wit_transform.specs.Transformed.{IsExportizeCause, IsImportizeCause, imports_at, exportized, importized, transformed, type_entries}
 
 -- a valid graph stays valid where a world's exports become its imports and no cause holds against it
 abbrev pub ImportizedStayValid : Type 0

@@ -5,7 +5,7 @@
 use Rattle.std.specs.Prelude.{◌≡◌, ℕ, List, None, Some, slice_get, Contains, Option, ◌∷◌, IsSome, length, [], ◌++◌}
 use Rattle.wit_digraph.specs.Relation.{IsInRange, IsPath, direct}
 use Rattle.wit_data.specs.Each.{Each}
-use Rattle.wit_data.specs.Reference.{type_references}
+use Rattle.wit_data.specs.Kind.{type_references}
 use Rattle.wit_names.specs.declared.package_name.PackageName.{PackageName}
 use Rattle.wit_data.specs.declared.types.TypeDef.{TypeDef}
 use Rattle.wit_data.specs.declared.world.World.{World}

@@ -1,6 +1,6 @@
 use Rattle.std.proofs.Common.{◌≡◌, ◌++◌, take}
 use Rattle.std.specs.List.{flat_map}
-use Rattle.wit_data.specs.Reference.{named_option}
+use Rattle.wit_data.specs.Kind.{named_option}
 use Rattle.wit_data.specs.declared.types.Case.{Case}
 use Rattle.wit_data.proofs.kind.push_cases.Given as goal
 

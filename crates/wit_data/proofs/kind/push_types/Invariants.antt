@@ -1,6 +1,6 @@
 use Rattle.std.proofs.Common.{◌≡◌, ◌++◌, take}
 use Rattle.std.specs.List.{flat_map}
-use Rattle.wit_data.specs.Reference.{named_type}
+use Rattle.wit_data.specs.Kind.{named_type}
 use Rattle.wit_data.proofs.kind.push_types.Given as goal
 
 -- those of the first ones have been added

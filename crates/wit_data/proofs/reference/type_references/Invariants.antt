@@ -1,5 +1,5 @@
 use Rattle.std.proofs.Common.{◌≡◌, map, take}
-use Rattle.wit_data.specs.Reference.{referred}
+use Rattle.wit_data.specs.Kind.{referred}
 use Rattle.wit_data.specs.declared.types.TypeDef.{TypeDef}
 use Rattle.wit_data.proofs.reference.type_references.Given as goal
 

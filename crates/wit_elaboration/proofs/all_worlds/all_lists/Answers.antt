@@ -2,7 +2,7 @@ use Rattle.std.proofs.Common.{◌≡◌, ◌∙◌, ◌⊎◌, ◌+◌, take, sy
 use Rattle.wit_graph_data.specs.facts.ResultFacts.{residual_error}
 use Rattle.wit_graph_data.specs.declared.error_kind.ResolveErrorKind.{ResolveErrorKind}
 use Rattle.wit_graph_data.specs.declared.error_kind.ResolveErrorKind.TheVariants.{OutOfMemory}
-use Rattle.wit_elaboration.specs.AllWorlds.{AreListsOf, IsRefusedWorld}
+use Rattle.wit_elaboration.specs.Elaboration.{AreListsOf, IsRefusedWorld}
 use Rattle.wit_elaboration.proofs.AllWorlds.{below-all, below-next, made-next, refused_world}
 use Rattle.wit_elaboration.proofs.all_worlds.all_lists.Goals as goal
 

@@ -1,9 +1,8 @@
 use Rattle.std.proofs.Common.{◌≡◌, take}
-use Rattle.wit_elaboration.specs.Elaboration.{graph_uses}
+use Rattle.wit_elaboration.specs.Elaboration.{graph_uses, AreListsOf}
 use Rattle.wit_elaboration.specs.Imported.{HasTransitiveConflict}
 use Rattle.wit_data.specs.facts.EachFacts.{EachBelow}
 use Rattle.wit_data.specs.declared.world.World.{World}
-use Rattle.wit_elaboration.specs.AllWorlds.{AreListsOf}
 use Rattle.wit_elaboration.proofs.all_worlds.all_lists.Given as goal
 
 -- the lists of the first worlds are made, and none of these is in conflict

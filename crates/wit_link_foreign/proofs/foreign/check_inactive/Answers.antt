@@ -5,7 +5,8 @@ use Rattle.wit_data.specs.declared.world.World.{World}
 use Rattle.wit_graph_theory.specs.facts.ListFacts.{some_at}
 use Rattle.wit_link_spec.specs.steps.AdditionRefs.{addition_of}
 use Rattle.wit_link_spec.specs.facts.FlagFacts.{interface-inside, world-inside}
-use Rattle.wit_link_foreign.specs.steps.ForeignItems.{IsItemAt, IsItemOf, named_is_active}
+use Rattle.wit_link_foreign.specs.steps.ForeignItems.{named_is_active}
+use Rattle.wit_link_foreign.proofs.PackageItems.{IsItemAt, IsItemOf}
 use Rattle.wit_link_foreign.proofs.Causes.{item_missing}
 use Rattle.wit_link_foreign.proofs.FoundLists.{interface_flag-is, named-inside, world_flag-is}
 use Rattle.wit_link_foreign.proofs.foreign.check_inactive.Goals as goal

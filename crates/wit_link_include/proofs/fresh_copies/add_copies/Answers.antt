@@ -8,7 +8,7 @@ use Rattle.wit_labels.specs.Rename.{renamed_label}
 use Rattle.wit_link_spec.specs.Include.{belongs_to, copy_maps, interface_copy, is_copied, type_copy}
 use Rattle.wit_remap.specs.Grown.{Grown}
 use Rattle.wit_remap.specs.facts.GrownFacts.{Grown-same}
-use Rattle.wit_link_include.specs.steps.Copied.{NamesBelonging, NamesThere, goes, numbered, places, with_images}
+use Rattle.wit_link_include.specs.steps.Included.{NamesBelonging, NamesThere, goes, numbered, places, with_images}
 use Rattle.wit_link_include.proofs.RisingIds.{numbered-keys}
 use Rattle.wit_link_include.proofs.Standing.{copied_there, goes_there, keys_there, some_there}
 use Rattle.wit_link_include.proofs.SelectedIndices.{goes_where, told_where}

@@ -4,7 +4,7 @@ use Rattle.std.specs.List.Sorted.{IsStrictlySortedBy}
 use Rattle.std.specs.Map.{lookup}
 use Rattle.std.specs.Ordering.{nat_cmp}
 use Rattle.wit_link_spec.specs.Include.{is_copied}
-use Rattle.wit_link_include.specs.steps.Copied.{known_of, places, roots_of}
+use Rattle.wit_link_include.specs.steps.Included.{known_of, places, roots_of}
 use Rattle.wit_link_include.proofs.Steps.{if_ok_both}
 use Rattle.wit_link_include.proofs.SelectedIndices.{are_places}
 use Rattle.wit_link_include.proofs.Standing.{copied_there}

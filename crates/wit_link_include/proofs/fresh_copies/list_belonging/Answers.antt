@@ -2,7 +2,7 @@ use Rattle.std.proofs.Common.{◌≡◌, ◌∙◌, ℕ, Some, List, ap, length,
 use Rattle.wit_data.specs.declared.interface.Interface.{Interface}
 use Rattle.wit_data.specs.declared.world.World.{World}
 use Rattle.wit_link_spec.specs.Include.{belongs_to}
-use Rattle.wit_link_include.specs.steps.Copied.{numbered, places}
+use Rattle.wit_link_include.specs.steps.Included.{numbered, places}
 use Rattle.wit_link_include.proofs.Standing.{goes_there}
 use Rattle.wit_link_include.proofs.Steps.{if_ok}
 use Rattle.wit_link_include.proofs.SelectedIndices.{are_places}

@@ -1,6 +1,6 @@
 use Rattle.std.proofs.Common.{◌≡◌, false, take}
 use Rattle.std.specs.List.{list_any}
-use Rattle.wit_link_include.specs.steps.Copied.{said}
+use Rattle.wit_link_include.specs.steps.Included.{said}
 use Rattle.wit_link_include.proofs.leading.any_leads.Given as goal
 
 -- none of the first ones does

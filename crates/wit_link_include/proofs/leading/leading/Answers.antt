@@ -4,8 +4,8 @@ use Rattle.std.specs.Map.{keys_of, lookup}
 use Rattle.wit_digraph.specs.facts.FreshFacts.{any_from_contains, no_any_from}
 use Rattle.wit_digraph.specs.Relation.{IsAcyclic, direct}
 use Rattle.wit_digraph.specs.PostOrder.{post_order}
-use Rattle.wit_data.specs.Reference.{type_references}
-use Rattle.wit_link_include.specs.steps.Copied.{known_of, leads, open_rows, said}
+use Rattle.wit_data.specs.Kind.{type_references}
+use Rattle.wit_link_include.specs.steps.Included.{known_of, leads, open_rows, said}
 use Rattle.wit_link_include.specs.declared.leading.Step.{Step}
 use Rattle.wit_link_include.specs.declared.leading.Step.TheVariants as step
 use Rattle.wit_link_include.specs.declared.origin.Origin.{Origin}

@@ -1,6 +1,6 @@
 use Rattle.std.proofs.Common.{◌≡◌, ℕ, Bool, Some, nat_eq}
 use Rattle.std.specs.Map.{keys_of, lookup}
-use Rattle.wit_link_include.specs.steps.Copied.{leads, open_rows}
+use Rattle.wit_link_include.specs.steps.Included.{leads, open_rows}
 use Rattle.wit_link_include.proofs.Walking.{IsWalking, turns}
 use Rattle.wit_link_include.proofs.leading.leading.Given as goal
 

@@ -1,10 +1,10 @@
 use Rattle.std.proofs.Common.{◌≡◌, ◌∙◌, ◌++◌, Bool, false, [], ℕ, List, map, slice_get, Some, sym, ap, if◌then◌else◌}
 use Rattle.std.specs.Option.{option_copied}
 use Rattle.std.proofs.lemmas.List.{append-nil}
-use Rattle.wit_data.specs.Reference.{referred}
+use Rattle.wit_data.specs.Kind.{referred}
 use Rattle.wit_link_include.specs.declared.leading.Step.{Step}
 use Rattle.wit_link_include.specs.declared.leading.Step.TheVariants as step
-use Rattle.wit_link_include.specs.steps.Copied.{is_open_in, open_rows}
+use Rattle.wit_link_include.specs.steps.Included.{is_open_in, open_rows}
 use Rattle.wit_digraph.specs.Relation.{direct}
 use Rattle.wit_link_include.proofs.OpenRows.{open_row_at, open_row_past}
 use Rattle.wit_link_include.proofs.leading.push_references.Goals as goal

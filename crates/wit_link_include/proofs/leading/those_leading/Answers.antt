@@ -9,7 +9,7 @@ use Rattle.std.proofs.lemmas.Map.Iter.{iter_turn, rest_all, rest_more}
 use Rattle.std.specs.Cmp.{nat_eq_equiv}
 use Rattle.wit_digraph.specs.facts.FreshFacts.{any_from_contains, contains_from_any}
 use Rattle.wit_digraph.specs.facts.MemberFacts.{Contains-cons_cases, Contains-nil}
-use Rattle.wit_link_include.specs.steps.Copied.{said}
+use Rattle.wit_link_include.specs.steps.Included.{said}
 use Rattle.wit_link_include.proofs.Members.{key_at, same_truth}
 use Rattle.wit_link_include.proofs.leading.those_leading.Goals as goal
 

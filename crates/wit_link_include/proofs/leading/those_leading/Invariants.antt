@@ -1,6 +1,6 @@
 use Rattle.std.proofs.Common.{◌≡◌, ◌⊎◌, ℕ, true, Contains}
 use Rattle.std.specs.Map.{keys_of}
-use Rattle.wit_link_include.specs.steps.Copied.{said}
+use Rattle.wit_link_include.specs.steps.Included.{said}
 use Rattle.wit_link_include.proofs.leading.those_leading.Given as goal
 
 -- what has been added leads there; what leads there has been added or is left

@@ -2,7 +2,7 @@ use Rattle.std.proofs.Common.{◌∙◌, ◌++◌, ℕ, List, ap, refl}
 use Rattle.std.specs.List.{flat_map}
 use Rattle.std.proofs.lemmas.Map.Iter.{rest_more, rest_all}
 use Rattle.wit_values.specs.Names.{deref_named}
-use Rattle.wit_data.specs.Reference.{function_references}
+use Rattle.wit_data.specs.Kind.{function_references}
 use Rattle.wit_data.specs.declared.function.Function.{Function}
 use Rattle.wit_link_include.proofs.Steps.{flat_more, nothing_left}
 use Rattle.wit_link_include.proofs.mentions.push_functions.Goals as goal

@@ -1,6 +1,6 @@
 use Rattle.std.proofs.Common.{◌≡◌, ◌++◌, List, ℕ}
 use Rattle.std.specs.List.{flat_map}
-use Rattle.wit_data.specs.Reference.{function_references}
+use Rattle.wit_data.specs.Kind.{function_references}
 use Rattle.wit_data.specs.declared.function.Function.{Function}
 use Rattle.wit_link_include.proofs.mentions.push_functions.Given as goal
 

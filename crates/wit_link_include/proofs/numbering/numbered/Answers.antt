@@ -2,7 +2,7 @@ use Rattle.std.proofs.Common.{◌≡◌, ◌∙◌, ◌++◌, ◌∷◌, ◌+◌
 use Rattle.std.proofs.lemmas.Option.{slice_get_read}
 use Rattle.std.specs.Map.{lookup}
 use Rattle.wit_values.specs.facts.Lists.{take-next_at}
-use Rattle.wit_link_include.specs.steps.Copied.{numbered}
+use Rattle.wit_link_include.specs.steps.Included.{numbered}
 use Rattle.wit_link_include.proofs.RisingIds.{length_first, new_there, numbered-none, numbered-push}
 use Rattle.wit_link_include.proofs.numbering.numbered.Goals as goal
 

@@ -1,5 +1,5 @@
 use Rattle.std.proofs.Common.{◌≡◌, take}
-use Rattle.wit_link_include.specs.steps.Copied.{numbered}
+use Rattle.wit_link_include.specs.steps.Included.{numbered}
 use Rattle.wit_link_include.proofs.numbering.numbered.Given as goal
 
 -- the first ones are there

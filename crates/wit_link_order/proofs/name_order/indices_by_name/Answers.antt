@@ -2,7 +2,7 @@ use Rattle.std.proofs.Common.{◌≡◌, ◌∙◌, ap, sym, length, arith}
 use Rattle.std.proofs.lemmas.List.{length-map, take_all}
 use Rattle.std.specs.Map.{lookup}
 use Rattle.wit_values.specs.facts.Lists.{take-next_at}
-use Rattle.wit_names.specs.PackageOrder.{same_package}
+use Rattle.wit_names.specs.PackageName.{same_package}
 use Rattle.wit_link_order.specs.GroupOrder.{Unresolved, names_of}
 use Rattle.wit_link_order.specs.steps.GroupOrderSteps.{indices_of_names}
 use Rattle.wit_link_order.proofs.NameOrders.{found_before, length-places, places-at}

@@ -1,7 +1,7 @@
 use Rattle.std.proofs.Common.{List, ℕ, IsPermutation, subst, sym}
 use Rattle.std.specs.Map.{keys_of}
 use Rattle.std.specs.Prelude.{IsSorted}
-use Rattle.wit_names.specs.PackageOrder.{package_cmp}
+use Rattle.wit_names.specs.PackageName.{package_cmp}
 use Rattle.wit_names.specs.declared.package_name.PackageName.{PackageName}
 use Rattle.wit_link_order.proofs.NameOrders.{by_name}
 use Rattle.wit_link_order.proofs.name_order.package_indices_by_name.Goals as goal

@@ -3,7 +3,7 @@ use Rattle.std.specs.List.{IsDistinct}
 use Rattle.std.specs.Map.{keys_of}
 use Rattle.wit_digraph.specs.Cycles.{IsOnCycle}
 use Rattle.wit_digraph.specs.Relation.{IsAcyclic}
-use Rattle.wit_names.specs.PackageOrder.{same_package}
+use Rattle.wit_names.specs.PackageName.{same_package}
 use Rattle.wit_names.specs.declared.package_name.PackageName.{PackageName}
 use Rattle.wit_link_order.specs.GroupOrder.{group_uses, names_of}
 use Rattle.wit_link_order.specs.steps.GroupOrderSteps.{AreByName, indices_of_names}

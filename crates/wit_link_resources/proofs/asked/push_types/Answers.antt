@@ -4,7 +4,8 @@ use Rattle.std.specs.Option.{option_map_or}
 use Rattle.wit_data.specs.declared.types.TypeDef.{TypeDef}
 use Rattle.wit_link_spec.specs.Resources.{value_positions}
 use Rattle.wit_link_resources.specs.declared.incoming.Incoming.{Incoming}
-use Rattle.wit_link_resources.specs.steps.IncomingTypes.{new_of, positions_at}
+use Rattle.wit_link_resources.specs.steps.IncomingTypes.{new_of}
+use Rattle.wit_link_resources.proofs.NewPositions.{positions_at}
 use Rattle.wit_link_resources.proofs.Gathered.{gathered}
 use Rattle.wit_link_resources.proofs.Ranges.{ranged-next, ranged-same}
 use Rattle.wit_link_resources.proofs.asked.push_types.Goals.{then-is_new+in_ok-value_positions+in_ok-append, else-is_new}

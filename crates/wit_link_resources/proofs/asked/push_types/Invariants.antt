@@ -1,6 +1,6 @@
 use Rattle.std.proofs.Common.{◌≡◌, ◌++◌}
 use Rattle.std.specs.List.{flat_map, range_with_len}
-use Rattle.wit_link_resources.specs.steps.IncomingTypes.{positions_at}
+use Rattle.wit_link_resources.proofs.NewPositions.{positions_at}
 use Rattle.wit_link_resources.proofs.asked.push_types.Given as goal
 
 abbrev pub invariant-loop-index : goal.invariant-loop-index

@@ -4,7 +4,7 @@ use Rattle.std.proofs.lemmas.List.Elements.{Contains-append_right}
 use Rattle.std.specs.List.{flat_map}
 use Rattle.wit_digraph.specs.facts.MemberFacts.{Contains-here}
 use Rattle.wit_data.specs.Function.{resource_of}
-use Rattle.wit_data.specs.Reference.{function_references, named_option, named_type}
+use Rattle.wit_data.specs.Kind.{function_references, named_option, named_type}
 use Rattle.wit_data.specs.Shape.{IsShaped}
 use Rattle.wit_data.specs.declared.function.Function.{Function}
 use Rattle.wit_data.specs.declared.function.Param.{Param}

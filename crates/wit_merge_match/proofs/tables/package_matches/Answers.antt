@@ -1,7 +1,7 @@
 use Rattle.std.proofs.Common.{sym}
 use Rattle.std.specs.Map.{lookup}
 use Rattle.wit_values.specs.facts.Lists.{map-next}
-use Rattle.wit_names.specs.PackageOrder.{same_package}
+use Rattle.wit_names.specs.PackageName.{same_package}
 use Rattle.wit_graph_data.specs.declared.graph.Package.{Package}
 use Rattle.wit_merge_match.proofs.tables.package_matches.Goals as goal
 

@@ -1,6 +1,6 @@
 use Rattle.std.proofs.Common.{◌≡◌, take}
 use Rattle.std.specs.List.{flat_map}
-use Rattle.wit_data.specs.Reference.{named_type}
+use Rattle.wit_data.specs.Kind.{named_type}
 use Rattle.wit_data.specs.declared.function.Param.{Param}
 use Rattle.wit_queries.specs.steps.Unfolding.{places_within}
 use Rattle.wit_queries.proofs.futures.signature_places.Given as goal

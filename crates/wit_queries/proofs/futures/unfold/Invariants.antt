@@ -1,7 +1,7 @@
 use Rattle.std.proofs.Common.{length}
 use Rattle.std.specs.List.{flat_map}
 use Rattle.wit_digraph.specs.PostOrder.{post_order}
-use Rattle.wit_queries.specs.steps.Unfolding.{IsUnfolding}
+use Rattle.wit_queries.proofs.Unfolds.{IsUnfolding}
 use Rattle.wit_queries.proofs.futures.unfold.Given as goal
 
 abbrev pub invariant-loop-place : goal.invariant-loop-place

@@ -1,5 +1,5 @@
 use Rattle.std.proofs.Common.{◌≡◌}
-use Rattle.wit_graph_data.specs.Relations.{entry_interfaces}
+use Rattle.wit_graph_data.specs.Queries.{entry_interfaces}
 use Rattle.wit_queries.proofs.next.next_named.Given as goal
 
 -- what was passed over names none

@@ -2,7 +2,7 @@ use Rattle.std.proofs.Common.{◌≡◌, ◌∙◌, ◌<◌, ℕ, Bool, if◌the
 use Rattle.std.proofs.lemmas.Option.{slice_get_read}
 use Rattle.std.specs.Option.{option_and_then}
 use Rattle.wit_data.specs.declared.interface.Interface.{Interface}
-use Rattle.wit_graph_data.specs.Relations.{other_package}
+use Rattle.wit_graph_data.specs.Queries.{other_package}
 use Rattle.wit_queries.proofs.next.other_package.Goals as goal
 
 -- the package of an interface that is there and has one

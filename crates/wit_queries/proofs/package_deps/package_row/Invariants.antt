@@ -1,5 +1,5 @@
 use Rattle.std.proofs.Common.{◌≡◌, ◌++◌}
-use Rattle.wit_graph_data.specs.Relations.{package_direct_deps}
+use Rattle.wit_graph_data.specs.Queries.{package_direct_deps}
 use Rattle.wit_queries.proofs.package_deps.package_row.Given as goal
 
 -- those so far, with those to come

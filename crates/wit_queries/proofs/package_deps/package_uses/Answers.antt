@@ -1,7 +1,7 @@
 use Rattle.std.proofs.Common.{◌∙◌, ◌<◌, ◌++◌, ◌∷◌, [], List, ℕ, ap, sym, length, arith}
 use Rattle.std.proofs.lemmas.List.{take_all, take_more}
 use Rattle.wit_digraph.specs.Relation.{direct}
-use Rattle.wit_graph_data.specs.Relations.{package_uses}
+use Rattle.wit_graph_data.specs.Queries.{package_uses}
 use Rattle.wit_queries.proofs.PackageRows.{length-rows}
 use Rattle.wit_queries.proofs.package_deps.package_uses.Goals as goal
 

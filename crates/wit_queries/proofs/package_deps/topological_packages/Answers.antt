@@ -1,7 +1,7 @@
 use Rattle.std.proofs.Common.{◌∙◌, ◌≡◌, ◌<◌, List, ℕ, All, ap, sym, subst, length, arith}
 use Rattle.std.specs.List.{flat_map, range_with_len}
 use Rattle.wit_digraph.specs.PostOrder.{first_of_each, post_order}
-use Rattle.wit_graph_data.specs.Relations.{package_uses}
+use Rattle.wit_graph_data.specs.Queries.{package_uses}
 use Rattle.wit_queries.proofs.PackageRows.{length-rows, range-below}
 use Rattle.wit_queries.proofs.package_deps.topological_packages.Goals as goal
 

@@ -5,7 +5,7 @@ use Rattle.wit_link_spec.specs.Addition.{active, addition_maps, selected_with_in
 use Rattle.wit_link_spec.specs.Pushed.{with_parts}
 use Rattle.wit_link_spec.specs.declared.addition.Values.{Values}
 use Rattle.wit_link_spec.specs.steps.NewThings.{is_new}
-use Rattle.wit_remap.specs.steps.Added.{added_worlds, addition, moved_parts, placed_world}
+use Rattle.wit_remap.specs.steps.Fits.{added_worlds, addition, moved_parts, placed_world}
 use Rattle.wit_remap.specs.steps.Movers.{maps_with}
 use Rattle.wit_remap.specs.steps.Parts.{kept_of, kept_with}
 use Rattle.wit_remap.specs.declared.worlds.PlacedWorld.{PlacedWorld}

@@ -5,11 +5,10 @@ use Rattle.wit_data.specs.declared.types.TypeDef.{TypeDef}
 use Rattle.wit_data.specs.declared.world.World.{World}
 use Rattle.wit_link_spec.specs.Addition.{selected_with_index}
 use Rattle.wit_link_spec.specs.steps.NewThings.{is_new}
-use Rattle.wit_remap.specs.steps.Fits.{Fits, TypeFits, WorldFits}
+use Rattle.wit_remap.specs.steps.Fits.{Fits, TypeFits, WorldFits, HasKeysApart}
 use Rattle.wit_remap.specs.facts.GrownFacts.{Grown-then}
 use Rattle.wit_remap.specs.steps.Movers.{maps_of}
 use Rattle.wit_remap.specs.steps.Parts.{kept_of}
-use Rattle.wit_remap.specs.steps.Added.{HasKeysApart}
 use Rattle.wit_remap.proofs.Kept.{Each-enumerated, Each-filter}
 use Rattle.wit_remap.proofs.parts.move_parts.Goals as goal
 

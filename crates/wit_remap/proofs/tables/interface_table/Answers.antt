@@ -2,7 +2,7 @@ use Rattle.std.proofs.Common.{◌≡◌, ℕ, List, Some, slice_get, ap, sym, ar
 use Rattle.std.specs.Option.{option_map}
 use Rattle.wit_values.specs.facts.Lists.{filter_map-next_none, filter_map-next_some}
 use Rattle.wit_remap.specs.steps.Movers.{maps_of}
-use Rattle.wit_remap.specs.steps.Added.{named_at}
+use Rattle.wit_remap.specs.steps.Fits.{named_at}
 use Rattle.wit_remap.proofs.Rows.{filled-new, item_at}
 use Rattle.wit_remap.proofs.tables.interface_table.Goals as goal
 use Rattle.wit_remap.proofs.tables.interface_table.Goals.{in-Some+in_ok-from_str-in-Some+in_ok-push-in-Some, in-None}

@@ -1,6 +1,6 @@
 use Rattle.std.proofs.Common.{◌≡◌, take}
 use Rattle.wit_remap.specs.steps.Movers.{maps_of}
-use Rattle.wit_remap.specs.steps.Added.{interfaces_at}
+use Rattle.wit_remap.specs.steps.Fits.{interfaces_at}
 use Rattle.wit_remap.proofs.tables.interface_table.Given as goal
 
 -- the table of the interfaces so far

@@ -1,7 +1,7 @@
 use Rattle.std.proofs.Common.{sym, arith}
 use Rattle.wit_values.specs.facts.Lists.{map-next}
 use Rattle.wit_remap.specs.steps.Movers.{maps_of}
-use Rattle.wit_remap.specs.steps.Added.{world_at}
+use Rattle.wit_remap.specs.steps.Fits.{world_at}
 use Rattle.wit_remap.proofs.Rows.{mapped-new, item_at}
 use Rattle.wit_remap.proofs.tables.world_table.Goals as goal
 

@@ -1,6 +1,6 @@
 use Rattle.std.proofs.Common.{◌≡◌, take}
 use Rattle.wit_remap.specs.steps.Movers.{maps_of}
-use Rattle.wit_remap.specs.steps.Added.{worlds_at}
+use Rattle.wit_remap.specs.steps.Fits.{worlds_at}
 use Rattle.wit_remap.proofs.tables.world_table.Given as goal
 
 -- the table of the worlds so far

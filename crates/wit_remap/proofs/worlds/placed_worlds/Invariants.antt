@@ -2,10 +2,9 @@ use Rattle.std.proofs.Common.{◌≡◌, ◌++◌, ℕ, map}
 use Rattle.std.specs.Vec.Iter.{into_iter_items}
 use Rattle.wit_data.specs.Each.{Each}
 use Rattle.wit_data.specs.declared.world.World.{World}
-use Rattle.wit_remap.specs.steps.Fits.{Fits, WorldFits}
+use Rattle.wit_remap.specs.steps.Fits.{Fits, WorldFits, HasKeysApart, placed_world}
 use Rattle.wit_remap.specs.steps.Movers.{maps_of}
 use Rattle.wit_remap.specs.steps.Parts.{kept_of}
-use Rattle.wit_remap.specs.steps.Added.{HasKeysApart, placed_world}
 use Rattle.wit_remap.proofs.worlds.placed_worlds.Given as goal
 
 -- those so far, and those to come

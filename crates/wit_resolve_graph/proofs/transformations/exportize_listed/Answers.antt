@@ -3,7 +3,7 @@ use Rattle.wit_graph_data.specs.facts.ResultFacts.{residual_error}
 use Rattle.wit_graph_data.specs.declared.error_kind.ResolveErrorKind.{ResolveErrorKind}
 use Rattle.wit_graph_data.specs.declared.error_kind.ResolveErrorKind.TheVariants.{OutOfMemory}
 use Rattle.wit_resolve_graph.specs.Step.{answers_at}
-use Rattle.wit_transform.specs.TransformCause.{IsExportizeCause}
+use Rattle.wit_transform.specs.Transformed.{IsExportizeCause}
 use Rattle.wit_resolve_graph.proofs.transformations.exportize_listed.Goals as goal
 
 pub returns-in_err-exportize_answered-clause-cause : goal.returns-in_err-exportize_answered-clause-cause

@@ -1,7 +1,6 @@
 use Rattle.std.proofs.Common.{◌∙◌, inl, inr, List, Option, ℕ, refl, sym, ap, subst}
 use Rattle.wit_resolve_graph.specs.State.{State}
-use Rattle.wit_transform.specs.TransformCause.{IsImportizeCause}
-use Rattle.wit_transform.specs.Transformed.{importized, transformed}
+use Rattle.wit_transform.specs.Transformed.{IsImportizeCause, importized, transformed}
 use Rattle.wit_resolve_graph.proofs.transformations.importize.Goals as goal
 
 pub returns-in-Ok : goal.returns-in-Ok

@@ -1,5 +1,5 @@
 use Rattle.std.proofs.Common.{◌≡◌, ◌++◌, ℕ, List, Bor, map, drop}
-use Rattle.wit_script.specs.LinesAhead.{mentions_ahead}
+use Rattle.wit_script.specs.Script.{mentions_ahead}
 use Rattle.wit_script.proofs.ahead.mentions_ahead.Given as goal
 
 -- the mentions so far, and those of the lines that are left, are all

@@ -1,7 +1,7 @@
 use Rattle.std.proofs.Common.{List, ap, sym, ◌∙◌}
 use Rattle.indexmap.specs.IndexMap.{set_value_at}
 use Rattle.wit_data.specs.Foreign.{ForeignItem, ForeignItems}
-use Rattle.wit_names.specs.PackageOrder.{same_package}
+use Rattle.wit_names.specs.PackageName.{same_package}
 use Rattle.wit_script_package.specs.steps.Mentioning.{changed_at, with_item_gate}
 use Rattle.wit_script_package.proofs.Changing.{changed-index, changed-none, nothing}
 use Rattle.wit_script_package.proofs.foreign.with_foreign_gate_there.Goals as goal

@@ -1,7 +1,7 @@
 use Rattle.std.proofs.Common.{◌≡◌, List, [], ap, sym, ◌∙◌}
 use Rattle.wit_data.specs.Foreign.{ForeignItem, ForeignItems}
 use Rattle.wit_names.specs.facts.PackageNameFacts.{own_name}
-use Rattle.wit_names.specs.PackageOrder.{same_package}
+use Rattle.wit_names.specs.PackageName.{same_package}
 use Rattle.wit_script_package.specs.steps.Mentioning.{changed_at, with_item_gate, with_package_gate}
 use Rattle.wit_script_package.proofs.Changing.{ok-same, value-there}
 use Rattle.wit_script_package.proofs.foreign.with_package_gate.Goals as goal

@@ -5,7 +5,7 @@ use Rattle.wit_elaboration.specs.Valid.{IsValid}
 use Rattle.wit_graph_data.specs.declared.graph.Graph.{Graph}
 use Rattle.wit_graph_data.specs.declared.error_kind.ResolveErrorKind.{ResolveErrorKind}
 use Rattle.wit_graph_data.specs.declared.error_kind.ResolveErrorKind.TheVariants.{OutOfMemory}
-use Rattle.wit_semver_spec.specs.TrackCause.{IsTrackCause, SemverMergeIsAccepted}
+use Rattle.wit_semver_spec.specs.Rewritten.{IsTrackCause, SemverMergeIsAccepted}
 use Rattle.wit_unite_common.specs.steps.Reasons.{CanBeElaborated, ElaborationCause}
 use Rattle.wit_semver.specs.steps.Replacing.{HasNewEntries, upgrade}
 use Rattle.wit_semver.proofs.Elaborates.{accepted_from, can_settle, cause_from, rewritten_from}

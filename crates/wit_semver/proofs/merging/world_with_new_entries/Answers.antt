@@ -8,9 +8,7 @@ use Rattle.wit_graph_data.specs.declared.cause.Cause.TheVariants as cause
 use Rattle.wit_graph_data.specs.declared.graph.Graph.{Graph}
 use Rattle.wit_graph_data.specs.declared.error_kind.ResolveErrorKind.{ResolveErrorKind}
 use Rattle.wit_graph_data.specs.declared.error_kind.ResolveErrorKind.TheVariants.{OutOfMemory, Semantic}
-use Rattle.wit_semver_spec.specs.Rewritten.{entry_types, kept_imports, rewritable_types}
-use Rattle.wit_semver_spec.specs.TrackCause.{Disagrees, IsTrackCause, UpgradeCause, functions_disagree_25, type_missing_25}
-use Rattle.wit_semver_spec.specs.Tracks.{Upgrade}
+use Rattle.wit_semver_spec.specs.Rewritten.{entry_types, kept_imports, rewritable_types, Upgrade, Disagrees, IsTrackCause, UpgradeCause, functions_disagree_25, type_missing_25}
 use Rattle.wit_semver.specs.steps.Replacing.{IsFilled, LackTypes, upgrade, upgrade_of, used_target, with_lists}
 use Rattle.wit_semver.proofs.NewEntries.{following_is, following_within, imports_within, lacks_from, lacks_into, relisted_is}
 use Rattle.wit_semver.proofs.merging.world_with_new_entries.Goals as goal

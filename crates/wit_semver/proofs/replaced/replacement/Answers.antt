@@ -6,7 +6,7 @@ use Rattle.wit_data.specs.declared.world.World.{World}
 use Rattle.wit_elaboration.specs.Entries.{keyed_interfaces}
 use Rattle.wit_elaboration.specs.Valid.{IsValid}
 use Rattle.wit_graph_data.specs.declared.graph.Graph.{Graph}
-use Rattle.wit_semver_spec.specs.Tracks.{Versioned, is_below, versioned}
+use Rattle.wit_semver_spec.specs.Rewritten.{Versioned, is_below, versioned}
 use Rattle.wit_semver.specs.steps.Replacing.{IsNewestTable, key_of, replacement, same_track, told, upgrade}
 use Rattle.wit_semver.specs.declared.tracks.TrackKey.{TrackKey}
 use Rattle.wit_semver.proofs.NewestTold.{greater_replaces, is_known, level_stays, n_at, unversioned_stays}

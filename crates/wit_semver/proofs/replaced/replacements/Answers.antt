@@ -3,7 +3,7 @@ use Rattle.std.proofs.lemmas.List.{append-nil, take_all}
 use Rattle.std.specs.List.{list_any}
 use Rattle.wit_data.specs.declared.world.WorldKey.{WorldKey}
 use Rattle.wit_elaboration.specs.Entries.{Entry, key_interface, keyed_interfaces}
-use Rattle.wit_semver_spec.specs.Tracks.{Upgrade, imported, is_older_than, newest}
+use Rattle.wit_semver_spec.specs.Rewritten.{Upgrade, imported, is_older_than, newest}
 use Rattle.wit_semver.specs.steps.Replacing.{IsFilled, replacement, upgrade}
 use Rattle.wit_semver.proofs.Filled.{filled-next}
 use Rattle.wit_semver.proofs.Keyed.{keyed-at, keyed-next}

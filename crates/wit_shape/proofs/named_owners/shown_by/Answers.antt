@@ -5,7 +5,7 @@ use Rattle.std.proofs.lemmas.Grind.{common_steps}
 use Rattle.wit_values.specs.facts.Lists.{take-next_at}
 use Rattle.wit_data.specs.facts.EachFacts.{SomeAt-is}
 use Rattle.wit_data.specs.Ownership.{NamesThroughUnnamed}
-use Rattle.wit_data.specs.Reference.{referred}
+use Rattle.wit_data.specs.Kind.{referred}
 use Rattle.wit_shape.specs.steps.NamedOwners.{IsNamedOwners, IsTold, joined}
 use Rattle.wit_shape.specs.declared.named_owners.NamedOwners.{NamedOwners}
 use Rattle.wit_data.specs.declared.types.TypeDef.{TypeDef}

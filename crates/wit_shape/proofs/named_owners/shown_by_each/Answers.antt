@@ -11,7 +11,7 @@ use Rattle.wit_digraph.specs.PostOrder.{Listed, UsesFirst}
 use Rattle.wit_data.specs.Each.{SomeAt}
 use Rattle.wit_data.specs.facts.EachFacts.{SomeAt-is, SomeAt-of}
 use Rattle.wit_data.specs.Ownership.{NamesThroughUnnamed}
-use Rattle.wit_data.specs.Reference.{referred, type_references}
+use Rattle.wit_data.specs.Kind.{referred, type_references}
 use Rattle.wit_data.specs.facts.ReferenceFacts.{references_at}
 use Rattle.wit_shape.specs.steps.NamedOwners.{AreNamedOwners, IsNamedOwners, IsTold}
 use Rattle.wit_shape.specs.declared.named_owners.NamedOwners.{NamedOwners}

@@ -1,5 +1,5 @@
 use Rattle.std.proofs.Common.{◌≡◌, [], take}
-use Rattle.wit_transform.specs.TransformCause.{type_labels}
+use Rattle.wit_transform.specs.Transformed.{type_labels}
 use Rattle.wit_transform.proofs.new_lists.type_label.Given as goal
 
 -- none of the entries so far is a type under a label

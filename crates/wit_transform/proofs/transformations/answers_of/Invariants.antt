@@ -1,5 +1,5 @@
 use Rattle.std.proofs.Common.{take}
-use Rattle.wit_transform.specs.TransformCause.{AreAnswers}
+use Rattle.wit_transform.specs.Transformed.{AreAnswers}
 use Rattle.wit_transform.proofs.transformations.answers_of.Given as goal
 
 -- the answers so far

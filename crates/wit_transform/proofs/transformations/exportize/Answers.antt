@@ -2,7 +2,7 @@ use Rattle.std.proofs.Common.{◌≡◌, ℕ, List, [], Option, Some, slice_get,
 use Rattle.std.specs.Option.{option_map_or}
 use Rattle.wit_data.specs.declared.world.World.{World}
 use Rattle.wit_elaboration.specs.Entries.{Entry}
-use Rattle.wit_transform.specs.TransformCause.{AreAnswers, imports_at}
+use Rattle.wit_transform.specs.Transformed.{AreAnswers, imports_at}
 use Rattle.wit_transform.proofs.transformations.exportize.Goals as goal
 
 pub returns-clause-ok : goal.returns-clause-ok

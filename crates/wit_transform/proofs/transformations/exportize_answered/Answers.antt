@@ -11,8 +11,7 @@ use Rattle.wit_graph_data.specs.declared.error_kind.ResolveErrorKind.{ResolveErr
 use Rattle.wit_graph_data.specs.declared.error_kind.ResolveErrorKind.TheVariants.{OutOfMemory}
 use Rattle.wit_graph_theory.specs.facts.ListFacts.{same_at}
 use Rattle.wit_transform.proofs.TransformSteps.{exportize_clear, exportize_conflict, exportized_in_order, has_home, transformed_same}
-use Rattle.wit_transform.specs.TransformCause.{IsExportizeCause, NameIsFreeAt, exportized_name_taken, not_exported}
-use Rattle.wit_transform.specs.Transformed.{WorldLists, entries_by_answer, exportized, transformed}
+use Rattle.wit_transform.specs.Transformed.{IsExportizeCause, NameIsFreeAt, exportized_name_taken, not_exported, WorldLists, entries_by_answer, exportized, transformed}
 use Rattle.wit_transform.proofs.transformations.exportize_answered.Goals as goal
 
 pub free_name-requires : goal.free_name-requires

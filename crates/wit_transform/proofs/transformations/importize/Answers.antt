@@ -10,8 +10,7 @@ use Rattle.wit_graph_data.specs.declared.error_kind.ResolveErrorKind.TheVariants
 use Rattle.wit_graph_theory.specs.facts.ListFacts.{same_at}
 use Rattle.wit_transform.proofs.Accepted.{under_labels}
 use Rattle.wit_transform.proofs.TransformSteps.{has_home, importize_clear, importized_in_order, transformed_same}
-use Rattle.wit_transform.specs.TransformCause.{IsImportizeCause, NameIsFreeAt, importized_name_taken, label_clash}
-use Rattle.wit_transform.specs.Transformed.{WorldLists, importized, transformed}
+use Rattle.wit_transform.specs.Transformed.{IsImportizeCause, NameIsFreeAt, importized_name_taken, label_clash, WorldLists, importized, transformed}
 use Rattle.wit_transform.proofs.transformations.importize.Goals as goal
 
 pub free_name-requires : goal.free_name-requires

@@ -6,8 +6,7 @@ use Rattle.wit_elaboration.specs.Imported.{HasTransitiveConflict}
 use Rattle.wit_graph_data.specs.declared.error_kind.ResolveErrorKind.{ResolveErrorKind}
 use Rattle.wit_graph_data.specs.declared.error_kind.ResolveErrorKind.TheVariants.{OutOfMemory}
 use Rattle.wit_transform.proofs.TransformSteps.{conflict_told, within_of}
-use Rattle.wit_transform.specs.TransformCause.{ExportsAreInConflict, NameIsTakenIn}
-use Rattle.wit_transform.specs.Transformed.{WorldLists}
+use Rattle.wit_transform.specs.Transformed.{ExportsAreInConflict, NameIsTakenIn, WorldLists}
 use Rattle.wit_transform.proofs.transformations.transform.Goals as goal
 
 pub with_last-requires : goal.with_last-requires

@@ -1,5 +1,5 @@
 use Rattle.std.proofs.Common.{rules}
-use Rattle.wit_data.specs.Reference.{type_references}
+use Rattle.wit_data.specs.Kind.{type_references}
 use Rattle.wit_unite_common.specs.steps.Reasons.{IsRound, IsTypeCycleError}
 use Rattle.wit_unite_common.proofs.OnCycles.{round_named, round_there, type_told}
 use Rattle.wit_unite_common.proofs.cycles.check_types.Goals as goal

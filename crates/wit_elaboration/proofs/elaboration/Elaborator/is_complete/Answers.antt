@@ -2,9 +2,8 @@ use Rattle.std.proofs.Common.{◌≡◌, ◌∙◌, ℕ, List, [], IfOk, Result,
 use Rattle.std.specs.List.{flat_map}
 use Rattle.wit_data.specs.declared.types.TypeDef.{TypeDef}
 use Rattle.wit_digraph.specs.Relation.{IsAcyclic}
-use Rattle.wit_elaboration.specs.AllWorlds.{elaborated_world}
+use Rattle.wit_elaboration.specs.Elaboration.{elaborated_world, graph_uses}
 use Rattle.wit_elaboration.specs.Elaborated.{elaborated_imports, import_with_needs}
-use Rattle.wit_elaboration.specs.Elaboration.{graph_uses}
 use Rattle.wit_elaboration.specs.Entries.{Entry, by_class, fresh_entries}
 use Rattle.wit_elaboration.specs.Sound.{AreSound}
 use Rattle.wit_elaboration.proofs.AllWorlds.{kept_lists}

@@ -1,5 +1,5 @@
 use Rattle.std.proofs.Common.{◌≡◌, ◌∙◌, ℕ, List, Some, slice_get, sym, subst}
-use Rattle.wit_data.specs.Reference.{function_references}
+use Rattle.wit_data.specs.Kind.{function_references}
 use Rattle.wit_graph_theory.specs.facts.ListFacts.{contained_at}
 use Rattle.wit_link_spec.specs.Reasons.{of_function}
 use Rattle.wit_link_features.proofs.checker.Checker.look_at_function.Goals as goal

@@ -3,7 +3,7 @@ use Rattle.std.specs.Map.Iter.{deref_pair}
 use Rattle.std.proofs.lemmas.Map.Iter.{rest_more, rest_all}
 use Rattle.wit_data.specs.Entries.{Entry}
 use Rattle.wit_remap_spec.specs.Image.{entry_image}
-use Rattle.wit_link_include.specs.steps.Copied.{maps_of}
+use Rattle.wit_link_include.specs.steps.Included.{maps_of}
 use Rattle.wit_link_include.proofs.Steps.{map_more, nothing_left}
 use Rattle.wit_link_include.proofs.copies.Copies.entries.Goals as goal
 

@@ -1,6 +1,6 @@
 use Rattle.std.proofs.Common.{◌≡◌, ◌++◌, map}
 use Rattle.wit_remap_spec.specs.Image.{entry_image}
-use Rattle.wit_link_include.specs.steps.Copied.{maps_of}
+use Rattle.wit_link_include.specs.steps.Included.{maps_of}
 use Rattle.wit_link_include.proofs.copies.Copies.entries.Given as goal
 
 -- the copies so far, and those of what is left

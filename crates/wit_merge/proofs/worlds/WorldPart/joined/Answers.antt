@@ -1,8 +1,7 @@
 use Rattle.std.proofs.Common.{◌≡◌, ◌∙◌, map, sym}
 use Rattle.wit_link_spec.specs.Include.{joined_stability}
 use Rattle.wit_merge_spec.specs.United.{with_entries}
-use Rattle.wit_merge.specs.steps.Joined.{entry_joined}
-use Rattle.wit_merge.specs.steps.UnionSteps.{merging_of}
+use Rattle.wit_merge.specs.steps.UnionSteps.{entry_joined, merging_of}
 use Rattle.wit_merge.proofs.MatchedThings.{entry_is}
 use Rattle.wit_merge.proofs.SameImages.{each_same}
 use Rattle.wit_merge.proofs.worlds.WorldPart.joined.Goals as goal

@@ -5,8 +5,7 @@ use Rattle.wit_graph_data.specs.facts.ResultFacts.{residual_error}
 use Rattle.wit_graph_data.specs.declared.cause.Cause.TheVariants as cause
 use Rattle.wit_graph_data.specs.declared.error_kind.ResolveErrorKind.{ResolveErrorKind}
 use Rattle.wit_graph_data.specs.declared.error_kind.ResolveErrorKind.TheVariants.{OutOfMemory, Semantic}
-use Rattle.wit_semver_spec.specs.TrackCause.{Disagrees}
-use Rattle.wit_semver_spec.specs.Tracks.{Upgrade}
+use Rattle.wit_semver_spec.specs.Rewritten.{Disagrees, Upgrade}
 use Rattle.wit_semver.specs.steps.Replacing.{DisagreesAt, upgrade_of}
 use Rattle.wit_semver.proofs.Used.{disagrees_from, disagrees_into}
 use Rattle.wit_semver.proofs.upgrade_plan.UpgradePlan.check_functions.Goals as goal
