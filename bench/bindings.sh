@@ -20,15 +20,16 @@ export WITGRAPH_LIBRARY
 echo "bindings: C"
 cc -std=c99 -Wall -Wextra -Werror -Iinclude bindings/c/example.c "$WITGRAPH_LIBRARY/libwitgraph_c.a" "$kit/c/liblibc_c.a" -o "$work/example"
 "$work/example" < crates/witgraph/stdin | cmp - crates/witgraph/stdout
-# each worked script, below its line
-python3 - "$work" crates/witgraph_cases/stdin << 'P'
+# each worked script
+python3 - "$work/example" crates/witgraph_cases/stdin << 'P'
 import subprocess, sys
 for case in open(sys.argv[2]).read().split("=== ")[1:]:
-    name, script = case.split("\n", 1)
-    ran = subprocess.run([sys.argv[1] + "/example"], input=script, stdout=subprocess.PIPE, text=True)
-    print(f"=== {name}\n{ran.stdout}", end="", file=open(sys.argv[1] + "/stdout", "a"))
+    name, rest = case.split("\n", 1)
+    script, answers = rest.split("---\n", 1)
+    ran = subprocess.run([sys.argv[1]], input=script, stdout=subprocess.PIPE, text=True)
+    if ran.stdout != answers:
+        sys.exit(f"{name}: the C example prints\n{ran.stdout}")
 P
-cmp "$work/stdout" crates/witgraph_cases/stdout
 echo "bindings: the C example prints what $(grep -c '^=== ' crates/witgraph_cases/stdin) worked scripts are to print"
 
 # each allocation is refused in turn

@@ -2,7 +2,7 @@
 """Compares the program with an independent model of the rules (`bench/model`) on random scripts, or with the original.
 
     python3 bench/compare.py PATH/TO/witgraph_cases [--first N] [--many N] [--kind KIND]..
-    python3 bench/compare.py --stored crates/witgraph_cases/stdin crates/witgraph_cases/stdout
+    python3 bench/compare.py --stored crates/witgraph_cases/stdin
     python3 bench/compare.py PATH/TO/witgraph --original PROGRAM [--first N] [--many N] [--kind KIND].. [--jobs N]
 
 With the model the program is that of the stored cases, which runs many scripts at once. Scripts are told by their
@@ -43,6 +43,12 @@ def written(number, kinds):
 def cases_of(text):
     """The cases of a text by their names."""
     return {it.partition("\n")[0]: it.partition("\n")[2] for it in text.split("=== ")[1:]}
+
+
+def stored(text):
+    """The scripts and the answers of cases that have both, by their names."""
+    parts = {name: case.partition("---\n") for name, case in cases_of(text).items()}
+    return {name: it[0] for name, it in parts.items()}, {name: it[2] for name, it in parts.items()}
 
 
 def compared(scripts, printed, rules):
@@ -114,8 +120,7 @@ def main():
     asked = parser.parse_args()
     rules = model.Rules()
     if asked.stored:
-        stdin, stdout = (cases_of(read(it)) for it in asked.files)
-        return compared(stdin, stdout, rules)
+        return compared(*stored(read(asked.files[0])), rules)
     numbers = range(asked.first, asked.first + asked.many)
     if asked.original:
         missing = [row for row in original.ROWS if f"\n| {row} |" not in read(DIFFERENCES)]

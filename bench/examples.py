@@ -11,25 +11,24 @@ import re
 import sys
 
 DOCUMENT = "docs/FROM_WIT_PARSER.md"
-CASES = "crates/witgraph_cases/"
+CASES = "crates/witgraph_cases/stdin"
 
 
-def cases(path):
-    """The texts under the lines `=== NAME`, by their names."""
-    parts = re.split(r"(?m)^=== ", open(path).read())[1:]
-    return dict(part.split("\n", 1) for part in parts)
+def cases():
+    """The scripts under the lines `=== NAME` with their answers, by their names."""
+    parts = dict(part.split("\n", 1) for part in re.split(r"(?m)^=== ", open(CASES).read())[1:])
+    return {name: tuple(case.split("---\n", 1)) for name, case in parts.items()}
 
 
 def main():
-    scripts, answers = cases(CASES + "stdin"), cases(CASES + "stdout")
+    stored = cases()
     examples = re.findall(r"(?ms)^\*\*(\d+)\*\*, `([^`]+)`\n\n```\n(.*?)^```$", open(DOCUMENT).read())
     wrong = [number for number in range(1, 27) if str(number) not in {example[0] for example in examples}]
     for number, case, block in examples:
         lines = block.splitlines(keepends=True)
         script = "".join(line for line in lines if not line.startswith("# "))
         answer = "".join(line[2:] for line in lines if line.startswith("# "))
-        same = script == scripts.get(case) and answer == answers.get(case)
-        if not same or not re.search(rf"(?m)^refused {number} ", answer):
+        if stored.get(case) != (script, answer) or not re.search(rf"(?m)^refused {number} ", answer):
             wrong.append(int(number))
     for number in wrong:
         print(f"{DOCUMENT}: the example of {number} is not as its case")

@@ -320,8 +320,8 @@ class Sweep:
 
     def scripts(self, path):
         program, scripts = self.program(path), cases_of(f"{TOP}/crates/witgraph_cases/stdin")
-        for name, script in scripts.items():
-            self.add(f"script {name}", Script(program, script))
+        for name, case in scripts.items():
+            self.add(f"script {name}", Script(program, case.partition("---\n")[0]))
         self.tell(f"{len(scripts)} scripts more")
 
     def tell(self, what):

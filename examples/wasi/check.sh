@@ -23,9 +23,9 @@ same() {
     cmp -s "$1" "$2" || { echo "$2: it isn't what is made now"; status=1; }
 }
 
-# the case of a name in a file of cases
+# the case of a name: its script, a line ---, and its answers
 case_of() {
-    awk -v name="=== wasi-$1" '/^=== / { inside = $0 == name; next } inside' "../../crates/witgraph_cases/$2"
+    awk -v name="=== wasi-$1" '/^=== / { inside = $0 == name; next } inside' ../../crates/witgraph_cases/stdin
 }
 
 for version in 0.2.0 0.2.3; do
@@ -41,16 +41,15 @@ for walk in features merge proxy tool; do
     ./walk.sh $walk > "$made/$walk.script"
     "$program" < "$made/$walk.script" > "$made/$walk.out" || { echo "$walk: the program ends with status $?"; status=1; }
     same "$made/$walk.out" "$walk.out"
-    { echo "=== $walk"; cat "$made/$walk.script"; } >> "$made/stdin"
-    { echo "=== $walk"; cat "$made/$walk.out"; } >> "$made/stdout"
+    { cat "$made/$walk.script"; echo ---; cat "$made/$walk.out"; } > "$made/$walk.case"
+    { echo "=== $walk"; cat "$made/$walk.case"; } >> "$made/cases"
 done
 for walk in features merge tool; do
-    case_of $walk stdin | cmp -s - "$made/$walk.script" || { echo "case wasi-$walk: its script isn't that of walk.sh"; status=1; }
-    case_of $walk stdout | cmp -s - "$made/$walk.out" || { echo "case wasi-$walk: its answers aren't $walk.out"; status=1; }
+    case_of $walk | cmp -s - "$made/$walk.case" || { echo "case wasi-$walk: it isn't the script of walk.sh with $walk.out"; status=1; }
 done
 for walk in ${ORIGINAL:+features merge proxy tool}; do
     sed 's/^refused [0-9]* /refused ? /' "$made/$walk.out" > "$made/expected"
     "$ORIGINAL" < "$made/$walk.script" | cmp -s - "$made/expected" || { echo "$walk: the original answers otherwise"; status=1; }
 done
-python3 ../../bench/compare.py --stored "$made/stdin" "$made/stdout" || status=1
+python3 ../../bench/compare.py --stored "$made/cases" || status=1
 exit $status

@@ -66,7 +66,10 @@ fn scripts(file: &str) -> Outcome<Vec<(String, String)>> {
         return Ok(vec![(file.to_owned(), text)]);
     }
     let named = |case: &str| match case.split_once('\n') {
-        Some((name, script)) => (name.to_owned(), script.to_owned()),
+        Some((name, rest)) => {
+            let script = rest.split_once("---\n").map_or(rest, |(script, _)| script);
+            (name.to_owned(), script.to_owned())
+        }
         None => (case.to_owned(), String::new()),
     };
     Ok(text.split("=== ").skip(1).map(named).collect())

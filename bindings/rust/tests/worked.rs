@@ -1,21 +1,31 @@
-//! The worked scripts of `crates/witgraph_cases`, each through the library: `stdin` has them, below lines `=== NAME`,
-//! and `stdout` what each is to print.
+//! The worked scripts of `crates/witgraph_cases`, each through the library: its `stdin` has them, below lines
+//! `=== NAME`, and behind a line `---` what each is to print.
 
 use std::fs;
 use std::path::Path;
 
-/// Each case by its name.
-fn cases(file: &str) -> Vec<(String, String)> {
-    let path = Path::new(env!("CARGO_MANIFEST_DIR"))
-        .join("../../crates/witgraph_cases")
-        .join(file);
+/// A worked script, and what it is to print.
+struct Case {
+    name: String,
+    script: String,
+    answers: String,
+}
+
+/// All cases, in order.
+fn cases() -> Vec<Case> {
+    let path = Path::new(env!("CARGO_MANIFEST_DIR")).join("../../crates/witgraph_cases/stdin");
     let text =
         fs::read_to_string(&path).unwrap_or_else(|error| panic!("{}: {error}", path.display()));
-    let named = |case: &str| {
+    let case = |case: &str| {
         let (name, rest) = case.split_once('\n').expect("a line with a name");
-        (name.to_owned(), rest.to_owned())
+        let (script, answers) = rest.split_once("---\n").expect("a line before the answers");
+        Case {
+            name: name.to_owned(),
+            script: script.to_owned(),
+            answers: answers.to_owned(),
+        }
     };
-    text.split("=== ").skip(1).map(named).collect()
+    text.split("=== ").skip(1).map(case).collect()
 }
 
 /// What a script prints, one that isn't understood too.
@@ -29,24 +39,22 @@ fn printed(script: &str) -> String {
 
 #[test]
 fn each_worked_script_prints_what_it_is_to_print() {
-    let (scripts, answers) = (cases("stdin"), cases("stdout"));
-    assert!(!scripts.is_empty());
-    assert_eq!(scripts.len(), answers.len());
-    for ((name, script), (answered, answer)) in scripts.iter().zip(&answers) {
-        assert_eq!(name, answered);
-        assert_eq!(printed(script), *answer, "{name}");
+    let cases = cases();
+    assert!(!cases.is_empty());
+    for case in &cases {
+        assert_eq!(printed(&case.script), case.answers, "{}", case.name);
     }
 }
 
 #[test]
 fn each_worked_script_prints_the_same_from_several_threads() {
-    let scripts = cases("stdin");
-    let alone: Vec<String> = scripts.iter().map(|(_, script)| printed(script)).collect();
+    let cases = cases();
+    let alone: Vec<String> = cases.iter().map(|case| printed(&case.script)).collect();
     std::thread::scope(|scope| {
         for _ in 0..4 {
             scope.spawn(|| {
-                for ((name, script), answer) in scripts.iter().zip(&alone) {
-                    assert_eq!(printed(script), *answer, "{name}");
+                for (case, answers) in cases.iter().zip(&alone) {
+                    assert_eq!(printed(&case.script), *answers, "{}", case.name);
                 }
             });
         }
@@ -63,7 +71,7 @@ fn numbers(answers: &str) -> Vec<&str> {
 
 #[test]
 fn each_refusal_of_a_worked_script_is_shown() {
-    for (name, script) in cases("stdin") {
+    for Case { name, script, .. } in cases() {
         match witgraph::explain(&script) {
             Ok(shown) => assert_eq!(numbers(&shown), numbers(&printed(&script)), "{name}"),
             Err(error) => assert_eq!(witgraph::execute(&script), Err(error), "{name}"),
