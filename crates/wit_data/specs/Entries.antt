@@ -1,5 +1,5 @@
 -- What worlds import, export and include.
-use Rattle.std.specs.Prelude.{◌≡◌, ℕ, ◌<◌, Bool, false, List, [], ◌∷◌, ◌++◌, length, nat_eq, slice_get, not, is_some, filter, flat_map, if◌then◌else◌}
+use Rattle.std.specs.Prelude.{◌≡◌, ℕ, ◌<◌, Bool, false, List, [], ◌∷◌, ◌++◌, length, nat_eq, slice_get, not, is_some, filter, flat_map, if◌then◌else◌, Option, None, Some}
 use Rattle.std.specs.List.{IsDistinct}
 use Rattle.std.specs.Option.{option_map_or}
 use Rattle.wit_data.specs.Each.{Each}
@@ -64,6 +64,11 @@ abbrev pub item_interface : WorldItem → List ℕ
 item_interface (item.Interface id stability docs span external_id) = id ∷ []
 item_interface (item.Function function) = []
 item_interface (item.Type_ id span) = []
+
+-- the type that an item is
+abbrev pub item_type : WorldItem → Option ℕ
+item_type (item.Type_ id span) = Some id
+item_type _ = None
 
 -- the interfaces that entries hold
 abbrev pub interfaces_of_entries : List Entry → List ℕ

@@ -1,9 +1,10 @@
 //! Interfaces.
 ghost use Rattle.std.specs.Prelude.{◌≡◌};
+ghost use Rattle.wit_data.specs.Entries.{is_unnamed};
 ghost use Rattle.wit_data.specs.New.{new_interface};
 
 use crate::function::Function;
-use crate::ids::{PackageId, TypeId};
+use crate::ids::{InterfaceId, PackageId, TypeId};
 use crate::stability::{Docs, Stability};
 use std::alloc::{AllocError, Global};
 use wit_sources::Span;
@@ -39,6 +40,16 @@ impl Interface {
             package: None,
             span: Span::unknown(),
         }
+    }
+}
+
+/// Whether an interface of a list has no name; false where it isn't there.
+pub fn is_unnamed(interfaces: &[Interface], id: InterfaceId) -> bool
+    ensures { result ≡ is_unnamed interfaces.now id }
+{
+    match interfaces.get(id.index()) {
+        Some(interface) => interface.name.is_none(),
+        None => false,
     }
 }
 

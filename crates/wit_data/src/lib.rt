@@ -21,7 +21,7 @@ pub use crate::function::{AccessorKind, Function, FunctionKind, Param};
 pub use crate::ids::{
     Id, InterfaceId, InterfaceSort, PackageId, PackageSort, TypeId, TypeSort, WorldId, WorldSort,
 };
-pub use crate::interface::Interface;
+pub use crate::interface::{Interface, is_unnamed};
 pub use crate::kind::{
     PartRole, Variant, fixed_length, part_count, part_name, part_role, part_span, part_type,
     plain_step, variant_of,
@@ -33,7 +33,7 @@ pub use crate::types::{
 };
 pub use crate::unresolved::{AstItem, UnresolvedPackage, UnresolvedPackageGroup};
 pub use crate::uses::{alias_target, interface_uses, type_interface_dep, uses_of};
-pub use crate::world::{IncludeName, World, WorldInclude, WorldItem, WorldKey};
+pub use crate::world::{IncludeName, World, WorldInclude, WorldItem, WorldKey, item_type};
 pub use wit_names::{
     PackageName, ParsedUsePath, TrackRule, UsePathFault, is_kebab_name, parse_use_path,
 };

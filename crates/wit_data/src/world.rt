@@ -1,5 +1,6 @@
 //! Worlds.
 ghost use Rattle.std.specs.Prelude.{◌≡◌};
+ghost use Rattle.wit_data.specs.Entries.{item_type};
 ghost use Rattle.wit_data.specs.New.{new_interface_entry, new_world};
 
 use crate::function::Function;
@@ -59,6 +60,16 @@ impl WorldItem {
             span: Span::unknown(),
             external_id: None,
         }
+    }
+}
+
+/// The type that an item is, None of an interface and of a function.
+pub fn item_type(item: &WorldItem) -> Option<TypeId>
+    ensures { result ≡ item_type item.now }
+{
+    match item {
+        WorldItem::Type_ { id, .. } => Some(*id),
+        WorldItem::Interface { .. } | WorldItem::Function(_) => None,
     }
 }
 

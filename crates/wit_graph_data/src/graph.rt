@@ -1,5 +1,6 @@
 //! The graph as plain data.
 ghost use Rattle.std.specs.Prelude.{◌≡◌, []};
+ghost use Rattle.wit_graph_data.specs.Named.{interface_in, world_in};
 
 use std::alloc::{AllocError, Global};
 use wit_data::{
@@ -79,6 +80,26 @@ impl Graph {
             packages: Items::new(alloc),
             package_names: Table::new(alloc),
         }
+    }
+
+    /// The interface of a name in a package; None where either isn't there. It takes no memory.
+    ///
+    /// Source: `Package::interfaces` of wit-parser 0.263.0.
+    pub fn interface_in(&self, id: PackageId, name: &str) -> Option<InterfaceId>
+        ensures { result ≡ interface_in self.now name.now id }
+    {
+        let home = self.packages.get(id.index())?;
+        home.interfaces.get(name).copied()
+    }
+
+    /// The world of a name in a package; None where either isn't there. It takes no memory.
+    ///
+    /// Source: `Package::worlds` of wit-parser 0.263.0.
+    pub fn world_in(&self, id: PackageId, name: &str) -> Option<WorldId>
+        ensures { result ≡ world_in self.now name.now id }
+    {
+        let home = self.packages.get(id.index())?;
+        home.worlds.get(name).copied()
     }
 }
 

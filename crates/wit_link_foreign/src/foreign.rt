@@ -148,14 +148,12 @@ fn check_inactive(
 fn interface_of(graph: &Graph, home: Option<PackageId>, name: &str) -> Option<InterfaceId>
     ensures { result ≡ interface_in graph.now home name.now }
 {
-    let home = graph.packages.get(home?.index())?;
-    home.interfaces.get(name).copied()
+    graph.interface_in(home?, name)
 }
 
 /// The world of this name in a package, if there is one.
 fn world_of(graph: &Graph, home: Option<PackageId>, name: &str) -> Option<WorldId>
     ensures { result ≡ world_in graph.now home name.now }
 {
-    let home = graph.packages.get(home?.index())?;
-    home.worlds.get(name).copied()
+    graph.world_in(home?, name)
 }

@@ -6,6 +6,7 @@ ghost use Rattle.wit_link_foreign.specs.steps.ForeignItems.{assigned_ids, goes, 
 
 use std::alloc::{AllocError, Global};
 use wit_data::{Id, Items, TryClone};
+use wit_link_spec::next_new_id;
 
 /// Where the things of one sort go, by which are active and what is found of each: what is active goes to what is
 /// found of it, or, if it is the package's own, to the next id. The ids begin at `first`.
@@ -23,14 +24,14 @@ pub(crate) fn assign_ids<S>(
     for index in 0..found.len() {
         let is_active = *active.at(index);
         let there = found.at(index).try_clone()?;
-        ids.push(next_new_id(is_active, there, &mut next)?)?;
+        ids.push(assign_id(is_active, there, &mut next)?)?;
     }
     Ok(ids)
 }
 
 /// Where one thing goes: nowhere if it isn't active, to what is found of it, or to the next id, which is then
 /// one further on. An id past the last says that memory is wanting.
-pub(crate) fn next_new_id<S>(
+pub(crate) fn assign_id<S>(
     active: bool,
     found: Option<Id<S>>,
     next: &mut usize,
@@ -38,13 +39,9 @@ pub(crate) fn next_new_id<S>(
     ensures place { IfOk result (λ place. place ≡ goes active found next.old) }
     ensures next { OnOk result (next.new ≡ after (has_new_id active found) next.old) }
 {
-    if !active {
-        return Ok(None);
+    if active {
+        Ok(Some(next_new_id(found, next)?))
+    } else {
+        Ok(None)
     }
-    if found.is_some() {
-        return Ok(found);
-    }
-    let id = Id::from_index(*next);
-    *next = next.checked_add(1).ok_or(AllocError)?;
-    Ok(Some(id))
 }

@@ -11,7 +11,7 @@ ghost use Rattle.wit_link_spec.specs.Lookup.{foreign_type_id, interface_type, na
 ghost use Rattle.wit_link_foreign.specs.steps.ForeignItems.{AreTypesThere, IsTypeThere, found_among};
 
 use crate::foreign::Found;
-use crate::new_ids::next_new_id;
+use crate::new_ids::assign_id;
 use crate::refusal::type_not_defined;
 use std::alloc::Global;
 use wit_data::{InterfaceId, Items, Text, TypeId, TypeOwner};
@@ -65,7 +65,7 @@ fn type_place(
     if active && t < adding.unresolved.unknown_type_spans.len() {
         return foreign_type(alloc, adding, activity, found, t);
     }
-    Ok(next_new_id(active, None, next)?)
+    Ok(assign_id(active, None, next)?)
 }
 
 /// Where the graph has a type of another package that is active.

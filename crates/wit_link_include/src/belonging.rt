@@ -8,7 +8,7 @@ ghost use Rattle.wit_link_spec.specs.Include.{belongs_to};
 
 use crate::numbering::in_order;
 use std::alloc::{AllocError, Global};
-use wit_data::{InterfaceId, Items, Table, World, WorldItem, WorldKey};
+use wit_data::{InterfaceId, Items, Table, World, WorldItem, WorldKey, is_unnamed};
 use wit_graph_data::Graph;
 
 /// The interfaces without a name that stand in a world, in the order of their ids.
@@ -49,19 +49,9 @@ fn push_if_unnamed(
     ensures { OnOk result (ids.new ≡ ids.old ++ filter (is_unnamed graph.now.interfaces) (item_interface item.now)) }
 {
     if let WorldItem::Interface { id, .. } = item {
-        if is_unnamed(graph, *id) {
+        if is_unnamed(graph.interfaces.as_slice(), *id) {
             ids.push(*id)?;
         }
     }
     Ok(())
-}
-
-/// Whether an interface has no name.
-fn is_unnamed(graph: &Graph, id: InterfaceId) -> bool
-    ensures { result ≡ is_unnamed graph.now.interfaces id }
-{
-    match graph.interfaces.get(id.index()) {
-        Some(interface) => interface.name.is_none(),
-        None => false,
-    }
 }

@@ -10,4 +10,4 @@ mod new_things;
 pub use crate::addition::{Activity, AdditionRef, NewIds, Values};
 pub use crate::gates::is_active;
 pub use crate::messages::{excluded_message, excluded_owner_message};
-pub use crate::new_things::{is_from, is_new};
+pub use crate::new_things::{is_from, is_new, next_new_id};

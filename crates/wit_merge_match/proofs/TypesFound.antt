@@ -5,7 +5,7 @@ use Rattle.std.specs.List.{flat_map}
 use Rattle.std.specs.Map.{lookup}
 use Rattle.std.specs.Str.{bytes_eq}
 use Rattle.wit_values.specs.Table.{HasDistinctKeys}
-use Rattle.wit_data.specs.Entries.{Entry}
+use Rattle.wit_data.specs.Entries.{Entry, item_type}
 use Rattle.wit_data.specs.Ownership.{entry_type, world_types}
 use Rattle.wit_data.specs.declared.world.World.{World}
 use Rattle.wit_data.specs.declared.world.WorldItem.{WorldItem}
@@ -18,7 +18,6 @@ use Rattle.wit_elaboration.specs.Entries.{same_key}
 use Rattle.wit_elaboration.specs.Valid.{IsValid}
 use Rattle.wit_graph_data.specs.declared.graph.Graph.{Graph}
 use Rattle.wit_transform.proofs.Distinct.{tail_distinct}
-use Rattle.wit_merge_match.specs.steps.Matched.{type_item}
 
 abbrev types_in : List Entry → List (List ℕ × ℕ)
 types_in es = flat_map (λ (e : Entry). entry_type e.0 e.1) es
@@ -41,35 +40,35 @@ module _ (n : List ℕ) where
   behind m held es once same =
       absent es (λ i e at under. let zero_is : zero ≡ suc i = once zero (suc i) (key.Name m, held) e refl at (ap (λ (l : List ℕ). key.Name l) (sym ((bytes_eq-Decides n m).0 same)) ∙ sym under) in cc)
 
-  pub type_listed : (es : List Entry) → HasDistinctKeys es → option_and_then type_item (lookup (same_key (key.Name n)) es) ≡ lookup (bytes_eq n) (types_in es)
+  pub type_listed : (es : List Entry) → HasDistinctKeys es → option_and_then item_type (lookup (same_key (key.Name n)) es) ≡ lookup (bytes_eq n) (types_in es)
   type_listed [] once = refl
   type_listed ((key.Interface f, held) ∷ es) once = type_listed es (tail_distinct (key.Interface f, held) es once)
   type_listed ((key.Name m, item.Type_ t span) ∷ es) once = by (bytes_eq n m) (type_listed es (tail_distinct (key.Name m, item.Type_ t span) es once))
     where
-      by : (b : Bool) → option_and_then type_item (lookup (same_key (key.Name n)) es) ≡ lookup (bytes_eq n) (types_in es)
-          → option_and_then type_item (cond b (Some (item.Type_ t span)) (lookup (same_key (key.Name n)) es)) ≡ cond b (Some t) (lookup (bytes_eq n) (types_in es))
+      by : (b : Bool) → option_and_then item_type (lookup (same_key (key.Name n)) es) ≡ lookup (bytes_eq n) (types_in es)
+          → option_and_then item_type (cond b (Some (item.Type_ t span)) (lookup (same_key (key.Name n)) es)) ≡ cond b (Some t) (lookup (bytes_eq n) (types_in es))
       by true rest = refl
       by false rest = rest
   type_listed ((key.Name m, item.Function f) ∷ es) once = by (bytes_eq n m) refl (type_listed es (tail_distinct (key.Name m, item.Function f) es once))
     where
-      by : (b : Bool) → bytes_eq n m ≡ b → option_and_then type_item (lookup (same_key (key.Name n)) es) ≡ lookup (bytes_eq n) (types_in es)
-          → option_and_then type_item (cond b (Some (item.Function f)) (lookup (same_key (key.Name n)) es)) ≡ lookup (bytes_eq n) (types_in es)
+      by : (b : Bool) → bytes_eq n m ≡ b → option_and_then item_type (lookup (same_key (key.Name n)) es) ≡ lookup (bytes_eq n) (types_in es)
+          → option_and_then item_type (cond b (Some (item.Function f)) (lookup (same_key (key.Name n)) es)) ≡ lookup (bytes_eq n) (types_in es)
       by true same rest = sym (behind m (item.Function f) es once same)
       by false apart rest = rest
   type_listed ((key.Name m, item.Interface j stability docs span external_id) ∷ es) once =
       by (bytes_eq n m) refl (type_listed es (tail_distinct (key.Name m, item.Interface j stability docs span external_id) es once))
     where
-      by : (b : Bool) → bytes_eq n m ≡ b → option_and_then type_item (lookup (same_key (key.Name n)) es) ≡ lookup (bytes_eq n) (types_in es)
-          → option_and_then type_item (cond b (Some (item.Interface j stability docs span external_id)) (lookup (same_key (key.Name n)) es)) ≡ lookup (bytes_eq n) (types_in es)
+      by : (b : Bool) → bytes_eq n m ≡ b → option_and_then item_type (lookup (same_key (key.Name n)) es) ≡ lookup (bytes_eq n) (types_in es)
+          → option_and_then item_type (cond b (Some (item.Interface j stability docs span external_id)) (lookup (same_key (key.Name n)) es)) ≡ lookup (bytes_eq n) (types_in es)
       by true same rest = sym (behind m (item.Interface j stability docs span external_id) es once same)
       by false apart rest = rest
 
 -- so of a world of a valid graph
 pub type_at : (g : Graph) → IsValid g → (n : List ℕ) (id : Option ℕ) (w i : ℕ) (world : World) (label : List ℕ) (o : Option WorldItem) → id ≡ Some w → i ≡ w → Some world ≡ slice_get g.worlds i → label ≡ n
     → o ≡ lookup (eq-value.it (key.Name label)) world.imports
-    → option_and_then type_item o ≡ option_and_then (λ (there : World). lookup (bytes_eq n) (world_types there)) (option_and_then (slice_get g.worlds) id)
+    → option_and_then item_type o ≡ option_and_then (λ (there : World). lookup (bytes_eq n) (world_types there)) (option_and_then (slice_get g.worlds) id)
 type_at g valid n id w i world label o is same at named found =
     let there : slice_get g.worlds w ≡ Some world = subst (λ (k : ℕ). slice_get g.worlds k ≡ Some world) same (sym at) in
     let by_key = found ∙ ap (λ (l : List ℕ). lookup (eq-value.it (key.Name l)) world.imports) named ∙ ap (λ (eq : WorldKey → WorldKey → Bool). lookup (eq (key.Name n)) world.imports) key_eq-same in
-    ap (option_and_then type_item) by_key ∙ type_listed n world.imports (valid.well_formed.worlds.distinct_imports w world there)
+    ap (option_and_then item_type) by_key ∙ type_listed n world.imports (valid.well_formed.worlds.distinct_imports w world there)
     ∙ sym (ap (option_and_then (λ (there : World). lookup (bytes_eq n) (world_types there))) (ap (option_and_then (slice_get g.worlds)) is ∙ there))

@@ -1,14 +1,13 @@
 //! Where all things of another graph go.
-ghost use Rattle.std.specs.Prelude.{◌≡◌, IfOk, OnOk, Some, is_some, length, map, not, unwrap_or};
+ghost use Rattle.std.specs.Prelude.{◌≡◌, IfOk, Some, length, map};
 ghost use Rattle.std.specs.List.{range_with_len};
-ghost use Rattle.wit_link_spec.specs.facts.RankFacts.{after};
 ghost use Rattle.wit_merge_match.specs.steps.Matched.{AreMatches, merge_of_graphs, merge_remap_of, place_from};
 
 use crate::matches::Matches;
 use std::alloc::{AllocError, Global};
 use wit_data::{Id, Items, PackageId, TryClone};
 use wit_graph_data::Graph;
-use wit_link_spec::NewIds;
+use wit_link_spec::{NewIds, next_new_id};
 
 /// Where the things of another graph go, by their ids there: what is matched to the one with which it is, all else to
 /// the next ids, in its order.
@@ -50,7 +49,7 @@ fn places<S>(
     let mut places = Items::new(alloc);
     let mut next = first;
     for index in 0..found.len() {
-        places.push(Some(next_new_id(found.at(index), &mut next)?))?;
+        places.push(Some(next_new_id(found.at(index).try_clone()?, &mut next)?))?;
     }
     Ok(places)
 }
@@ -66,21 +65,7 @@ fn package_places(
     let mut places = Items::new(alloc);
     let mut next = first;
     for index in 0..found.len() {
-        places.push(next_new_id(found.at(index), &mut next)?)?;
+        places.push(next_new_id(found.at(index).try_clone()?, &mut next)?)?;
     }
     Ok(places)
-}
-
-/// Where one thing goes: to that with which it is matched, or to the next id, which is then one further on. An id past
-/// the last says that memory is wanting.
-fn next_new_id<S>(found: &Option<Id<S>>, next: &mut usize) -> Result<Id<S>, AllocError>
-    ensures place { IfOk result (λ place. place ≡ unwrap_or found.now next.old) }
-    ensures next { OnOk result (next.new ≡ after (not (is_some found.now)) next.old) }
-{
-    if let Some(id) = found {
-        return id.try_clone();
-    }
-    let id = Id::from_index(*next);
-    *next = next.checked_add(1).ok_or(AllocError)?;
-    Ok(id)
 }

@@ -1,13 +1,12 @@
 //! What is found by its name in a table of packages, or of a package.
-ghost use Rattle.std.specs.Prelude.{◌≡◌, IfOk, None, get_or, map, option_and_then, slice_get};
+ghost use Rattle.std.specs.Prelude.{◌≡◌, IfOk, None, get_or, map, option_and_then};
 ghost use Rattle.std.specs.Map.{lookup};
-ghost use Rattle.std.specs.Str.{bytes_eq};
 ghost use Rattle.wit_names.specs.PackageName.{same_package};
 ghost use Rattle.wit_graph_data.specs.declared.graph.Package.{Package};
 ghost use Rattle.wit_merge_match.specs.steps.Matched.{interface_under, world_under};
 
 use std::alloc::{AllocError, Global};
-use wit_data::{Interface, InterfaceId, Items, PackageId, WorldId};
+use wit_data::{Interface, InterfaceId, Items, PackageId, World, WorldId};
 use wit_graph_data::Graph;
 
 /// Of each package of the other graph that of the graph with its name.
@@ -57,20 +56,17 @@ pub(crate) fn world_matches(
 {
     let mut found = Items::new(alloc);
     for index in 0..other.worlds.len() {
-        let world = other.worlds.at(index);
-        let home = matched_package(packages, world.package);
-        found.push(world_in(graph, home, world.name.as_str()))?;
+        found.push(world_match(graph, packages, other.worlds.at(index)))?;
     }
     Ok(found)
 }
 
-/// The world of a name in a package.
-fn world_in(graph: &Graph, home: Option<PackageId>, name: &str) -> Option<WorldId>
-    ensures { result ≡ option_and_then (λ p. option_and_then (λ (there : Package). lookup (bytes_eq name.now) there.worlds) (slice_get graph.now.packages p)) home }
+/// The world of the name of one of the other graph, in the package that is matched.
+fn world_match(graph: &Graph, packages: &Items<Option<PackageId>>, world: &World) -> Option<WorldId>
+    ensures { result ≡ world_under graph.now packages.now world.now }
 {
-    let package = graph.packages.get(home?.index())?;
-    let world = package.worlds.get(name)?;
-    Some(*world)
+    let home = matched_package(packages, world.package)?;
+    graph.world_in(home, world.name.as_str())
 }
 
 /// Of each interface of the other graph that has a name, that of its name in the package that is matched; None of
@@ -98,21 +94,7 @@ fn interface_match(
 ) -> Option<InterfaceId>
     ensures { result ≡ interface_under graph.now packages.now interface.now }
 {
-    match &interface.name {
-        Some(name) => interface_in(
-            graph,
-            matched_package(packages, interface.package),
-            name.as_str(),
-        ),
-        None => None,
-    }
-}
-
-/// The interface of a name in a package.
-fn interface_in(graph: &Graph, home: Option<PackageId>, name: &str) -> Option<InterfaceId>
-    ensures { result ≡ option_and_then (λ p. option_and_then (λ (there : Package). lookup (bytes_eq name.now) there.interfaces) (slice_get graph.now.packages p)) home }
-{
-    let package = graph.packages.get(home?.index())?;
-    let interface = package.interfaces.get(name)?;
-    Some(*interface)
+    let name = interface.name.as_ref()?;
+    let home = matched_package(packages, interface.package)?;
+    graph.interface_in(home, name.as_str())
 }

@@ -6,12 +6,12 @@ ghost use Rattle.wit_elaboration.specs.Valid.{IsValid};
 ghost use Rattle.wit_data.specs.Ownership.{world_types};
 ghost use Rattle.wit_data.specs.declared.world.World.{World};
 ghost use Rattle.wit_link_spec.specs.Lookup.{interface_type};
-ghost use Rattle.wit_merge_match.specs.steps.Matched.{type_item, type_under};
+ghost use Rattle.wit_merge_match.specs.steps.Matched.{type_under};
 
 use crate::tables::match_at;
 use std::alloc::{AllocError, Global};
 use wit_data::{
-    InterfaceId, Items, Text, TryClone, TypeDef, TypeId, TypeOwner, WorldId, WorldItem, WorldKey,
+    InterfaceId, Items, Text, TryClone, TypeDef, TypeId, TypeOwner, WorldId, WorldKey, item_type,
 };
 use wit_graph_data::Graph;
 
@@ -83,17 +83,7 @@ fn type_of_world(
     };
     let key = WorldKey::Name(name.try_clone()?);
     match world.imports.get(&key) {
-        Some(item) => Ok(type_id(item)),
+        Some(item) => Ok(item_type(item)),
         None => Ok(None),
-    }
-}
-
-/// The type that an item is.
-fn type_id(item: &WorldItem) -> Option<TypeId>
-    ensures { result ≡ type_item item.now }
-{
-    match item {
-        WorldItem::Type_ { id, .. } => Some(*id),
-        WorldItem::Interface { .. } | WorldItem::Function(_) => None,
     }
 }

@@ -1,5 +1,5 @@
 -- What contracts see of a `Resolve`.
-use Rattle.std.specs.Prelude.{[], false, ◌≡◌, ℕ, List, Option, option_and_then, slice_get, bytes_eq}
+use Rattle.std.specs.Prelude.{[], false, ◌≡◌}
 use Rattle.wit_graph_data.specs.declared.features.Features.{Features}
 use Rattle.wit_graph_data.specs.declared.graph.Graph.{Graph}
 use Rattle.wit_names.specs.declared.track.TrackRule.{TrackRule}
@@ -10,10 +10,6 @@ use Rattle.wit_elaboration.specs.Valid.{IsValid}
 use Rattle.wit_link.specs.Appending.{KnowsLeads}
 use Rattle.wit_queries.specs.ValidBits.{AreValidBitsOf}
 use Rattle.wit_resolve_graph.specs.declared.kept.Kept.{Kept}
-use Rattle.std.specs.Map.{lookup}
-use Rattle.wit_names.specs.PackageName.{same_package}
-use Rattle.wit_names.specs.declared.package_name.PackageName.{PackageName}
-use Rattle.wit_graph_data.specs.declared.graph.Package.{Package}
 
 pub record State : Type 0 where
   pub graph : Graph
@@ -39,17 +35,3 @@ pub record AreKept (graph : Graph) (kept : Kept) : Type 0 where
   pub uses : kept.elaborator ≡ graph_uses graph
   pub met : KnowsLeads graph.types kept.met
   pub bits : AreValidBitsOf graph.types kept.valid_bits
-
--- What a graph has under a name.
-
--- the package of this name
-abbrev pub package_named : Graph → PackageName → Option ℕ
-package_named g name = lookup (same_package name) g.package_names
-
--- the world of this name in the package at a place
-abbrev pub world_in : Graph → List ℕ → ℕ → Option ℕ
-world_in g world id = option_and_then (λ (p : Package). lookup (bytes_eq world) p.worlds) (slice_get g.packages id)
-
--- the world of this name in the package of that name
-abbrev pub world_named : Graph → PackageName → List ℕ → Option ℕ
-world_named g owner world = option_and_then (world_in g world) (package_named g owner)

@@ -18,7 +18,8 @@ use Rattle.wit_graph_data.specs.declared.error_kind.ResolveErrorKind.TheVariants
 use Rattle.wit_link.specs.Appending.{ArePushed, IsGroupsCause, files_end, packages_of}
 use Rattle.wit_link_order.specs.GroupOrder.{AreSorted, IsSortCause, Unresolved}
 use Rattle.wit_resolve_graph.specs.Merging.{HasSourcesAfter, Merges, RefusesMerge}
-use Rattle.wit_resolve_graph.specs.State.{world_named, State}
+use Rattle.wit_graph_data.specs.Named.{world_named}
+use Rattle.wit_resolve_graph.specs.State.{State}
 use Rattle.wit_semver_spec.specs.Rewritten.{rewritten, IsTrackCause}
 use Rattle.wit_transform.specs.Transformed.{IsExportizeCause, IsImportizeCause, imports_at, exportized, importized, transformed}
 use Rattle.wit_resolve_graph.specs.declared.command.Command.{Command}

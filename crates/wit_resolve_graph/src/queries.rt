@@ -5,7 +5,7 @@ ghost use Rattle.std.specs.Option.{option_map};
 ghost use Rattle.wit_data.specs.Uses.{type_interface_dep};
 ghost use Rattle.wit_graph_data.specs.Queries.{HasAllBitsValid, canonical_id_text, canonical_interface_id_at, canonical_key_text, external_id_value, futures_and_streams, implements_interface, interface_direct_deps, topological_packages, version_suffix_of, package_direct_deps};
 ghost use Rattle.wit_graph_data.specs.declared.error_kind.ResolveErrorKind.TheVariants.{OutOfMemory};
-ghost use Rattle.wit_resolve_graph.specs.State.{world_named};
+ghost use Rattle.wit_graph_data.specs.Named.{world_named};
 
 use crate::resolve::Resolve;
 use std::alloc::Global;
@@ -34,10 +34,8 @@ impl Resolve {
         ensures within { IfSome result (λ w. w < length self.now.graph.worlds) }
     {
         let graph = self.graph();
-        let id = graph.package_names.get(owner)?;
-        let package = graph.packages.get(id.index())?;
-        let world = package.worlds.get(name)?;
-        Some(*world)
+        let package = graph.package_names.get(owner)?;
+        graph.world_in(*package, name)
     }
 }
 

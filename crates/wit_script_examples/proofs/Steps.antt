@@ -9,7 +9,8 @@ use Rattle.wit_names.specs.declared.track.TrackRule.TheVariants.{Published, With
 use Rattle.wit_graph_data.specs.declared.cause.Cause.TheVariants.{UpgradeMismatch}
 use Rattle.wit_graph_data.specs.declared.error_kind.ResolveErrorKind.TheVariants.{Semantic}
 use Rattle.wit_graph_data.specs.declared.graph.Graph.{Graph}
-use Rattle.wit_resolve_graph.specs.State.{world_named, State, new_state}
+use Rattle.wit_graph_data.specs.Named.{world_named}
+use Rattle.wit_resolve_graph.specs.State.{State, new_state}
 use Rattle.wit_resolve_graph.specs.Step.{Run}
 use Rattle.wit_resolve_graph.specs.declared.command.Reply.{Reply}
 use Rattle.wit_resolve_graph.specs.declared.command.Reply.TheVariants as reply

@@ -5,12 +5,13 @@ use Rattle.wit_data.specs.declared.world.World.{World}
 use Rattle.wit_data.specs.declared.world.WorldItem.{WorldItem}
 use Rattle.wit_data.specs.declared.world.WorldKey.TheVariants as key
 use Rattle.std.specs.Option.{option_and_then}
-use Rattle.wit_script_package.specs.Naming.{same_key, type_item, world_type_at}
+use Rattle.wit_data.specs.Entries.{item_type}
+use Rattle.wit_script_package.specs.Naming.{same_key, world_type_at}
 use Rattle.wit_script_package.specs.declared.draft.Draft.{Draft}
 
 -- a type of a world, found under its name
 pub world-type-is : (p : Draft) (name : List ℕ) (at : ℕ) (world : World) (found : WorldItem) → slice_get p.worlds at ≡ Some world
-    → lookup (same_key (key.Name name)) world.imports ≡ Some found → world_type_at p name at ≡ type_item found
+    → lookup (same_key (key.Name name)) world.imports ≡ Some found → world_type_at p name at ≡ item_type found
 world-type-is p name at world found there under =
-    ap (option_and_then (λ (w : World). option_and_then type_item (lookup (same_key (key.Name name)) w.imports))) there
-    ∙ ap (option_and_then type_item) under
+    ap (option_and_then (λ (w : World). option_and_then item_type (lookup (same_key (key.Name name)) w.imports))) there
+    ∙ ap (option_and_then item_type) under

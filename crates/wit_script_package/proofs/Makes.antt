@@ -9,7 +9,7 @@ use Rattle.wit_data.specs.Function.{resource_of}
 use Rattle.wit_data.specs.facts.EachFacts.{SomeAt-is, SomeAt-of}
 use Rattle.wit_data.specs.facts.KindFacts.{names_same}
 use Rattle.wit_data.specs.facts.WorldKeyFacts.{key_is, same_key}
-use Rattle.wit_data.specs.Entries.{IsImport}
+use Rattle.wit_data.specs.Entries.{IsImport, item_type}
 use Rattle.wit_data.specs.Ownership.{IsOwn, IsPlain, IsTypeOf, UsesOwn}
 use Rattle.wit_data.specs.Kind.{named_option, named_type, referred}
 use Rattle.wit_data.specs.Uses.{alias_target}
@@ -42,7 +42,7 @@ use Rattle.wit_script_lines.specs.declared.type_text.Written.{Written}
 use Rattle.wit_script_lines.specs.declared.type_text.Written.TheVariants as written
 use Rattle.wit_script_package.specs.Adding.{type_with, with_type}
 use Rattle.wit_script_package.specs.Making.{answer_made, around, each_made, field_made, forms_made, function_by, function_made, function_with, handle_argument, kind_made, param_made, type_made, type_of, with_resource, with_root, with_root_at, written_made}
-use Rattle.wit_script_package.specs.Naming.{OptionalSpan, earlier, earlier_in, open_interface, open_world, type_at, type_item, type_named, world_type_at}
+use Rattle.wit_script_package.specs.Naming.{OptionalSpan, earlier, earlier_in, open_interface, open_world, type_at, type_named, world_type_at}
 use Rattle.wit_script_package.specs.Role.{constructor_resource, freestanding_kind, function_kind_of, is_plain, member_of, method_role, or_group, static_role}
 use Rattle.wit_script_package.specs.declared.draft.Draft.{Draft}
 use Rattle.wit_script_package.specs.declared.draft.LineContext.{LineContext}
@@ -66,7 +66,7 @@ module _ (p : Draft) (sound : IsSound p) where
       let same : name ≡ place.1 = (bytes_eq-Decides name place.1).0 place.3 in
       subst (λ (n : List ℕ). IsTypeOf p.types (owner.Interface at) n id) (sym same) ((sound.good.interfaces at interface.0 interface.1).own_types place.0 (place.1, id) place.2)
 
-  item_is : (it : WorldItem) (id : ℕ) → type_item it ≡ Some id → (span : OptionalSpan) × (it ≡ item.Type_ id span)
+  item_is : (it : WorldItem) (id : ℕ) → item_type it ≡ Some id → (span : OptionalSpan) × (it ≡ item.Type_ id span)
   item_is (item.Interface i stability docs span external_id) id is = cc
   item_is (item.Function function) id is = cc
   item_is (item.Type_ i span) id is = (span, ap (λ (n : ℕ). item.Type_ n span) (some_is i id is))
@@ -74,8 +74,8 @@ module _ (p : Draft) (sound : IsSound p) where
   -- what a world lists
   world_type-is : (name : List ℕ) (at id : ℕ) → world_type_at p name at ≡ Some id → IsTypeOf p.types (owner.World at) name id
   world_type-is name at id found =
-      let world = step-of (λ (w : World). option_and_then type_item (lookup (same_key (key.Name name)) w.imports)) (slice_get p.worlds at) id found in
-      let held = step-of type_item (lookup (same_key (key.Name name)) world.0.imports) id world.2 in
+      let world = step-of (λ (w : World). option_and_then item_type (lookup (same_key (key.Name name)) w.imports)) (slice_get p.worlds at) id found in
+      let held = step-of item_type (lookup (same_key (key.Name name)) world.0.imports) id world.2 in
       let place = lookup-at (same_key (key.Name name)) world.0.imports held.0 held.1 in
       let same : key.Name name ≡ place.1 = (key_is (key.Name name) place.1).0 place.3 in
       let it = item_is held.0 id held.2 in

@@ -3,6 +3,7 @@ use Rattle.std.specs.Prelude.{ℕ, ◌-◌, ◌==◌, List, length, slice_get, O
 use Rattle.std.specs.Map.{lookup}
 use Rattle.std.specs.Option.{option_or}
 use Rattle.wit_names.specs.PackageName.{same_package}
+use Rattle.wit_data.specs.Entries.{item_type}
 use Rattle.wit_data.specs.declared.unresolved.AstItem.{AstItem}
 use Rattle.wit_data.specs.declared.interface.Interface.{Interface}
 use Rattle.wit_names.specs.declared.package_name.PackageName.{PackageName}
@@ -10,11 +11,9 @@ use Rattle.wit_names.specs.declared.use_path.ParsedUsePath.{ParsedUsePath}
 use Rattle.wit_data.specs.declared.stability.Stability.{Stability}
 use Rattle.wit_data.specs.declared.types.Type_.{Type_}
 use Rattle.wit_data.specs.declared.world.World.{World}
-use Rattle.wit_data.specs.declared.world.WorldItem.{WorldItem}
 use Rattle.wit_data.specs.declared.types.Type_.TheVariants as type
 use Rattle.wit_data.specs.declared.unresolved.AstItem.TheVariants as foreign
 use Rattle.wit_names.specs.declared.use_path.ParsedUsePath.TheVariants as path
-use Rattle.wit_data.specs.declared.world.WorldItem.TheVariants as item
 use Rattle.wit_data.specs.declared.world.WorldKey.TheVariants as key
 pub use Rattle.wit_data.specs.facts.WorldKeyFacts.{same_key}
 pub use Rattle.wit_sources.specs.Span.{OptionalSpan}
@@ -51,14 +50,9 @@ type_at p name at = option_and_then (λ (interface : Interface). lookup (bytes_e
 abbrev pub interface_type : Draft → List ℕ → Option ℕ
 interface_type p name = option_and_then (type_at p name) (open_interface p)
 
--- the type that an entry of a world is
-abbrev pub type_item : WorldItem → Option ℕ
-type_item (item.Type_ id span) = Some id
-type_item _ = None
-
 -- the type of this name among the imports of the world at a place
 abbrev pub world_type_at : Draft → List ℕ → ℕ → Option ℕ
-world_type_at p name at = option_and_then (λ (world : World). option_and_then type_item (lookup (same_key (key.Name name)) world.imports)) (slice_get p.worlds at)
+world_type_at p name at = option_and_then (λ (world : World). option_and_then item_type (lookup (same_key (key.Name name)) world.imports)) (slice_get p.worlds at)
 
 -- the earlier type of this name in the world into which lines go
 abbrev pub world_type : Draft → List ℕ → Option ℕ

@@ -1,25 +1,15 @@
 //! What the names in the lines of a package name.
 ghost use Rattle.std.specs.Prelude.{◌≡◌, ◌<◌, length, IfOk, IfSome};
-ghost use Rattle.wit_script_package.specs.Naming.{earlier, foreign_named, interface_named, interface_of, interface_type, open_interface, open_world, type_at, type_item, type_named, used_type, world_named, world_of, world_type, world_type_at};
+ghost use Rattle.wit_script_package.specs.Naming.{earlier, foreign_named, interface_named, interface_of, interface_type, open_interface, open_world, type_at, type_named, used_type, world_named, world_of, world_type, world_type_at};
 ghost use Rattle.wit_script_lines.specs.steps.ReadResult.{IsRead};
 
 use crate::draft::{Draft, Scope};
 use std::alloc::{AllocError, Global};
 use wit_data::{
-    AstItem, InterfaceId, PackageName, ParsedUsePath, Text, Type_, TypeId, WorldId, WorldItem,
-    WorldKey,
+    AstItem, InterfaceId, PackageName, ParsedUsePath, Text, Type_, TypeId, WorldId, WorldKey,
+    item_type,
 };
 use wit_script_lines::{LineFault, primitive};
-
-/// The type that an entry of a world is.
-fn type_item(item: &WorldItem) -> Option<TypeId>
-    ensures { result ≡ type_item item.now }
-{
-    match item {
-        WorldItem::Type_ { id, .. } => Some(*id),
-        WorldItem::Interface { .. } | WorldItem::Function(_) => None,
-    }
-}
 
 /// The interface that something foreign is.
 fn interface_of(item: AstItem) -> Option<InterfaceId>
@@ -95,7 +85,7 @@ impl Draft {
         };
         let label = WorldKey::Name(Text::try_from_str(alloc, name)?);
         match world.imports.get(&label) {
-            Some(item) => Ok(type_item(item)),
+            Some(item) => Ok(item_type(item)),
             None => Ok(None),
         }
     }

@@ -65,7 +65,7 @@ fn is_interface_kebab(interface: &Interface) -> bool
 }
 
 /// Whether the names of worlds are kebab names.
-fn are_worlds_kebab(worlds: &[World]) -> bool
+pub fn are_worlds_kebab(worlds: &[World]) -> bool
     ensures { IsTrue result ↔ Each (λ (world : World). IsKebabName world.name) worlds.now }
 {
     worlds

@@ -10,7 +10,8 @@ use crate::owners::is_type_of;
 use crate::references::is_named;
 use std::alloc::{AllocError, Global};
 use wit_data::{
-    Interface, TypeDef, TypeOwner, UnresolvedPackage, World, WorldId, WorldItem, WorldKey,
+    Interface, InterfaceId, TypeDef, TypeOwner, UnresolvedPackage, World, WorldId, WorldItem,
+    WorldKey, is_unnamed,
 };
 use wit_values::{Items, Table};
 
@@ -116,7 +117,7 @@ fn has_exports(interfaces: &[Interface], world: &World) -> bool
 }
 
 /// Whether each world includes earlier worlds.
-fn all_include_earlier(worlds: &[World]) -> bool
+pub fn all_include_earlier(worlds: &[World]) -> bool
     ensures { IsTrue result ↔ EachAt IncludesEarlier worlds.now }
 {
     worlds
@@ -159,20 +160,11 @@ fn unnamed_among(
 {
     let mut unnamed = Items::new(alloc);
     for id in ids {
-        if is_unnamed(interfaces, *id) {
+        if is_unnamed(interfaces, InterfaceId::from_index(*id)) {
             unnamed.push(*id)?;
         }
     }
     Ok(unnamed)
-}
-
-fn is_unnamed(interfaces: &[Interface], id: usize) -> bool
-    ensures { result ≡ is_unnamed interfaces.now id }
-{
-    match interfaces.get(id) {
-        Some(interface) => interface.name.is_none(),
-        None => false,
-    }
 }
 
 /// The interfaces in all places of all worlds.

@@ -5,7 +5,8 @@ use Rattle.std.specs.declared.alloc.Global.{Global}
 use Rattle.std.proofs.lemmas.List.{append-nil}
 use Rattle.wit_names.specs.declared.package_name.PackageName.{PackageName}
 use Rattle.wit_graph_data.specs.declared.error_kind.ResolveErrorKind.{ResolveErrorKind}
-use Rattle.wit_resolve_graph.specs.State.{State, package_named}
+use Rattle.wit_graph_data.specs.Named.{package_named}
+use Rattle.wit_resolve_graph.specs.State.{State}
 use Rattle.wit_script_lines.specs.declared.request.Request.{Request}
 use Rattle.wit_script.specs.Answer.{IsChoice, action_of}
 use Rattle.wit_script.specs.declared.answer.Action.{Action}

@@ -6,7 +6,8 @@ use Rattle.wit_names.specs.declared.package_name.PackageName.{PackageName}
 use Rattle.wit_graph_data.specs.Error.{error_number}
 use Rattle.wit_graph_data.specs.ErrorText.{rendered_text}
 use Rattle.wit_graph_data.specs.declared.error_kind.ResolveErrorKind.{ResolveErrorKind}
-use Rattle.wit_resolve_graph.specs.State.{State, new_state, package_named}
+use Rattle.wit_graph_data.specs.Named.{package_named}
+use Rattle.wit_resolve_graph.specs.State.{State, new_state}
 use Rattle.wit_resolve_graph.specs.Step.{Run}
 use Rattle.wit_resolve_graph.specs.declared.command.Command.{Command}
 use Rattle.wit_resolve_graph.specs.declared.command.Command.TheVariants.{PushGroups, Merge}

@@ -1,7 +1,6 @@
 -- What the steps of a look-up have found, for the contracts of this crate's own functions.
-use Rattle.std.specs.Prelude.{◌≡◌, ◌≢◌, ◌⊎◌, ◌&&◌, ◌<◌, ℕ, Bool, true, false, List, [], ◌∷◌, map, take, find, length, nat_eq, slice_get, slice_set, Option, None, Some, Contains, is_none, option_and_then, flat_map, bytes_eq}
+use Rattle.std.specs.Prelude.{◌≡◌, ◌≢◌, ◌⊎◌, ◌&&◌, ◌<◌, ℕ, Bool, true, false, List, [], ◌∷◌, map, take, find, length, nat_eq, slice_get, slice_set, Option, None, Some, Contains, is_none, option_and_then, flat_map}
 use Rattle.std.specs.List.{enumerate_from, list_any, range_with_len}
-use Rattle.std.specs.Map.{lookup}
 use Rattle.wit_data.specs.Each.{SomeAt}
 use Rattle.wit_data.specs.Foreign.{ForeignItem, ForeignItems, interface_id, world_id}
 use Rattle.wit_data.specs.declared.unresolved.AstItem.{AstItem}
@@ -11,8 +10,8 @@ use Rattle.wit_data.specs.declared.stability.Stability.{Stability}
 use Rattle.wit_data.specs.declared.unresolved.UnresolvedPackage.{UnresolvedPackage}
 use Rattle.wit_data.specs.declared.world.World.{World}
 use Rattle.wit_data.specs.declared.unresolved.AstItem.TheVariants as item
+use Rattle.wit_graph_data.specs.Named as named
 use Rattle.wit_graph_data.specs.declared.graph.Graph.{Graph}
-use Rattle.wit_graph_data.specs.declared.graph.Package.{Package}
 use Rattle.wit_graph_data.specs.declared.error_kind.ResolveErrorKind.{ResolveErrorKind}
 use Rattle.wit_graph_data.specs.declared.error_kind.ResolveErrorKind.TheVariants.{InterfaceNotFound, WorldNotFound}
 use Rattle.wit_link_spec.specs.Addition.{Addition}
@@ -36,11 +35,11 @@ named_before deps n = flat_map named_of (take n (enumerate_from 0 deps))
 
 -- the interface of a name in a package, if there is one
 abbrev pub interface_in : Graph → Option ℕ → List ℕ → Option ℕ
-interface_in g home name = option_and_then (λ p. option_and_then (λ (there : Package). lookup (bytes_eq name) there.interfaces) (slice_get g.packages p)) home
+interface_in g home name = option_and_then (named.interface_in g name) home
 
 -- so for a world
 abbrev pub world_in : Graph → Option ℕ → List ℕ → Option ℕ
-world_in g home name = option_and_then (λ p. option_and_then (λ (there : Package). lookup (bytes_eq name) there.worlds) (slice_get g.packages p)) home
+world_in g home name = option_and_then (named.world_in g name) home
 
 -- so for an item, as it is an interface or a world
 abbrev pub item_in : Graph → Option ℕ → List ℕ → AstItem → Option ℕ

@@ -8,10 +8,8 @@ use Rattle.wit_data.specs.declared.interface.Interface.{Interface}
 use Rattle.wit_data.specs.declared.types.TypeDef.{TypeDef}
 use Rattle.wit_data.specs.declared.types.TypeOwner.{TypeOwner}
 use Rattle.wit_data.specs.declared.world.World.{World}
-use Rattle.wit_data.specs.declared.world.WorldItem.{WorldItem}
 use Rattle.wit_data.specs.declared.world.WorldKey.{WorldKey}
 use Rattle.wit_data.specs.declared.types.TypeOwner.TheVariants as owner
-use Rattle.wit_data.specs.declared.world.WorldItem.TheVariants as item
 use Rattle.wit_elaboration.specs.Entries.{same_key}
 use Rattle.wit_graph_data.specs.declared.graph.Graph.{Graph}
 use Rattle.wit_graph_data.specs.declared.graph.Package.{Package}
@@ -66,11 +64,6 @@ KnowsWorlds s = AreFound (counterpart_world (merge_of_graphs s.graph.now s.other
 pub record AreLabelled (g other : Graph) (named : List (Option ℕ)) (spots : List (ℕ × WorldLabel)) (found : List (Option ℕ)) : Type 0 where
   pub long : length found ≡ length other.interfaces
   pub each : (i : ℕ) → get_or found i None ≡ (if is_unnamed other.interfaces i then option_and_then (counterpart_at_label (merge_of_graphs g other)) (lookup (nat_eq i) spots) else get_or named i None)
-
--- the type that an item is
-abbrev pub type_item : WorldItem → Option ℕ
-type_item (item.Type_ t span) = Some t
-type_item _ = None
 
 -- the type of the name of another in what is matched with its owner
 abbrev pub owned_under : Graph → List (Option ℕ) → List (Option ℕ) → List ℕ → TypeOwner → Option ℕ

@@ -11,7 +11,7 @@ use Rattle.wit_elaboration.specs.Valid.{IsValid}
 use Rattle.wit_graph_data.specs.declared.graph.Graph.{Graph}
 use Rattle.wit_graph_data.specs.declared.graph.Package.{Package}
 use Rattle.wit_graph_theory.specs.facts.ListFacts.{found_at, place_of}
-use Rattle.wit_resolve_graph.specs.State.{package_named, world_in, world_named}
+use Rattle.wit_graph_data.specs.Named.{package_named, world_in, world_named}
 
 -- a world of a valid graph that is named is there
 pub world_within : (g : Graph) → IsValid g → (name : PackageName) (world : List ℕ) (w : ℕ) → world_named g name world ≡ Some w → w < length g.worlds

@@ -4,7 +4,8 @@ use Rattle.wit_names.specs.declared.package_name.PackageName.{PackageName}
 use Rattle.wit_data.specs.declared.world.World.{World}
 use Rattle.wit_elaboration.specs.Entries.{keyed_interfaces}
 use Rattle.wit_graph_data.specs.declared.graph.Graph.{Graph}
-use Rattle.wit_resolve_graph.specs.State.{world_named, State}
+use Rattle.wit_graph_data.specs.Named.{world_named}
+use Rattle.wit_resolve_graph.specs.State.{State}
 use Rattle.wit_resolve_graph.specs.Step.{Step}
 use Rattle.wit_resolve_graph.specs.declared.command.Command.TheVariants.{Semver}
 use Rattle.wit_resolve_graph.specs.declared.command.Reply.TheVariants.{Done}

@@ -31,7 +31,7 @@ returns c =
       | else-active-via-then-active+else-t-len w ↦ let below = ltb-true c.args.t (length c.args.adding.now.unresolved.now.unknown_type_spans) foreign in omega (arith, w.if-t-len.false, w.len.ensures)
       | else-active-via-else-active w ↦ false≢true (sym w.if-active.false ∙ (flag ∙ active))
     ] in
-    let step = own_type_step a c.args.t c.at-active.result.now c.args.next.now c.next_new_id.new.next c.in_ok-next_new_id.field-0 flag own c.requires.next c.in_ok-next_new_id.ensures.place c.in_ok-next_new_id.ensures.next in
+    let step = own_type_step a c.args.t c.at-active.result.now c.args.next.now c.assign_id.new.next c.in_ok-assign_id.field-0 flag own c.requires.next c.in_ok-assign_id.ensures.place c.in_ok-assign_id.ensures.next in
     record {
       place = step.0;
       next = step.1;

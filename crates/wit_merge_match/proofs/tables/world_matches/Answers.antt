@@ -5,4 +5,4 @@ use Rattle.wit_merge_match.proofs.tables.world_matches.Goals as goal
 
 pub loop-index-preserved : goal.loop-index-preserved
 loop-index-preserved c =
-    rw (c.in_ok-push.ensures.ok, c.loop-index.invariant, c.world_in.ensures, c.as_str.ensures, c.matched_package-home.ensures) (sym (map-next (world_under c.args.graph.now c.args.packages.now) _ _ _ c.at-world.ensures))
+    rw (c.in_ok-push.ensures.ok, c.loop-index.invariant, c.world_match.ensures) (sym (map-next (world_under c.args.graph.now c.args.packages.now) _ _ _ c.at.ensures))

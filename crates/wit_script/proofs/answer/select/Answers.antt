@@ -1,5 +1,5 @@
 use Rattle.std.proofs.Common.{◌≡◌, Some, rules}
-use Rattle.wit_resolve_graph.specs.State.{package_named}
+use Rattle.wit_graph_data.specs.Named.{package_named}
 use Rattle.wit_script.proofs.Told.{selected_some}
 use Rattle.wit_script.proofs.answer.select.Goals as goal
 

@@ -9,4 +9,4 @@ pub returns-in-Some-get : goal.returns-in-Some-get
 returns-in-Some-get c =
     let there : slice_get c.args.self.now.worlds c.args.at ≡ Some c.in-Some.world.now = search rules in
     let under : lookup (eq-value.it (key.Name c.args.name.now)) c.in-Some.world.now.imports ≡ Some c.in-Some-get.item.now = rw (sym c.in_ok-try_from_str.ensures) (search rules) in
-    c.type_item.ensures ∙ sym (world-type-is c.args.self.now c.args.name.now c.args.at c.in-Some.world.now c.in-Some-get.item.now there under)
+    c.item_type.ensures ∙ sym (world-type-is c.args.self.now c.args.name.now c.args.at c.in-Some.world.now c.in-Some-get.item.now there under)
