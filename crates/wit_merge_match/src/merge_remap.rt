@@ -48,8 +48,9 @@ fn places<S>(
 {
     let mut places = Items::new(alloc);
     let mut next = first;
-    for index in 0..found.len() {
-        places.push(Some(next_new_id(found.at(index).try_clone()?, &mut next)?))?;
+    for there in found.as_slice() {
+        let there = there.try_clone()?;
+        places.push(Some(next_new_id(there, &mut next)?))?;
     }
     Ok(places)
 }
@@ -64,8 +65,9 @@ fn package_places(
 {
     let mut places = Items::new(alloc);
     let mut next = first;
-    for index in 0..found.len() {
-        places.push(next_new_id(found.at(index).try_clone()?, &mut next)?)?;
+    for there in found.as_slice() {
+        let there = there.try_clone()?;
+        places.push(next_new_id(there, &mut next)?)?;
     }
     Ok(places)
 }

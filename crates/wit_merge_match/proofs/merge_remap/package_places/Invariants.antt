@@ -5,8 +5,8 @@ use Rattle.wit_merge_match.specs.steps.Matched.{moves, place_from}
 use Rattle.wit_merge_match.proofs.merge_remap.package_places.Given as goal
 
 -- the places of the first ones, and the next id
-abbrev pub invariant-loop-index : goal.invariant-loop-index
-invariant-loop-index l = record {
-  places : l.places ≡ map (place_from l.found l.first) (range_with_len 0 l.index);
-  next : l.next ≡ l.first + rank (moves l.found) l.index;
+abbrev pub invariant-loop-there : goal.invariant-loop-there
+invariant-loop-there l = record {
+  places : l.places ≡ map (place_from l.found l.first) (range_with_len 0 l.there-index);
+  next : l.next ≡ l.first + rank (moves l.found) l.there-index;
 }
