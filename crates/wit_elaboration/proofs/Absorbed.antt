@@ -15,7 +15,7 @@ use Rattle.wit_elaboration.specs.Entries.{Entry, Role, Instance, TypeUse, TypeDe
 use Rattle.wit_elaboration.specs.Elaborated.{InheritedData, dependency_of, dependencies_before, entry_post_order}
 use Rattle.wit_elaboration.specs.laws.ElaborationLaws.{stands_on, DependenciesFirst}
 use Rattle.wit_elaboration.specs.Sound.{IsRoleInRange}
-use Rattle.wit_elaboration.proofs.FreshEntries.{AllNew, interfaces_of_keys, ids-push, id_known, Contains-deps, fresh_entries-all_known, fresh_entries-new}
+use Rattle.wit_elaboration.specs.facts.FreshEntries.{AllNew, interfaces_of_keys, ids-push, id_known, Contains-deps, fresh_entries-all_known, fresh_entries-new}
 use Rattle.wit_elaboration.proofs.Order.{AreOwn}
 
 module _ (types : List TypeDef) where

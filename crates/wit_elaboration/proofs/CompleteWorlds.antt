@@ -21,9 +21,9 @@ use Rattle.wit_elaboration.specs.Entries.{Entry, Instance, by_class, fresh_entri
 use Rattle.wit_elaboration.specs.Imported.{HasTransitiveConflict, exported_interfaces, is_exported}
 use Rattle.wit_elaboration.specs.Sound.{AreSound, IsRoleInRange, IsUnderOwnKey}
 use Rattle.wit_elaboration.proofs.Absorbed.{absorbed}
-use Rattle.wit_elaboration.proofs.Filters.{filter-all, filter-none}
+use Rattle.wit_elaboration.specs.facts.Filters.{filter-all, filter-none}
 use Rattle.wit_elaboration.proofs.FirstClasses.{AllNew-from_distinct}
-use Rattle.wit_elaboration.proofs.FreshEntries.{AllNew, id_known, ids-push, interfaces_of_keys}
+use Rattle.wit_elaboration.specs.facts.FreshEntries.{AllNew, id_known, ids-push, interfaces_of_keys}
 use Rattle.wit_elaboration.proofs.Roles.{InOrder, in_order, role_from_instance}
 
 -- the import of an entry leaves it as it is

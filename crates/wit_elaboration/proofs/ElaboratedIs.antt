@@ -21,9 +21,9 @@ use Rattle.wit_elaboration.specs.Entries.{Entry, Instance, role_of, item_interfa
 use Rattle.wit_elaboration.specs.Imported.{HasTransitiveConflict, exported_keys, exported_interfaces, is_exported}
 use Rattle.wit_elaboration.specs.Sound.{IsRoleInRange}
 use Rattle.wit_elaboration.proofs.ExportedUses.{key_here}
-use Rattle.wit_elaboration.proofs.Filters.{Contains-filter, not_true}
+use Rattle.wit_elaboration.specs.facts.Filters.{Contains-filter, not_true}
 use Rattle.wit_elaboration.proofs.FirstClasses.{AllNew-from_distinct}
-use Rattle.wit_elaboration.proofs.FreshEntries.{AllNew-filter, AllNew-one, Contains-keys, Contains-deps, contains_from_known, known_from_contains, fresh_entries-known, fresh_entries-new, fresh_entries-all_new, fresh_entries-next}
+use Rattle.wit_elaboration.specs.facts.FreshEntries.{AllNew-filter, AllNew-one, Contains-keys, Contains-deps, contains_from_known, known_from_contains, fresh_entries-known, fresh_entries-new, fresh_entries-all_new, fresh_entries-next}
 use Rattle.wit_elaboration.proofs.OneWalk.{imports_of_walk, exports_of_walk}
 use Rattle.wit_elaboration.proofs.Roles.{InOrder, instance_from_role, is_instance_from_role}
 

@@ -12,11 +12,11 @@ use Rattle.wit_elaboration.specs.Entries.{Entry, is_interface, fresh_entries}
 use Rattle.wit_elaboration.specs.Elaborated.{entry_post_order, inherited_by_export, elaborated_imports, elaborated_exports}
 use Rattle.wit_elaboration.specs.laws.KeptByElaboration.{ElaboratedOnce, ExportKeysStay}
 use Rattle.wit_values.specs.Table.{HasDistinctKeys}
-use Rattle.wit_elaboration.proofs.Classes.{by_class-new}
+use Rattle.wit_elaboration.specs.facts.Classes.{by_class-new}
 use Rattle.wit_elaboration.proofs.ExportedUses.{exported_entry}
 use Rattle.wit_elaboration.proofs.ExportsAgain.{inner, walked, functions, kept, made, functions_other}
-use Rattle.wit_elaboration.proofs.Filters.{Contains-filter, Contains-filtered}
-use Rattle.wit_elaboration.proofs.FreshEntries.{AllNew, AllNew-apart, AllNew-append, AllNew-over, AllNew-filter, AllNew-one, Contains-keys, absent_from, keys_of-append, fresh_entries_all, fresh_entries-AllNew}
+use Rattle.wit_elaboration.specs.facts.Filters.{Contains-filter, Contains-filtered}
+use Rattle.wit_elaboration.specs.facts.FreshEntries.{AllNew, AllNew-apart, AllNew-append, AllNew-over, AllNew-filter, AllNew-one, Contains-keys, absent_from, keys_of-append, fresh_entries_all, fresh_entries-AllNew}
 use Rattle.wit_elaboration.proofs.ImportsAgain.{keys-Contains, from_imports, from_exports}
 use Rattle.wit_elaboration.proofs.Marking.{contains_at}
 use Rattle.wit_elaboration.proofs.Roles.{InOrder, in_order, is_instance_from_role}

@@ -17,9 +17,9 @@ use Rattle.wit_elaboration.specs.Elaborated.{dependency_of, dependencies_before,
 use Rattle.wit_elaboration.specs.Imported.{exported_interfaces, is_exported}
 use Rattle.wit_elaboration.specs.laws.Imports.{Needed, roots_of, IsImported}
 use Rattle.wit_elaboration.specs.Sound.{IsRoleInRange}
-use Rattle.wit_elaboration.proofs.Classes.{by_class_in, in_by_class}
+use Rattle.wit_elaboration.specs.facts.Classes.{by_class_in, in_by_class}
 use Rattle.wit_elaboration.proofs.ExportedUses.{key_here, exported_entry, id_inj}
-use Rattle.wit_elaboration.proofs.FreshEntries.{Contains-keys, Contains-deps, deps-Contains, fresh_entries_in, fresh_entries_all}
+use Rattle.wit_elaboration.specs.facts.FreshEntries.{Contains-keys, Contains-deps, deps-Contains, fresh_entries_in, fresh_entries_all}
 use Rattle.wit_elaboration.proofs.ImportsAgain.{from_imports, from_exports, all_imports, export_import}
 use Rattle.wit_elaboration.proofs.Roles.{InOrder, instance_from_role, role_from_instance}
 

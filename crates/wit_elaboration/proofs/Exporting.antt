@@ -13,8 +13,8 @@ use Rattle.wit_digraph.specs.PostOrder.{Listed, fresh}
 use Rattle.wit_elaboration.specs.Elaborated.{InheritedData, dependencies_before, dependency_of, inherited_by_export}
 use Rattle.wit_elaboration.specs.steps.Elaborating.{IsPostOrder, IsExporting, walked_exports, walked_imports}
 use Rattle.wit_elaboration.specs.Entries.{Entry, Instance, item_interface, is_instance, fresh_entries}
-use Rattle.wit_elaboration.proofs.Filters.{Contains-filtered}
-use Rattle.wit_elaboration.proofs.FreshEntries.{fresh_entries-next, fresh_entries-filter, dependency_added, key_stays}
+use Rattle.wit_elaboration.specs.facts.Filters.{Contains-filtered}
+use Rattle.wit_elaboration.specs.facts.FreshEntries.{fresh_entries-next, fresh_entries-filter, dependency_added, key_stays}
 
 -- those of a walk that pass a test, as entries
 pub filtered_entries : (p : ℕ → Bool) (s : InheritedData) (walked before after slice : List ℕ) (old added : List Entry) → after ≡ before ++ fresh before walked → slice ≡ drop (length before) after →

@@ -12,10 +12,10 @@ use Rattle.wit_elaboration.specs.Entries.{Entry, role_of, item_interface, is_ins
 use Rattle.wit_elaboration.specs.Elaborated.{InheritedData, dependency_of, dependencies_before, inherited_by_import, inherited_by_export, without_span, import_with_needs, export_imports, export_with_needs, import_steps, exported_uses, elaborated_imports, elaborated_exports}
 use Rattle.wit_elaboration.specs.Imported.{HasTransitiveConflict, is_exported}
 use Rattle.wit_elaboration.specs.laws.KeptByElaboration.{ElaborationIsLocal, SameRoles, SameInheritedData}
-use Rattle.wit_elaboration.proofs.Classes.{by_class_in}
+use Rattle.wit_elaboration.specs.facts.Classes.{by_class_in}
 use Rattle.wit_elaboration.proofs.Exact.{instance_below}
-use Rattle.wit_elaboration.proofs.Filters.{Contains-filter, filter-same}
-use Rattle.wit_elaboration.proofs.FreshEntries.{Contains-deps, fresh_entries_in}
+use Rattle.wit_elaboration.specs.facts.Filters.{Contains-filter, filter-same}
+use Rattle.wit_elaboration.specs.facts.FreshEntries.{Contains-deps, fresh_entries_in}
 use Rattle.wit_elaboration.proofs.GrowingUses.{direct-left, used_below, IsPath-left, dependencies_before-left, import_steps-left, exported_needs-left}
 use Rattle.wit_elaboration.proofs.Roles.{InOrder, in_order, role_of-without_span}
 

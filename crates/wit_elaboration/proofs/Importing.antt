@@ -12,7 +12,7 @@ use Rattle.wit_digraph.specs.PostOrder.{Listed, fresh, post_order}
 use Rattle.wit_elaboration.specs.Elaborated.{InheritedData, dependency_of, inherited_by_import, dependencies_before, without_span, import_with_needs}
 use Rattle.wit_elaboration.specs.steps.Elaborating.{IsPostOrder, IsImporting}
 use Rattle.wit_elaboration.specs.Entries.{Entry, role_of, fresh_entries}
-use Rattle.wit_elaboration.proofs.FreshEntries.{fresh_entries-next, fresh_entries-fresh, dependency_added, key_stays}
+use Rattle.wit_elaboration.specs.facts.FreshEntries.{fresh_entries-next, fresh_entries-fresh, dependency_added, key_stays}
 
 -- what is listed after what was listed
 pub fresh-next : (old now new xs ys : List ℕ) → now ≡ old ++ fresh old xs → new ≡ now ++ fresh now ys → new ≡ old ++ fresh old (xs ++ ys)

@@ -13,10 +13,10 @@ use Rattle.wit_elaboration.specs.Entries.{Entry, role_of, same_key, elaboration_
 use Rattle.wit_elaboration.specs.Elaborated.{dependency_of, dependencies_before, inherited_by_import, import_with_needs, export_imports, elaborated_imports}
 use Rattle.wit_elaboration.specs.Imported.{is_exported}
 use Rattle.wit_elaboration.specs.laws.KeptByElaboration.{LabelsStay, is_label, labelled, listed_without_span}
-use Rattle.wit_elaboration.proofs.Classes.{by_class-new, by_class-by_class}
+use Rattle.wit_elaboration.specs.facts.Classes.{by_class-new, by_class-by_class}
 use Rattle.wit_elaboration.proofs.ElaboratedKeys.{distinct-AllNew}
-use Rattle.wit_elaboration.proofs.Filters.{filter-pass, filter-fail, filter-none, filter-flat_map}
-use Rattle.wit_elaboration.proofs.FreshEntries.{AllNew, AllNew-filter, Contains-deps, known_from_contains, contains_from_known, fresh_entries-known, fresh_entries-new, fresh_entries-all_new}
+use Rattle.wit_elaboration.specs.facts.Filters.{filter-pass, filter-fail, filter-none, filter-flat_map}
+use Rattle.wit_elaboration.specs.facts.FreshEntries.{AllNew, AllNew-filter, Contains-deps, known_from_contains, contains_from_known, fresh_entries-known, fresh_entries-new, fresh_entries-all_new}
 use Rattle.wit_elaboration.proofs.ImportsAgain.{from_imports, from_exports, export_import}
 use Rattle.wit_elaboration.proofs.Roles.{InOrder, in_order, role_of-without_span}
 

@@ -1,6 +1,5 @@
 pub mod Absorbed
 pub mod AllWorlds
-pub mod Classes
 pub mod Closing
 pub mod ColumnFacts
 mod CompleteWorlds
@@ -15,16 +14,13 @@ pub mod ExportSteps
 pub mod ExportedUses
 pub mod Exporting
 pub mod ExportsAgain
-pub mod Filters
 pub mod FirstClasses
 pub mod FirstConflict
-pub mod FreshEntries
 pub mod GrowingElaboration
 pub mod GrowingUses
 pub mod Importing
 pub mod ImportsAgain
 pub mod JoinedRows
-pub mod Keys
 pub mod Labels
 pub mod LeastImports
 pub mod ListedAgain

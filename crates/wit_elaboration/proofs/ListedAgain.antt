@@ -13,9 +13,9 @@ use Rattle.wit_elaboration.specs.Entries.{Entry, Instance, role_of, is_interface
 use Rattle.wit_elaboration.specs.Elaborated.{elaborated_imports, elaborated_exports}
 use Rattle.wit_elaboration.specs.laws.KeptByElaboration.{ListedStays}
 use Rattle.wit_elaboration.specs.Sound.{AreSound, IsRoleInRange, IsUnderOwnKey}
-use Rattle.wit_elaboration.proofs.Classes.{by_class_in}
+use Rattle.wit_elaboration.specs.facts.Classes.{by_class_in}
 use Rattle.wit_elaboration.proofs.ExportsAgain.{functions, kept, kept_own, kept_range}
-use Rattle.wit_elaboration.proofs.Filters.{Contains-filter}
+use Rattle.wit_elaboration.specs.facts.Filters.{Contains-filter}
 use Rattle.wit_elaboration.proofs.ImportsAgain.{all_imports, import_fine}
 use Rattle.wit_elaboration.proofs.Order.{AreOwn}
 use Rattle.wit_elaboration.proofs.Roles.{InOrder, in_order, instance_from_role}

@@ -15,11 +15,11 @@ use Rattle.wit_elaboration.specs.Imported.{exported_keys, is_exported}
 use Rattle.wit_elaboration.specs.laws.Imports.{IsImported}
 use Rattle.wit_elaboration.specs.laws.KeptByElaboration.{ElaboratedEntries, IsListedWithoutSpan, IsMadeImport, IsMadeExport}
 use Rattle.wit_elaboration.specs.Sound.{IsRoleInRange}
-use Rattle.wit_elaboration.proofs.Classes.{by_class_in}
+use Rattle.wit_elaboration.specs.facts.Classes.{by_class_in}
 use Rattle.wit_elaboration.proofs.Exact.{exact_to}
 use Rattle.wit_elaboration.proofs.ExportsAgain.{functions, kept, made}
-use Rattle.wit_elaboration.proofs.Filters.{Contains-filter}
-use Rattle.wit_elaboration.proofs.FreshEntries.{Contains-deps, fresh_entries_in}
+use Rattle.wit_elaboration.specs.facts.Filters.{Contains-filter}
+use Rattle.wit_elaboration.specs.facts.FreshEntries.{Contains-deps, fresh_entries_in}
 use Rattle.wit_elaboration.proofs.ImportsAgain.{from_imports, from_exports, all_imports, export_import}
 use Rattle.wit_elaboration.proofs.Roles.{InOrder, in_order}
 

@@ -13,7 +13,7 @@ use Rattle.wit_elaboration.specs.Elaborated.{dependencies_before, import_steps, 
 use Rattle.wit_elaboration.specs.Entries.{Entry, Instance}
 use Rattle.wit_elaboration.specs.Imported.{HasTransitiveConflict, is_exported, exported_keys, exported_interfaces}
 use Rattle.wit_elaboration.proofs.ExportedUses.{among-acyclic, direct-among}
-use Rattle.wit_elaboration.proofs.Filters.{filter-all, filter-none, filter-pass, filter-fail, filter-flat_map, flat_map-filter}
+use Rattle.wit_elaboration.specs.facts.Filters.{filter-all, filter-none, filter-pass, filter-fail, filter-flat_map, flat_map-filter}
 use Rattle.wit_elaboration.proofs.Steps.{steps_are}
 
 module _ (uses : List (List ℕ)) (acyclic : IsAcyclic uses) (exports : List Entry) (own : (j : ℕ) → Contains (exported_keys exports) j → Contains (exported_interfaces exports) j) (no_conflict : HasTransitiveConflict uses exports → ⊥) where

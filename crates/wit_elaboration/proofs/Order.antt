@@ -17,7 +17,7 @@ use Rattle.wit_elaboration.specs.Entries.{Entry, Role, Instance, TypeUse, TypeDe
 use Rattle.wit_elaboration.specs.Elaborated.{InheritedData, dependency_of, dependencies_before, entry_post_order}
 use Rattle.wit_elaboration.specs.laws.ElaborationLaws.{stands_on, DependenciesFirst}
 use Rattle.wit_elaboration.specs.Sound.{IsRoleInRange}
-use Rattle.wit_elaboration.proofs.FreshEntries.{interfaces_of_keys, keyed_interfaces-map, contains_from_known, fresh_entries-known, fresh_entries-new}
+use Rattle.wit_elaboration.specs.facts.FreshEntries.{interfaces_of_keys, keyed_interfaces-map, contains_from_known, fresh_entries-known, fresh_entries-new}
 
 module _ (types : List TypeDef) where
   -- an entry under an interface's key is that interface

@@ -15,7 +15,7 @@ use Rattle.wit_elaboration.specs.laws.ElaborationLaws.{ConflictsAreRefused}
 use Rattle.wit_elaboration.specs.Imported.{IsEntryInConflict, IsRefusedKey, exported_keys, is_exported}
 use Rattle.wit_elaboration.proofs.ConflictIs.{conflict_found, conflict_from}
 use Rattle.wit_elaboration.proofs.ElaboratedIs.{own_keys}
-use Rattle.wit_elaboration.proofs.Filters.{not_true}
+use Rattle.wit_elaboration.specs.facts.Filters.{not_true}
 use Rattle.wit_elaboration.proofs.Roles.{in_order}
 use Rattle.wit_elaboration.proofs.Steps.{path_below}
 

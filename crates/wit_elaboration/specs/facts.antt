@@ -1,1 +1,5 @@
+pub mod Classes
+pub mod Filters
+pub mod FreshEntries
+pub mod Keys
 pub mod SoundFacts

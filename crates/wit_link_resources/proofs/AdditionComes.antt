@@ -28,7 +28,7 @@ use Rattle.wit_link_spec.specs.steps.AdditionRefs.{new_ids_of}
 use Rattle.wit_link_spec.specs.steps.NewThings.{is_new}
 use Rattle.wit_link_resources.specs.steps.Active.{active_functions}
 use Rattle.wit_link_resources.specs.steps.IncomingTypes.{CanCome, IsRemapOf, IsRemapped}
-use Rattle.wit_link_resources.proofs.IncomingLeads.{positions_same}
+use Rattle.wit_link_resources.specs.facts.IncomingLeads.{positions_same}
 use Rattle.wit_link_resources.proofs.OwnFunctions.{active_own}
 use Rattle.wit_link_resources.proofs.Where.{both, foreign_back, goes_there, nowhere, own_active, taken_is_active, target_active}
 

@@ -2,11 +2,8 @@ mod ActiveOnes
 mod AdditionComes
 mod Flags
 mod Gathered
-pub mod IncomingLeads
 mod Inserting
-pub mod Leads
 mod MayHold
-pub mod MetTypes
 mod NewPositions
 mod OwnFunctions
 mod Ranges

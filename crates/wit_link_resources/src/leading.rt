@@ -23,7 +23,7 @@ pub(crate) fn is_resource(kind: &TypeDefKind) -> bool
 
 /// Whether a type that comes leads to a resource by aliases where it goes. What is told of it is noted for all on its
 /// way, for those of the graph behind what was met: so none is gone over twice.
-#[tactic(auto, using(crate::proofs::MetTypes::begins_same, crate::proofs::MetTypes::begins_then))]
+#[tactic(auto, using(crate::specs::facts::MetTypes::begins_same, crate::specs::facts::MetTypes::begins_then))]
 pub(crate) fn leads(
     incoming: &Incoming<'_>,
     met: &mut Table<TypeId, bool>,

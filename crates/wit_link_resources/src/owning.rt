@@ -56,7 +56,7 @@ pub fn remapped_values(
 }
 
 /// For each type that comes, whether a value asks for an `own` of it. What stands at no value position isn't looked at.
-#[tactic(auto, using(crate::proofs::MetTypes::begins_same, crate::proofs::MetTypes::begins_then))]
+#[tactic(auto, using(crate::specs::facts::MetTypes::begins_same, crate::specs::facts::MetTypes::begins_then))]
 fn needed(
     alloc: Global,
     incoming: &Incoming<'_>,

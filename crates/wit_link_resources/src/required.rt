@@ -24,7 +24,7 @@ use wit_values::Table;
 /// name, up to one that was met; what is met on the way is noted behind that.
 ///
 /// Source: `process_foreign_deps` of wit-parser 0.263.0.
-#[tactic(auto, using(crate::proofs::MetTypes::begins_same, crate::proofs::MetTypes::begins_then))]
+#[tactic(auto, using(crate::specs::facts::MetTypes::begins_same, crate::specs::facts::MetTypes::begins_then))]
 pub fn check_resources(
     alloc: Global,
     adding: &AdditionRef<'_>,
@@ -48,7 +48,7 @@ pub fn check_resources(
 }
 
 /// Refuses one type, where it is found in the graph and doesn't lead to a resource there.
-#[tactic(auto, using(crate::proofs::MetTypes::begins_same, crate::proofs::MetTypes::begins_then))]
+#[tactic(auto, using(crate::specs::facts::MetTypes::begins_same, crate::specs::facts::MetTypes::begins_then))]
 fn check_required(
     alloc: Global,
     adding: &AdditionRef<'_>,

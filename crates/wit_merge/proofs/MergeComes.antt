@@ -18,8 +18,8 @@ use Rattle.wit_merge_spec.specs.United.{merged_type, moved_functions, moves_type
 use Rattle.wit_merge_laws.specs.facts.MatchFacts.{type_is}
 use Rattle.wit_merge_match.specs.steps.Matched.{merge_remap_of}
 use Rattle.wit_link_resources.specs.steps.IncomingTypes.{CanCome, IsRemapOf, IsRemapped}
-use Rattle.wit_link_resources.proofs.IncomingLeads.{positions_same}
-use Rattle.wit_link_resources.proofs.Leads.{target_there}
+use Rattle.wit_link_resources.specs.facts.IncomingLeads.{positions_same}
+use Rattle.wit_link_resources.specs.facts.Leads.{target_there}
 use Rattle.wit_merge.proofs.Positions.{position_there}
 
 module _ (m : GraphMerge) (valid : IsValid m.graph) (valid_other : IsValid m.other) where

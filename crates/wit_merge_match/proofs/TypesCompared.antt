@@ -17,7 +17,7 @@ use Rattle.wit_data.specs.declared.world.WorldKey.TheVariants as key
 use Rattle.wit_digraph.specs.facts.MemberFacts.{Contains-cons_cases, Contains-nil}
 use Rattle.wit_elaboration.specs.Valid.{IsValid}
 use Rattle.wit_graph_data.specs.declared.graph.Graph.{Graph}
-use Rattle.wit_elaboration.proofs.FreshEntries.{same_key-true}
+use Rattle.wit_elaboration.specs.facts.FreshEntries.{same_key-true}
 use Rattle.wit_elaboration.specs.Entries.{same_key}
 use Rattle.wit_graph_theory.specs.facts.ListFacts.{found_at, place_of}
 use Rattle.wit_graph_theory.specs.facts.OptionFacts.{some_parts}

@@ -13,11 +13,11 @@ use Rattle.wit_data.specs.declared.world.WorldKey.{WorldKey}
 use Rattle.wit_data.specs.declared.world.WorldItem.TheVariants as item
 use Rattle.wit_data.specs.declared.world.WorldKey.TheVariants as key
 use Rattle.wit_data.specs.contracts.world.WorldKeyPartialEq.TheImpl.{eq-value}
-use Rattle.wit_elaboration.proofs.Keys.{key_eq-same}
+use Rattle.wit_elaboration.specs.facts.Keys.{key_eq-same}
 use Rattle.wit_elaboration.specs.Entries.{same_key}
 use Rattle.wit_elaboration.specs.Valid.{IsValid}
 use Rattle.wit_graph_data.specs.declared.graph.Graph.{Graph}
-use Rattle.wit_transform.proofs.Distinct.{tail_distinct}
+use Rattle.wit_transform.specs.facts.Distinct.{tail_distinct}
 
 abbrev types_in : List Entry → List (List ℕ × ℕ)
 types_in es = flat_map (λ (e : Entry). entry_type e.0 e.1) es

@@ -1,4 +1,3 @@
-pub mod Answered
 pub mod BuiltLines
 pub mod Known
 pub mod OneOutcome
@@ -10,4 +9,3 @@ pub mod Staged
 pub mod Stays
 pub mod Stepped
 pub mod Told
-pub mod Waiting

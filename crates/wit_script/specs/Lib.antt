@@ -4,5 +4,6 @@ pub mod Ready
 pub mod Script
 pub mod Watched
 pub mod World
+pub mod facts
 pub mod laws
 pub mod steps

@@ -23,9 +23,9 @@ use Rattle.wit_graph_theory.specs.facts.NamedUses.{used_is_named}
 use Rattle.wit_graph_theory.specs.facts.OptionFacts.{option_cases}
 use Rattle.wit_graph_theory.specs.facts.PackageCycleFacts.{used_package}
 use Rattle.wit_semver_spec.specs.Rewritten.{new_target, retargeted, rewritten, rewritten_types, with_new_entries_at, Upgrade, Disagrees, IsComplete, SemverMergeIsAccepted, UpgradeCause, conflict_4, functions_disagree_25, interface_cycle_22, package_cycle_6, type_cycle_23, type_missing_25}
-use Rattle.wit_semver_laws.proofs.Accepting.{id_of_named, in_order, new_aliases, relisted_worlds, rewritten_is}
-use Rattle.wit_semver_laws.proofs.TypesAfter.{type_after}
-use Rattle.wit_semver_laws.proofs.TypesGood.{refers_in_range, unnamed_plain}
+use Rattle.wit_semver_laws.specs.facts.Accepting.{id_of_named, in_order, new_aliases, relisted_worlds, rewritten_is}
+use Rattle.wit_semver_laws.specs.facts.TypesAfter.{type_after}
+use Rattle.wit_semver_laws.specs.facts.TypesGood.{refers_in_range, unnamed_plain}
 use Rattle.wit_unite_common.specs.steps.Reasons.{CanBeElaborated, ElaborationCause, IsSomeNamed}
 use Rattle.wit_unite_common.specs.steps.Reasons as settles
 use Rattle.wit_semver.specs.steps.Replacing.{upgrade}

@@ -8,10 +8,10 @@ use Rattle.wit_values.specs.facts.Lists.{take-next_at}
 use Rattle.wit_data.specs.facts.WorldKeyFacts.{key_is, key_laws}
 use Rattle.wit_data.specs.contracts.world.WorldKeyPartialEq.TheImpl.{eq-value}
 use Rattle.wit_data.specs.declared.world.WorldKey.{WorldKey}
-use Rattle.wit_elaboration.proofs.Filters.{Contains-filter}
+use Rattle.wit_elaboration.specs.facts.Filters.{Contains-filter}
 use Rattle.wit_elaboration.specs.Entries.{Entry, key_interface}
 use Rattle.wit_semver_spec.specs.Rewritten.{is_replaced_entry, Upgrade, is_replaced, newest}
-use Rattle.wit_transform.proofs.Looked.{new_at}
+use Rattle.wit_transform.specs.facts.Looked.{new_at}
 use Rattle.wit_semver.specs.steps.Replacing.{AreReplacements}
 
 -- the tests of two that agree

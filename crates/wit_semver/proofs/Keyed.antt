@@ -5,7 +5,7 @@ use Rattle.wit_values.specs.facts.Lists.{take-next_at}
 use Rattle.wit_digraph.specs.facts.MemberFacts.{Contains-flat_map, Contains-here}
 use Rattle.wit_data.specs.declared.world.WorldKey.{WorldKey}
 use Rattle.wit_data.specs.declared.world.WorldKey.TheVariants as key
-use Rattle.wit_elaboration.proofs.FreshEntries.{keyed_interfaces-append}
+use Rattle.wit_elaboration.specs.facts.FreshEntries.{keyed_interfaces-append}
 use Rattle.wit_elaboration.specs.Entries.{Entry, key_interface, keyed_interfaces}
 use Rattle.wit_graph_theory.specs.facts.ListFacts.{contained_at}
 

@@ -17,7 +17,7 @@ use Rattle.wit_data.specs.declared.world.WorldItem.{WorldItem}
 use Rattle.wit_data.specs.declared.world.WorldKey.{WorldKey}
 use Rattle.wit_data.specs.declared.world.WorldItem.TheVariants as item
 use Rattle.wit_data.specs.declared.world.WorldKey.TheVariants as key
-use Rattle.wit_elaboration.proofs.Filters.{Contains-filter}
+use Rattle.wit_elaboration.specs.facts.Filters.{Contains-filter}
 use Rattle.wit_elaboration.specs.Entries.{Entry, keyed_interfaces}
 use Rattle.wit_elaboration.specs.Valid.{IsValid}
 use Rattle.wit_graph_data.specs.declared.graph.Graph.{Graph}
@@ -26,7 +26,7 @@ use Rattle.wit_graph_theory.specs.facts.ListFacts.{found_at, place_of}
 use Rattle.wit_graph_theory.specs.facts.OptionFacts.{some_by, some_parts, some_same}
 use Rattle.wit_graph_theory.specs.facts.PackagesAcyclic.{numbered_from}
 use Rattle.wit_semver_spec.specs.Rewritten.{entry_types, interface_type, kept_imports, new_target, retargeted, rewritable_types, rewritten_types, types_of, with_new_entries_at, Upgrade, is_replaced, newest, NewestLacksType, target_name}
-use Rattle.wit_semver_laws.proofs.TypesAfter.{Turned, transformed_from, transformed_into}
+use Rattle.wit_semver_laws.specs.facts.TypesAfter.{Turned, transformed_from, transformed_into}
 use Rattle.wit_semver.specs.steps.Replacing.{IsFilled, LackTypes, replaced_use, upgrade, used_target, with_lists, with_targets}
 
 -- ---- what is named is there

@@ -11,7 +11,7 @@ use Rattle.wit_graph_data.specs.declared.graph.Graph.{Graph}
 use Rattle.wit_graph_theory.specs.facts.ListFacts.{at_map}
 use Rattle.wit_elaboration.specs.AllElaborated.{all_elaborated, elaborated_world}
 use Rattle.wit_semver_spec.specs.Rewritten.{rewritten, with_new_entries, with_new_entries_at, Upgrade, SemverMergeIsAccepted}
-use Rattle.wit_semver_laws.proofs.Accepting.{elaborates, rewritten_is}
+use Rattle.wit_semver_laws.specs.facts.Accepting.{elaborates, rewritten_is}
 
 some_same : (x y : World) → Some x ≡ Some y → x ≡ y
 some_same x y same = cc

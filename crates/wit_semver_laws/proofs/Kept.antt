@@ -15,7 +15,7 @@ use Rattle.wit_values.specs.facts.Lists.{kept-cases, slice_get-set}
 use Rattle.wit_semver_spec.specs.Rewritten.{listed_world, new_target, retargeted, rewritten_types, with_new_entries_at, Upgrade, newest, name_of, target_name}
 use Rattle.wit_semver_spec.specs.laws.Unchanged.{SameButLists, SameButTarget}
 use Rattle.wit_semver_laws.specs.laws.TrackLaws.{AliasesKeepNames, KeepsThings, RewrittenKeep}
-use Rattle.wit_semver_laws.proofs.TypesAfter.{after, retargeted_name, rewritten_from, transformed_from, transformed_type, type_after, type_into}
+use Rattle.wit_semver_laws.specs.facts.TypesAfter.{after, retargeted_name, rewritten_from, transformed_from, transformed_type, type_after, type_into}
 
 abbrev upgrade : TrackRule → Graph → World → Upgrade
 upgrade rule g world = record { rule = rule; graph = g; world = world }

@@ -17,7 +17,7 @@ use Rattle.wit_data.specs.declared.world.WorldItem.{WorldItem}
 use Rattle.wit_data.specs.declared.world.WorldKey.{WorldKey}
 use Rattle.wit_data.specs.declared.world.WorldItem.TheVariants as item
 use Rattle.wit_data.specs.declared.world.WorldKey.TheVariants as key
-use Rattle.wit_elaboration.proofs.Filters.{Contains-filter, Contains-filtered}
+use Rattle.wit_elaboration.specs.facts.Filters.{Contains-filter, Contains-filtered}
 use Rattle.wit_elaboration.specs.Entries.{Entry, key_interface, keyed_interfaces, item_interface, role_of, type_role}
 use Rattle.wit_elaboration.specs.Imported.{exported_keys}
 use Rattle.wit_elaboration.specs.laws.Imports.{Needed, roots_of}
@@ -30,8 +30,8 @@ use Rattle.wit_graph_theory.specs.facts.OptionFacts.{some_same}
 use Rattle.wit_graph_theory.specs.laws.PackageCycles.{ListsKey, ListsUses}
 use Rattle.wit_graph_theory.specs.facts.PackagesAcyclic.{is_there}
 use Rattle.wit_semver_spec.specs.Rewritten.{entry_types, is_replaced_entry, kept_imports, listed_world, rewritable_types, rewritten_types, types_of, Upgrade, imported, is_replaced, newest, IsComplete}
-use Rattle.wit_semver_laws.proofs.Greatest.{both_true, newest_stays}
-use Rattle.wit_semver_laws.proofs.TypesAfter.{needs_after}
+use Rattle.wit_semver_laws.specs.facts.Greatest.{both_true, newest_stays}
+use Rattle.wit_semver_laws.specs.facts.TypesAfter.{needs_after}
 
 -- ---- entries
 

@@ -13,7 +13,7 @@ use Rattle.wit_data.specs.declared.world.WorldKey.{WorldKey}
 use Rattle.wit_data.specs.declared.types.TypeOwner.TheVariants as owner
 use Rattle.wit_data.specs.declared.world.WorldItem.TheVariants as item
 use Rattle.wit_data.specs.declared.world.WorldKey.TheVariants as key
-use Rattle.wit_elaboration.proofs.Filters.{Contains-filter, filter-all, filter-fail, filter-flat_map, filter-pass, filter-same}
+use Rattle.wit_elaboration.specs.facts.Filters.{Contains-filter, filter-all, filter-fail, filter-flat_map, filter-pass, filter-same}
 use Rattle.wit_elaboration.specs.Entries.{Entry, by_class, elaboration_class, of_class, role_of, type_role}
 use Rattle.wit_elaboration.specs.laws.KeptByElaboration.{is_label, labelled, listed_without_span}
 use Rattle.wit_elaboration.specs.facts.SoundFacts.{lists_in_order}
@@ -26,9 +26,9 @@ use Rattle.wit_elaboration.specs.AllElaborated.{elaborated_world}
 use Rattle.wit_graph_theory.specs.facts.LawsOfElaboration.{LawsOfElaboration}
 use Rattle.wit_graph_theory.specs.facts.OptionFacts.{option_cases}
 use Rattle.wit_semver_spec.specs.Rewritten.{is_replaced_entry, kept_imports, listed_world, new_target, retargeted, rewritten_types, with_new_entries_at, Upgrade, newest, IsComplete}
-use Rattle.wit_semver_laws.proofs.Accepting.{complete, elaborates, in_order, listed_there, new_types, new_uses, uses_acyclic}
-use Rattle.wit_semver_laws.proofs.Merged.{is_done}
-use Rattle.wit_semver_laws.proofs.TypesAfter.{after, needs_after, retargeted_owner, transformed_from, transformed_type, type_into}
+use Rattle.wit_semver_laws.specs.facts.Accepting.{complete, elaborates, in_order, listed_there, new_types, new_uses, uses_acyclic}
+use Rattle.wit_semver_laws.specs.facts.Merged.{is_done}
+use Rattle.wit_semver_laws.specs.facts.TypesAfter.{after, needs_after, retargeted_owner, transformed_from, transformed_type, type_into}
 use Rattle.wit_semver_laws.specs.laws.TrackLaws.{IsSemverMerged}
 
 -- ---- lists

@@ -1,14 +1,9 @@
-pub mod Accepting
 pub mod EachElaborated
-pub mod Greatest
 pub mod Kept
 pub mod KeptKeys
 pub mod KeptLabels
 pub mod ListedUses
-pub mod Merged
 pub mod NewestNamed
-pub mod TypesAfter
-pub mod TypesGood
 pub mod UpgradedTypes
 pub mod ValidRewriting
 pub mod WorldsGood

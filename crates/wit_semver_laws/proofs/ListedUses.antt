@@ -16,7 +16,7 @@ use Rattle.wit_data.specs.declared.world.WorldKey.{WorldKey}
 use Rattle.wit_data.specs.declared.types.TypeOwner.TheVariants as owner
 use Rattle.wit_data.specs.declared.world.WorldItem.TheVariants as item
 use Rattle.wit_data.specs.declared.world.WorldKey.TheVariants as key
-use Rattle.wit_elaboration.proofs.Filters.{Contains-filter}
+use Rattle.wit_elaboration.specs.facts.Filters.{Contains-filter}
 use Rattle.wit_elaboration.specs.Entries.{Entry}
 use Rattle.wit_elaboration.specs.laws.KeptByElaboration.{ImportsAreLeast}
 use Rattle.wit_elaboration.specs.Valid.{IsValid}
@@ -30,11 +30,11 @@ use Rattle.wit_graph_theory.specs.steps.UnnamedOnce.{Holds, StandsOnceOnly}
 use Rattle.wit_graph_theory.specs.facts.UnnamedOnceFrom.{StandsOnceOnly-from_once}
 use Rattle.wit_graph_theory.specs.laws.PackageCycles.{ListsUses}
 use Rattle.wit_graph_theory.specs.facts.PackagesAcyclic.{there_is}
-use Rattle.wit_transform.proofs.UnnamedOnceTransformed.{set_split}
+use Rattle.wit_transform.specs.facts.UnnamedOnceTransformed.{set_split}
 use Rattle.wit_semver_spec.specs.Rewritten.{entry_types, is_replaced_entry, kept_imports, listed_world, rewritable_types, rewritten_types, types_of, Upgrade, IsComplete}
-use Rattle.wit_semver_laws.proofs.Accepting.{new_uses, relisted_worlds}
+use Rattle.wit_semver_laws.specs.facts.Accepting.{new_uses, relisted_worlds}
 use Rattle.wit_semver_laws.proofs.KeptKeys.{named_lists_uses}
-use Rattle.wit_semver_laws.proofs.TypesAfter.{needs_after}
+use Rattle.wit_semver_laws.specs.facts.TypesAfter.{needs_after}
 
 instance_item : (held : WorldItem) (i : ℕ) → Contains (item_interface held) i → item_interface held ≡ i ∷ []
 instance_item (item.Interface id stability docs span external_id) i has = ap (λ (x : ℕ). x ∷ []) (one_of id i has)

@@ -13,7 +13,7 @@ use Rattle.wit_graph_theory.specs.facts.DependencyFacts.{needs_from}
 use Rattle.wit_graph_theory.specs.facts.ListFacts.{same_at, some_at}
 use Rattle.wit_graph_theory.specs.facts.OptionFacts.{option_cases}
 use Rattle.wit_semver_spec.specs.Rewritten.{interface_type, new_target, retargeted, rewritable_types, rewritten, rewritten_types, with_new_entries_at, newest, IsComplete, missing_text, target_name, type_missing_25, upgrade_message}
-use Rattle.wit_semver_laws.proofs.TypesAfter.{target_named, transformed_into, type_into}
+use Rattle.wit_semver_laws.specs.facts.TypesAfter.{target_named, transformed_into, type_into}
 use Rattle.wit_semver_laws.specs.laws.TrackLaws.{AliasesNameNewest}
 
 pub aliases_name_newest : AliasesNameNewest

@@ -8,7 +8,7 @@ use Rattle.std.specs.Map.{lookup}
 use Rattle.std.specs.Option.{option_map}
 use Rattle.wit_digraph.specs.facts.FreshFacts.{contains_from_any}
 use Rattle.wit_digraph.specs.facts.MemberFacts.{Contains-flat_map, Contains-flat_map_cases}
-use Rattle.wit_elaboration.proofs.Filters.{Contains-filter, Contains-filtered}
+use Rattle.wit_elaboration.specs.facts.Filters.{Contains-filter, Contains-filtered}
 use Rattle.wit_graph_theory.specs.facts.DependencyFacts.{filter_map_from, filter_map_into}
 use Rattle.wit_graph_theory.specs.facts.ListFacts.{Contains-map}
 use Rattle.wit_graph_theory.specs.facts.OptionFacts.{some_same, some_there}

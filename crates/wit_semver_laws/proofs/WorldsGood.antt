@@ -13,8 +13,8 @@ use Rattle.wit_data.specs.declared.world.WorldItem.{WorldItem}
 use Rattle.wit_data.specs.declared.world.WorldKey.{WorldKey}
 use Rattle.wit_data.specs.declared.world.WorldItem.TheVariants as item
 use Rattle.wit_data.specs.declared.world.WorldKey.TheVariants as key
-use Rattle.wit_elaboration.proofs.Classes.{in_by_class}
-use Rattle.wit_elaboration.proofs.Filters.{Contains-filter, Contains-filtered}
+use Rattle.wit_elaboration.specs.facts.Classes.{in_by_class}
+use Rattle.wit_elaboration.specs.facts.Filters.{Contains-filter, Contains-filtered}
 use Rattle.wit_elaboration.specs.Elaborated.{Elaborated, without_span}
 use Rattle.wit_elaboration.specs.Entries.{Entry, by_class, key_interface}
 use Rattle.wit_elaboration.specs.laws.KeptByElaboration.{IsListedWithoutSpan, is_label, labelled, listed_without_span}
@@ -36,8 +36,8 @@ use Rattle.wit_elaboration.specs.AllElaborated.{all_elaborated, elaborated_world
 use Rattle.wit_graph_theory.specs.facts.ElaboratedCome.{interface_without_span}
 use Rattle.wit_graph_theory.specs.facts.LawsOfElaboration.{LawsOfElaboration}
 use Rattle.wit_semver_spec.specs.Rewritten.{is_replaced_entry, with_new_entries_at, Upgrade, is_replaced, SemverMergeIsAccepted}
-use Rattle.wit_semver_laws.proofs.Accepting.{Relisted, elaborates, in_order, new_aliases, new_exports, new_imports, new_types, new_uses, relisted_from, relisted_worlds, uses_acyclic}
-use Rattle.wit_semver_laws.proofs.TypesGood.{item_own_after}
+use Rattle.wit_semver_laws.specs.facts.Accepting.{Relisted, elaborates, in_order, new_aliases, new_exports, new_imports, new_types, new_uses, relisted_from, relisted_worlds, uses_acyclic}
+use Rattle.wit_semver_laws.specs.facts.TypesGood.{item_own_after}
 
 abbrev entry : WorldKey → WorldItem → Entry
 entry k held = (k, held)

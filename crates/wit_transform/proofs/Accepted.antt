@@ -12,7 +12,7 @@ use Rattle.wit_data.specs.declared.world.WorldKey.{WorldKey}
 use Rattle.wit_data.specs.declared.world.WorldItem.TheVariants as item
 use Rattle.wit_data.specs.declared.world.WorldKey.TheVariants as key
 use Rattle.wit_digraph.specs.facts.MemberFacts.{Contains-nil}
-use Rattle.wit_elaboration.proofs.Filters.{Contains-filter}
+use Rattle.wit_elaboration.specs.facts.Filters.{Contains-filter}
 use Rattle.wit_graph_data.specs.declared.cause.Cause.TheVariants.{LabelClash, NameTaken}
 use Rattle.wit_graph_data.specs.declared.graph.Graph.{Graph}
 use Rattle.wit_graph_data.specs.declared.graph.Package.{Package}
@@ -25,7 +25,7 @@ use Rattle.wit_elaboration.specs.Imported.{HasTransitiveConflict}
 use Rattle.wit_elaboration.specs.Valid.{IsValid}
 use Rattle.wit_graph_theory.specs.facts.ListFacts.{found_at, get_at, place_of}
 use Rattle.wit_graph_theory.specs.facts.LawsOfElaboration.{LawsOfElaboration}
-use Rattle.wit_transform.proofs.Distinct.{entry_of_key}
+use Rattle.wit_transform.specs.facts.Distinct.{entry_of_key}
 use Rattle.wit_transform.proofs.ListsFrom.{ComesFrom, exportized_comes, importized_comes}
 use Rattle.wit_transform.proofs.Refusals.{no_types, none_told}
 use Rattle.wit_transform.proofs.TransformedWorlds.{in_order}

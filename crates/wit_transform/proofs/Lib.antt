@@ -1,13 +1,10 @@
 pub mod Accepted
 pub mod Answering
-pub mod Distinct
 pub mod ListsFrom
-pub mod Looked
 pub mod NamedInterfaces
 pub mod Refusals
 pub mod TransformExamples
 pub mod TransformSteps
 pub mod TransformedBack
 pub mod TransformedWorlds
-pub mod UnnamedOnceTransformed
 pub mod ValidTransformations

@@ -8,14 +8,14 @@ use Rattle.wit_data.specs.declared.world.WorldItem.{WorldItem}
 use Rattle.wit_data.specs.declared.world.WorldKey.{WorldKey}
 use Rattle.wit_data.specs.declared.world.WorldItem.TheVariants as item
 use Rattle.wit_digraph.specs.facts.MemberFacts.{Contains-cons_cases, Contains-here, Contains-nil, Contains-there}
-use Rattle.wit_elaboration.proofs.Filters.{Contains-filter, Contains-filtered}
+use Rattle.wit_elaboration.specs.facts.Filters.{Contains-filter, Contains-filtered}
 use Rattle.wit_elaboration.specs.Entries.{Entry}
 use Rattle.wit_values.specs.facts.Lists.{HasDistinctKeys-nil}
 use Rattle.wit_values.specs.Table.{HasDistinctKeys}
 use Rattle.wit_graph_theory.specs.facts.Covered.{IsNoType}
 use Rattle.wit_graph_theory.specs.facts.CutIsGood.{distinct_kept}
 use Rattle.wit_graph_theory.specs.facts.ListFacts.{contained_at, place_of}
-use Rattle.wit_transform.proofs.Distinct.{head_apart, joined_distinct, key_of_entry, more_distinct, tail_distinct}
+use Rattle.wit_transform.specs.facts.Distinct.{head_apart, joined_distinct, key_of_entry, more_distinct, tail_distinct}
 use Rattle.wit_transform.specs.Transformed.{HasClash, type_label, type_labels, AreUnderLabels, WorldLists, entries_by_answer, exportized, importized, is_type, type_entries}
 
 -- the new lists are made of the entries of the old ones: no key comes twice in one, none of the types is

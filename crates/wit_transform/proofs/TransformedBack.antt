@@ -14,8 +14,8 @@ use Rattle.wit_data.specs.declared.world.WorldItem.TheVariants as item
 use Rattle.wit_data.specs.declared.world.WorldKey.TheVariants as key
 use Rattle.wit_digraph.specs.facts.MemberFacts.{Contains-flat_map, Contains-flat_map_cases, Contains-here, Contains-nil}
 use Rattle.wit_digraph.specs.Relation.{IsPath, direct}
-use Rattle.wit_elaboration.proofs.Classes.{by_class_in, in_by_class}
-use Rattle.wit_elaboration.proofs.Filters.{Contains-filter, Contains-filtered}
+use Rattle.wit_elaboration.specs.facts.Classes.{by_class_in, in_by_class}
+use Rattle.wit_elaboration.specs.facts.Filters.{Contains-filter, Contains-filtered}
 use Rattle.wit_elaboration.specs.Elaboration.{graph_uses}
 use Rattle.wit_elaboration.specs.Entries.{Entry, by_class, key_interface, keyed_interfaces, item_interface, role_of}
 use Rattle.wit_elaboration.specs.Imported.{exported_interfaces}
@@ -28,7 +28,7 @@ use Rattle.wit_graph_theory.specs.facts.EntryFacts.{instance_interface, key_entr
 use Rattle.wit_graph_theory.specs.facts.ListFacts.{Contains-map, Contains-map_cases, contained_at, get_at, place_of, same_at}
 use Rattle.wit_graph_theory.specs.facts.LawsOfElaboration.{LawsOfElaboration}
 use Rattle.wit_transform.proofs.Accepted.{IsAcceptedTransformation, exportized_accepted, importized_accepted, importized_valid}
-use Rattle.wit_transform.proofs.Distinct.{entry_of_key, key_of_entry}
+use Rattle.wit_transform.specs.facts.Distinct.{entry_of_key, key_of_entry}
 use Rattle.wit_transform.proofs.ListsFrom.{answered_from, answered_into}
 use Rattle.wit_transform.proofs.NamedInterfaces.{import_uses}
 use Rattle.wit_transform.proofs.TransformedWorlds.{in_order, is_elaborated, listed}

@@ -14,7 +14,7 @@ use Rattle.wit_data.specs.Uses.{interface_uses, uses_of}
 use Rattle.wit_data.specs.declared.types.TypeOwner.{TypeOwner}
 use Rattle.wit_data.specs.declared.world.World.{World}
 use Rattle.wit_data.specs.declared.types.TypeOwner.TheVariants as owner
-use Rattle.wit_elaboration.proofs.Filters.{Contains-filter, Contains-filtered}
+use Rattle.wit_elaboration.specs.facts.Filters.{Contains-filter, Contains-filtered}
 use Rattle.wit_elaboration.specs.Elaborated.{Elaborated}
 use Rattle.wit_elaboration.specs.Elaboration.{graph_uses}
 use Rattle.wit_elaboration.specs.Imported.{HasTransitiveConflict}
@@ -32,11 +32,11 @@ use Rattle.wit_graph_theory.specs.facts.UnnamedOnceFrom.{StandsOnceOnly-from_onc
 use Rattle.wit_graph_theory.specs.facts.UnnamedOnceFacts.{StandOnce-from_entries}
 use Rattle.wit_graph_theory.specs.facts.PackagesAcyclic.{is_there, length-numbered, numbered_from, numbered_into, there_is}
 use Rattle.wit_graph_theory.specs.facts.LawsOfElaboration.{LawsOfElaboration}
-use Rattle.wit_transform.proofs.Distinct.{entry_of_key, joined_distinct, more_distinct}
+use Rattle.wit_transform.specs.facts.Distinct.{entry_of_key, joined_distinct, more_distinct}
 use Rattle.wit_transform.proofs.ListsFrom.{ComesFrom}
-use Rattle.wit_transform.proofs.Looked.{differs, is_other}
+use Rattle.wit_transform.specs.facts.Looked.{differs, is_other}
 use Rattle.wit_transform.proofs.NamedInterfaces.{done_named, fewer_acyclic}
-use Rattle.wit_transform.proofs.UnnamedOnceTransformed.{set_split, unnamed_once_transformed}
+use Rattle.wit_transform.specs.facts.UnnamedOnceTransformed.{set_split, unnamed_once_transformed}
 use Rattle.wit_transform.proofs.TransformedWorlds.{done, done_is_canonical, done_is_good, types_stay}
 use Rattle.wit_transform.specs.Transformed.{NameIsTakenIn, WorldLists, put_last, transformed_at, with_renamed}
 

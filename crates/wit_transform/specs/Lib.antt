@@ -1,3 +1,4 @@
 pub mod Transformed
 pub mod examples
+pub mod facts
 pub mod laws

@@ -12,8 +12,8 @@ use Rattle.wit_resolve_graph.specs.declared.command.Command.{Command}
 use Rattle.wit_resolve_graph.specs.declared.command.Command.TheVariants.{Merge, PushGroups}
 use Rattle.wit_resolve_graph.specs.declared.command.Reply.{Reply}
 use Rattle.wit_script_lines.specs.declared.request.Request.{Request}
-use Rattle.wit_script.proofs.Answered.{AnswersAll-more}
-use Rattle.wit_script.proofs.Waiting.{others-come}
+use Rattle.wit_script.specs.facts.Answered.{AnswersAll-more}
+use Rattle.wit_script.specs.facts.Waiting.{others-come}
 use Rattle.wit_script.specs.Answer.{AnswersByRun, AnswersPrint, AnswersSelect, IsChoice, PrintsChoice, action_of, line_of, only_first, refusal_text, reply_text, working_state}
 use Rattle.wit_script.specs.Ready.{CanAllBeAsked}
 use Rattle.wit_script.specs.World.{world_text_at}

@@ -8,7 +8,7 @@ use Rattle.wit_data.specs.declared.function.Function.{Function}
 use Rattle.wit_data.specs.declared.interface.Interface.{Interface}
 use Rattle.wit_data.specs.declared.types.TypeDef.{TypeDef}
 use Rattle.wit_data.specs.declared.types.TypeOwner.TheVariants as owner
-use Rattle.wit_elaboration.proofs.Filters.{Contains-filter, Contains-filtered}
+use Rattle.wit_elaboration.specs.facts.Filters.{Contains-filter, Contains-filtered}
 use Rattle.wit_elaboration.specs.Valid.{IsValid}
 use Rattle.wit_graph_data.specs.declared.graph.Graph.{Graph}
 use Rattle.wit_graph_theory.specs.facts.CarriedImages.{function_itself_carried}

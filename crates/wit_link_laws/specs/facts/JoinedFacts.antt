@@ -10,8 +10,8 @@ use Rattle.wit_data.specs.declared.world.WorldItem.{WorldItem}
 use Rattle.wit_data.specs.declared.world.WorldKey.{WorldKey}
 use Rattle.wit_data.specs.declared.world.WorldItem.TheVariants as item
 use Rattle.wit_data.specs.declared.world.WorldKey.TheVariants as key
-use Rattle.wit_elaboration.proofs.Filters.{Contains-filter, Contains-filtered, not_true}
-use Rattle.wit_elaboration.proofs.FreshEntries.{same_key-refl, same_key-true}
+use Rattle.wit_elaboration.specs.facts.Filters.{Contains-filter, Contains-filtered, not_true}
+use Rattle.wit_elaboration.specs.facts.FreshEntries.{same_key-refl, same_key-true}
 use Rattle.wit_elaboration.specs.Entries.{same_key}
 use Rattle.wit_graph_data.specs.declared.graph.Graph.{Graph}
 use Rattle.wit_graph_theory.specs.facts.CutIsGood.{distinct_kept}

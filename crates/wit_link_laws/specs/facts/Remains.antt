@@ -14,7 +14,7 @@ use Rattle.wit_data.specs.declared.world.WorldKey.{WorldKey}
 use Rattle.wit_data.specs.declared.types.TypeOwner.TheVariants as owner
 use Rattle.wit_data.specs.declared.world.WorldItem.TheVariants as item
 use Rattle.wit_data.specs.declared.world.WorldKey.TheVariants as key
-use Rattle.wit_elaboration.proofs.Filters.{Contains-filtered}
+use Rattle.wit_elaboration.specs.facts.Filters.{Contains-filtered}
 use Rattle.wit_graph_data.specs.declared.graph.Graph.{Graph}
 use Rattle.wit_graph_theory.specs.facts.CarriedImages.{function_itself_carried, itself_carried}
 use Rattle.wit_graph_theory.specs.facts.Covered.{EntryComes, InterfaceAt, InterfaceComes, IsNoType, ItemComes, TypeComes, WorldComes}

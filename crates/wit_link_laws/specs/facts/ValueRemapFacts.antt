@@ -10,7 +10,7 @@ use Rattle.wit_data.specs.declared.types.Handle.TheVariants.{Own}
 use Rattle.wit_data.specs.declared.types.TypeDef.{TypeDef}
 use Rattle.wit_data.specs.declared.types.TypeDefKind.TheVariants as kind
 use Rattle.wit_data.specs.declared.types.TypeOwner.TheVariants as owner
-use Rattle.wit_elaboration.proofs.Filters.{Contains-filter}
+use Rattle.wit_elaboration.specs.facts.Filters.{Contains-filter}
 use Rattle.wit_remap_spec.specs.Image.{type_image}
 use Rattle.wit_graph_theory.specs.facts.ListFacts.{at_map, at_new, contained_at, from_map, old_or_new, some_at}
 use Rattle.wit_graph_theory.specs.facts.ReferredFacts.{plain_image}

@@ -17,7 +17,7 @@ use Rattle.wit_data.specs.declared.types.TypeDef.{TypeDef}
 use Rattle.wit_data.specs.declared.world.World.{World}
 use Rattle.wit_data.specs.declared.world.WorldItem.{WorldItem}
 use Rattle.wit_data.specs.declared.world.WorldItem.TheVariants as item
-use Rattle.wit_elaboration.proofs.Filters.{Contains-filter}
+use Rattle.wit_elaboration.specs.facts.Filters.{Contains-filter}
 use Rattle.wit_graph_theory.specs.Cut.{ItemIsKept}
 use Rattle.wit_graph_theory.specs.facts.ListFacts.{Contains-map_cases, place_of}
 use Rattle.wit_link_spec.specs.Addition.{Addition, own_functions, own_interfaces, own_types, own_worlds, remap_of_addition, remapped_type}

@@ -11,7 +11,7 @@ use Rattle.wit_data.specs.declared.world.WorldItem.{WorldItem}
 use Rattle.wit_data.specs.declared.world.WorldKey.{WorldKey}
 use Rattle.wit_data.specs.declared.world.WorldItem.TheVariants as item
 use Rattle.wit_data.specs.declared.world.WorldKey.TheVariants as key
-use Rattle.wit_elaboration.proofs.FreshEntries.{same_key-true}
+use Rattle.wit_elaboration.specs.facts.FreshEntries.{same_key-true}
 use Rattle.wit_elaboration.specs.Elaborated.{without_span}
 use Rattle.wit_elaboration.specs.Entries.{same_key}
 use Rattle.wit_elaboration.specs.Valid.{IsValid}

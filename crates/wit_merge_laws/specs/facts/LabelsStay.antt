@@ -7,8 +7,8 @@ use Rattle.wit_data.specs.declared.world.World.{World}
 use Rattle.wit_data.specs.declared.world.WorldItem.{WorldItem}
 use Rattle.wit_data.specs.declared.world.WorldKey.{WorldKey}
 use Rattle.wit_data.specs.declared.world.WorldKey.TheVariants as key
-use Rattle.wit_elaboration.proofs.Classes.{in_by_class}
-use Rattle.wit_elaboration.proofs.Filters.{Contains-filter, Contains-filtered}
+use Rattle.wit_elaboration.specs.facts.Classes.{in_by_class}
+use Rattle.wit_elaboration.specs.facts.Filters.{Contains-filter, Contains-filtered}
 use Rattle.wit_elaboration.specs.Elaborated.{without_span}
 use Rattle.wit_elaboration.specs.Elaboration.{graph_uses}
 use Rattle.wit_elaboration.specs.Entries.{by_class}

@@ -8,7 +8,7 @@ use Rattle.wit_data.specs.Entries.{Entry, entries_of}
 use Rattle.wit_data.specs.declared.world.World.{World}
 use Rattle.wit_data.specs.declared.world.WorldKey.{WorldKey}
 use Rattle.wit_data.specs.declared.world.WorldKey.TheVariants as key
-use Rattle.wit_elaboration.proofs.FreshEntries.{same_key-true}
+use Rattle.wit_elaboration.specs.facts.FreshEntries.{same_key-true}
 use Rattle.wit_elaboration.specs.Valid.{IsValid}
 use Rattle.wit_graph_theory.specs.facts.ListFacts.{place_of, same_at}
 use Rattle.wit_merge_spec.specs.Cause as differ

@@ -17,7 +17,7 @@ use Rattle.wit_names.specs.PackageName.{same_package}
 use Rattle.wit_data.specs.declared.interface.Interface.{Interface}
 use Rattle.wit_names.specs.declared.package_name.PackageName.{PackageName}
 use Rattle.wit_data.specs.declared.world.World.{World}
-use Rattle.wit_elaboration.proofs.Filters.{Contains-filter, Contains-filtered}
+use Rattle.wit_elaboration.specs.facts.Filters.{Contains-filter, Contains-filtered}
 use Rattle.wit_elaboration.specs.Valid.{HasPackageNames, IsInTable, IsInterfaceOf, IsValid, IsWorldInTable, IsWorldOf}
 use Rattle.wit_graph_data.specs.declared.graph.Package.{Package}
 use Rattle.wit_elaboration.specs.AllElaborated.{elaborated_world}

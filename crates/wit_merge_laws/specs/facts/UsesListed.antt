@@ -15,7 +15,7 @@ use Rattle.wit_data.specs.declared.world.WorldItem.{WorldItem}
 use Rattle.wit_data.specs.declared.world.WorldKey.{WorldKey}
 use Rattle.wit_data.specs.declared.world.WorldItem.TheVariants as item
 use Rattle.wit_data.specs.declared.world.WorldKey.TheVariants as key
-use Rattle.wit_elaboration.proofs.FreshEntries.{same_key-true}
+use Rattle.wit_elaboration.specs.facts.FreshEntries.{same_key-true}
 use Rattle.wit_elaboration.specs.Elaboration.{graph_uses}
 use Rattle.wit_elaboration.specs.Entries.{key_interface, keyed_interfaces}
 use Rattle.wit_elaboration.specs.laws.KeptByElaboration.{ImportsAreLeast}

@@ -1,4 +1,4 @@
-use Rattle.wit_script.proofs.Waiting.{understood-come}
+use Rattle.wit_script.specs.facts.Waiting.{understood-come}
 use Rattle.witgraph_dot.proofs.answer.Goals as goal
 
 pub after-requires : goal.after-requires

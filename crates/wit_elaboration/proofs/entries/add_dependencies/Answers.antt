@@ -1,5 +1,5 @@
 use Rattle.std.proofs.Common.{arith}
-use Rattle.wit_elaboration.proofs.FreshEntries.{dependencies-next}
+use Rattle.wit_elaboration.specs.facts.FreshEntries.{dependencies-next}
 use Rattle.wit_elaboration.proofs.entries.add_dependencies.Goals as goal
 
 pub loop-interface-preserved : goal.loop-interface-preserved

@@ -1,5 +1,5 @@
 use Rattle.wit_data.specs.declared.world.WorldKey.TheVariants.{Interface}
-use Rattle.wit_elaboration.proofs.Keys.{lookup-absent}
+use Rattle.wit_elaboration.specs.facts.Keys.{lookup-absent}
 use Rattle.wit_elaboration.proofs.entries.add_dependency.Goals as goal
 
 pub push-requires : goal.push-requires

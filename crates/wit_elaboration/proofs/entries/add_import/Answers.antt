@@ -1,4 +1,4 @@
-use Rattle.wit_elaboration.proofs.Keys.{lookup-absent}
+use Rattle.wit_elaboration.specs.facts.Keys.{lookup-absent}
 use Rattle.wit_elaboration.proofs.entries.add_import.Goals as goal
 
 pub push-requires : goal.push-requires

@@ -1,5 +1,5 @@
 use Rattle.std.proofs.Common.{◌∙◌}
-use Rattle.wit_elaboration.proofs.Keys.{is_some-lookup_key}
+use Rattle.wit_elaboration.specs.facts.Keys.{is_some-lookup_key}
 use Rattle.wit_elaboration.proofs.entries.has_key.Goals as goal
 
 pub returns : goal.returns

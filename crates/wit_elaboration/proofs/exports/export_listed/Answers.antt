@@ -9,8 +9,8 @@ use Rattle.wit_elaboration.specs.Entries.{Entry, fresh_entries, is_interface, it
 use Rattle.wit_elaboration.specs.Imported.{exported_interfaces}
 use Rattle.wit_elaboration.proofs.ExportSteps.{given_at}
 use Rattle.wit_elaboration.proofs.Exporting.{exports_of, imports_of, instance_is}
-use Rattle.wit_elaboration.proofs.Filters.{filter-pass}
-use Rattle.wit_elaboration.proofs.FreshEntries.{fresh_entries-left}
+use Rattle.wit_elaboration.specs.facts.Filters.{filter-pass}
+use Rattle.wit_elaboration.specs.facts.FreshEntries.{fresh_entries-left}
 use Rattle.wit_elaboration.proofs.exports.export_listed.Goals as goal
 
 pub export_entry-requires-clause-interface : goal.export_entry-requires-clause-interface

@@ -2,7 +2,7 @@ use Rattle.std.proofs.Common.{◌≡◌, ℕ, Bool, true, false, not, List, get_
 use Rattle.wit_digraph.specs.facts.FreshFacts.{any_from_contains, no_any_from}
 use Rattle.wit_elaboration.specs.steps.Elaborating.{is_listed}
 use Rattle.wit_elaboration.specs.declared.exports.Parted.{Parted}
-use Rattle.wit_elaboration.proofs.Filters.{pick_next, pick_skip}
+use Rattle.wit_elaboration.specs.facts.Filters.{pick_next, pick_skip}
 use Rattle.wit_elaboration.proofs.exports.part_by_export.Goals.{then-has+in_ok-push, else-has+in_ok-push-2}
 use Rattle.wit_elaboration.proofs.exports.part_by_export.Goals as goal
 

@@ -5,7 +5,7 @@ use Rattle.std.specs.Map.Iter.{deref_pair}
 use Rattle.wit_elaboration.specs.Elaborated.{import_with_needs}
 use Rattle.wit_elaboration.specs.Entries.{Entry, Role, elaboration_class, role_of}
 use Rattle.wit_elaboration.proofs.FirstClasses.{class_first}
-use Rattle.wit_elaboration.proofs.FreshEntries.{fresh_entries-left}
+use Rattle.wit_elaboration.specs.facts.FreshEntries.{fresh_entries-left}
 use Rattle.wit_elaboration.proofs.imports.import_class.Goals as goal
 
 pub loop-key-preserved-in-Continue-1 : goal.loop-key-preserved-in-Continue-1

@@ -1,4 +1,4 @@
-use Rattle.wit_link_resources.proofs.MetTypes.{right-begun}
+use Rattle.wit_link_resources.specs.facts.MetTypes.{right-begun}
 use Rattle.wit_link.proofs.adding.append.Goals as goal
 
 pub append_with-requires-clause-met : goal.append_with-requires-clause-met

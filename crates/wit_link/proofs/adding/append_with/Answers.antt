@@ -7,7 +7,7 @@ use Rattle.wit_link_spec.specs.Addition.{Addition}
 use Rattle.wit_elaboration.specs.Valid.{IsValid}
 use Rattle.wit_remap.specs.Grown.{Grown}
 use Rattle.wit_remap.specs.facts.GrownFacts.{Begins-as, Begins-same, Grown-same}
-use Rattle.wit_link_resources.proofs.MetTypes.{right_stays}
+use Rattle.wit_link_resources.specs.facts.MetTypes.{right_stays}
 use Rattle.wit_link.specs.Appending.{IsAdded, KnowsLeads, addition}
 use Rattle.wit_link.specs.steps.Checked.{PackageFits}
 use Rattle.wit_link.proofs.Added.{is_new, taken, too_far}

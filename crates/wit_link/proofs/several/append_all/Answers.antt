@@ -1,4 +1,4 @@
-use Rattle.wit_link_resources.proofs.MetTypes.{right-begun}
+use Rattle.wit_link_resources.specs.facts.MetTypes.{right-begun}
 use Rattle.wit_link.proofs.several.append_all.Goals as goal
 
 pub append_all_with-requires-clause-met : goal.append_all_with-requires-clause-met

@@ -1,7 +1,7 @@
 use Rattle.std.proofs.Common.{◌≡◌, ◌∙◌, ◌<◌, ℕ, Some, ap, sym, subst}
 use Rattle.std.proofs.lemmas.Result.{IfOk-weaker}
 use Rattle.wit_link_resources.specs.declared.incoming.Incoming.{Incoming}
-use Rattle.wit_link_resources.proofs.IncomingLeads.{remapped_there}
+use Rattle.wit_link_resources.specs.facts.IncomingLeads.{remapped_there}
 use Rattle.wit_link_resources.proofs.leading.leads_at_end.Goals as goal
 
 pub at-requires : goal.at-requires

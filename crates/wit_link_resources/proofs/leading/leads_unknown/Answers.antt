@@ -5,7 +5,7 @@ use Rattle.wit_link_spec.specs.Resources.{leads_to_resource}
 use Rattle.wit_link_resources.specs.declared.incoming.Incoming.{Incoming}
 use Rattle.wit_link_resources.specs.steps.IncomingTypes.{IsRemapped, new_of}
 use Rattle.wit_link_resources.specs.steps.Leading.{AreRight}
-use Rattle.wit_link_resources.proofs.IncomingLeads.{leads_itself, leads_old, not_new_old, remapped_there}
+use Rattle.wit_link_resources.specs.facts.IncomingLeads.{leads_itself, leads_old, not_new_old, remapped_there}
 use Rattle.wit_link_resources.proofs.leading.leads_unknown.Goals as goal
 
 -- what is remapped and isn't in the graph is new

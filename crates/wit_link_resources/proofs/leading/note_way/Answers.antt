@@ -3,7 +3,7 @@ use Rattle.std.proofs.lemmas.List.{length-set}
 use Rattle.wit_digraph.specs.PostOrder.{post_order}
 use Rattle.wit_data.specs.Uses.{alias_rows}
 use Rattle.wit_link_resources.specs.steps.IncomingTypes.{IsRemapped, leads_in}
-use Rattle.wit_link_resources.proofs.IncomingLeads.{remapped_there}
+use Rattle.wit_link_resources.specs.facts.IncomingLeads.{remapped_there}
 use Rattle.wit_link_resources.proofs.Ways.{next_remapped, next_same, next_shorter, noted}
 use Rattle.wit_link_resources.proofs.leading.note_way.Goals as goal
 

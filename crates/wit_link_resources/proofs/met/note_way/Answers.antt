@@ -3,8 +3,8 @@ use Rattle.wit_data.specs.Uses.{alias_rows}
 use Rattle.wit_digraph.specs.PostOrder.{post_order}
 use Rattle.wit_link_spec.specs.Resources.{leads_to_resource}
 use Rattle.wit_link_resources.specs.steps.Leading.{AreRight}
-use Rattle.wit_link_resources.proofs.Leads.{leads_on, target_there, walk_falls}
-use Rattle.wit_link_resources.proofs.MetTypes.{begins_more, begins_same, right-more}
+use Rattle.wit_link_resources.specs.facts.Leads.{leads_on, target_there, walk_falls}
+use Rattle.wit_link_resources.specs.facts.MetTypes.{begins_more, begins_same, right-more}
 use Rattle.wit_link_resources.proofs.Rows.{alias_acyclic}
 use Rattle.wit_link_resources.proofs.met.note_way.Goals as goal
 

@@ -7,7 +7,7 @@ use Rattle.wit_merge_match.specs.Differing.{merge_of_graphs_by}
 use Rattle.wit_merge_match.specs.declared.merge_remap.MergeRemap.{MergeRemap}
 use Rattle.wit_merge_match.specs.steps.Matched.{merge_of_graphs}
 use Rattle.wit_link_resources.specs.steps.Active.{seen}
-use Rattle.wit_link_resources.proofs.MetTypes.{right-begun}
+use Rattle.wit_link_resources.specs.facts.MetTypes.{right-begun}
 use Rattle.wit_merge.proofs.MergeComes.{comes, is_remap, positions_remapped}
 use Rattle.wit_merge.proofs.owning.values.Goals as goal
 

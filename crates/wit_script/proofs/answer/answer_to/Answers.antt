@@ -1,6 +1,6 @@
 use Rattle.std.proofs.Common.{rules}
 use Rattle.wit_script.proofs.Told.{acts-as}
-use Rattle.wit_script.proofs.Waiting.{asked-opens}
+use Rattle.wit_script.specs.facts.Waiting.{asked-opens}
 use Rattle.wit_script.proofs.answer.answer_to.Goals as goal
 
 pub act-requires-clause-come : goal.act-requires-clause-come

@@ -5,8 +5,8 @@ use Rattle.wit_resolve_graph.specs.Step.{Run}
 use Rattle.wit_script.specs.Answer.{AnswersAll, IsChoice, only_first}
 use Rattle.wit_script.specs.Ready.{CanAllBeAsked}
 use Rattle.wit_script.specs.declared.ready.ScriptCommand.{ScriptCommand}
-use Rattle.wit_script.proofs.Answered.{AnswersAll-more}
-use Rattle.wit_script.proofs.Waiting.{first-comes, others-come}
+use Rattle.wit_script.specs.facts.Answered.{AnswersAll-more}
+use Rattle.wit_script.specs.facts.Waiting.{first-comes, others-come}
 use Rattle.wit_script.proofs.answer.answers_to.Goals as goal
 
 pub answer_to-requires : goal.answer_to-requires

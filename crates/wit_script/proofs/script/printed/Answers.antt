@@ -1,7 +1,7 @@
 use Rattle.std.proofs.Common.{rules, ◌≡◌, List, ℕ, subst}
 use Rattle.std.specs.Str.{IsUtf8}
 use Rattle.wit_script.specs.Script.{IsNotUnderstood, IsUnderstood}
-use Rattle.wit_script.proofs.Waiting.{understood-come}
+use Rattle.wit_script.specs.facts.Waiting.{understood-come}
 use Rattle.wit_script.proofs.script.printed.Goals as goal
 
 pub answers_to-requires : goal.answers_to-requires

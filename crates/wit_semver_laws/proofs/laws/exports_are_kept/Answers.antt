@@ -1,4 +1,4 @@
-use Rattle.wit_semver_laws.proofs.Merged.{exports_are_kept}
+use Rattle.wit_semver_laws.specs.facts.Merged.{exports_are_kept}
 use Rattle.wit_semver_laws.proofs.laws.exports_are_kept.Goals as goal
 
 pub returns : goal.returns

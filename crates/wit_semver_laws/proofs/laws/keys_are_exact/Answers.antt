@@ -1,4 +1,4 @@
-use Rattle.wit_semver_laws.proofs.Merged.{keys_are_exact}
+use Rattle.wit_semver_laws.specs.facts.Merged.{keys_are_exact}
 use Rattle.wit_semver_laws.proofs.laws.keys_are_exact.Goals as goal
 
 pub returns : goal.returns

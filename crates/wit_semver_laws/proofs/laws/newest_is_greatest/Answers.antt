@@ -1,4 +1,4 @@
-use Rattle.wit_semver_laws.proofs.Greatest.{newest_is_greatest}
+use Rattle.wit_semver_laws.specs.facts.Greatest.{newest_is_greatest}
 use Rattle.wit_semver_laws.proofs.laws.newest_is_greatest.Goals as goal
 
 pub returns : goal.returns

@@ -1,4 +1,4 @@
-use Rattle.wit_semver_laws.proofs.Merged.{one_on_each}
+use Rattle.wit_semver_laws.specs.facts.Merged.{one_on_each}
 use Rattle.wit_semver_laws.proofs.laws.one_on_each_track.Goals as goal
 
 pub returns : goal.returns

@@ -1,5 +1,5 @@
 use Rattle.std.proofs.Common.{refl}
-use Rattle.wit_transform.proofs.Looked.{added_is_new, behind-next}
+use Rattle.wit_transform.specs.facts.Looked.{added_is_new, behind-next}
 use Rattle.wit_transform.proofs.new_lists.add_copies.Goals as goal
 
 pub push_copy-requires : goal.push_copy-requires

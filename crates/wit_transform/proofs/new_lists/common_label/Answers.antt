@@ -3,8 +3,8 @@ use Rattle.std.specs.Map.{keys_of}
 use Rattle.wit_data.specs.declared.world.WorldKey.TheVariants as key
 use Rattle.wit_elaboration.specs.Entries.{Entry}
 use Rattle.wit_graph_theory.specs.facts.ListFacts.{contained_at}
-use Rattle.wit_transform.proofs.Distinct.{key_of_entry}
-use Rattle.wit_transform.proofs.Looked.{key_found, key_not_found, no_label-next, take_whole}
+use Rattle.wit_transform.specs.facts.Distinct.{key_of_entry}
+use Rattle.wit_transform.specs.facts.Looked.{key_found, key_not_found, no_label-next, take_whole}
 use Rattle.wit_transform.proofs.new_lists.common_label.Goals as goal
 use Rattle.wit_transform.proofs.new_lists.common_label.Goals.{in-Name+else-contains_key, in-Interface}
 

@@ -1,7 +1,7 @@
 use Rattle.std.proofs.Common.{◌≡◌, ◌∙◌, ◌≤◌, ℕ, List, [], None, Option, length, slice_get, sym, ap, subst, arith}
 use Rattle.wit_data.specs.declared.world.WorldKey.{WorldKey}
 use Rattle.wit_elaboration.specs.Entries.{Entry}
-use Rattle.wit_transform.proofs.Looked.{first-here, no_type_label, none-next, take_whole, type_label_of}
+use Rattle.wit_transform.specs.facts.Looked.{first-here, no_type_label, none-next, take_whole, type_label_of}
 use Rattle.wit_transform.specs.Transformed.{type_label, type_labels}
 use Rattle.wit_transform.proofs.new_lists.type_label.Goals as goal
 use Rattle.wit_transform.proofs.new_lists.type_label.Goals.{in-Name+else-holds_type, in-Interface}

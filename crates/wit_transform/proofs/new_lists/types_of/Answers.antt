@@ -1,6 +1,6 @@
 use Rattle.std.proofs.Common.{◌∙◌, refl, sym}
 use Rattle.wit_elaboration.specs.Entries.{Entry}
-use Rattle.wit_transform.proofs.Looked.{kept-next, left-next, type_is_new}
+use Rattle.wit_transform.specs.facts.Looked.{kept-next, left-next, type_is_new}
 use Rattle.wit_transform.specs.Transformed.{is_type}
 use Rattle.wit_transform.proofs.new_lists.types_of.Goals as goal
 use Rattle.wit_transform.proofs.new_lists.types_of.Goals.{then-holds_type+in_ok-push_copy, else-holds_type}

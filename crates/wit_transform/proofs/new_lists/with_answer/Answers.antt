@@ -1,5 +1,5 @@
 use Rattle.std.proofs.Common.{◌∙◌, refl, sym}
-use Rattle.wit_transform.proofs.Looked.{answer-kept, answer-left, answered_is_new}
+use Rattle.wit_transform.specs.facts.Looked.{answer-kept, answer-left, answered_is_new}
 use Rattle.wit_transform.proofs.new_lists.with_answer.Goals as goal
 use Rattle.wit_transform.proofs.new_lists.with_answer.Goals.{then-is_answer+in_ok-push_copy, else-is_answer}
 

@@ -1,5 +1,5 @@
 use Rattle.std.proofs.Common.{sym}
-use Rattle.wit_transform.proofs.Looked.{taken_none, taken_some}
+use Rattle.wit_transform.specs.facts.Looked.{taken_none, taken_some}
 use Rattle.wit_transform.proofs.renaming.is_taken.Goals as goal
 
 pub returns-in-Some : goal.returns-in-Some

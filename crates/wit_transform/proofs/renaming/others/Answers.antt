@@ -1,6 +1,6 @@
 use Rattle.std.proofs.Common.{◌∙◌, sym, ℕ, List, not}
 use Rattle.std.specs.Prelude.{nat_eq}
-use Rattle.wit_transform.proofs.Looked.{kept-next, left-next, other_is_new}
+use Rattle.wit_transform.specs.facts.Looked.{kept-next, left-next, other_is_new}
 use Rattle.wit_transform.proofs.renaming.others.Goals as goal
 use Rattle.wit_transform.proofs.renaming.others.Goals.{then-is_other+in_ok-push_world, else-is_other}
 

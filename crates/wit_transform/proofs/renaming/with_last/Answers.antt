@@ -1,4 +1,4 @@
-use Rattle.wit_transform.proofs.Looked.{last_is_new}
+use Rattle.wit_transform.specs.facts.Looked.{last_is_new}
 use Rattle.wit_transform.proofs.renaming.with_last.Goals as goal
 
 pub push_world-requires : goal.push_world-requires

@@ -3,7 +3,7 @@ use Rattle.std.specs.Map.{lookup}
 use Rattle.wit_data.specs.contracts.world.WorldKeyPartialEq.TheImpl.{eq-value}
 use Rattle.wit_elaboration.specs.Entries.{Entry}
 use Rattle.wit_semver_spec.specs.Rewritten.{is_replaced_entry}
-use Rattle.wit_transform.proofs.Looked.{filter-next_kept, filter-next_left}
+use Rattle.wit_transform.specs.facts.Looked.{filter-next_kept, filter-next_left}
 use Rattle.wit_semver.specs.steps.Replacing.{upgrade_of}
 use Rattle.wit_semver.proofs.KeptTold.{staying_is_new, stays_is}
 use Rattle.wit_semver.proofs.upgrade_plan.UpgradePlan.kept_imports.Goals as goal

@@ -2,7 +2,7 @@ use Rattle.std.proofs.Common.{◌≡◌, ◌∷◌, List, is_some, rules, subst}
 use Rattle.std.specs.Vec.Iter.{into_iter_items}
 use Rattle.wit_script.specs.Ready.{CanAllBeAsked}
 use Rattle.wit_script.specs.declared.ready.ScriptCommand.{ScriptCommand}
-use Rattle.wit_script.proofs.Waiting.{first-comes}
+use Rattle.wit_script.specs.facts.Waiting.{first-comes}
 use Rattle.witgraph_dot.specs.Drawn.{graphs}
 use Rattle.witgraph_dot.proofs.Staged.{FollowsAll-more, others-wait}
 use Rattle.witgraph_dot.proofs.stage.Stage.after.Goals as goal

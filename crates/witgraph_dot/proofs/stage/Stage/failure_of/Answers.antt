@@ -1,5 +1,5 @@
 use Rattle.std.proofs.Common.{rules}
-use Rattle.wit_script.proofs.Waiting.{asked-opens}
+use Rattle.wit_script.specs.facts.Waiting.{asked-opens}
 use Rattle.witgraph_dot.specs.Drawn.{graphs}
 use Rattle.witgraph_dot.proofs.Staged.{acts-as, pushes-as}
 use Rattle.witgraph_dot.proofs.stage.Stage.failure_of.Goals as goal

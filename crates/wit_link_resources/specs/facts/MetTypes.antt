@@ -9,7 +9,7 @@ use Rattle.wit_data.specs.declared.types.TypeDef.{TypeDef}
 use Rattle.wit_data.specs.Uses.{alias_rows}
 use Rattle.wit_link_spec.specs.Resources.{leads_to_resource}
 use Rattle.wit_link_resources.specs.steps.Leading.{AreRight}
-use Rattle.wit_link_resources.proofs.Leads.{leads_stays}
+use Rattle.wit_link_resources.specs.facts.Leads.{leads_stays}
 use Rattle.wit_link_resources.proofs.Rows.{alias_acyclic}
 
 -- where nothing was met

@@ -27,8 +27,8 @@ use Rattle.wit_graph_theory.specs.facts.OptionFacts.{option_cases}
 use Rattle.wit_graph_theory.specs.facts.OwnedFacts.{row, row_from, row_into}
 use Rattle.wit_graph_theory.specs.facts.PackagesAcyclic.{length-numbered}
 use Rattle.wit_semver_spec.specs.Rewritten.{new_target, retargeted, rewritten_types, Upgrade, newest}
-use Rattle.wit_semver_laws.proofs.Accepting.{stays_so}
-use Rattle.wit_semver_laws.proofs.TypesAfter.{after, retargeted_name, retargeted_owner, rewritten_from, transformed_from, transformed_type, type_after}
+use Rattle.wit_semver_laws.specs.facts.Accepting.{stays_so}
+use Rattle.wit_semver_laws.specs.facts.TypesAfter.{after, retargeted_name, retargeted_owner, rewritten_from, transformed_from, transformed_type, type_after}
 
 -- an alias is not plain
 alias_not_plain : (k : TypeDefKind) (t : ℕ) → alias_target k ≡ Some t → IsPlain k → ⊥

@@ -14,7 +14,7 @@ use Rattle.wit_digraph.specs.facts.MemberFacts.{Contains-cons_cases, Contains-he
 use Rattle.wit_names.specs.facts.PackageNameFacts.{same_package-Decides}
 use Rattle.wit_names.specs.PackageName.{same_package}
 use Rattle.wit_names.specs.declared.track.TrackRule.{TrackRule}
-use Rattle.wit_elaboration.proofs.Filters.{Contains-filter, Contains-filtered}
+use Rattle.wit_elaboration.specs.facts.Filters.{Contains-filter, Contains-filtered}
 use Rattle.wit_semver_spec.specs.Rewritten.{Upgrade, Versioned, are_on_one_track, both, first_or, have_one_track, imported, is_below, is_older_than, is_replaced, kept_on_track, newest, track_key, versioned}
 use Rattle.wit_semver_laws.specs.laws.TrackLaws.{IsGreatest}
 

@@ -17,11 +17,11 @@ use Rattle.wit_data.specs.declared.world.WorldItem.{WorldItem}
 use Rattle.wit_data.specs.declared.world.WorldKey.{WorldKey}
 use Rattle.wit_data.specs.declared.world.WorldKey.TheVariants as key
 use Rattle.wit_digraph.specs.facts.MemberFacts.{Contains-cons_cases, Contains-nil}
-use Rattle.wit_elaboration.proofs.Filters.{Contains-filter}
+use Rattle.wit_elaboration.specs.facts.Filters.{Contains-filter}
 use Rattle.wit_elaboration.specs.Entries.{Entry}
 use Rattle.wit_values.specs.Table.{HasDistinctKeys}
 use Rattle.wit_graph_theory.specs.facts.ListFacts.{contained_at}
-use Rattle.wit_transform.proofs.Distinct.{entry_of_key, key_of_entry}
+use Rattle.wit_transform.specs.facts.Distinct.{entry_of_key, key_of_entry}
 use Rattle.wit_transform.proofs.ListsFrom.{answered_in}
 use Rattle.wit_transform.specs.Transformed.{type_label, entries_by_answer, is_type, type_entries}
 

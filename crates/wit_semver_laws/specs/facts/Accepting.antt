@@ -20,7 +20,7 @@ use Rattle.wit_data.specs.declared.world.WorldKey.{WorldKey}
 use Rattle.wit_data.specs.declared.types.TypeOwner.TheVariants as owner
 use Rattle.wit_data.specs.declared.world.WorldItem.TheVariants as item
 use Rattle.wit_data.specs.declared.world.WorldKey.TheVariants as key
-use Rattle.wit_elaboration.proofs.Filters.{Contains-filter}
+use Rattle.wit_elaboration.specs.facts.Filters.{Contains-filter}
 use Rattle.wit_elaboration.specs.Elaborated.{Elaborated}
 use Rattle.wit_elaboration.specs.laws.ElaborationLaws.{ConflictsAreRefused}
 use Rattle.wit_elaboration.specs.Entries.{Entry}
@@ -35,12 +35,12 @@ use Rattle.wit_graph_data.specs.declared.graph.Graph.{Graph}
 use Rattle.wit_graph_theory.specs.facts.EntryFacts.{key_entry}
 use Rattle.wit_graph_theory.specs.facts.ListFacts.{at_map, contained_at, found_at, place_of, some_at}
 use Rattle.wit_graph_theory.specs.facts.NamedUses.{used_is_named}
-use Rattle.wit_transform.proofs.UnnamedOnceTransformed.{set_split}
+use Rattle.wit_transform.specs.facts.UnnamedOnceTransformed.{set_split}
 use Rattle.wit_elaboration.specs.AllElaborated.{DependsOnItself, RefersToItself, UsesItself, all_elaborated, elaborated_world, interface_cycle_text}
 use Rattle.wit_graph_theory.specs.facts.OptionFacts.{some_same, some_there}
 use Rattle.wit_semver_spec.specs.Rewritten.{listed_world, new_target, retargeted, rewritten, rewritten_types, with_new_entries_at, Upgrade, is_replaced, newest, IsComplete, SemverMergeIsAccepted, conflict_4, interface_cycle_22, package_cycle_6, type_cycle_23, type_missing_25}
-use Rattle.wit_semver_laws.proofs.Greatest.{newest_stays}
-use Rattle.wit_semver_laws.proofs.TypesAfter.{retargeted_name, retargeted_owner, transformed_from, transformed_type, type_after, type_into}
+use Rattle.wit_semver_laws.specs.facts.Greatest.{newest_stays}
+use Rattle.wit_semver_laws.specs.facts.TypesAfter.{retargeted_name, retargeted_owner, transformed_from, transformed_type, type_after, type_into}
 
 some_and : (P : ℕ → Type 0) (o : Option ℕ) → IsSomeAnd o P → (p : ℕ) × (o ≡ Some p)
 some_and P None h = absurd h

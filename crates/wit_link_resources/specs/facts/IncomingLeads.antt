@@ -24,7 +24,7 @@ use Rattle.wit_link_spec.specs.Selected.{rank, selected, selected_with_index}
 use Rattle.wit_link_spec.specs.ValueRemap.{ValueRemap, positions, types_without_owns}
 use Rattle.wit_link_spec.specs.steps.NewThings.{is_from, is_new}
 use Rattle.wit_link_resources.specs.steps.IncomingTypes.{CanCome, IsRemapOf, IsRemapped, leads_in}
-use Rattle.wit_link_resources.proofs.Leads.{leads_here, leads_on, leads_stays, target_there, walk_falls}
+use Rattle.wit_link_resources.specs.facts.Leads.{leads_here, leads_on, leads_stays, target_there, walk_falls}
 use Rattle.wit_link_resources.proofs.Rows.{alias_acyclic}
 
 abbrev row : TypeDef → List ℕ

@@ -16,7 +16,7 @@ use Rattle.wit_digraph.specs.facts.FreshFacts.{fresh-seen, fresh-new, contains_f
 use Rattle.wit_digraph.specs.PostOrder.{fresh}
 use Rattle.wit_elaboration.specs.Entries.{Entry, same_key, key_interface, keyed_interfaces, fresh_entries}
 use Rattle.wit_elaboration.specs.Elaborated.{InheritedData, dependency_of}
-use Rattle.wit_elaboration.proofs.Filters.{filter-all, filter-pass, filter-fail}
+use Rattle.wit_elaboration.specs.facts.Filters.{filter-all, filter-pass, filter-fail}
 
 pub same_key-true : (k l : WorldKey) → same_key k l ≡ true → k ≡ l
 same_key-true (Name m) (Name n) same = ap (λ x. Name x) ((bytes_eq-Decides m n).0 same)

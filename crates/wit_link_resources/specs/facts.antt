@@ -1,0 +1,3 @@
+pub mod IncomingLeads
+pub mod Leads
+pub mod MetTypes
