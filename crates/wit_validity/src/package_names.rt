@@ -20,8 +20,7 @@ pub(crate) fn has_package_names(packages: &[Package], names: &Table<PackageName,
 fn name_their_own(packages: &[Package], names: &Table<PackageName, PackageId>) -> bool
     ensures { IsTrue result ↔ Each (λ (e : PackageName × ℕ). SomeAt packages.now e.1 (λ (home : Package). home.name ≡ e.0)) names.now }
 {
-    for index in 0..names.len() {
-        let (name, id) = names.entry_at(index);
+    for (name, id) in names.iter() {
         if !has_this_name(packages, *id, name) {
             return false;
         }

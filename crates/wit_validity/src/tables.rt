@@ -118,8 +118,7 @@ fn have_interfaces(packages: &[Package], interfaces: &[Interface]) -> bool
 fn has_interfaces(interfaces: &[Interface], home: usize, table: &Names<InterfaceId>) -> bool
     ensures { IsTrue result ↔ Each (λ (e : List ℕ × ℕ). IsInterfaceOf interfaces.now home e.0 e.1) table.now }
 {
-    for index in 0..table.len() {
-        let (name, id) = table.entry_at(index);
+    for (name, id) in table.iter() {
         if !is_interface_of(interfaces, home, name, *id) {
             return false;
         }
@@ -161,8 +160,7 @@ fn have_worlds(packages: &[Package], worlds: &[World]) -> bool
 fn has_worlds(worlds: &[World], home: usize, table: &Names<WorldId>) -> bool
     ensures { IsTrue result ↔ Each (λ (e : List ℕ × ℕ). IsWorldOf worlds.now home e.0 e.1) table.now }
 {
-    for index in 0..table.len() {
-        let (name, id) = table.entry_at(index);
+    for (name, id) in table.iter() {
         if !is_world_of(worlds, home, name, *id) {
             return false;
         }

@@ -29,8 +29,7 @@ fn are_of_package(
 ) -> bool
     ensures { IsTrue result ↔ Each (λ (e : Entry). IsOfPackage interfaces.now home.now e.1) entries.now }
 {
-    for index in 0..entries.len() {
-        let (_, item) = entries.entry_at(index);
+    for (_, item) in entries.iter() {
         if !is_of_package(interfaces, home, item) {
             return false;
         }
