@@ -110,8 +110,7 @@ fn interface_fits(interface: &Interface, offset: u32) -> bool
 fn functions_fit(interface: &Interface, offset: u32) -> bool
     ensures { IsTrue result ↔ Each (λ (e : List ℕ × Function). FunctionFits (Fits offset) e.1) interface.now.functions }
 {
-    for index in 0..interface.functions.len() {
-        let (_, function) = interface.functions.entry_at(index);
+    for (_, function) in interface.functions.iter() {
         if !function_fits(function, offset) {
             return false;
         }
@@ -154,8 +153,7 @@ fn world_and_entries_fit(world: &World, offset: u32) -> bool
 fn entries_fit(entries: &Table<WorldKey, WorldItem>, offset: u32) -> bool
     ensures { IsTrue result ↔ EntriesFit (Fits offset) entries.now }
 {
-    for index in 0..entries.len() {
-        let (_, item) = entries.entry_at(index);
+    for (_, item) in entries.iter() {
         if !item_fits(item, offset) {
             return false;
         }
