@@ -88,8 +88,7 @@ fn types_of(
     ensures { IfOk result (λ types. types ≡ type_entries entries.now) }
 {
     let mut types = Table::new(alloc);
-    for index in 0..entries.len() {
-        let (key, item) = entries.entry_at(index);
+    for (key, item) in entries.iter() {
         if holds_type(item) {
             push_copy(&mut types, key, item)?;
         }
@@ -105,8 +104,7 @@ fn common_label<'a>(
     ensures some { IfSome result (λ label. Contains (keys_of exports.now) (key.Name label.now) × Contains (keys_of entries.now) (key.Name label.now)) }
     ensures none { IfNone result ((label : List ℕ) → Contains (keys_of exports.now) (key.Name label) → Contains (keys_of entries.now) (key.Name label) → ⊥) }
 {
-    for index in 0..exports.len() {
-        let (key, _) = exports.entry_at(index);
+    for (key, _) in exports.iter() {
         match key {
             WorldKey::Name(label) => {
                 if entries.contains_key(key) {
@@ -127,8 +125,7 @@ fn add_copies(
     requires { (k : WorldKey) → Contains (keys_of more.now) k → Contains (keys_of entries.old) k → ⊥ }
     ensures { OnOk result (entries.new ≡ entries.old ++ more.now) }
 {
-    for index in 0..more.len() {
-        let (key, item) = more.entry_at(index);
+    for (key, item) in more.iter() {
         push_copy(entries, key, item)?;
     }
     Ok(())
@@ -187,8 +184,7 @@ fn with_answer(
 fn type_label(entries: &Table<WorldKey, WorldItem>) -> Option<&Text>
     ensures { option_copied result ≡ slice_get (type_labels entries.now) 0 }
 {
-    for index in 0..entries.len() {
-        let (key, item) = entries.entry_at(index);
+    for (key, item) in entries.iter() {
         match key {
             WorldKey::Name(label) => {
                 if holds_type(item) {

@@ -64,8 +64,7 @@ fn others(
     ensures { IfOk result (λ others. others ≡ filter (λ e. not (nat_eq e.1 world)) table.now) }
 {
     let mut others = Names::new(alloc);
-    for index in 0..table.len() {
-        let (name, id) = table.entry_at(index);
+    for (name, id) in table.iter() {
         if is_other(*id, world) {
             push_world(alloc, &mut others, name, *id)?;
         }

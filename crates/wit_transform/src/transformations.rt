@@ -210,8 +210,7 @@ fn answers_of<F: Fn(&WorldKey, &WorldItem) -> bool>(
     ensures { IfOk result (AreAnswers F.Fn filter.now imports.now) }
 {
     let mut answers = Items::new(alloc);
-    for index in 0..imports.len() {
-        let (key, item) = imports.entry_at(index);
+    for (key, item) in imports.iter() {
         answers.push(answer_of(filter, key, item))?;
     }
     Ok(answers)
