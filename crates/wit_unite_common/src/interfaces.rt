@@ -40,8 +40,7 @@ pub fn interface_mismatch(
     ensures some { IfOk result (λ found. IfSome found (λ text. HaveFunctionMismatch from.now into.now (string_bytes text))) }
     ensures none { IfOk result (λ found. IfNone found ((text : List ℕ) → HaveFunctionMismatch from.now into.now text → ⊥)) }
 {
-    for index in 0..from.functions.len() {
-        let (name, function) = from.functions.entry_at(index);
+    for (name, function) in from.functions.iter() {
         match named_mismatch(alloc, name, function, into)? {
             Some(text) => return Ok(Some(text)),
             None => {}

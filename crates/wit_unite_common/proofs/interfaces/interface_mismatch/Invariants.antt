@@ -1,6 +1,7 @@
+use Rattle.std.proofs.Common.{length}
 use Rattle.wit_unite_common.proofs.Steps.{FirstAgreeIn}
 use Rattle.wit_unite_common.proofs.interfaces.interface_mismatch.Given as goal
 
 -- the first ones agree
-abbrev pub invariant-loop-index : goal.invariant-loop-index
-invariant-loop-index l = FirstAgreeIn l.index l.from.functions l.into
+abbrev pub invariant-loop-name : goal.invariant-loop-name
+invariant-loop-name l = FirstAgreeIn (length l.yielded) l.from.functions l.into
