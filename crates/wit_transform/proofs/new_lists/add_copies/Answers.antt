@@ -1,7 +1,7 @@
 use Rattle.std.proofs.Common.{◌∙◌, length}
 use Rattle.std.proofs.lemmas.Map.Iter.{iter_turn}
 use Rattle.std.specs.Map.Iter.{deref_pair}
-use Rattle.wit_transform.proofs.Looked.{added_is_new}
+use Rattle.wit_transform.specs.facts.Looked.{added_is_new}
 use Rattle.wit_transform.proofs.new_lists.add_copies.Goals as goal
 
 pub push_copy-requires : goal.push_copy-requires

@@ -3,7 +3,7 @@ use Rattle.std.proofs.lemmas.List.{length_push}
 use Rattle.std.proofs.lemmas.Map.Iter.{iter_turn}
 use Rattle.std.specs.Map.Iter.{deref_pair}
 use Rattle.wit_elaboration.specs.Entries.{Entry}
-use Rattle.wit_transform.proofs.Looked.{left-next, type_is_new}
+use Rattle.wit_transform.specs.facts.Looked.{left-next, type_is_new}
 use Rattle.wit_transform.specs.Transformed.{is_type}
 use Rattle.wit_transform.proofs.new_lists.types_of.Goals as goal
 

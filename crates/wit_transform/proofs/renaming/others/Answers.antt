@@ -3,7 +3,7 @@ use Rattle.std.specs.Prelude.{nat_eq}
 use Rattle.std.proofs.lemmas.List.{length_push}
 use Rattle.std.proofs.lemmas.Map.Iter.{iter_turn}
 use Rattle.wit_values.specs.Names.{deref_named}
-use Rattle.wit_transform.proofs.Looked.{left-next, other_is_new}
+use Rattle.wit_transform.specs.facts.Looked.{left-next, other_is_new}
 use Rattle.wit_transform.proofs.renaming.others.Goals as goal
 
 pub push_world-requires : goal.push_world-requires
