@@ -6,11 +6,10 @@ use Rattle.std.proofs.lemmas.List.{length-map}
 use Rattle.wit_data.specs.Uses.{interface_uses}
 use Rattle.wit_data.specs.declared.world.World.{World}
 use Rattle.wit_digraph.specs.Relation.{IsAcyclic}
-use Rattle.wit_elaboration.specs.declared.entries.Lists.{Lists}
 use Rattle.wit_graph_data.specs.declared.graph.Graph.{Graph}
 use Rattle.wit_graph_data.specs.declared.error_kind.ResolveErrorKind.{ResolveErrorKind}
 use Rattle.wit_elaboration.specs.steps.Elaborating.{IsFirstConflict}
-use Rattle.wit_elaboration.specs.Elaboration.{AreElaborated, graph_uses, HasConflictAt, IsConflictError, IsErrorAt}
+use Rattle.wit_elaboration.specs.Elaboration.{graph_uses, HasConflictAt, IsConflictError, IsErrorAt}
 use Rattle.wit_elaboration.specs.Entries.{Entry}
 use Rattle.wit_graph_data.specs.IdText.{key_text}
 use Rattle.wit_elaboration.specs.Imported.{HasTransitiveConflict, IsRefusedKey, IsRefusedName, exported_keys, exported_interfaces}
@@ -65,9 +64,9 @@ module _ (g : Graph) (uses : List (List ℕ)) (w : World) (acyclic : IsAcyclic u
 pub none_found : (uses : List (List ℕ)) (exports : List Entry) → IsFirstConflict uses exports None → HasTransitiveConflict uses exports → ⊥
 none_found uses exports none conflict = let found = conflict_found uses exports conflict in none found.0 found.1 found.2
 
--- a world whose lists were made has no conflict
-pub no_conflict_at : (g : Graph) (id : ℕ) (lists : Lists) → AreElaborated g id lists → HasConflictAt g id → ⊥
-no_conflict_at g id lists are conflict = are.2 (subst (λ (w : World). HasTransitiveConflict (graph_uses g) w.exports) (one_world g.worlds id conflict.0 are.0 conflict.1 are.1) conflict.2)
+-- a world without a conflict has none at its place
+pub no_conflict_at : (g : Graph) (id : ℕ) (world : World) → slice_get g.worlds id ≡ Some world → (HasTransitiveConflict (graph_uses g) world.exports → ⊥) → HasConflictAt g id → ⊥
+no_conflict_at g id world there none conflict = none (subst (λ (w : World). HasTransitiveConflict (graph_uses g) w.exports) (one_world g.worlds id conflict.0 world conflict.1 there) conflict.2)
   where
     one_world : (ws : List World) (i : ℕ) (a b : World) → slice_get ws i ≡ Some a → slice_get ws i ≡ Some b → a ≡ b
     one_world ws i a b first second = cc

@@ -8,7 +8,7 @@ use Rattle.wit_elaboration.specs.declared.entries.Lists.{Lists}
 use Rattle.wit_graph_data.specs.declared.graph.Graph.{Graph}
 use Rattle.wit_graph_data.specs.declared.error_kind.ResolveErrorKind.{ResolveErrorKind}
 use Rattle.wit_graph_data.specs.declared.error_kind.ResolveErrorKind.TheVariants.{InvalidTransitiveDependency, OutOfMemory}
-use Rattle.wit_elaboration.specs.Elaborated.{Elaborated, elaborated_imports, elaborated_exports, with_elaborated_lists}
+use Rattle.wit_elaboration.specs.Elaborated.{Elaborated, with_elaborated_lists}
 use Rattle.wit_elaboration.specs.Entries.{Entry}
 use Rattle.wit_graph_data.specs.IdText.{key_text}
 use Rattle.wit_elaboration.specs.Imported.{HasTransitiveConflict, IsRefusedName}
@@ -32,13 +32,6 @@ abbrev pub ElaboratesWorld : Graph → ℕ → Graph → Type 0
 ElaboratesWorld old id new =
     (before : World) × (after : World) × (slice_get old.worlds id ≡ Some before) × Elaborated old.types (graph_uses old) before after
     × (new ≡ record old { worlds = slice_set old.worlds id after })
-
--- the elaborated lists of the world at a place, which has no conflict
-abbrev pub AreElaborated : Graph → ℕ → Lists → Type 0
-AreElaborated g id lists =
-    (world : World) × (slice_get g.worlds id ≡ Some world) × (HasTransitiveConflict (graph_uses g) world.exports → ⊥)
-    × (lists.imports ≡ elaborated_imports g.types (graph_uses g) world.imports world.exports)
-    × (lists.exports ≡ elaborated_exports g.types (graph_uses g) world.exports)
 
 -- memory is wanting, or the world has a conflict, and the error has the world's span and the name of the first export
 -- that leads to it

@@ -3,7 +3,7 @@
 //! A listed world says what it imports and exports; its elaboration adds what these need. Imports
 //! get what they use before them, exports too, and what exports need from outside is imported.
 ghost use Rattle.std.specs.Prelude.{◌≡◌, ◌<◌, ◌++◌, ◌∷◌, [], IfOk, IfErr, IsTrue, OnOk, OnErr, length, take};
-ghost use Rattle.wit_elaboration.specs.Elaboration.{elaborated_world, AreElaborated, ElaboratesWorld, HasConflictAt, IsConflictError, IsElaborationError, IsErrorAt, HasSoundEntriesAt, graph_uses};
+ghost use Rattle.wit_elaboration.specs.Elaboration.{elaborated_world, ElaboratesWorld, HasConflictAt, IsConflictError, IsElaborationError, IsErrorAt, HasSoundEntriesAt, graph_uses};
 ghost use Rattle.wit_elaboration.specs.Elaborated.{elaborated_exports, elaborated_imports};
 ghost use Rattle.wit_elaboration.specs.steps.Elaborating.{HaveNodes, IsExportedList};
 ghost use Rattle.wit_elaboration.specs.Imported.{HasTransitiveConflict};
@@ -161,30 +161,11 @@ impl Elaborator {
         ensures refuses { HasConflictAt graph.old world → OnOk result ⊥ }
         ensures same { self.new ≡ self.old }
     {
-        let lists = self.elaborated_lists(alloc, graph, world)?;
+        let lists = self.lists_for(alloc, graph, graph.worlds.at(world.index()))?;
         let current = graph.worlds.at_mut(world.index());
         current.imports = lists.imports;
         current.exports = lists.exports;
         Ok(())
-    }
-
-    /// The elaborated lists of a world of a graph that has these types and interfaces, which stays
-    /// as it is. Conditions and refusals are those of `elaborate`.
-    pub fn elaborated_lists(
-        &mut self,
-        alloc: Global,
-        graph: &Graph,
-        world: WorldId,
-    ) -> ResolveResult<Lists>
-        requires uses { self.old ≡ graph_uses graph.now }
-        requires world { world < length graph.now.worlds }
-        requires acyclic { IsAcyclic (graph_uses graph.now) }
-        requires listed { HasSoundEntriesAt graph.now world }
-        ensures ok { IfOk result (AreElaborated graph.now world) }
-        ensures cause { IfErr result (IsElaborationError graph.now world) }
-        ensures same { self.new ≡ self.old }
-    {
-        self.lists_for(alloc, graph, graph.worlds.at(world.index()))
     }
 
     /// The elaborated lists of a world over the types and interfaces of a graph, of which it need
