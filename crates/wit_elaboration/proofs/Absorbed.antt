@@ -16,7 +16,7 @@ use Rattle.wit_elaboration.specs.Elaborated.{InheritedData, dependency_of, depen
 use Rattle.wit_elaboration.specs.laws.ElaborationLaws.{stands_on, DependenciesFirst}
 use Rattle.wit_elaboration.specs.Sound.{IsRoleInRange}
 use Rattle.wit_elaboration.specs.facts.FreshEntries.{AllNew, interfaces_of_keys, ids-push, id_known, Contains-deps, fresh_entries-all_known, fresh_entries-new}
-use Rattle.wit_elaboration.proofs.Order.{AreOwn}
+use Rattle.wit_elaboration.specs.facts.Order.{AreOwn}
 
 module _ (types : List TypeDef) where
   module _ (uses : List (List ℕ)) (acyclic : IsAcyclic uses) where

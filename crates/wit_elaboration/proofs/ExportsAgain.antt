@@ -15,7 +15,7 @@ use Rattle.wit_elaboration.proofs.Absorbed.{absorbed}
 use Rattle.wit_elaboration.proofs.ExportedUses.{among-acyclic, inner_exported, exported_entry, entry_exported, id_inj}
 use Rattle.wit_elaboration.specs.facts.Filters.{Contains-filter, Contains-filtered, filter-all, filter-none, not_true}
 use Rattle.wit_elaboration.specs.facts.FreshEntries.{Contains-keys, Contains-deps, fresh_entries_in, fresh_entries_all, fresh_entries-AllNew}
-use Rattle.wit_elaboration.proofs.Order.{AreOwn, DependenciesFirst-fresh, entry_walks_first}
+use Rattle.wit_elaboration.specs.facts.Order.{AreOwn, DependenciesFirst-fresh, entry_walks_first}
 use Rattle.wit_elaboration.proofs.Roles.{InOrder, class_from_instance, is_instance_from_role}
 
 module _ (types : List TypeDef) where

@@ -21,7 +21,7 @@ use Rattle.wit_elaboration.proofs.ExportedUses.{id_inj}
 use Rattle.wit_elaboration.proofs.ExportsAgain.{functions, kept, made, exported_below, test_same}
 use Rattle.wit_elaboration.specs.facts.Filters.{Contains-filter}
 use Rattle.wit_elaboration.specs.facts.FreshEntries.{Contains-keys, Contains-deps, deps-Contains, known_from_contains, fresh_entries_in, fresh_entries_all, fresh_entries-append, fresh_entries-all_known, fresh_entries-AllNew}
-use Rattle.wit_elaboration.proofs.Order.{DependenciesFirst-append, DependenciesFirst-fresh, DependenciesFirst-map, entry_walks_first}
+use Rattle.wit_elaboration.specs.facts.Order.{DependenciesFirst-append, DependenciesFirst-fresh, DependenciesFirst-map, entry_walks_first}
 use Rattle.wit_elaboration.proofs.Roles.{InOrder, instance_from_role, role_of-without_span, without_span-twice}
 use Rattle.wit_elaboration.proofs.Steps.{import_steps_first, import_steps_below, needs_below}
 

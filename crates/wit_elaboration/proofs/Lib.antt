@@ -28,7 +28,6 @@ pub mod MadeEntries
 pub mod Marking
 pub mod MayConflict
 pub mod OneWalk
-pub mod Order
 pub mod PassMarks
 mod QueryExamples
 pub mod ReachedColumns

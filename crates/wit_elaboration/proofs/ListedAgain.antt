@@ -17,7 +17,7 @@ use Rattle.wit_elaboration.specs.facts.Classes.{by_class_in}
 use Rattle.wit_elaboration.proofs.ExportsAgain.{functions, kept, kept_own, kept_range}
 use Rattle.wit_elaboration.specs.facts.Filters.{Contains-filter}
 use Rattle.wit_elaboration.proofs.ImportsAgain.{all_imports, import_fine}
-use Rattle.wit_elaboration.proofs.Order.{AreOwn}
+use Rattle.wit_elaboration.specs.facts.Order.{AreOwn}
 use Rattle.wit_elaboration.proofs.Roles.{InOrder, in_order, instance_from_role}
 
 -- what is so of every member is so of each element

@@ -8,7 +8,6 @@ mod NewPositions
 mod OwnFunctions
 mod Ranges
 mod Ranks
-mod Rows
 mod Searching
 mod Tells
 mod Ways

@@ -1,3 +1,4 @@
 pub mod IncomingLeads
 pub mod Leads
 pub mod MetTypes
+pub mod Rows

@@ -4,8 +4,6 @@ pub mod OneOutcome
 pub mod Past
 pub mod Pieces
 pub mod Pushed
-pub mod Scripts
 pub mod Staged
 pub mod Stays
-pub mod Stepped
 pub mod Told

@@ -2,7 +2,7 @@
 use Rattle.std.proofs.Common.{◌≡◌, ℕ, Bool, true, false, ◌||◌, List, length, Option, None, Some, IsTrue, is_some, refl, sym, ap, subst, ◌∙◌, arith}
 use Rattle.wit_script_package.specs.declared.draft.Draft.{Draft}
 use Rattle.wit_script_lines.specs.Line.{last_statement_line, lines_of}
-use Rattle.wit_script.proofs.Scripts.{before-whole}
+use Rattle.wit_script.specs.facts.Scripts.{before-whole}
 use Rattle.wit_script.proofs.Stays.{goes-on, no-reading, one-bad-line}
 use Rattle.wit_script.specs.Ready.{AreReady}
 use Rattle.wit_script.specs.Script.{IsBadLine, IsLeftOpen, IsUnderstood, reading_of}

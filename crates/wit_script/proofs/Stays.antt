@@ -4,8 +4,8 @@ use Rattle.std.proofs.lemmas.Bool.{cases_order}
 use Rattle.std.specs.Option.{option_and_then}
 use Rattle.wit_script_lines.specs.Statement.{statement_of}
 use Rattle.wit_script_lines.specs.declared.statement.Statement.{Statement}
-use Rattle.wit_script.proofs.Scripts.{before-more, step_at}
-use Rattle.wit_script.proofs.Stepped.{adds, said-makes, stays}
+use Rattle.wit_script.specs.facts.Scripts.{before-more, step_at}
+use Rattle.wit_script.specs.facts.Stepped.{adds, said-makes, stays}
 use Rattle.wit_script.specs.Ready.{AreReady}
 use Rattle.wit_script.specs.Script.{IsBad, IsBadLine, after_line, after_statement_in, new_reading, reading_before}
 use Rattle.wit_script.specs.declared.reader.Reading.{Reading}

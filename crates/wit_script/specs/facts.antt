@@ -1,2 +1,4 @@
 pub mod Answered
+pub mod Scripts
+pub mod Stepped
 pub mod Waiting

@@ -1,9 +1,7 @@
 pub mod EachElaborated
 pub mod Kept
-pub mod KeptKeys
 pub mod KeptLabels
 pub mod ListedUses
 pub mod NewestNamed
-pub mod UpgradedTypes
 pub mod ValidRewriting
 pub mod WorldsGood

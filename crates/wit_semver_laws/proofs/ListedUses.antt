@@ -33,7 +33,7 @@ use Rattle.wit_graph_theory.specs.facts.PackagesAcyclic.{there_is}
 use Rattle.wit_transform.specs.facts.UnnamedOnceTransformed.{set_split}
 use Rattle.wit_semver_spec.specs.Rewritten.{entry_types, is_replaced_entry, kept_imports, listed_world, rewritable_types, rewritten_types, types_of, Upgrade, IsComplete}
 use Rattle.wit_semver_laws.specs.facts.Accepting.{new_uses, relisted_worlds}
-use Rattle.wit_semver_laws.proofs.KeptKeys.{named_lists_uses}
+use Rattle.wit_semver_laws.specs.facts.KeptKeys.{named_lists_uses}
 use Rattle.wit_semver_laws.specs.facts.TypesAfter.{needs_after}
 
 instance_item : (held : WorldItem) (i : ℕ) → Contains (item_interface held) i → item_interface held ≡ i ∷ []

@@ -26,9 +26,9 @@ use Rattle.wit_elaboration.specs.Valid.{IsValid}
 use Rattle.wit_graph_theory.specs.facts.ListFacts.{found_at, get_at, place_of}
 use Rattle.wit_graph_theory.specs.facts.LawsOfElaboration.{LawsOfElaboration}
 use Rattle.wit_transform.specs.facts.Distinct.{entry_of_key}
-use Rattle.wit_transform.proofs.ListsFrom.{ComesFrom, exportized_comes, importized_comes}
+use Rattle.wit_transform.specs.facts.ListsFrom.{ComesFrom, exportized_comes, importized_comes}
 use Rattle.wit_transform.proofs.Refusals.{no_types, none_told}
-use Rattle.wit_transform.proofs.TransformedWorlds.{in_order}
+use Rattle.wit_transform.specs.facts.TransformedWorlds.{in_order}
 use Rattle.wit_transform.proofs.ValidTransformations.{transformed_is_valid}
 use Rattle.wit_transform.specs.Transformed.{IsExportizeCause, IsImportizeCause, HasNameTaken, export_conflict, export_refusal, exportized_name_taken, imports_at, importized_name_taken, label_clash, label_clash_text, name_taken_text, not_exported, AreUnderLabels, WorldLists, exportized, importized, is_type, transformed, transformed_at, type_entries}
 

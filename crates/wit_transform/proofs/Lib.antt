@@ -1,10 +1,8 @@
 pub mod Accepted
 pub mod Answering
-pub mod ListsFrom
 pub mod NamedInterfaces
 pub mod Refusals
 pub mod TransformExamples
 pub mod TransformSteps
 pub mod TransformedBack
-pub mod TransformedWorlds
 pub mod ValidTransformations

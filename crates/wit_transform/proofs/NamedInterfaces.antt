@@ -22,8 +22,8 @@ use Rattle.wit_graph_theory.specs.facts.EntryFacts.{export_named, export_uses, i
 use Rattle.wit_graph_theory.specs.facts.ListFacts.{place_of}
 use Rattle.wit_graph_theory.specs.laws.PackageCycles.{ListsKey}
 use Rattle.wit_graph_theory.specs.facts.LawsOfElaboration.{LawsOfElaboration}
-use Rattle.wit_transform.proofs.ListsFrom.{ComesFrom}
-use Rattle.wit_transform.proofs.TransformedWorlds.{done, in_order, is_elaborated, listed, old_entry}
+use Rattle.wit_transform.specs.facts.ListsFrom.{ComesFrom}
+use Rattle.wit_transform.specs.facts.TransformedWorlds.{done, in_order, is_elaborated, listed, old_entry}
 use Rattle.wit_transform.specs.Transformed.{WorldLists}
 
 -- rows that lack some uses of acyclic ones

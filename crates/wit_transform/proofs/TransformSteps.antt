@@ -13,9 +13,9 @@ use Rattle.wit_graph_data.specs.declared.error_kind.ResolveErrorKind.{ResolveErr
 use Rattle.wit_graph_data.specs.declared.error_kind.ResolveErrorKind.TheVariants.{PackageNotFound, WorldNotFound, InterfaceNotFound, InvalidTransitiveDependency, DuplicatePackage, PackageCycle, ItemShadowing, StabilityMismatch, Semantic, OffsetOverflow, OutOfMemory}
 use Rattle.wit_graph_theory.specs.facts.ListFacts.{found_at, get_at, same_at, some_at}
 use Rattle.wit_transform.proofs.Accepted.{home_at, under_labels}
-use Rattle.wit_transform.proofs.ListsFrom.{exportized_comes, importized_comes}
+use Rattle.wit_transform.specs.facts.ListsFrom.{exportized_comes, importized_comes}
 use Rattle.wit_transform.proofs.Refusals.{no_types}
-use Rattle.wit_transform.proofs.TransformedWorlds.{in_order_over}
+use Rattle.wit_transform.specs.facts.TransformedWorlds.{in_order_over}
 use Rattle.wit_transform.specs.Transformed.{ExportizeCause, ExportsAreInConflict, HasClash, HasPackageAt, ImportizeCause, IsExportizeCause, IsImportizeCause, NameIsFreeAt, export_conflict, export_refusal, exportized_name_taken, importized_name_taken, label_clash, not_exported, WorldLists, entries_by_answer, exportized, importized, listed_world, transformed, transformed_at, type_entries}
 
 -- ---- the world and its package

@@ -29,9 +29,9 @@ use Rattle.wit_graph_theory.specs.facts.ListFacts.{Contains-map, Contains-map_ca
 use Rattle.wit_graph_theory.specs.facts.LawsOfElaboration.{LawsOfElaboration}
 use Rattle.wit_transform.proofs.Accepted.{IsAcceptedTransformation, exportized_accepted, importized_accepted, importized_valid}
 use Rattle.wit_transform.specs.facts.Distinct.{entry_of_key, key_of_entry}
-use Rattle.wit_transform.proofs.ListsFrom.{answered_from, answered_into}
+use Rattle.wit_transform.specs.facts.ListsFrom.{answered_from, answered_into}
 use Rattle.wit_transform.proofs.NamedInterfaces.{import_uses}
-use Rattle.wit_transform.proofs.TransformedWorlds.{in_order, is_elaborated, listed}
+use Rattle.wit_transform.specs.facts.TransformedWorlds.{in_order, is_elaborated, listed}
 use Rattle.wit_transform.specs.Transformed.{IsExportizeCause, imports_at, WorldLists, entries_by_answer, exportized, importized, transformed, transformed_at, transformed_world, type_entries}
 use Rattle.wit_transform.specs.laws.TransformLaws.{AreFormerExports, ExportizedImportsNothing, ImportizedExportsNothing, ImportizedThenExportized, IsBehind}
 

@@ -33,11 +33,11 @@ use Rattle.wit_graph_theory.specs.facts.UnnamedOnceFacts.{StandOnce-from_entries
 use Rattle.wit_graph_theory.specs.facts.PackagesAcyclic.{is_there, length-numbered, numbered_from, numbered_into, there_is}
 use Rattle.wit_graph_theory.specs.facts.LawsOfElaboration.{LawsOfElaboration}
 use Rattle.wit_transform.specs.facts.Distinct.{entry_of_key, joined_distinct, more_distinct}
-use Rattle.wit_transform.proofs.ListsFrom.{ComesFrom}
+use Rattle.wit_transform.specs.facts.ListsFrom.{ComesFrom}
 use Rattle.wit_transform.specs.facts.Looked.{differs, is_other}
 use Rattle.wit_transform.proofs.NamedInterfaces.{done_named, fewer_acyclic}
 use Rattle.wit_transform.specs.facts.UnnamedOnceTransformed.{set_split, unnamed_once_transformed}
-use Rattle.wit_transform.proofs.TransformedWorlds.{done, done_is_canonical, done_is_good, types_stay}
+use Rattle.wit_transform.specs.facts.TransformedWorlds.{done, done_is_canonical, done_is_good, types_stay}
 use Rattle.wit_transform.specs.Transformed.{NameIsTakenIn, WorldLists, put_last, transformed_at, with_renamed}
 
 some_and : (P Q : ℕ → Type 0) (o : Option ℕ) → ((q : ℕ) → P q → Q q) → IsSomeAnd o P → IsSomeAnd o Q

@@ -13,7 +13,7 @@ use Rattle.wit_elaboration.specs.Entries.{Entry, Role, Instance, TypeUse, TypeDe
 use Rattle.wit_elaboration.specs.laws.ElaborationLaws.{stands_on, DependenciesFirst}
 use Rattle.wit_elaboration.specs.facts.Filters.{Contains-filter, Contains-filtered, filter-all, filter-none, filter-pass, filter-fail}
 use Rattle.wit_elaboration.specs.facts.FreshEntries.{AllNew, AllNew-append, AllNew-over, AllNew-filter, AllNew-one, Contains-keys}
-use Rattle.wit_elaboration.proofs.Order.{AreOwn, DependenciesFirst-append}
+use Rattle.wit_elaboration.specs.facts.Order.{AreOwn, DependenciesFirst-append}
 
 module _ (types : List TypeDef) where
   five : {A B : Type 0} (f : A → A → A → A → A → B) {a a' b b' c c' d d' e e' : A} → a ≡ a' → b ≡ b' → c ≡ c' → d ≡ d' → e ≡ e' → f a b c d e ≡ f a' b' c' d' e'

@@ -29,7 +29,7 @@ use Rattle.wit_graph_theory.specs.facts.OptionFacts.{some_parts}
 use Rattle.wit_semver_spec.specs.Rewritten.{listed_world, rewritten, with_new_entries_at, Upgrade, Versioned, are_on_one_track, have_one_track, is_below, is_replaced, versioned, versioned_in, versioned_of}
 use Rattle.wit_semver_laws.specs.facts.Accepting.{complete, elaborates, in_order, listed_there, merged_is, new_types, new_uses, rewritten_is, uses_acyclic}
 use Rattle.wit_semver_laws.specs.facts.Greatest.{both_from, both_into, both_true, stays_from, track_from, track_into}
-use Rattle.wit_semver_laws.proofs.KeptKeys.{IsKept, kept_holds, kept_root, kept_test, passed}
+use Rattle.wit_semver_laws.specs.facts.KeptKeys.{IsKept, kept_holds, kept_root, kept_test, passed}
 use Rattle.wit_semver_laws.specs.laws.TrackLaws.{IsSemverMerged}
 
 module _ (laws : LawsOfElaboration) (rule : TrackRule) (g : Graph) (w : ℕ) (old new : World) (merged : IsSemverMerged rule g w old new) where

@@ -24,7 +24,7 @@ use Rattle.wit_graph_theory.specs.facts.ListFacts.{at_map, found_at, from_map, p
 use Rattle.wit_graph_theory.specs.facts.OptionFacts.{option_cases, some_by, some_parts, some_same, some_there}
 use Rattle.wit_graph_theory.specs.facts.PackagesAcyclic.{numbered_from, numbered_into}
 use Rattle.wit_semver_spec.specs.Rewritten.{interface_type, type_table, new_target, retargeted, rewritable_types, rewritten_types, upgraded_types, Upgrade, is_replaced, newest, IsComplete, missing_text, name_of, target_name, upgrade_message}
-use Rattle.wit_semver_laws.proofs.UpgradedTypes.{table_from, table_into}
+use Rattle.wit_semver_laws.specs.facts.UpgradedTypes.{table_from, table_into}
 
 -- ---- parts of options
 

@@ -22,7 +22,7 @@ use Rattle.wit_elaboration.specs.Entries.{Entry}
 use Rattle.wit_values.specs.Table.{HasDistinctKeys}
 use Rattle.wit_graph_theory.specs.facts.ListFacts.{contained_at}
 use Rattle.wit_transform.specs.facts.Distinct.{entry_of_key, key_of_entry}
-use Rattle.wit_transform.proofs.ListsFrom.{answered_in}
+use Rattle.wit_transform.specs.facts.ListsFrom.{answered_in}
 use Rattle.wit_transform.specs.Transformed.{type_label, entries_by_answer, is_type, type_entries}
 
 module _ {K V : Type 0} {eq : K → K → Bool} (laws : IsEquivalence eq) (faithful : (a b : K) → eq a b ≡ true → a ≡ b) where

@@ -17,8 +17,8 @@ use Rattle.wit_graph_theory.specs.facts.ListFacts.{contained_at, place_of, same_
 use Rattle.wit_graph_theory.specs.steps.UnnamedOnce.{Holds, StandsOnceOnly}
 use Rattle.wit_graph_theory.specs.facts.UnnamedOnceCarried.{named_not}
 use Rattle.wit_graph_theory.specs.facts.LawsOfElaboration.{LawsOfElaboration}
-use Rattle.wit_transform.proofs.ListsFrom.{ComesFrom}
-use Rattle.wit_transform.proofs.TransformedWorlds.{done, done_is_good, export_from, import_from}
+use Rattle.wit_transform.specs.facts.ListsFrom.{ComesFrom}
+use Rattle.wit_transform.specs.facts.TransformedWorlds.{done, done_is_good, export_from, import_from}
 use Rattle.wit_transform.specs.Transformed.{WorldLists}
 
 -- what stands in a list after a write was written, or is old and elsewhere

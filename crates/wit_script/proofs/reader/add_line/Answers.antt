@@ -1,7 +1,7 @@
 use Rattle.std.proofs.Common.{◌≡◌, ◌∙◌, ap, Some, None}
 use Rattle.wit_script_lines.specs.Line.{tokens_of}
 use Rattle.wit_script_lines.specs.Statement.{statement_of}
-use Rattle.wit_script.proofs.Scripts.{said_nothing, said_something}
+use Rattle.wit_script.specs.facts.Scripts.{said_nothing, said_something}
 use Rattle.wit_script.proofs.reader.add_line.Goals as goal
 
 pub returns-in-None-clause-told : goal.returns-in-None-clause-told

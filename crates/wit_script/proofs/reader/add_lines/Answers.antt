@@ -1,7 +1,7 @@
 use Rattle.std.proofs.Common.{◌≡◌, ◌∙◌, ◌+◌, refl, sym, map, List, [], Some, ℕ, Bor}
 use Rattle.wit_script.specs.Script.{reading_before}
 use Rattle.wit_script.proofs.BuiltLines.{before-built}
-use Rattle.wit_script.proofs.Scripts.{bad-line, read-all, read-next, last-silent, last-said}
+use Rattle.wit_script.specs.facts.Scripts.{bad-line, read-all, read-next, last-silent, last-said}
 use Rattle.wit_script.proofs.reader.add_lines.Goals as goal
 use Rattle.wit_script.proofs.reader.add_lines.Goals.{then-says_something, else-says_something}
 

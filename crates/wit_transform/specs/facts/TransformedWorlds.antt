@@ -29,7 +29,7 @@ use Rattle.wit_graph_theory.specs.facts.GoodWorlds.{dependency_export, dependenc
 use Rattle.wit_graph_theory.specs.facts.ListFacts.{Contains-map, contained_at, place_of}
 use Rattle.wit_graph_theory.specs.facts.NamedUses.{IsUsed_named}
 use Rattle.wit_graph_theory.specs.facts.LawsOfElaboration.{LawsOfElaboration}
-use Rattle.wit_transform.proofs.ListsFrom.{ComesFrom}
+use Rattle.wit_transform.specs.facts.ListsFrom.{ComesFrom}
 use Rattle.wit_transform.specs.Transformed.{WorldLists, is_type, listed_world, transformed_world}
 
 abbrev entry : WorldKey → WorldItem → Entry
