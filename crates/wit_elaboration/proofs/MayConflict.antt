@@ -23,6 +23,23 @@ module _ (uses rows : List (List ℕ)) (exported columns : List ℕ) (e : Entry)
   pub need_none : [] ≡ item_interface e.1 → EntryMayNeed uses rows exported columns e → ⊥
   need_none gives need = Contains-nil (subst (λ xs. Contains xs need.0) (sym gives) need.1)
 
+-- of those that are left, one of which it isn't so is passed
+left_passed : {X : Type 0} (P : X → Type 0) (xs : List X) {left others : List X} (x : X) → left ≡ x ∷ others → ((y : X) → Contains xs y → P y → Contains left y) → (P x → ⊥) → (y : X) → Contains xs y → P y → Contains others y
+left_passed P xs {left} {others} x first so_far not_here y has holds =
+    elim (Contains-cons_cases x y others (subst (λ ys. Contains ys y) first (so_far y has holds))) [ inl same ↦ absurd (not_here (subst P (sym same) holds)) | inr there ↦ there ]
+
+-- some entries are left, of which this one is the first
+module _ (uses rows : List (List ℕ)) (exported columns : List ℕ) {left others : List Entry} {e : Entry} (first : left ≡ e ∷ others) (xs : List Entry) (so_far : (f : Entry) → Contains xs f → EntryMayNeed uses rows exported columns f → Contains left f) where
+  pub given_passed : (i : ℕ) → i ∷ [] ≡ item_interface e.1 → (MayNeed uses rows exported columns i → ⊥) → (f : Entry) → Contains xs f → EntryMayNeed uses rows exported columns f → Contains others f
+  given_passed i gives lacks = left_passed (EntryMayNeed uses rows exported columns) xs e first so_far (need_passed uses rows exported columns e i gives lacks)
+
+  pub nothing_passed : [] ≡ item_interface e.1 → (f : Entry) → Contains xs f → EntryMayNeed uses rows exported columns f → Contains others f
+  nothing_passed gives = left_passed (EntryMayNeed uses rows exported columns) xs e first so_far (need_none uses rows exported columns e gives)
+
+-- none are left, so it is so of none
+pub left_none : {X : Type 0} (P : X → Type 0) (xs : List X) {left : List X} → left ≡ [] → ((y : X) → Contains xs y → P y → Contains left y) → (y : X) → Contains xs y → P y → ⊥
+left_none P xs none so_far y has holds = Contains-nil (subst (λ ys. Contains ys y) none (so_far y has holds))
+
 -- where no entry may need any, there is no conflict
 pub none_needed : (uses rows : List (List ℕ)) → IsAcyclic uses → (exports : List Entry) (exported columns : List ℕ) → AreRowsOfAll uses rows → IsExportedList exported exports → HasColumnsOf exported columns →
     ((e : Entry) → Contains exports e → EntryMayNeed uses rows exported columns e → ⊥) → HasTransitiveConflict uses exports → ⊥

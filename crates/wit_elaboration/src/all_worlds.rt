@@ -49,8 +49,8 @@ fn all_lists(alloc: Global, graph: &Graph) -> ResolveResult<Items<Option<Lists>>
     let closure = Closure::of(alloc, graph)?;
     let mut elaborator = Elaborator::of(alloc, closure)?;
     let mut all = Items::new(alloc);
-    for index in 0..graph.worlds.len() {
-        let lists = new_lists(alloc, graph, &mut elaborator, graph.worlds.at(index))?;
+    for world in graph.worlds.as_slice() {
+        let lists = new_lists(alloc, graph, &mut elaborator, world)?;
         all.push(lists)?;
     }
     Ok(all)

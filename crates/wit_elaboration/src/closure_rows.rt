@@ -72,9 +72,8 @@ fn row_of(
 {
     let mut row = vec![in alloc; 0u64; WORDS]?;
     set_bit(&mut row, column_of(node));
-    let used = direct_uses(uses, node);
-    for index in 0..used.len() {
-        or_into(&mut row, row_at(rows, used[index]));
+    for used in direct_uses(uses, node) {
+        or_into(&mut row, row_at(rows, *used));
         *joins += 1;
     }
     Ok(Items::from_vec(row))
@@ -118,10 +117,9 @@ fn add_rows(
     ensures joins { IfOk result (λ joins. joins ≡ sum_by length uses.now) }
 {
     let mut joins = 0u128;
-    for index in 0..order.len() {
-        let node = order[index];
-        let row = row_of(alloc, uses, rows.as_slice(), node, &mut joins)?;
-        rows.set(node, row);
+    for node in order {
+        let row = row_of(alloc, uses, rows.as_slice(), *node, &mut joins)?;
+        rows.set(*node, row);
     }
     Ok(joins)
 }
@@ -143,8 +141,8 @@ fn columns_of(alloc: Global, nodes: &[usize]) -> Result<Vec<u64>, AllocError>
     ensures columns { IfOk result (λ columns. HasColumnsOf nodes.now columns.items) }
 {
     let mut columns = vec![in alloc; 0u64; WORDS]?;
-    for index in 0..nodes.len() {
-        set_bit(&mut columns, column_of(nodes[index]));
+    for node in nodes {
+        set_bit(&mut columns, column_of(*node));
     }
     Ok(columns)
 }
@@ -190,8 +188,7 @@ impl ClosureRows {
         ensures { IfOk result (λ may. HasTransitiveConflict uses.now exports.now → IsTrue may) }
     {
         let columns = columns_of(alloc, exported.order())?;
-        for index in 0..exports.len() {
-            let (_, item) = exports.entry_at(index);
+        for (_, item) in exports.iter() {
             if let Some(id) = item_interface(item) {
                 if self.may_need(uses, id.index(), exported, &columns) {
                     return Ok(true);
@@ -216,9 +213,8 @@ impl ClosureRows {
         requires wide { length columns.now ≡ 16 }
         ensures { IsTrue result ↔ MayNeed uses.now self.now.rows exported.now.order columns.now node }
     {
-        let used = direct_uses(uses, node);
-        for index in 0..used.len() {
-            if self.leads_outside(uses, used[index], exported, columns) {
+        for used in direct_uses(uses, node) {
+            if self.leads_outside(uses, *used, exported, columns) {
                 return true;
             }
         }

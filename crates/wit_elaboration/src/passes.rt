@@ -16,9 +16,8 @@ fn has_use(uses: &[Items<usize>], row: &[u64], node: usize) -> bool
     requires wide { length uses.now ≤ 64 * length row.now }
     ensures { IsTrue result ↔ HasUse uses.now (HasBit row.now) node }
 {
-    let used = direct_uses(uses, node);
-    for index in 0..used.len() {
-        if has_bit(row, used[index]) {
+    for used in direct_uses(uses, node) {
+        if has_bit(row, *used) {
             return true;
         }
     }
@@ -34,10 +33,9 @@ pub(crate) fn mark_leading(uses: &[Items<usize>], order: &[usize], to: usize, ma
     ensures marked { IsMarkRow uses.now order.now (λ t. t ≡ to) marks.new }
 {
     clear(marks);
-    for index in 0..order.len() {
-        let node = order[index];
-        if node == to || has_use(uses, marks, node) {
-            set_bit(marks, node);
+    for node in order {
+        if *node == to || has_use(uses, marks, *node) {
+            set_bit(marks, *node);
         }
     }
 }

@@ -6,9 +6,9 @@ use Rattle.wit_data.specs.declared.world.World.{World}
 use Rattle.wit_elaboration.proofs.all_worlds.all_lists.Given as goal
 
 -- the lists of the first worlds are made, and none of these is in conflict
-abbrev pub invariant-loop-index : goal.invariant-loop-index
-invariant-loop-index l = record {
-  lists : AreListsOf l.graph (take l.index l.graph.worlds) l.all;
-  no_conflict : EachBelow l.index (λ _ (world : World). HasTransitiveConflict (graph_uses l.graph) world.exports → ⊥) l.graph.worlds;
+abbrev pub invariant-loop-world : goal.invariant-loop-world
+invariant-loop-world l = record {
+  lists : AreListsOf l.graph (take l.world-index l.graph.worlds) l.all;
+  no_conflict : EachBelow l.world-index (λ _ (world : World). HasTransitiveConflict (graph_uses l.graph) world.exports → ⊥) l.graph.worlds;
   same : l.elaborator ≡ graph_uses l.graph;
 }

@@ -6,18 +6,18 @@ use Rattle.wit_elaboration.specs.steps.Closures.{HaveCommonBit}
 use Rattle.wit_elaboration.proofs.Marking.{none_more, none_all}
 use Rattle.wit_elaboration.proofs.closure_rows.ClosureRows.may_need.Goals as goal
 
-pub loop-index-preserved : goal.loop-index-preserved
-loop-index-preserved c =
-    none_more (λ (d : ℕ). (Contains c.args.exported.now.order d → ⊥) × HaveCommonBit (direct c.args.self.now.rows d) c.args.columns.now) c.direct_uses-used.result.now c.loop-index.index c.loop-index-test.true c.loop-index.invariant
+pub loop-used-preserved : goal.loop-used-preserved
+loop-used-preserved c =
+    none_more (λ (d : ℕ). (Contains c.args.exported.now.order d → ⊥) × HaveCommonBit (direct c.args.self.now.rows d) c.args.columns.now) c.direct_uses-used-items.result.now c.loop-used.used-index c.loop-used-test.true c.loop-used.invariant
     (λ found. let on = c.leads_outside.ensures.1 found in let off = c.if-leads_outside.false in cc)
 
 pub returns-then-leads_outside : goal.returns-then-leads_outside
 returns-then-leads_outside c =
-    let used = get_or c.direct_uses-used.result.now c.loop-index.index 0 in
-    let among : Contains (direct c.args.uses.now c.args.node) used = subst (λ (xs : List ℕ). Contains xs used) c.direct_uses-used.ensures (Contains-get_or c.direct_uses-used.result.now c.loop-index.index 0 c.loop-index-test.true) in
+    let used = get_or c.direct_uses-used-items.result.now c.loop-used.used-index 0 in
+    let among : Contains (direct c.args.uses.now c.args.node) used = subst (λ (xs : List ℕ). Contains xs used) c.direct_uses-used-items.ensures (Contains-get_or c.direct_uses-used-items.result.now c.loop-used.used-index 0 c.loop-used-test.true) in
     (λ on. (used, among, c.leads_outside.ensures.0 c.if-leads_outside.true), λ found. refl)
 
 pub returns : goal.returns
 returns c =
-    let none = none_all (λ (d : ℕ). (Contains c.args.exported.now.order d → ⊥) × HaveCommonBit (direct c.args.self.now.rows d) c.args.columns.now) c.direct_uses-used.result.now c.loop-index.index (omega arith) c.loop-index.invariant in
-    (λ on. absurd (false≢true on), λ found. absurd (none found.0 (subst (λ (xs : List ℕ). Contains xs found.0) (sym c.direct_uses-used.ensures) found.1) found.2))
+    let none = none_all (λ (d : ℕ). (Contains c.args.exported.now.order d → ⊥) × HaveCommonBit (direct c.args.self.now.rows d) c.args.columns.now) c.direct_uses-used-items.result.now c.loop-used.used-index (omega arith) c.loop-used.invariant in
+    (λ on. absurd (false≢true on), λ found. absurd (none found.0 (subst (λ (xs : List ℕ). Contains xs found.0) (sym c.direct_uses-used-items.ensures) found.1) found.2))
