@@ -1,10 +1,11 @@
 -- The steps of loops that gather or pick over the numbers below one.
-use Rattle.std.proofs.Common.{◌≡◌, ◌∙◌, ℕ, ◌+◌, ◌<◌, Bool, true, false, List, [], ◌∷◌, ◌++◌, map, filter, length, cond, refl, sym, ap, append_assoc, get_or, take}
+use Rattle.std.proofs.Common.{◌≡◌, ◌∙◌, ℕ, ◌+◌, ◌<◌, Bool, true, false, List, [], ◌∷◌, ◌++◌, map, filter, length, cond, refl, sym, ap, subst, append_assoc, get_or, take, Some, slice_get}
 use Rattle.std.specs.Borrow.{Bor}
 use Rattle.std.specs.List.{flat_map, range_with_len}
 use Rattle.std.proofs.lemmas.Grind.{flat_map-append}
 use Rattle.std.proofs.lemmas.List.{append-nil, map-append, take_more}
 use Rattle.std.proofs.lemmas.List.Elements.{filter-append}
+use Rattle.std.proofs.lemmas.Option.{slice_get-get_or, slice_get_read}
 use Rattle.wit_data.specs.declared.function.Function.{Function}
 use Rattle.wit_link_spec.specs.facts.RangeFacts.{range-more}
 use Rattle.wit_link_resources.specs.steps.Active.{seen}
@@ -69,3 +70,14 @@ seen-next {X} f items i x start before after below is gathered added =
     step = ap (λ (l : List (Bor Function)). flat_map f (seen l)) (take_more items i x below ∙ ap (λ (y : Bor Function). take i items ++ y ∷ []) (sym is))
         ∙ (ap (flat_map f) (map-append (λ (g : Bor Function). g.now) (take i items) (x ∷ []))
         ∙ (flat_map-append f (seen (take i items)) (x.now ∷ []) ∙ ap (λ (l : List X). flat_map f (seen (take i items)) ++ l) (append-nil (f x.now))))
+
+-- what a loop over a list that is lent yields at a place
+module _ {X : Type 0} (list lent : List X) (i : ℕ) (same : lent ≡ list) (within : i < length lent) where
+  pub lent_below : i < length list
+  lent_below = subst (λ (xs : List X). i < length xs) same within
+
+  pub lent_at : (x : X) → x ≡ get_or lent i x → slice_get list i ≡ Some x
+  lent_at x is = subst (λ (xs : List X). slice_get xs i ≡ Some x) same (slice_get_read lent _ i x refl within is)
+
+  pub lent_read : (d : X) → slice_get list i ≡ Some (get_or lent i d)
+  lent_read d = subst (λ (xs : List X). slice_get xs i ≡ Some (get_or lent i d)) same (slice_get-get_or lent i d within)

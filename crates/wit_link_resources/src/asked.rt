@@ -61,9 +61,9 @@ fn push_types(
 ) -> Result<(), AllocError>
     ensures { OnOk result (ids.new ≡ ids.old ++ flat_map (λ (def : TypeDef). value_positions def.kind) (selected (new_of incoming.now) incoming.now.types.now)) }
 {
-    for index in 0..incoming.types.len() {
+    for (index, def) in incoming.types.as_slice().iter().enumerate() {
         if incoming.is_new(index) {
-            ids.append(value_positions(alloc, &incoming.types.at(index).kind)?)?;
+            ids.append(value_positions(alloc, &def.kind)?)?;
         }
     }
     Ok(())

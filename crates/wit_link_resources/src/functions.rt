@@ -33,9 +33,8 @@ fn push_interfaces<'a>(
     requires { activity.now ≡ activity_of (addition_of adding.now) }
     ensures { OnOk result (seen functions.new.items ≡ seen functions.old.items ++ flat_map (interface_functions (addition_of adding.now)) (range_with_len 0 (length adding.now.unresolved.now.interfaces))) }
 {
-    for place in 0..adding.unresolved.interfaces.len() {
+    for (place, interface) in adding.unresolved.interfaces.as_slice().iter().enumerate() {
         if *activity.interfaces.at(place) {
-            let interface = adding.unresolved.interfaces.at(place);
             push_named(functions, adding.features, &interface.functions)?;
         }
     }
@@ -51,9 +50,8 @@ fn push_worlds<'a>(
     requires { activity.now ≡ activity_of (addition_of adding.now) }
     ensures { OnOk result (seen functions.new.items ≡ seen functions.old.items ++ flat_map (world_functions (addition_of adding.now)) (range_with_len 0 (length adding.now.unresolved.now.worlds))) }
 {
-    for place in 0..adding.unresolved.worlds.len() {
+    for (place, world) in adding.unresolved.worlds.as_slice().iter().enumerate() {
         if *activity.worlds.at(place) {
-            let world = adding.unresolved.worlds.at(place);
             push_entries(functions, adding.features, &world.imports)?;
             push_entries(functions, adding.features, &world.exports)?;
         }

@@ -40,9 +40,9 @@ pub fn remapped_values(
     let first = incoming.first_own();
     let mut value_ids = Items::new(alloc);
     let mut owns = Items::new(alloc);
-    for index in 0..needed.len() {
+    for (index, needs) in needed.as_slice().iter().enumerate() {
         let id = incoming.remapped(index);
-        if *needed.at(index) {
+        if *needs {
             value_ids.push(TypeId::from_index(first + owns.len()))?;
             owns.push(own_of(id))?;
         } else {
@@ -74,8 +74,8 @@ fn needed(
     let asked = asked(alloc, incoming, functions)?;
     let mut known = Items::from_vec(vec![in alloc; None; incoming.types.len()]?);
     let mut needed = Items::new(alloc);
-    for index in 0..incoming.types.len() {
-        let needs = if *asked.at(index) {
+    for (index, is_asked) in asked.as_slice().iter().enumerate() {
+        let needs = if *is_asked {
             leads(incoming, met, &mut known, index)?
         } else {
             false

@@ -40,8 +40,7 @@ pub fn check_resources(
     ensures resources { OnOk result (HasResources (addition_of adding.now)) }
     ensures cause { IfErr result (λ kind. (kind ≡ OutOfMemory) ⊎ IsCause (addition_of adding.now) kind) }
 {
-    for index in 0..adding.unresolved.required_resource_types.len() {
-        let (id, span) = *adding.unresolved.required_resource_types.at(index);
+    for &(id, span) in adding.unresolved.required_resource_types.as_slice() {
         check_required(alloc, adding, places, met, id, span)?;
     }
     Ok(())
