@@ -11,8 +11,8 @@ use Rattle.wit_link_resources.specs.declared.incoming.Incoming.{Incoming}
 use Rattle.wit_link_resources.specs.steps.Active.{seen}
 use Rattle.wit_link_resources.specs.steps.IncomingTypes.{AreTold, IsRemap, leads_in, positions_of}
 use Rattle.wit_link_resources.specs.steps.Leading.{AreRight}
-use Rattle.wit_link_resources.proofs.IncomingLeads.{positions_same, remapped_there}
-use Rattle.wit_link_resources.proofs.MetTypes.{begins_same, begins_then}
+use Rattle.wit_link_resources.specs.facts.IncomingLeads.{positions_same, remapped_there}
+use Rattle.wit_link_resources.specs.facts.MetTypes.{begins_same, begins_then}
 use Rattle.wit_link_resources.proofs.Ranges.{lent_read}
 use Rattle.wit_link_resources.proofs.Ways.{nothing_told}
 use Rattle.wit_link_resources.proofs.owning.needed.Goals.{then-is_asked+in_ok-needs, else-is_asked}

@@ -5,7 +5,7 @@ use Rattle.wit_graph_theory.specs.facts.ListFacts.{contained_at, place_of, same_
 use Rattle.wit_link_spec.specs.steps.AdditionRefs.{addition_of}
 use Rattle.wit_link_spec.specs.Gates.{OptionalSpan}
 use Rattle.wit_link_resources.specs.steps.Leading.{LeadsWhereFound}
-use Rattle.wit_link_resources.proofs.MetTypes.{begins_same, begins_then}
+use Rattle.wit_link_resources.specs.facts.MetTypes.{begins_same, begins_then}
 use Rattle.wit_link_resources.proofs.Ranges.{lent_at}
 use Rattle.wit_link_resources.proofs.required.check_resources.Goals as goal
 
