@@ -1,5 +1,5 @@
 //! Whether worlds are canonical: each its own elaboration.
-ghost use Rattle.std.specs.Prelude.{◌≡◌, ◌↔◌, IfErr, IfOk, IsTrue, Some, false, length, slice_get};
+ghost use Rattle.std.specs.Prelude.{◌≡◌, ◌↔◌, IfErr, IfOk, IsTrue, false, length};
 ghost use Rattle.wit_elaboration.specs.Elaborated.{Elaborated};
 ghost use Rattle.wit_elaboration.specs.Elaboration.{graph_uses};
 ghost use Rattle.wit_elaboration.specs.Sound.{HasSoundEntries};
@@ -10,7 +10,7 @@ ghost use Rattle.wit_digraph.specs.Relation.{IsAcyclic};
 
 use crate::same::same_entries;
 use std::alloc::Global;
-use wit_data::{World, WorldId};
+use wit_data::World;
 use wit_elaboration::{Elaborator, Lists};
 use wit_graph_data::{Graph, ResolveError, ResolveErrorKind, ResolveResult};
 
@@ -21,14 +21,13 @@ pub(crate) fn are_canonical(alloc: Global, graph: &Graph) -> ResolveResult<bool>
     ensures holds { IfOk result (λ canonical. IsTrue canonical ↔ Each (λ (world : World). Elaborated graph.now.types (graph_uses graph.now) world world) graph.now.worlds) }
     ensures err { IfErr result (λ e. e ≡ OutOfMemory) }
 {
-    let worlds = graph.worlds.as_slice();
     let mut elaborator = Elaborator::new(
         alloc,
         graph.types.as_slice(),
         graph.interfaces.as_slice(),
     )?;
-    for (index, world) in worlds.iter().enumerate() {
-        if !is_canonical(alloc, &mut elaborator, graph, index, world)? {
+    for world in graph.worlds.as_slice() {
+        if !is_canonical(alloc, &mut elaborator, graph, world)? {
             return Ok(false);
         }
     }
@@ -40,18 +39,16 @@ fn is_canonical(
     alloc: Global,
     elaborator: &mut Elaborator,
     graph: &Graph,
-    index: usize,
     world: &World,
 ) -> ResolveResult<bool>
     requires uses { elaborator.old ≡ graph_uses graph.now }
-    requires there { slice_get graph.now.worlds index ≡ Some world.now }
     requires acyclic { IsAcyclic (graph_uses graph.now) }
     requires listed { HasSoundEntries graph.now.types (length graph.now.interfaces) world.now.imports world.now.exports }
     ensures holds { IfOk result (λ canonical. IsTrue canonical ↔ Elaborated graph.now.types (graph_uses graph.now) world.now world.now) }
     ensures err { IfErr result (λ e. e ≡ OutOfMemory) }
     ensures same { elaborator.new ≡ elaborator.old }
 {
-    match elaborator.elaborated_lists(alloc, graph, WorldId::from_index(index)) {
+    match elaborator.lists_for(alloc, graph, world) {
         Ok(lists) => Ok(are_of(&lists, world)),
         Err(refusal) => without_elaboration(refusal),
     }

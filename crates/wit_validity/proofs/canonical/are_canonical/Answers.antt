@@ -10,24 +10,24 @@ stands worlds lent i world same within is = subst (λ (ws : List World). slice_g
 
 pub is_canonical-requires-clause-listed : goal.is_canonical-requires-clause-listed
 is_canonical-requires-clause-listed c =
-    c.requires.listed c.loop-index.index c.index-worlds-index.result
-    (stands c.args.graph.now.worlds c.as_slice-worlds.result.now c.loop-index.index c.index-worlds-index.result c.as_slice-worlds.ensures c.loop-index-test.true c.index-worlds-index.is)
+    c.requires.listed c.loop-world.world-index c.world-item.result
+    (stands c.args.graph.now.worlds c.as_slice-world-items.result.now c.loop-world.world-index c.world-item.result c.as_slice-world-items.ensures c.loop-world-test.true c.world-item.is)
 
 pub returns-then-not-branch-clause-holds : goal.returns-then-not-branch-clause-holds
 returns-then-not-branch-clause-holds c =
-    fails c.loop-index.invariant.below c.index-worlds-index.result
-    (stands c.args.graph.now.worlds c.as_slice-worlds.result.now c.loop-index.index c.index-worlds-index.result c.as_slice-worlds.ensures c.loop-index-test.true c.index-worlds-index.is)
+    fails c.loop-world.invariant.below c.world-item.result
+    (stands c.args.graph.now.worlds c.as_slice-world-items.result.now c.loop-world.world-index c.world-item.result c.as_slice-world-items.ensures c.loop-world-test.true c.world-item.is)
     c.in_ok-is_canonical.ensures.holds c.if-not-branch.true
 
-pub loop-index-preserved : goal.loop-index-preserved
-loop-index-preserved c = record {
-  below = more c.loop-index.invariant.below c.index-worlds-index.result
-      (stands c.args.graph.now.worlds c.as_slice-worlds.result.now c.loop-index.index c.index-worlds-index.result c.as_slice-worlds.ensures c.loop-index-test.true c.index-worlds-index.is)
+pub loop-world-preserved : goal.loop-world-preserved
+loop-world-preserved c = record {
+  below = more c.loop-world.invariant.below c.world-item.result
+      (stands c.args.graph.now.worlds c.as_slice-world-items.result.now c.loop-world.world-index c.world-item.result c.as_slice-world-items.ensures c.loop-world-test.true c.world-item.is)
       c.in_ok-is_canonical.ensures.holds c.if-not-branch.false;
-  same = c.in_ok-is_canonical.ensures.same ∙ c.loop-index.invariant.same;
+  same = c.in_ok-is_canonical.ensures.same ∙ c.loop-world.invariant.same;
 }
 
 pub returns-clause-holds : goal.returns-clause-holds
 returns-clause-holds c =
-    let long : length c.as_slice-worlds.result.now ≡ length c.args.graph.now.worlds = ap length c.as_slice-worlds.ensures in
-    all c.loop-index.invariant.below (omega (arith, long))
+    let long : length c.as_slice-world-items.result.now ≡ length c.args.graph.now.worlds = ap length c.as_slice-world-items.ensures in
+    all c.loop-world.invariant.below (omega (arith, long))

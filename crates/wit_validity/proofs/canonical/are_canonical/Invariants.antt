@@ -6,8 +6,8 @@ use Rattle.wit_data.specs.declared.world.World.{World}
 use Rattle.wit_validity.proofs.canonical.are_canonical.Given as goal
 
 -- the first ones are
-abbrev pub invariant-loop-index : goal.invariant-loop-index
-invariant-loop-index l = record {
-  below : EachBelow l.index (λ _ (world : World). Elaborated l.graph.types (graph_uses l.graph) world world) l.graph.worlds;
+abbrev pub invariant-loop-world : goal.invariant-loop-world
+invariant-loop-world l = record {
+  below : EachBelow l.world-index (λ _ (world : World). Elaborated l.graph.types (graph_uses l.graph) world world) l.graph.worlds;
   same : l.elaborator ≡ graph_uses l.graph;
 }
