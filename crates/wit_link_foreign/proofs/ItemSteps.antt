@@ -1,5 +1,6 @@
 -- One more item of a package, found and noted.
-use Rattle.std.proofs.Common.{◌≡◌, ◌∙◌, ◌+◌, ℕ, true, List, Option, None, Some, slice_get, sym, ap, subst}
+use Rattle.std.proofs.Common.{◌≡◌, ◌∙◌, ◌+◌, ◌++◌, ◌∷◌, [], ℕ, true, List, length, Option, None, Some, slice_get, sym, ap, subst}
+use Rattle.std.proofs.lemmas.List.{length_push}
 use Rattle.wit_data.specs.Foreign.{ForeignItem}
 use Rattle.wit_data.specs.Shape.{IsShaped}
 use Rattle.wit_data.specs.declared.unresolved.AstItem.{AstItem}
@@ -37,3 +38,7 @@ module _ (a : Addition) (shaped : IsShaped a.unresolved) (place : ℕ) (name : P
           is ∙ ap (with_item old what.0) here ∙ ap (λ (f : Found). with_item f what.0 (found_item a one)) old_is ∙ item-found a shaped so_far split.0 one split.1 inside ∙ ap (found_among a) (sym next),
           subst (AreThere a) (sym next) (item-there a so_far one there (λ on none. active on (here ∙ none))),
         )
+
+-- what holds of one more than have been yielded holds with the one that comes
+pub yielded-more : {X : Type 0} (P : ℕ → Type 0) (xs : List X) (x : X) → P (length xs + 1) → P (length (xs ++ x ∷ []))
+yielded-more P xs x holds = subst P (sym (length_push xs x)) holds

@@ -77,8 +77,7 @@ fn find_named(
     ensures cause { IfErr result (λ kind. (kind ≡ OutOfMemory) ⊎ IsCause (addition_of adding.now) kind) }
 {
     let home = find_home(alloc, adding, place)?;
-    for index in 0..home.items.len() {
-        let (requested, (item, _)) = home.items.entry_at(index);
+    for (requested, (item, _)) in home.items.iter() {
         if !find_item(adding.graph, &home, requested, item, found) {
             check_inactive(alloc, adding, activity, &home, requested, item)?;
         }

@@ -1,12 +1,12 @@
-use Rattle.std.proofs.Common.{◌≡◌}
+use Rattle.std.proofs.Common.{◌≡◌, length}
 use Rattle.wit_link_spec.specs.steps.AdditionRefs.{addition_of}
 use Rattle.wit_link_foreign.specs.steps.ForeignItems.{AreThere, found_among}
 use Rattle.wit_link_foreign.proofs.NamedItems.{named_until}
 use Rattle.wit_link_foreign.proofs.foreign.find_named.Given as goal
 
 -- what the items so far tell
-abbrev pub invariant-loop-index : goal.invariant-loop-index
-invariant-loop-index l = record {
-  found : l.found ≡ found_among (addition_of l.adding) (named_until l.adding.unresolved.now.foreign_deps l.place l.home.name.now l.home.items.now l.index);
-  there : AreThere (addition_of l.adding) (named_until l.adding.unresolved.now.foreign_deps l.place l.home.name.now l.home.items.now l.index);
+abbrev pub invariant-loop-requested : goal.invariant-loop-requested
+invariant-loop-requested l = record {
+  found : l.found ≡ found_among (addition_of l.adding) (named_until l.adding.unresolved.now.foreign_deps l.place l.home.name.now l.home.items.now (length l.yielded));
+  there : AreThere (addition_of l.adding) (named_until l.adding.unresolved.now.foreign_deps l.place l.home.name.now l.home.items.now (length l.yielded));
 }
