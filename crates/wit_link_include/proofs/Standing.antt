@@ -43,9 +43,3 @@ keys_there kept xs n table is t has =
     let at = place_of (places kept xs) t (subst (λ (ks : List ℕ). Contains ks t) (ap keys_of is ∙ numbered-keys n (places kept xs)) has) in
     let found = place_from kept xs at.0 t at.1 in
     slice_get_within xs t found.0 found.1
-
--- something stands at each place within a list
-pub some_there : {X : Type 0} (xs : List X) (i : ℕ) → i < length xs → (x : X) × (slice_get xs i ≡ Some x)
-some_there [] i below = absurd (omega arith)
-some_there (x ∷ xs) zero below = (x, refl)
-some_there (x ∷ xs) (suc i) below = some_there xs i (omega arith)

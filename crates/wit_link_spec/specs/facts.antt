@@ -1,6 +1,7 @@
 pub mod ActivePart
 pub mod ApartFacts
 pub mod ClosedCut
+pub mod DropFacts
 pub mod FlagFacts
 pub mod ForeignFound
 pub mod Linked

@@ -9,13 +9,9 @@ use Rattle.std.specs.Option.{option_eq, option_map}
 use Rattle.wit_link_spec.specs.facts.RangeFacts.{range-same, range-set}
 use Rattle.wit_merge_spec.specs.Matches.{counterpart_of}
 use Rattle.wit_merge_laws.specs.facts.InterfacesStand.{option_so}
-use Rattle.wit_merge.proofs.Numbered.{some_there}
+use Rattle.wit_graph_theory.specs.facts.ListFacts.{get_at}
 use Rattle.wit_merge.specs.steps.UnionSteps.{first_from, firsts_from, placed_at}
-
-drop_at : {X : Type 0} (xs : List X) (k : ℕ) (x : X) → slice_get xs k ≡ Some x → drop k xs ≡ x ∷ drop (suc k) xs
-drop_at [] k x at = cc
-drop_at {X} (z ∷ xs) zero x at = let same : z ≡ x = cc in ap (λ (y : X). y ∷ xs) same
-drop_at (z ∷ xs) (suc k) x at = drop_at xs k x at
+use Rattle.wit_link_spec.specs.facts.DropFacts.{drop_at}
 
 none_from : (f : ℕ → Option ℕ) → ((t : ℕ) → f t ≡ None) → (a n : ℕ) → replicate n None ≡ map f (range_with_len a n)
 none_from f none a zero = refl
@@ -96,7 +92,7 @@ module _ {X : Type 0} (found : List (Option ℕ)) (xs : List X) (long : length f
   from_here (suc left) k more =
       let o : Option ℕ = get_or found k None in
       let at : slice_get found k ≡ Some o = slice_get-get_or found k None (omega (arith, long, more)) in
-      let x : (x : X) × (slice_get xs k ≡ Some x) = some_there xs k (omega (arith, more)) in
+      let x : (x : X) × (slice_get xs k ≡ Some x) = get_at xs k (omega (arith, more)) in
       elim (cases_Bool (option_eq nat_eq o (Some x'))) [
         | inl is ↦
             ap (placed_at xs) (found_here found k (suc k) 0 o refl at x' is) ∙ ap (option_map (λ (it : X). (k, it))) x.1

@@ -2,17 +2,8 @@
 use Rattle.std.proofs.Common.{◌≡◌, ◌∙◌, ℕ, zero, suc, ◌+◌, ◌<◌, ◌≤◌, Bool, true, false, List, [], ◌∷◌, ◌++◌, Some, cond, drop, filter, length, map, slice_get, append_assoc, refl, sym, ap, arith}
 use Rattle.std.proofs.lemmas.List.{append-nil, drop_all}
 use Rattle.std.specs.List.{enumerate_from}
-
-drop_at : {X : Type 0} (xs : List X) (k : ℕ) (x : X) → slice_get xs k ≡ Some x → drop k xs ≡ x ∷ drop (suc k) xs
-drop_at [] k x at = cc
-drop_at {X} (z ∷ xs) zero x at = let same : z ≡ x = cc in ap (λ (y : X). y ∷ xs) same
-drop_at (z ∷ xs) (suc k) x at = drop_at xs k x at
-
--- there is a thing at each place
-pub some_there : {X : Type 0} (xs : List X) (i : ℕ) → i < length xs → (x : X) × (slice_get xs i ≡ Some x)
-some_there [] i below = absurd (omega (arith, below))
-some_there (x ∷ xs) zero below = (x, refl)
-some_there (x ∷ xs) (suc i) below = some_there xs i (omega (arith, below))
+use Rattle.wit_graph_theory.specs.facts.ListFacts.{get_at}
+use Rattle.wit_link_spec.specs.facts.DropFacts.{drop_at}
 
 -- the things from a place on, with their places; and those of them that are kept
 abbrev pub behind : {X : Type 0} → List X → ℕ → List (ℕ × X)
@@ -66,7 +57,7 @@ module _ {X : Type 0} (xs : List X) where
       -- and one that isn't
       pub left_next : (k n : ℕ) (done whole : List Y) → n ≡ k + 1 → k < length xs → kept k ≡ false → done ++ map f (kept_behind xs kept k) ≡ whole → done ++ map f (kept_behind xs kept n) ≡ whole
       left_next k n done whole next below leaves all =
-          let x : (x : X) × (slice_get xs k ≡ Some x) = some_there xs k below in
+          let x : (x : X) × (slice_get xs k ≡ Some x) = get_at xs k below in
           ap (λ (l : List (ℕ × X)). done ++ map f l) (sym (first_kept k n x.0 false next x.1 leaves)) ∙ all
 
       pub kept_all : (k : ℕ) (done whole : List Y) → length xs ≤ k → done ++ map f (kept_behind xs kept k) ≡ whole → done ≡ whole

@@ -9,11 +9,7 @@ use Rattle.wit_graph_data.specs.declared.graph.Graph.{Graph}
 use Rattle.wit_graph_theory.specs.facts.PackagesAcyclic.{length-numbered, numbered_into}
 use Rattle.wit_merge_spec.specs.Matches.{WorldLabel, interface_at_label, labels_of_world}
 use Rattle.wit_merge_match.specs.steps.Matched.{AreLabelled}
-
-drop_at : {X : Type 0} (xs : List X) (k : ℕ) (x : X) → slice_get xs k ≡ Some x → drop k xs ≡ x ∷ drop (suc k) xs
-drop_at [] k x at = cc
-drop_at {X} (z ∷ xs) zero x at = let same : z ≡ x = cc in ap (λ (y : X). y ∷ xs) same
-drop_at (z ∷ xs) (suc k) x at = drop_at xs k x at
+use Rattle.wit_link_spec.specs.facts.DropFacts.{drop_at}
 
 -- what some things give, from a place on
 from_place : {X Y : Type 0} (f : X → List Y) (xs : List X) (k n : ℕ) (x : X) → n ≡ suc k → slice_get xs k ≡ Some x → flat_map f (drop k xs) ≡ f x ++ flat_map f (drop n xs)

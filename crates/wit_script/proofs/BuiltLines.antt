@@ -22,19 +22,9 @@ use Rattle.wit_script.specs.Script.{mentions_ahead, after_first, after_line, aft
 use Rattle.wit_script.specs.Ready.{other_after}
 use Rattle.wit_script.specs.declared.reader.Reading.{Reading}
 use Rattle.wit_script.specs.steps.BuiltReading.{AreBuilt, AreShapedIfPushable}
+use Rattle.wit_script_lines.specs.facts.OptionFacts.{map-of, same-some, step-of}
 
 -- ---- steps that were taken
-
-step_of : {A B : Type 0} (f : A → Option B) (o : Option A) (y : B) → option_and_then f o ≡ Some y → (x : A) × (o ≡ Some x) × (f x ≡ Some y)
-step_of f None y is = cc
-step_of f (Some x) y is = (x, refl, is)
-
-map_of : {A B : Type 0} (f : A → B) (o : Option A) (y : B) → option_map f o ≡ Some y → (x : A) × (o ≡ Some x) × (f x ≡ y)
-map_of f None y is = cc
-map_of f (Some x) y is = (x, refl, cc)
-
-some_is : {X : Type 0} (x y : X) → Some x ≡ Some y → x ≡ y
-some_is x y is = cc
 
 Each-append : {X : Type 0} (P : X → Type 0) (xs ys : List X) → Each P xs → Each P ys → Each P (xs ++ ys)
 Each-append P [] ys first second i x at = second i x at
@@ -55,7 +45,7 @@ if_some_at P (Some y) x is holds = let same : y ≡ x = cc in subst P same holds
 module _ (r : Reading) (built : AreBuilt r) (q : Reading) where
   package_built : (name : PackageName) (line : List ℕ) (ahead : List (List ℕ)) → with_package r name line ahead ≡ Some q → AreBuilt q
   package_built name line ahead is =
-      let p = map_of (with_begun r) (new_draft name line (mentions_ahead _ ahead)) q is in
+      let p = map-of (with_begun r) (new_draft name line (mentions_ahead _ ahead)) q is in
       subst AreBuilt p.2 (record {
         finished = Each-append IsBuilt r.finished (option_to_list r.current) built.finished (Each-option IsBuilt r.current built.current);
         current = first_line name line (mentions_ahead _ ahead) p.1;
@@ -63,25 +53,25 @@ module _ (r : Reading) (built : AreBuilt r) (q : Reading) where
 
   line_built : (said : PackageLine) (gate : Stability) (line : List ℕ) → with_package_line r said gate line ≡ Some q → AreBuilt q
   line_built said gate line is =
-      let p = step_of (λ (d : Draft). option_map (with_current r) (with_line d said gate line)) r.current q is in
-      let next = map_of (with_current r) (with_line p.0 said gate line) q p.2 in
+      let p = step-of (λ (d : Draft). option_map (with_current r) (with_line d said gate line)) r.current q is in
+      let next = map-of (with_current r) (with_line p.0 said gate line) q p.2 in
       subst AreBuilt next.2 (record { finished = built.finished; current = next_line p.0 said gate line (if_some_at IsBuilt r.current p.0 p.1 built.current) next.1 })
 
   groups_built : (groups : List UnresolvedPackageGroup) → with_groups r groups ≡ Some q → AreBuilt q
   groups_built [] is = cc
-  groups_built (main ∷ deps) is = subst AreBuilt (some_is _ q is) (record { finished = λ i x at. cc; current = tt })
+  groups_built (main ∷ deps) is = subst AreBuilt (same-some _ q is) (record { finished = λ i x at. cc; current = tt })
 
   push_built : with_push r ≡ Some q → AreBuilt q
   push_built is =
-      let p = step_of (λ (d : Draft). option_and_then (with_groups r) (each_of as_group (r.finished ++ d ∷ []))) r.current q is in
-      let groups = step_of (with_groups r) (each_of as_group (r.finished ++ p.0 ∷ [])) q p.2 in
+      let p = step-of (λ (d : Draft). option_and_then (with_groups r) (each_of as_group (r.finished ++ d ∷ []))) r.current q is in
+      let groups = step-of (with_groups r) (each_of as_group (r.finished ++ p.0 ∷ [])) q p.2 in
       groups_built groups.0 groups.2
 
   request_built : (asked : Request) → with_request r asked ≡ Some q → AreBuilt q
   request_built asked is = by (is_some r.current) is where
     by : (b : Bool) → cond b None (option_map (with_asked r asked) (other_after asked r.other)) ≡ Some q → AreBuilt q
     by true is = cc
-    by false is = let other = map_of (with_asked r asked) (other_after asked r.other) q is in subst AreBuilt other.2 (record { finished = built.finished; current = built.current })
+    by false is = let other = map-of (with_asked r asked) (other_after asked r.other) q is in subst AreBuilt other.2 (record { finished = built.finished; current = built.current })
 
   statement_built : (said : Statement) (line : List ℕ) (ahead : List (List ℕ)) → with_statement r said line ahead ≡ Some q → AreBuilt q
   statement_built (says.Package name) line ahead is = package_built name line ahead is
@@ -98,7 +88,7 @@ first_built : (r : Reading) (k : ℕ) (lines : List (List ℕ)) (q : Reading) �
 first_built r zero lines q built is = let same : r ≡ q = cc in subst AreBuilt same built
 first_built r (suc k) [] q built is = let same : r ≡ q = cc in subst AreBuilt same built
 first_built r (suc k) (line ∷ lines) q built is =
-    let next = step_of (λ (s : Reading). after_first s k lines) (after_line r line lines) q is in
+    let next = step-of (λ (s : Reading). after_first s k lines) (after_line r line lines) q is in
     first_built next.0 k lines q (said_built r built next.0 (statement_of line) line lines next.1) next.2
 
 -- what lines before one make

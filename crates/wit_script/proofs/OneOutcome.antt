@@ -9,9 +9,7 @@ use Rattle.wit_script.specs.Script.{IsBadLine, IsLeftOpen, IsUnderstood, reading
 use Rattle.wit_script.specs.laws.Outcome.{HasOneOutcome}
 use Rattle.wit_script.specs.declared.reader.Reading.{Reading}
 use Rattle.wit_script.specs.declared.ready.ScriptCommand.{ScriptCommand}
-
-same-some : {A : Type 0} (x y : A) → Some x ≡ Some y → x ≡ y
-same-some x y h = cc
+use Rattle.wit_script_lines.specs.facts.OptionFacts.{same-some}
 
 -- a whole reading leaves no bad line
 no-bad : (lines : List (List ℕ)) (number : ℕ) (r : Reading) → reading_of lines ≡ Some r → AreReady r.commands → IsBadLine lines number → ⊥

@@ -4,15 +4,7 @@ use Rattle.std.proofs.lemmas.Grind.{take_at_read}
 use Rattle.std.proofs.lemmas.List.{map-append}
 use Rattle.std.specs.Option.{option_and_then, option_map}
 use Rattle.wit_script_lines.specs.PackageLine.{each_of}
-
--- steps that were taken
-step-of : {A B : Type 0} (f : A → Option B) (o : Option A) (y : B) → option_and_then f o ≡ Some y → (x : A) × (o ≡ Some x) × (f x ≡ Some y)
-step-of f None y h = cc
-step-of f (Some x) y h = (x, refl, h)
-
-map-of : {A B : Type 0} (f : A → B) (o : Option A) (y : B) → option_map f o ≡ Some y → (x : A) × (o ≡ Some x) × (f x ≡ y)
-map-of f None y h = cc
-map-of f (Some x) y h = (x, refl, cc)
+use Rattle.wit_script_lines.specs.facts.OptionFacts.{map-of, step-of}
 
 nothing : {A B : Type 0} (o : Option A) → option_and_then (λ (y : A). let none : Option B = None in none) o ≡ None
 nothing None = refl

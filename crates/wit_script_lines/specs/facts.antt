@@ -1,1 +1,2 @@
+pub mod OptionFacts
 pub mod ReadFacts

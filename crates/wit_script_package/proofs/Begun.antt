@@ -53,8 +53,8 @@ use Rattle.wit_script_package.proofs.Mentions.{all-mentions}
 use Rattle.wit_script_package.proofs.Owned.{no_name}
 use Rattle.wit_script_package.proofs.Places.{Each-from_all, Each-nil, EachAt-push, EachAt-set, SomeAt-moved, distinct-push, lookup-at, new-is, set-moves, some-within}
 use Rattle.wit_script_package.proofs.Sound.{IsOpenOwn, IsSound, interface_count, things, world_count}
-use Rattle.wit_script_package.proofs.Steps.{map-of, step-of}
 use Rattle.wit_script_package.proofs.Things.{IsGoodInterface, IsGoodType, IsGoodWorld, dep-is}
+use Rattle.wit_script_lines.specs.facts.OptionFacts.{map-of, step-of}
 
 -- ---- what holds while mentions are added
 

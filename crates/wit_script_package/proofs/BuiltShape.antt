@@ -22,9 +22,8 @@ use Rattle.wit_script_package.specs.steps.Pushable.{IsPushable}
 use Rattle.wit_script_package.specs.declared.draft.Draft.{Draft}
 use Rattle.wit_script_package.proofs.Begun.{begin-sound}
 use Rattle.wit_script_package.proofs.LineByLine.{line-sound}
-use Rattle.wit_script_package.proofs.Places.{some_is}
 use Rattle.wit_script_package.proofs.Sound.{IsSound}
-use Rattle.wit_script_package.proofs.Steps.{map-of}
+use Rattle.wit_script_lines.specs.facts.OptionFacts.{map-of, same-some}
 
 -- what lines built is sound
 pub built-sound : (p : Draft) → IsBuilt p → IsSound p
@@ -65,7 +64,7 @@ module _ (p : Draft) (sound : IsSound p) where
   -- an interface uses earlier ones
   row_of : (o : Option Interface) (row : List ℕ) → option_map (interface_uses p.types) o ≡ Some row → (interface : Interface) × (o ≡ Some interface) × (interface_uses p.types interface ≡ row)
   row_of None row is = cc
-  row_of (Some interface) row is = (interface, refl, some_is (interface_uses p.types interface) row is)
+  row_of (Some interface) row is = (interface, refl, same-some (interface_uses p.types interface) row is)
 
   acyclic : IsAcyclic (uses_of p.types p.interfaces)
   acyclic = IsAcyclic-earlier (uses_of p.types p.interfaces) (λ f row at k j on.

@@ -7,7 +7,7 @@ use Rattle.std.specs.Str.{bytes_eq}
 use Rattle.indexmap.specs.IndexMap.{set_value_at}
 use Rattle.wit_values.specs.Names.{named}
 use Rattle.wit_script_package.specs.steps.Mentioning.{changed_at, with_key, with_value}
-use Rattle.wit_script_package.proofs.Steps.{same-some}
+use Rattle.wit_script_lines.specs.facts.OptionFacts.{same-some}
 
 module _ {X : Type 0} where
   -- what stands in a list, put there again

@@ -47,9 +47,9 @@ use Rattle.wit_script_package.specs.declared.draft.Draft.{Draft}
 use Rattle.wit_script_package.specs.declared.draft.LineContext.{LineContext}
 use Rattle.wit_script_package.proofs.Added.{IsNamedKind}
 use Rattle.wit_script_package.proofs.Makes.{AreOwn, IsMadeKind, fields-made, function-made, interface_type-is, kind-made}
-use Rattle.wit_script_package.proofs.Places.{Each-nil, SomeAt-moved, get_at, if-some, if-some-at, lookup-at, same_at, some-within, some_is}
+use Rattle.wit_script_package.proofs.Places.{Each-nil, SomeAt-moved, get_at, if-some, if-some-at, lookup-at, same_at, some-within}
 use Rattle.wit_script_package.proofs.Sound.{IsSound, open_interface-is, open_owner, owner_by, sound-export, sound-function, sound-import, sound-include, sound-interface, sound-named, sound-world, things}
-use Rattle.wit_script_package.proofs.Steps.{map-of, step-of}
+use Rattle.wit_script_lines.specs.facts.OptionFacts.{map-of, same-some, step-of}
 
 -- ---- kinds of types with a name
 
@@ -114,7 +114,7 @@ module _ (p : Draft) (sound : IsSound p) where
     by : (b : Bool) → Decides b (g ≡ f) → cond b None (Some f) ≡ Some j → j < g
     by true told is = cc
     by false told is =
-        let same : f ≡ j = some_is f j is in
+        let same : f ≡ j = same-some f j is in
         elim (cases_lt f g) [
           | inl less ↦ subst (λ (n : ℕ). n < g) same less
           | inr past ↦ let equal : g ≡ f = omega (arith, below, past) in let wrong : false ≡ true = told.1 equal in cc
@@ -136,7 +136,7 @@ module _ (p : Draft) (sound : IsSound p) where
             (subst IsSome (sym there.2.0) refl, inr (subst (IsNamedInterface p.interfaces) (sym there.2.1) named));
         own = Each-nil (IsOwn p.types (open_owner p));
         uses = λ g target j d owned is at dep.
-            let same : id ≡ target = some_is id target is in
+            let same : id ≡ target = same-some id target is in
             let one_type : d ≡ there.0 = same_at p.types target d there.0 at (subst (λ (n : ℕ). slice_get p.types n ≡ Some there.0) same there.1) in
             let of : d.owner ≡ owner.Interface f = ap (λ (e : TypeDef). e.owner) one_type ∙ there.2.1 in
             let leads : other_owner (owner.Interface g) (owner.Interface f) ≡ Some j = sym (ap (λ (by : TypeOwner). other_owner by d.owner) owned ∙ ap (other_owner (owner.Interface g)) of) ∙ dep in
@@ -145,13 +145,13 @@ module _ (p : Draft) (sound : IsSound p) where
       }
     where
       one : id < length p.types → Each (λ n. n < length p.types) (id ∷ [])
-      one below zero x at = subst (λ (n : ℕ). n < length p.types) (some_is id x at) below
+      one below zero x at = subst (λ (n : ℕ). n < length p.types) (same-some id x at) below
       one below (suc i) x at = cc
 
   -- ---- interfaces that paths name
 
   interface_is : (it : AstItem) (id : ℕ) → interface_of it ≡ Some id → it ≡ foreign.Interface id
-  interface_is (foreign.Interface i) id is = ap foreign.Interface (some_is i id is)
+  interface_is (foreign.Interface i) id is = ap foreign.Interface (same-some i id is)
   interface_is (foreign.World w) id is = cc
 
   bare_named : (name : List ℕ) (id : ℕ) → IsNameOnly p.interfaces p.worlds name (foreign.Interface id) → IsNamed p.interfaces id

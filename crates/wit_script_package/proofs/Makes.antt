@@ -50,10 +50,10 @@ use Rattle.wit_script_package.specs.declared.draft.Scope.{Scope}
 use Rattle.wit_script_package.specs.declared.draft.Scope.TheVariants as scope
 use Rattle.wit_script_package.proofs.Added.{good-unnamed, grows-unnamed}
 use Rattle.wit_script_package.proofs.Owned.{own-named, own-stays, own-unnamed}
-use Rattle.wit_script_package.proofs.Places.{Each-append, Each-nil, EachAt-push, lookup-at, some_is}
+use Rattle.wit_script_package.proofs.Places.{Each-append, Each-nil, EachAt-push, lookup-at}
 use Rattle.wit_script_package.proofs.Sound.{IsSound, interface_count, open_interface-is, open_owner, open_world-is, sound-with, things, world_count}
-use Rattle.wit_script_package.proofs.Steps.{map-of, step-of}
 use Rattle.wit_script_package.proofs.Things.{good-earlier}
+use Rattle.wit_script_lines.specs.facts.OptionFacts.{map-of, same-some, step-of}
 
 -- ---- earlier types
 
@@ -69,7 +69,7 @@ module _ (p : Draft) (sound : IsSound p) where
   item_is : (it : WorldItem) (id : ℕ) → item_type it ≡ Some id → (span : OptionalSpan) × (it ≡ item.Type_ id span)
   item_is (item.Interface i stability docs span external_id) id is = cc
   item_is (item.Function function) id is = cc
-  item_is (item.Type_ i span) id is = (span, ap (λ (n : ℕ). item.Type_ n span) (some_is i id is))
+  item_is (item.Type_ i span) id is = (span, ap (λ (n : ℕ). item.Type_ n span) (same-some i id is))
 
   -- what a world lists
   world_type-is : (name : List ℕ) (at id : ℕ) → world_type_at p name at ≡ Some id → IsTypeOf p.types (owner.World at) name id
@@ -182,12 +182,12 @@ module _ (p : Draft) (sound : IsSound p) where
       }
     where
       one : IsOwn p.types (open_owner p) id → AreOwn p (id ∷ [])
-      one own zero x at = subst (IsOwn p.types (open_owner p)) (some_is id x at) own
+      one own zero x at = subst (IsOwn p.types (open_owner p)) (same-some id x at) own
       one own (suc i) x at = cc
 
   named-made : (name : List ℕ) (o : Option Type_) (e : Option ℕ) (ty : Type_) → IsNoId o → earlier p name ≡ e → option_or o (option_map type.Id e) ≡ Some ty → IsMadeKind p (kind.Type_ ty)
-  named-made name (Some primitive) e ty no_id is found = primitive-made ty (subst (λ (x : Type_). named_type x ≡ []) (some_is primitive ty found) no_id)
-  named-made name None (Some id) ty no_id is found = subst (λ (x : Type_). IsMadeKind p (kind.Type_ x)) (some_is (type.Id id) ty found) (earlier-made name id is)
+  named-made name (Some primitive) e ty no_id is found = primitive-made ty (subst (λ (x : Type_). named_type x ≡ []) (same-some primitive ty found) no_id)
+  named-made name None (Some id) ty no_id is found = subst (λ (x : Type_). IsMadeKind p (kind.Type_ x)) (same-some (type.Id id) ty found) (earlier-made name id is)
   named-made name None None ty no_id is found = cc
 
   -- ---- handles
@@ -206,9 +206,9 @@ module _ (p : Draft) (sound : IsSound p) where
   }
 
   root-adds : (span : OptionalSpan) (root : ℕ) (k : TypeDefKind) (q : Draft) → SomeAt p.types root (λ (def : TypeDef). def.kind ≡ k) → with_root p span root k ≡ Some q → Adds p q
-  root-adds span root kind.Resource q at made = subst (Adds p) (some_is p q made) (adds-nothing p sound)
+  root-adds span root kind.Resource q at made = subst (Adds p) (same-some p q made) (adds-nothing p sound)
   root-adds span root kind.Unknown q at made =
-      subst (Adds p) (some_is (record p { required = p.required ++ (root, span) ∷ [] }) q made) (record { sound = sound-required root span at; owns = λ by id own. own; owner_same = refl })
+      subst (Adds p) (same-some (record p { required = p.required ++ (root, span) ∷ [] }) q made) (record { sound = sound-required root span at; owns = λ by id own. own; owner_same = refl })
   root-adds span root other q at made = cc
 
   resource-adds : (id : ℕ) (span : OptionalSpan) (q : Draft) → with_resource p id span ≡ Some q → Adds p q
@@ -228,7 +228,7 @@ module _ (p : Draft) (sound : IsSound p) where
       )
 
 one_own : (q : Draft) (id : ℕ) → IsOwn q.types (open_owner q) id → AreOwn q (id ∷ [])
-one_own q id own zero x at = subst (IsOwn q.types (open_owner q)) (some_is id x at) own
+one_own q id own zero x at = subst (IsOwn q.types (open_owner q)) (same-some id x at) own
 one_own q id own (suc i) x at = cc
 
 own-handle : (q : Draft) (id : ℕ) → IsOwn q.types (open_owner q) id → IsMadeKind q (kind.Handle (handle.Own id))
@@ -246,9 +246,9 @@ written-made p sound (written.Named name) span made is =
     let ty = map-of (λ (t : Type_). (kind.Type_ t, p)) (type_named p name) made is in
     subst (Made p) ty.2 (adds-nothing p sound, named-made p sound name (primitive_of name) (earlier p name) ty.0 (primitive_no_id name) refl ty.1)
 written-made p sound written.Future span made is =
-    subst (Made p) (some_is (kind.Future None, p) made is) (adds-nothing p sound, record { known = λ h. cc; no_resource = λ h. cc; own = Each-nil (IsOwn p.types (open_owner p)); alias = tt })
+    subst (Made p) (same-some (kind.Future None, p) made is) (adds-nothing p sound, record { known = λ h. cc; no_resource = λ h. cc; own = Each-nil (IsOwn p.types (open_owner p)); alias = tt })
 written-made p sound written.Stream span made is =
-    subst (Made p) (some_is (kind.Stream None, p) made is) (adds-nothing p sound, record { known = λ h. cc; no_resource = λ h. cc; own = Each-nil (IsOwn p.types (open_owner p)); alias = tt })
+    subst (Made p) (same-some (kind.Stream None, p) made is) (adds-nothing p sound, record { known = λ h. cc; no_resource = λ h. cc; own = Each-nil (IsOwn p.types (open_owner p)); alias = tt })
 written-made p sound (written.Own name) span made is =
     let it = map-of (λ (m : ℕ × Draft). (kind.Handle (handle.Own m.0), m.1)) (handle_argument p name span) made is in
     let adds = handle-adds p sound name span it.0.0 it.0.1 it.1 in
@@ -342,7 +342,7 @@ type-made p sound text here made is =
 module _ {A B : Type 0} (make : A → Draft → Option (B × Draft)) (told : B → List ℕ)
     (each : (x : A) (p : Draft) (made : B × Draft) → IsSound p → make x p ≡ Some made → Adds p made.1 × AreOwn made.1 (told made.0)) where
   pub all-made : (xs : List A) (p : Draft) (made : List B × Draft) → IsSound p → each_made make xs p ≡ Some made → Adds p made.1 × AreOwn made.1 (flat_map told made.0)
-  all-made [] p made sound is = subst (λ (m : List B × Draft). Adds p m.1 × AreOwn m.1 (flat_map told m.0)) (some_is ([], p) made is) (adds-nothing p sound, Each-nil (IsOwn p.types (open_owner p)))
+  all-made [] p made sound is = subst (λ (m : List B × Draft). Adds p m.1 × AreOwn m.1 (flat_map told m.0)) (same-some ([], p) made is) (adds-nothing p sound, Each-nil (IsOwn p.types (open_owner p)))
   all-made (x ∷ xs) p made sound is =
       let first = step-of (λ (f : B × Draft). option_map (λ (rest : List B × Draft). (f.0 ∷ rest.0, rest.1)) (each_made make xs f.1)) (make x p) made is in
       let rest = map-of (λ (r : List B × Draft). (first.0.0 ∷ r.0, r.1)) (each_made make xs first.0.1) made first.2 in
@@ -374,7 +374,7 @@ params-made here params p made sound is =
     params p made sound is
 
 answer-made : (p : Draft) → IsSound p → (text : Option TypeText) (here : LineContext) (made : Option Type_ × Draft) → answer_made p text here ≡ Some made → Adds p made.1 × AreOwn made.1 (named_option made.0)
-answer-made p sound None here made is = subst (λ (m : Option Type_ × Draft). Adds p m.1 × AreOwn m.1 (named_option m.0)) (some_is (None, p) made is) (adds-nothing p sound, Each-nil (IsOwn p.types (open_owner p)))
+answer-made p sound None here made is = subst (λ (m : Option Type_ × Draft). Adds p m.1 × AreOwn m.1 (named_option m.0)) (same-some (None, p) made is) (adds-nothing p sound, Each-nil (IsOwn p.types (open_owner p)))
 answer-made p sound (Some text) here made is =
     let ty = map-of (λ (t : Type_ × Draft). (Some t.0, t.1)) (type_made p text here) made is in
     subst (λ (m : Option Type_ × Draft). Adds p m.1 × AreOwn m.1 (named_option m.0)) ty.2 (type-made p sound text here ty.0 ty.1)
@@ -398,7 +398,7 @@ module _ (p : Draft) (sound : IsSound p) where
 
   role-free : (b : Bool) (does : FunctionKind) → resource_of does ≡ None → RoleOwn (cond b (Some does) None)
   role-free true does none other is =
-      let told : option_to_list (resource_of other) ≡ [] = ap (λ (k : FunctionKind). option_to_list (resource_of k)) (sym (some_is does other is)) ∙ ap option_to_list none in
+      let told : option_to_list (resource_of other) ≡ [] = ap (λ (k : FunctionKind). option_to_list (resource_of k)) (sym (same-some does other is)) ∙ ap option_to_list none in
       subst (AreOwn p) (sym told) (Each-nil (IsOwn p.types (open_owner p)))
   role-free false does none other is = cc
 

@@ -19,7 +19,7 @@ use Rattle.wit_script_package.specs.Naming.{OptionalSpan}
 use Rattle.wit_script_package.specs.declared.mention.MentionKind.{MentionKind}
 use Rattle.wit_script_package.specs.declared.mention.MentionKind.TheVariants as taken
 use Rattle.wit_script_package.proofs.Same.{text-is}
-use Rattle.wit_script_package.proofs.Steps.{same-some}
+use Rattle.wit_script_lines.specs.facts.OptionFacts.{same-some}
 
 -- ---- texts without a colon
 

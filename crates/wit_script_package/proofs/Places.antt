@@ -9,14 +9,12 @@ use Rattle.wit_values.specs.Table.{HasDistinctKeys}
 use Rattle.wit_values.specs.facts.Lists.{AllByRecursion-at, kept-cases, push-cases, set-cases, slice_get-set}
 use Rattle.wit_data.specs.Each.{Each, EachAt, SomeAt}
 use Rattle.wit_data.specs.facts.EachFacts.{SomeAt-is, SomeAt-of}
-
-pub some_is : {X : Type 0} (x y : X) → Some x ≡ Some y → x ≡ y
-some_is x y h = cc
+use Rattle.wit_script_lines.specs.facts.OptionFacts.{same-some}
 
 module _ {X : Type 0} where
   -- one place has one thing
   pub same_at : (xs : List X) (i : ℕ) (x y : X) → slice_get xs i ≡ Some x → slice_get xs i ≡ Some y → x ≡ y
-  same_at xs i x y first second = some_is x y (sym first ∙ second)
+  same_at xs i x y first second = same-some x y (sym first ∙ second)
 
   pub get_at : (xs : List X) (i : ℕ) → i < length xs → (x : X) × (slice_get xs i ≡ Some x)
   get_at [] i within = absurd (omega arith)
@@ -75,7 +73,7 @@ module _ {X : Type 0} where
     -- what is told of the things from a place on, where one is changed of which nothing else is told
     pub told-set : (n : ℕ) (xs : List X) (i : ℕ) (x y : X) → slice_get xs i ≡ Some x → f x ≡ f y → flat_map f (drop n (slice_set xs i y)) ≡ flat_map f (drop n xs)
     told-set zero [] i x y at same = cc
-    told-set zero (z ∷ xs) zero x y at same = ap (λ (l : List A). l ++ flat_map f xs) (sym same ∙ ap f (sym (some_is z x at)))
+    told-set zero (z ∷ xs) zero x y at same = ap (λ (l : List A). l ++ flat_map f xs) (sym same ∙ ap f (sym (same-some z x at)))
     told-set zero (z ∷ xs) (suc i) x y at same = ap (λ (l : List A). f z ++ l) (told-set zero xs i x y at same)
     told-set (suc n) [] i x y at same = cc
     told-set (suc n) (z ∷ xs) zero x y at same = refl
@@ -121,11 +119,11 @@ module _ {X : Type 0} where
 
   pub if-some-at : (P : X → Type 0) (o : Option X) (x : X) → o ≡ Some x → IfSome o P → P x
   if-some-at P None x is holds = cc
-  if-some-at P (Some y) x is holds = subst P (some_is y x is) holds
+  if-some-at P (Some y) x is holds = subst P (same-some y x is) holds
 
 -- a thing that isn't there yet, added
 pub new-is : {X Y : Type 0} (o : Option X) (y z : Y) → (if is_some o then None else Some y) ≡ Some z → (o ≡ None) × (y ≡ z)
-new-is None y z is = (refl, some_is y z is)
+new-is None y z is = (refl, same-some y z is)
 new-is (Some x) y z is = cc
 
 module _ {K V : Type 0} (test : K → Bool) where
@@ -136,7 +134,7 @@ module _ {K V : Type 0} (test : K → Bool) where
     by : (b : Bool) → test e.0 ≡ b → cond b (Some e.1) (lookup test es) ≡ Some v
         → (lookup test es ≡ Some v → (i : ℕ) × (k : K) × (slice_get es i ≡ Some (k, v)) × (test k ≡ true))
         → (i : ℕ) × (k : K) × (slice_get (e ∷ es) i ≡ Some (k, v)) × (test k ≡ true)
-    by true passes found rest = (0, e.0, ap (λ (u : V). Some (e.0, u)) (some_is e.1 v found), passes)
+    by true passes found rest = (0, e.0, ap (λ (u : V). Some (e.0, u)) (same-some e.1 v found), passes)
     by false passes found rest = let r = rest found in (suc r.0, r.1, r.2, r.3)
 
   -- where nothing is found, no key passes
@@ -145,7 +143,7 @@ module _ {K V : Type 0} (test : K → Bool) where
   none-at (e ∷ es) zero k v none at = by (test e.0) refl none where
     by : (b : Bool) → test e.0 ≡ b → cond b (Some e.1) (lookup test es) ≡ None → test k ≡ false
     by true is none = cc
-    by false is none = subst (λ (d : K × V). test d.0 ≡ false) (some_is e (k, v) at) is
+    by false is none = subst (λ (d : K × V). test d.0 ≡ false) (same-some e (k, v) at) is
   none-at (e ∷ es) (suc i) k v none at = by (test e.0) none (λ n. none-at es i k v n at) where
     by : (b : Bool) → cond b (Some e.1) (lookup test es) ≡ None → (lookup test es ≡ None → test k ≡ false) → test k ≡ false
     by true none rest = cc

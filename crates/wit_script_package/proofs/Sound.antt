@@ -37,9 +37,9 @@ use Rattle.wit_script_package.specs.declared.draft.LineContext.{LineContext}
 use Rattle.wit_script_package.specs.declared.draft.Scope.{Scope}
 use Rattle.wit_script_package.specs.declared.draft.Scope.TheVariants as scope
 use Rattle.wit_script_package.proofs.Added.{IsNamedKind, good-begun, good-called, good-exported, good-imported, good-included, good-opened, good-owned, good-world_owned, grows-begun, grows-called, grows-exported, grows-imported, grows-included, grows-opened, grows-owned, grows-world_owned}
-use Rattle.wit_script_package.proofs.Places.{Each-contains, EachAt-push, contained_at, new-is, some_is, told-push, told-set}
-use Rattle.wit_script_package.proofs.Steps.{map-of, step-of}
+use Rattle.wit_script_package.proofs.Places.{Each-contains, EachAt-push, contained_at, new-is, told-push, told-set}
 use Rattle.wit_script_package.proofs.Things.{AreGood, Grows, Things, good-earlier, type-stays}
+use Rattle.wit_script_lines.specs.facts.OptionFacts.{map-of, same-some, step-of}
 
 abbrev pub things : Draft → Things
 things p = record { types = p.types; interfaces = p.interfaces; worlds = p.worlds }
@@ -145,7 +145,7 @@ last_is zero at is = cc
 last_is (suc n) at is = by (suc n == 0) is where
   by : (b : Bool) → cond b None (Some (suc n - 1)) ≡ Some at → suc n ≡ suc at
   by true is = cc
-  by false is = let same : suc n - 1 ≡ at = some_is (suc n - 1) at is in omega (arith, same)
+  by false is = let same : suc n - 1 ≡ at = same-some (suc n - 1) at is in omega (arith, same)
 
 abbrev pub owner_by : Option ℕ → Option ℕ → TypeOwner
 owner_by (Some at) w = owner.Interface at

@@ -3,18 +3,7 @@ use Rattle.std.proofs.Common.{◌≡◌, ℕ, suc, zero, ◌+◌, ◌<◌, List,
 use Rattle.std.proofs.lemmas.Grind.{take_at_read}
 use Rattle.std.specs.Option.{option_and_then, option_map}
 use Rattle.wit_script_package.specs.Making.{each_made}
-
--- steps that were taken
-pub step-of : {A B : Type 0} (f : A → Option B) (o : Option A) (y : B) → option_and_then f o ≡ Some y → (x : A) × (o ≡ Some x) × (f x ≡ Some y)
-step-of f None y h = cc
-step-of f (Some x) y h = (x, refl, h)
-
-pub map-of : {A B : Type 0} (f : A → B) (o : Option A) (y : B) → option_map f o ≡ Some y → (x : A) × (o ≡ Some x) × (f x ≡ y)
-map-of f None y h = cc
-map-of f (Some x) y h = (x, refl, cc)
-
-pub same-some : {A : Type 0} (x y : A) → Some x ≡ Some y → x ≡ y
-same-some x y h = cc
+use Rattle.wit_script_lines.specs.facts.OptionFacts.{map-of, same-some, step-of}
 
 module _ {A B S : Type 0} (make : A → S → Option (B × S)) where
   -- the first, and then the others

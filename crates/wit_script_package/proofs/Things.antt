@@ -22,8 +22,8 @@ use Rattle.wit_data.specs.declared.types.Type_.TheVariants as type
 use Rattle.wit_data.specs.declared.world.WorldItem.TheVariants as item
 use Rattle.wit_data.specs.declared.world.WorldKey.TheVariants as key
 use Rattle.wit_script_package.proofs.Owned.{AreAmong, ReferToEarlier, own-stays}
-use Rattle.wit_script_package.proofs.Places.{SomeAt-moved, get_at, if-some, same_at, some_is}
-use Rattle.wit_script_package.proofs.Steps.{step-of}
+use Rattle.wit_script_package.proofs.Places.{SomeAt-moved, get_at, if-some, same_at}
+use Rattle.wit_script_lines.specs.facts.OptionFacts.{same-some, step-of}
 
 -- the lists of a package
 pub record Things : Type 0 where
@@ -94,7 +94,7 @@ pub record Grows (foreign foreign_worlds : ℕ) (s t : Things) : Type 0 where
 
 -- what an alias names is what its kind says
 pub alias_is : (k : TypeDefKind) (target : ℕ) → alias_target k ≡ Some target → k ≡ kind.Type_ (type.Id target)
-alias_is (kind.Type_ (type.Id id)) target is = ap (λ (n : ℕ). kind.Type_ (type.Id n)) (some_is id target is)
+alias_is (kind.Type_ (type.Id id)) target is = ap (λ (n : ℕ). kind.Type_ (type.Id n)) (same-some id target is)
 alias_is other target is = cc
 
 alias_first : (k : TypeDefKind) (target : ℕ) → alias_target k ≡ Some target → slice_get (referred k) 0 ≡ Some target

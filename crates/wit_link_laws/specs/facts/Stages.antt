@@ -36,17 +36,13 @@ use Rattle.wit_link_laws.specs.facts.StageSteps.{IsFree, finish_step, finished_i
 use Rattle.wit_link_laws.specs.facts.CanonicalStays.{canonical_longer}
 use Rattle.wit_link_laws.specs.facts.PartiallyLinked.{IsSoundSoFar}
 use Rattle.wit_link_laws.specs.facts.PlacedWorlds.{placed_in_order}
+use Rattle.wit_link_spec.specs.facts.DropFacts.{drop_at}
 
 -- the stage before world k
 abbrev pub stage : Addition → ℕ → Graph
 stage a k = record (with_worlds a k) { worlds = (with_worlds a k).worlds ++ drop k (listed_images a) }
 
 -- ---- one more
-
-drop_at : {X : Type 0} (xs : List X) (k : ℕ) (x : X) → slice_get xs k ≡ Some x → drop k xs ≡ x ∷ drop (suc k) xs
-drop_at [] k x at = cc
-drop_at {X} (z ∷ xs) zero x at = let same : z ≡ x = cc in ap (λ (y : X). y ∷ xs) same
-drop_at (z ∷ xs) (suc k) x at = drop_at xs k x at
 
 -- folded over the first elements and one more
 fold_next : {A B : Type 0} (f : B → A → B) (b : B) (xs : List A) (k : ℕ) (x : A) → slice_get xs k ≡ Some x → fold f b (take (suc k) xs) ≡ f (fold f b (take k xs)) x

@@ -22,6 +22,7 @@ use Rattle.wit_merge_structure.specs.Structure.{Content, Feature, FirstDifferenc
 use Rattle.wit_merge_structure.specs.facts.StructureFacts.{part_refers, structure_at}
 use Rattle.wit_data.specs.declared.kind.Variant.TheVariants as variants
 use Rattle.wit_merge_laws.specs.facts.FeaturesTold.{front_of}
+use Rattle.wit_graph_theory.specs.facts.ListFacts.{get_at}
 
 -- ---- lists that are read alike
 
@@ -128,12 +129,6 @@ read_heads k l =
 
 -- ---- structures
 
--- a place within a list has something
-there_at : {X : Type 0} (xs : List X) (i : ℕ) → i < length xs → (x : X) × (slice_get xs i ≡ Some x)
-there_at [] i within = absurd (omega (arith, within))
-there_at (x ∷ xs) zero within = (x, refl)
-there_at (x ∷ xs) (suc i) within = there_at xs i (omega (arith, within))
-
 -- what a type refers to is there
 pub refers_within : (types : List TypeDef) → IsAcyclic (type_references types) → (t : ℕ) (def : TypeDef) (p : KindPart) (u : ℕ) → slice_get types t ≡ Some def → Contains (kind_parts def.kind) p → Contains (named_option p.ty) u
     → Contains (direct (type_references types) t) u × (u < length types)
@@ -178,7 +173,7 @@ module _ (others ours : List TypeDef) (found back : ℕ → Option ℕ) (acyclic
   -- a structure begins with a variant
   begins : (types : List TypeDef) (matched : ℕ → Option ℕ) → IsAcyclic (type_references types) → (t : ℕ) → t < length types → (v : Variant) × (rest : List Feature) × (structure types matched t ≡ here (variant v) ∷ rest)
   begins types matched acyclic t within =
-      let at = there_at types t within in
+      let at = get_at types t within in
       (variant_of at.0.kind, here (names (steps_of at.0.kind)) ∷ (length_features at.0.kind ++ flat_map (part_features types matched (structure types matched)) (kind_parts at.0.kind)), structure_at types matched acyclic t at.0 within at.1)
 
   read_held : (ty ty' : Option Type_) → ((t : ℕ) → Contains (named_option ty) t → IsRead t × (t < length others)) → ((t' : ℕ) → Contains (named_option ty') t' → t' < length ours)
@@ -247,8 +242,8 @@ module _ (others ours : List TypeDef) (found back : ℕ → Option ℕ) (acyclic
       by i here below t' within' =
           let long = length-references others in
           let inside : i < length others = omega (arith, here, long) in
-          let at = there_at others i inside in
-          let at' = there_at ours t' within' in
+          let at = get_at others i inside in
+          let at' = get_at ours t' within' in
           subst (λ (l : List Feature). AreRead l (theirs t')) (sym (structure_at others found acyclic i at.0 inside at.1))
           (subst (AreRead (kind_features others found mine at.0.kind)) (sym (structure_at ours back acyclic' t' at'.0 within' at'.1))
           (read_kinds at.0.kind at'.0.kind

@@ -14,23 +14,13 @@ use Rattle.wit_script.specs.Ready.{other_after, waits_after}
 use Rattle.wit_script.specs.declared.reader.Reading.{Reading}
 use Rattle.wit_script.specs.declared.ready.ScriptCommand.{ScriptCommand}
 use Rattle.wit_script.specs.declared.ready.ScriptCommand.TheVariants as asks
+use Rattle.wit_script_lines.specs.facts.OptionFacts.{map-of, same-some, step-of}
 
 -- ---- steps that were taken
-
-pub step-of : {A B : Type 0} (f : A → Option B) (o : Option A) (y : B) → option_and_then f o ≡ Some y → (x : A) × (o ≡ Some x) × (f x ≡ Some y)
-step-of f None y h = cc
-step-of f (Some x) y h = (x, refl, h)
-
-map-of : {A B : Type 0} (f : A → B) (o : Option A) (y : B) → option_map f o ≡ Some y → (x : A) × (o ≡ Some x) × (f x ≡ y)
-map-of f None y h = cc
-map-of f (Some x) y h = (x, refl, cc)
 
 else-of : {A : Type 0} (b : Bool) (o : Option A) (y : A) → cond b None o ≡ Some y → o ≡ Some y
 else-of true o y h = cc
 else-of false o y h = h
-
-pub same-some : {A : Type 0} (x y : A) → Some x ≡ Some y → x ≡ y
-same-some x y h = cc
 
 -- ---- what a line makes
 

@@ -10,7 +10,7 @@ use Rattle.wit_resolve_graph.specs.State.{State}
 use Rattle.wit_resolve_graph.specs.declared.command.Command.{Command}
 use Rattle.wit_resolve_graph.specs.declared.command.Reply.{Reply}
 use Rattle.wit_script.specs.facts.Scripts.{and_then_both}
-use Rattle.wit_script.specs.facts.Stepped.{Makes, adds, said-makes, same-some, stays, step-of}
+use Rattle.wit_script.specs.facts.Stepped.{Makes, adds, said-makes, stays}
 use Rattle.wit_script.specs.Answer.{Acts, Answers, AnswersByRun, AnswersMerge, AnswersOther, Chooses, Runs, action_of, open_after, with_working_state_of}
 use Rattle.wit_script.specs.Ready.{CanAllBeAsked, CanBeAsked, waits_after, waits_after_all}
 use Rattle.wit_script.specs.Script.{IsUnderstood, after_line, after_lines, new_reading}
@@ -20,6 +20,7 @@ use Rattle.wit_script.specs.declared.answer.Stage.{Stage}
 use Rattle.wit_script.specs.declared.reader.Reading.{Reading}
 use Rattle.wit_script.specs.declared.ready.ScriptCommand.{ScriptCommand}
 use Rattle.wit_script.specs.declared.ready.ScriptCommand.TheVariants as asks
+use Rattle.wit_script_lines.specs.facts.OptionFacts.{same-some, step-of}
 
 -- ---- commands that are read
 

@@ -10,7 +10,8 @@ use Rattle.wit_remap.specs.Grown.{Grown}
 use Rattle.wit_remap.specs.facts.GrownFacts.{Grown-same}
 use Rattle.wit_link_include.specs.steps.Included.{NamesBelonging, NamesThere, goes, numbered, places, with_images}
 use Rattle.wit_link_include.proofs.RisingIds.{numbered-keys}
-use Rattle.wit_link_include.proofs.Standing.{copied_there, goes_there, keys_there, some_there}
+use Rattle.wit_graph_theory.specs.facts.ListFacts.{get_at}
+use Rattle.wit_link_include.proofs.Standing.{copied_there, goes_there, keys_there}
 use Rattle.wit_link_include.proofs.SelectedIndices.{goes_where, told_where}
 use Rattle.wit_link_include.proofs.fresh_copies.add_copies.Goals as goal
 
@@ -66,7 +67,7 @@ append_copies-requires-clause-types c =
     let g = c.args.graph.now in
     let same : c.copied_types.new.graph ≡ g = c.in_ok-types.ensures.same ∙ c.in_ok-interfaces.ensures.same in
     let tables : TypesAt g c.args.from c.in_ok-types.types = subst (λ (x : Graph). TypesAt x c.args.from c.in_ok-types.types) c.in_ok-interfaces.ensures.same c.in_ok-types.ensures.table in
-    let world = some_there g.worlds c.args.from c.requires.there in
+    let world = get_at g.worlds c.args.from c.requires.there in
     subst (λ (x : Graph). (t : ℕ) → Contains (keys_of c.in_ok-types.types) t → t < length x.types) (sym same)
     (keys_there (is_copied g c.args.from world.0) g.types (length g.types) c.in_ok-types.types (tables world.0 world.1))
 
@@ -74,7 +75,7 @@ pub append_copies-requires-clause-interfaces : goal.append_copies-requires-claus
 append_copies-requires-clause-interfaces c =
     let g = c.args.graph.now in
     let same : c.copied_types.new.graph ≡ g = c.in_ok-types.ensures.same ∙ c.in_ok-interfaces.ensures.same in
-    let world = some_there g.worlds c.args.from c.requires.there in
+    let world = get_at g.worlds c.args.from c.requires.there in
     subst (λ (x : Graph). (i : ℕ) → Contains (keys_of c.in_ok-interfaces.interfaces) i → i < length x.interfaces) (sym same)
     (keys_there (belongs_to g world.0) g.interfaces (length g.interfaces) c.in_ok-interfaces.interfaces (c.in_ok-interfaces.ensures.table world.0 world.1))
 

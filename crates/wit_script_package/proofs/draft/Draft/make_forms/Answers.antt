@@ -1,9 +1,9 @@
 use Rattle.std.proofs.Common.{◌≡◌, ◌∙◌, ◌-◌, ◌+◌, ℕ, ap, sym, take, arith}
 use Rattle.wit_data.specs.declared.types.TypeDefKind.{TypeDefKind}
 use Rattle.wit_script_package.specs.Making.{forms_made, type_of}
-use Rattle.wit_script_package.proofs.Steps.{same-some}
 use Rattle.wit_script_package.proofs.Wrapped.{form-made}
 use Rattle.wit_script_package.proofs.draft.Draft.make_forms.Goals as goal
+use Rattle.wit_script_lines.specs.facts.OptionFacts.{same-some}
 
 pub loop-at-preserved : goal.loop-at-preserved
 loop-at-preserved c =
