@@ -119,8 +119,8 @@ fn order_after_getters(
 {
     let mut rows = waiting_rows(alloc, getters)?;
     let mut order = Items::new(alloc);
-    for place in 0..getters.len() {
-        push_unless_waiting(&mut order, *getters.at(place), place)?;
+    for (place, getter) in getters.as_slice().iter().enumerate() {
+        push_unless_waiting(&mut order, *getter, place)?;
         order.append(rows.replace(place, Items::new(alloc)))?;
     }
     Ok(order)
@@ -149,8 +149,8 @@ fn waiting_rows(
     ensures { IfOk result (λ rows. rows ≡ map (waiters getters.now (length getters.now)) (range_with_len 0 (length getters.now))) }
 {
     let mut rows = empty_rows(alloc, getters.len())?;
-    for place in 0..getters.len() {
-        add_waiter(alloc, &mut rows, *getters.at(place), place)?;
+    for (place, getter) in getters.as_slice().iter().enumerate() {
+        add_waiter(alloc, &mut rows, *getter, place)?;
     }
     Ok(rows)
 }

@@ -123,8 +123,8 @@ fn first_indices(alloc: Global, names: &Items<IncludeName>) -> Result<Names<usiz
     ensures { IfOk result (λ firsts. AreFirstIndices names.now firsts) }
 {
     let mut firsts = Names::new(alloc);
-    for place in 0..names.len() {
-        let word = names.at(place).name.as_str();
+    for (place, name) in names.as_slice().iter().enumerate() {
+        let word = name.name.as_str();
         if !firsts.contains_key(word) {
             firsts.push(String::from_str(alloc, word)?, place)?;
         }

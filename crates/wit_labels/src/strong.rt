@@ -85,18 +85,18 @@ pub fn find_clash<'a>(
     ensures none { IfOk result (λ found. IfNone found (AreStronglyUnique (keys_of entries.now))) }
 {
     let mut met = Table::new(alloc);
-    for place in 0..entries.len() {
-        match entries.entry_at(place).0 {
+    for (key, _) in entries.iter() {
+        match key {
             WorldKey::Name(label) => {
                 let label = label.as_str();
-                let key = strong_key(alloc, label)?;
-                if let Some(earlier) = met.get(&key) {
+                let strong = strong_key(alloc, label)?;
+                if let Some(earlier) = met.get(&strong) {
                     return Ok(Some(Clash {
                         label,
                         earlier: *earlier,
                     }));
                 }
-                met.push(key, label)?;
+                met.push(strong, label)?;
             }
             WorldKey::Interface(_) => {}
         }

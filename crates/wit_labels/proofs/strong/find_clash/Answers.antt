@@ -1,6 +1,8 @@
-use Rattle.std.proofs.Common.{◌≡◌, ◌∙◌, ◌++◌, ◌∷◌, [], List, ℕ, ap, sym, subst, Some, None, slice_get, refl, arith}
-use Rattle.std.proofs.lemmas.List.{length-map}
+use Rattle.std.proofs.Common.{◌≡◌, ◌∙◌, ◌++◌, ◌∷◌, [], List, ℕ, ap, sym, subst, Some, None, length, slice_get, refl, arith}
+use Rattle.std.proofs.lemmas.List.{length-map, length_push}
+use Rattle.std.proofs.lemmas.Map.Iter.{iter_end, iter_turn}
 use Rattle.std.specs.Map.{keys_of, lookup}
+use Rattle.std.specs.Map.Iter.{deref_pair}
 use Rattle.wit_data.specs.Entries.{Entry}
 use Rattle.wit_data.specs.declared.world.WorldKey.TheVariants as key
 use Rattle.wit_labels.specs.Strong.{strong_key}
@@ -8,33 +10,37 @@ use Rattle.wit_labels.specs.contracts.strong.StrongKeyPartialEq.TheImpl.{eq-valu
 use Rattle.wit_labels.specs.declared.strong.StrongKey.{StrongKey}
 use Rattle.wit_labels.proofs.Clashing.{met-all, met-clash, met-label, met-none, met-other, slice_get-map}
 use Rattle.wit_labels.proofs.strong.find_clash.Goals as goal
-use Rattle.wit_labels.proofs.strong.find_clash.Goals.{in-Name+in_ok-key-in-Name+in_default+in_ok-push-in-Name, in-Interface}
 
-pub loop-place-init : goal.loop-place-init
-loop-place-init c = rw c.new-met.ensures (met-none (keys_of c.args.entries.now))
+pub loop-key-init : goal.loop-key-init
+loop-key-init c = rw c.new-met.ensures (met-none (keys_of c.args.entries.now))
 
-pub returns-in-Some-clause-some : goal.returns-in-Some-clause-some
-returns-in-Some-clause-some c =
-    let at = slice_get-map (λ (e : Entry). e.0) c.args.entries.now c.loop-place.place (c.entry_at.result.0.now, c.entry_at.result.1.now) c.entry_at.ensures in
-    let here : slice_get (keys_of c.args.entries.now) c.loop-place.place ≡ Some (key.Name c.as_str-label.result.now) = cc (at, c.in-Name.is, c.as_str-label.ensures) in
-    let found : lookup (eq-value.it (strong_key c.as_str-label.result.now)) c.loop-place.met ≡ Some c.in-Some.earlier.now =
-    subst (λ (k : StrongKey). lookup (eq-value.it k) c.loop-place.met ≡ Some c.in-Some.earlier.now) c.in_ok-key-in-Name.ensures (sym c.in-Some.ensures) in
-    met-clash (keys_of c.args.entries.now) c.loop-place.place c.loop-place.met c.as_str-label.result.now c.in-Some.earlier.now c.loop-place.invariant here found
+pub returns-in-Some-get-clause-some : goal.returns-in-Some-get-clause-some
+returns-in-Some-get-clause-some c =
+    let turn = iter_turn deref_pair c.args.entries.now c.loop-key.yielded _ _ _ _ (c.into_iter-key-iterator.ensures.into_iter_gives ∙ c.iter-key-items.ensures.rest) c.loop-key.yielded_by _ c.in-Some.is c.next.ensures.steps in
+    let at = slice_get-map (λ (e : Entry). e.0) c.args.entries.now (length c.loop-key.yielded) _ turn.1 in
+    let here : slice_get (keys_of c.args.entries.now) (length c.loop-key.yielded) ≡ Some (key.Name c.as_str-label.result.now) = cc (at, c.in-Name.is, c.as_str-label.ensures) in
+    let found : lookup (eq-value.it (strong_key c.as_str-label.result.now)) c.loop-key.met ≡ Some c.in-Some-get.earlier.now =
+    subst (λ (k : StrongKey). lookup (eq-value.it k) c.loop-key.met ≡ Some c.in-Some-get.earlier.now) c.in_ok-strong-in-Name.ensures (sym c.in-Some-get.ensures) in
+    met-clash (keys_of c.args.entries.now) (length c.loop-key.yielded) c.loop-key.met c.as_str-label.result.now c.in-Some-get.earlier.now c.loop-key.invariant here found
 
-pub loop-place-preserved : goal.loop-place-preserved
-loop-place-preserved c =
-    let at = slice_get-map (λ (e : Entry). e.0) c.args.entries.now c.loop-place.place (c.entry_at.result.0.now, c.entry_at.result.1.now) c.entry_at.ensures in
-    elim c.match-entry_at.branch [
-      | in-Name+in_ok-key-in-Name+in_default+in_ok-push-in-Name w ↦
-          let here : slice_get (keys_of c.args.entries.now) c.loop-place.place ≡ Some (key.Name w.as_str-label.result.now) = cc (at, w.in-Name.is, w.as_str-label.ensures) in
-          let absent : lookup (eq-value.it (strong_key w.as_str-label.result.now)) c.loop-place.met ≡ None =
-          subst (λ (k : StrongKey). lookup (eq-value.it k) c.loop-place.met ≡ None) w.in_ok-key-in-Name.ensures (sym w.in_default.ensures) in
-          let table = w.met-is ∙ w.in_ok-push-in-Name.ensures.ok ∙ ap (λ (k : StrongKey). c.loop-place.met ++ (k, w.as_str-label.result) ∷ []) w.in_ok-key-in-Name.ensures in
-          rw table (met-label (keys_of c.args.entries.now) c.loop-place.place c.loop-place.met w.as_str-label.result.now w.as_str-label.result c.loop-place.invariant here refl absent)
-      | in-Interface w ↦
-          let other : (m : List ℕ) → slice_get (keys_of c.args.entries.now) c.loop-place.place ≡ Some (key.Name m) → ⊥ = λ (m : List ℕ) there. cc (at, w.in-Interface.is, there) in
-          rw w.met-is (met-other (keys_of c.args.entries.now) c.loop-place.place c.loop-place.met c.loop-place.invariant other)
-    ]
+pub loop-key-preserved-in-Continue-branch-2 : goal.loop-key-preserved-in-Continue-branch-2
+loop-key-preserved-in-Continue-branch-2 c =
+    let turn = iter_turn deref_pair c.args.entries.now c.loop-key.yielded _ _ _ _ (c.into_iter-key-iterator.ensures.into_iter_gives ∙ c.iter-key-items.ensures.rest) c.loop-key.yielded_by _ c.in-Some.is c.next.ensures.steps in
+    let at = slice_get-map (λ (e : Entry). e.0) c.args.entries.now (length c.loop-key.yielded) _ turn.1 in
+    let here : slice_get (keys_of c.args.entries.now) (length c.loop-key.yielded) ≡ Some (key.Name c.as_str-label.result.now) = cc (at, c.in-Name.is, c.as_str-label.ensures) in
+    let absent : lookup (eq-value.it (strong_key c.as_str-label.result.now)) c.loop-key.met ≡ None =
+    subst (λ (k : StrongKey). lookup (eq-value.it k) c.loop-key.met ≡ None) c.in_ok-strong-in-Name.ensures (sym c.in_default.ensures) in
+    let table = c.in_ok-push-in-Name.ensures.ok ∙ ap (λ (k : StrongKey). c.loop-key.met ++ (k, c.as_str-label.result) ∷ []) c.in_ok-strong-in-Name.ensures in
+    rw (table, length_push) (met-label (keys_of c.args.entries.now) (length c.loop-key.yielded) c.loop-key.met c.as_str-label.result.now c.as_str-label.result c.loop-key.invariant here refl absent)
+
+pub loop-key-preserved : goal.loop-key-preserved
+loop-key-preserved c =
+    let turn = iter_turn deref_pair c.args.entries.now c.loop-key.yielded _ _ _ _ (c.into_iter-key-iterator.ensures.into_iter_gives ∙ c.iter-key-items.ensures.rest) c.loop-key.yielded_by _ c.in-Some.is c.next.ensures.steps in
+    let at = slice_get-map (λ (e : Entry). e.0) c.args.entries.now (length c.loop-key.yielded) _ turn.1 in
+    let other : (m : List ℕ) → slice_get (keys_of c.args.entries.now) (length c.loop-key.yielded) ≡ Some (key.Name m) → ⊥ = λ (m : List ℕ) there. cc (at, c.in-Interface.is, there) in
+    rw length_push (met-other (keys_of c.args.entries.now) (length c.loop-key.yielded) c.loop-key.met c.loop-key.invariant other)
 
 pub returns-clause-none : goal.returns-clause-none
-returns-clause-none c = met-all (keys_of c.args.entries.now) c.loop-place.place c.loop-place.met c.loop-place.invariant (let long = length-map c.args.entries.now (λ (e : Entry). e.0) in omega arith)
+returns-clause-none c =
+    let end = iter_end deref_pair c.args.entries.now c.loop-key.yielded _ _ _ _ (c.into_iter-key-iterator.ensures.into_iter_gives ∙ c.iter-key-items.ensures.rest) c.loop-key.yielded_by c.in-None.is c.next.ensures.steps in
+    met-all (keys_of c.args.entries.now) (length c.loop-key.yielded) c.loop-key.met c.loop-key.invariant (let long = length-map c.args.entries.now (λ (e : Entry). e.0) in omega (arith, end.1))
