@@ -17,8 +17,8 @@ pub(crate) fn uses_of_group(
     ensures { IfOk result (λ uses. uses ≡ group_uses unresolved.now) }
 {
     let mut uses = Items::new(alloc);
-    for place in 0..unresolved.len() {
-        uses.push(deps_of(alloc, &unresolved.at(place).0, places)?)?;
+    for entry in unresolved.as_slice() {
+        uses.push(deps_of(alloc, &entry.0, places)?)?;
     }
     Ok(uses)
 }

@@ -19,8 +19,8 @@ pub(crate) fn indices_by_name(
     ensures cause { IfErr result (λ kind. (kind ≡ OutOfMemory) ⊎ IsSortCause unresolved.now kind) }
 {
     let mut places = Table::new(alloc);
-    for place in 0..unresolved.len() {
-        let name = &unresolved.at(place).0.name;
+    for (place, entry) in unresolved.as_slice().iter().enumerate() {
+        let name = &entry.0.name;
         if let Some(earlier) = places.get(name) {
             return Err(defined_twice(unresolved, place, *earlier));
         }
