@@ -256,8 +256,7 @@ impl<'a> Sides<'a> {
         ensures { IfOk result (λ text. string_bytes text ≡ path_text (path_of self.now stack.now) ++ ending_text ending) }
     {
         let mut text = String::from_str(alloc, "at ")?;
-        for index in 0..stack.len() {
-            let frame = stack[index];
+        for (index, frame) in stack.iter().enumerate() {
             if 0 < index {
                 text.push_str(".")?;
             }
