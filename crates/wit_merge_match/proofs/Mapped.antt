@@ -1,7 +1,12 @@
 -- Lists of what is found of each of some things.
-use Rattle.std.proofs.Common.{◌≡◌, ◌∙◌, ℕ, suc, zero, List, [], ◌∷◌, Option, None, Some, get_or, length, map, option_and_then, slice_get, refl, ap}
+use Rattle.std.proofs.Common.{◌≡◌, ◌∙◌, ◌<◌, ℕ, suc, zero, List, [], ◌∷◌, Option, None, Some, get_or, length, map, option_and_then, slice_get, refl, ap, subst}
 use Rattle.std.proofs.lemmas.List.{length-map}
+use Rattle.std.proofs.lemmas.Option.{slice_get_read}
 use Rattle.wit_merge_match.specs.steps.Matched.{AreFound}
+
+-- what is read at a place of a list that is lent stands there
+pub stands : {X : Type 0} (xs lent : List X) (i : ℕ) (x : X) → lent ≡ xs → i < length lent → x ≡ get_or lent i x → slice_get xs i ≡ Some x
+stands {X} xs lent i x same within is = subst (λ (l : List X). slice_get l i ≡ Some x) same (slice_get_read lent _ i x refl within is)
 
 -- what stands at a place of such a list
 pub get_or-map : {X : Type 0} (f : X → Option ℕ) (xs : List X) (i : ℕ) → get_or (map f xs) i None ≡ option_and_then f (slice_get xs i)

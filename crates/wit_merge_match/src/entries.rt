@@ -45,8 +45,7 @@ impl<'a> MatchedGraphs<'a> {
         if from.len() != into.len() {
             return Ok(Some(other_count(alloc, word)?));
         }
-        for index in 0..from.len() {
-            let (key, item) = from.entry_at(index);
+        for (key, item) in from.iter() {
             match self.entry_mismatch(alloc, word, key, item, into)? {
                 Some(text) => return Ok(Some(text)),
                 None => {}

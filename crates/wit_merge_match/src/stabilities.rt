@@ -183,8 +183,7 @@ impl<'a> MatchedGraphs<'a> {
         ensures none { IfNone result ((s : Stability × Stability) → EntriesApart (merging_of self.now) from.now into.now s → ⊥) }
     {
         into.keys_differ();
-        for index in 0..from.len() {
-            let (key, item) = from.entry_at(index);
+        for (key, item) in from.iter() {
             match self.entry_apart(key, item, into) {
                 Some(found) => return Some(found),
                 None => {}

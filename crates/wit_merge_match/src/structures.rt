@@ -41,14 +41,14 @@ impl<'a> MatchedGraphs<'a> {
         ensures some { IfOk result (λ found. IfSome found (λ message. FirstMismatch (merging_of self.now) (flat_map (package_interface_pairs (merging_of self.now)) order.now ++ flat_map (package_world_pairs (merging_of self.now)) order.now) (string_bytes message))) }
         ensures none { IfOk result (λ found. IfNone found (NoneDiffer (merging_of self.now) (flat_map (package_interface_pairs (merging_of self.now)) order.now ++ flat_map (package_world_pairs (merging_of self.now)) order.now))) }
     {
-        for index in 0..order.len() {
-            match self.package_interfaces_differ(alloc, comparison, *order.at(index))? {
+        for id in order.as_slice() {
+            match self.package_interfaces_differ(alloc, comparison, *id)? {
                 Some(message) => return Ok(Some(message)),
                 None => {}
             }
         }
-        for index in 0..order.len() {
-            match self.package_worlds_differ(alloc, comparison, *order.at(index))? {
+        for id in order.as_slice() {
+            match self.package_worlds_differ(alloc, comparison, *id)? {
                 Some(message) => return Ok(Some(message)),
                 None => {}
             }
@@ -72,8 +72,7 @@ impl<'a> MatchedGraphs<'a> {
         let Some(home) = self.other.packages.get(id.index()) else {
             return Ok(None);
         };
-        for index in 0..home.interfaces.len() {
-            let (name, interface) = home.interfaces.entry_at(index);
+        for (name, interface) in home.interfaces.iter() {
             match self.interface_differs(alloc, comparison, *interface)? {
                 Some(text) => {
                     return Ok(Some(in_part(alloc, &home.name, "interface", name, &text)?));
@@ -103,8 +102,7 @@ impl<'a> MatchedGraphs<'a> {
         let Some(into) = self.matched_interface(id.index()) else {
             return Ok(None);
         };
-        for index in 0..from.types.len() {
-            let (name, ty) = from.types.entry_at(index);
+        for (name, ty) in from.types.iter() {
             match self.type_differs(alloc, comparison, name, *ty, &into.types)? {
                 Some(text) => return Ok(Some(text)),
                 None => {}
@@ -175,8 +173,7 @@ impl<'a> MatchedGraphs<'a> {
         let Some(home) = self.other.packages.get(id.index()) else {
             return Ok(None);
         };
-        for index in 0..home.worlds.len() {
-            let (name, world) = home.worlds.entry_at(index);
+        for (name, world) in home.worlds.iter() {
             match self.world_differs(alloc, comparison, *world)? {
                 Some(text) => {
                     return Ok(Some(in_part(alloc, &home.name, "world", name, &text)?));
@@ -229,8 +226,7 @@ impl<'a> MatchedGraphs<'a> {
         ensures some { IfOk result (λ found. IfSome found (λ text. FirstMismatch (merging_of self.now) (side_pairs (merging_of self.now) word.now from.now into.now) (string_bytes text))) }
         ensures none { IfOk result (λ found. IfNone found (NoneDiffer (merging_of self.now) (side_pairs (merging_of self.now) word.now from.now into.now))) }
     {
-        for index in 0..from.len() {
-            let (key, item) = from.entry_at(index);
+        for (key, item) in from.iter() {
             match self.entry_differs(alloc, comparison, word, key, item, into)? {
                 Some(text) => return Ok(Some(text)),
                 None => {}

@@ -18,8 +18,7 @@ pub(crate) fn package_matches(
     ensures { IfOk result (λ found. found ≡ map (λ (home : Package). lookup (same_package home.name) graph.now.package_names) other.now.packages) }
 {
     let mut found = Items::new(alloc);
-    for index in 0..other.packages.len() {
-        let home = other.packages.at(index);
+    for home in other.packages.as_slice() {
         found.push(graph.package_names.get(&home.name).copied())?;
     }
     Ok(found)
@@ -55,8 +54,8 @@ pub(crate) fn world_matches(
     ensures { IfOk result (λ found. found ≡ map (world_under graph.now packages.now) other.now.worlds) }
 {
     let mut found = Items::new(alloc);
-    for index in 0..other.worlds.len() {
-        found.push(world_match(graph, packages, other.worlds.at(index)))?;
+    for world in other.worlds.as_slice() {
+        found.push(world_match(graph, packages, world))?;
     }
     Ok(found)
 }
@@ -80,8 +79,8 @@ pub(crate) fn named_interfaces(
     ensures { IfOk result (λ found. found ≡ map (interface_under graph.now packages.now) other.now.interfaces) }
 {
     let mut found = Items::new(alloc);
-    for index in 0..other.interfaces.len() {
-        found.push(interface_match(graph, packages, other.interfaces.at(index)))?;
+    for interface in other.interfaces.as_slice() {
+        found.push(interface_match(graph, packages, interface))?;
     }
     Ok(found)
 }

@@ -27,8 +27,7 @@ pub(crate) fn type_matches(
     ensures { IfOk result (λ found. found ≡ map (type_under graph.now worlds.now interfaces.now) other.now.types) }
 {
     let mut found = Items::new(alloc);
-    for index in 0..other.types.len() {
-        let def = other.types.at(index);
+    for def in other.types.as_slice() {
         found.push(type_match(graph, worlds, interfaces, def)?)?;
     }
     Ok(found)

@@ -3,5 +3,5 @@ use Rattle.wit_merge_match.specs.steps.Matched.{interface_under}
 use Rattle.wit_merge_match.proofs.tables.named_interfaces.Given as goal
 
 -- those of the first ones
-abbrev pub invariant-loop-index : goal.invariant-loop-index
-invariant-loop-index l = l.found ≡ map (interface_under l.graph l.packages) (take l.index l.other.interfaces)
+abbrev pub invariant-loop-interface : goal.invariant-loop-interface
+invariant-loop-interface l = l.found ≡ map (interface_under l.graph l.packages) (take l.interface-index l.other.interfaces)

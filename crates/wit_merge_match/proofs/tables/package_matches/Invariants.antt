@@ -5,5 +5,5 @@ use Rattle.wit_graph_data.specs.declared.graph.Package.{Package}
 use Rattle.wit_merge_match.proofs.tables.package_matches.Given as goal
 
 -- those of the first ones
-abbrev pub invariant-loop-index : goal.invariant-loop-index
-invariant-loop-index l = l.found ≡ map (λ (home : Package). lookup (same_package home.name) l.graph.package_names) (take l.index l.other.packages)
+abbrev pub invariant-loop-home : goal.invariant-loop-home
+invariant-loop-home l = l.found ≡ map (λ (home : Package). lookup (same_package home.name) l.graph.package_names) (take l.home-index l.other.packages)

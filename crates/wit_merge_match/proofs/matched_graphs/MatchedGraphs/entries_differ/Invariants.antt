@@ -1,4 +1,4 @@
-use Rattle.std.proofs.Common.{[], take}
+use Rattle.std.proofs.Common.{[], take, length}
 use Rattle.std.specs.List.{flat_map}
 use Rattle.wit_merge_match.specs.Differing.{merging_of}
 use Rattle.wit_merge_match.specs.steps.Structures.{IsOf, NoneDiffer}
@@ -6,8 +6,8 @@ use Rattle.wit_merge_spec.specs.Matches.{entry_pairs}
 use Rattle.wit_merge_match.proofs.matched_graphs.MatchedGraphs.entries_differ.Given as goal
 
 -- none of the first ones differ
-abbrev pub invariant-loop-index : goal.invariant-loop-index
-invariant-loop-index l = record {
+abbrev pub invariant-loop-key : goal.invariant-loop-key
+invariant-loop-key l = record {
   of : IsOf l.self l.comparison;
-  none : NoneDiffer (merging_of l.self) (flat_map (entry_pairs (merging_of l.self) [] l.word l.into) (take l.index l.from));
+  none : NoneDiffer (merging_of l.self) (flat_map (entry_pairs (merging_of l.self) [] l.word l.into) (take (length l.yielded) l.from));
 }

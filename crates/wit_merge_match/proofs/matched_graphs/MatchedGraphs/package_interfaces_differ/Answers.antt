@@ -1,4 +1,7 @@
-use Rattle.std.proofs.Common.{◌≡◌, [], None, Some, arith, codes, rules, slice_get, string_bytes}
+use Rattle.std.proofs.Common.{◌≡◌, [], None, Some, arith, codes, rules, slice_get, string_bytes, ◌∙◌, length}
+use Rattle.wit_values.specs.Names.{deref_named}
+use Rattle.std.proofs.lemmas.Map.Iter.{iter_end, iter_turn}
+use Rattle.std.proofs.lemmas.List.{length_push}
 use Rattle.wit_merge_match.specs.Differing.{merging_of}
 use Rattle.wit_merge_spec.specs.MismatchText.{part_links}
 use Rattle.wit_merge_spec.specs.Matches.{interface_pairs}
@@ -11,27 +14,32 @@ returns-in_default-clause-none c =
     let is : None ≡ slice_get c.args.self.now.other.now.packages c.args.id = search rules in
     none_is (merging_of c.args.self.now) _ (of_none (merging_of c.args.self.now) _ c.args.id is)
 
-pub loop-index-init : goal.loop-index-init
-loop-index-init c =
+pub loop-name-init : goal.loop-name-init
+loop-name-init c =
     record { of = c.requires.of; none = none_of_none (merging_of c.args.self.now) }
 
-pub returns-in-Some-2-clause-some : goal.returns-in-Some-2-clause-some
-returns-in-Some-2-clause-some c =
+pub returns-in-Some-3-clause-some : goal.returns-in-Some-3-clause-some
+returns-in-Some-3-clause-some c =
+    let turn = iter_turn deref_named c.in-Some.home.now.interfaces c.loop-name.yielded _ _ _ _ (c.into_iter-name-iterator.ensures.into_iter_gives ∙ c.iter-name-items.ensures.rest) c.loop-name.yielded_by _ c.in-Some-2.is c.next.ensures.steps in
     let home_is : Some c.in-Some.home.now ≡ slice_get c.args.self.now.other.now.packages c.args.id = search rules in
-    let told = rw c.in-Some-2.is at c.in_ok-text.ensures.some in
-    let part = first_part (merging_of c.args.self.now) (part_links c.in-Some.home.now.name (codes "interface") c.entry_at.result.0.now) (interface_pairs (merging_of c.args.self.now) [] c.entry_at.result.1.now) _ (interface_behind (merging_of c.args.self.now) (part_links c.in-Some.home.now.name (codes "interface") c.entry_at.result.0.now) [] c.entry_at.result.1.now) (string_bytes c.in-Some-2.text) _ told (rw c.deref.ensures at c.in_ok-in_part-in-Some-2.ensures) in
-    first_is (merging_of c.args.self.now) _ _ (of_home (merging_of c.args.self.now) _ c.args.id c.in-Some.home.now home_is) _ (first_next (merging_of c.args.self.now) (interface_part (merging_of c.args.self.now) c.in-Some.home.now.name) c.in-Some.home.now.interfaces c.loop-index.index _ c.entry_at.ensures _ c.loop-index.invariant.none part)
+    let told = rw c.in-Some-3.is at c.in_ok-text.ensures.some in
+    let part = first_part (merging_of c.args.self.now) (part_links c.in-Some.home.now.name (codes "interface") c.in-Some-2.name.now) (interface_pairs (merging_of c.args.self.now) [] c.in-Some-2.interface.now) _ (interface_behind (merging_of c.args.self.now) (part_links c.in-Some.home.now.name (codes "interface") c.in-Some-2.name.now) [] c.in-Some-2.interface.now) (string_bytes c.in-Some-3.text) _ told (rw c.deref.ensures at c.in_ok-in_part-in-Some-3.ensures) in
+    first_is (merging_of c.args.self.now) _ _ (of_home (merging_of c.args.self.now) _ c.args.id c.in-Some.home.now home_is) _ (first_next (merging_of c.args.self.now) (interface_part (merging_of c.args.self.now) c.in-Some.home.now.name) c.in-Some.home.now.interfaces (length c.loop-name.yielded) _ turn.1 _ c.loop-name.invariant.none part)
 
-pub loop-index-preserved : goal.loop-index-preserved
-loop-index-preserved c =
-    record {
+pub loop-name-preserved : goal.loop-name-preserved
+loop-name-preserved c =
+    let turn = iter_turn deref_named c.in-Some.home.now.interfaces c.loop-name.yielded _ _ _ _ (c.into_iter-name-iterator.ensures.into_iter_gives ∙ c.iter-name-items.ensures.rest) c.loop-name.yielded_by _ c.in-Some-2.is c.next.ensures.steps in
+    rw length_push
+    (record {
       of = c.interface_differs.ensures.of;
       none =
-          none_next (merging_of c.args.self.now) (interface_part (merging_of c.args.self.now) c.in-Some.home.now.name) c.in-Some.home.now.interfaces c.loop-index.index _ c.entry_at.ensures c.loop-index.invariant.none
-          (none_part (merging_of c.args.self.now) (part_links c.in-Some.home.now.name (codes "interface") c.entry_at.result.0.now) (interface_pairs (merging_of c.args.self.now) [] c.entry_at.result.1.now) _ (interface_behind (merging_of c.args.self.now) (part_links c.in-Some.home.now.name (codes "interface") c.entry_at.result.0.now) [] c.entry_at.result.1.now) (rw c.in-None.is at c.in_ok-text.ensures.none));
-    }
+          none_next (merging_of c.args.self.now) (interface_part (merging_of c.args.self.now) c.in-Some.home.now.name) c.in-Some.home.now.interfaces (length c.loop-name.yielded) _ turn.1 c.loop-name.invariant.none
+          (none_part (merging_of c.args.self.now) (part_links c.in-Some.home.now.name (codes "interface") c.in-Some-2.name.now) (interface_pairs (merging_of c.args.self.now) [] c.in-Some-2.interface.now) _ (interface_behind (merging_of c.args.self.now) (part_links c.in-Some.home.now.name (codes "interface") c.in-Some-2.name.now) [] c.in-Some-2.interface.now) (rw c.in-None-2.is at c.in_ok-text.ensures.none));
+    })
 
 pub returns-clause-none : goal.returns-clause-none
 returns-clause-none c =
+    let end = iter_end deref_named c.in-Some.home.now.interfaces c.loop-name.yielded _ _ _ _ (c.into_iter-name-iterator.ensures.into_iter_gives ∙ c.iter-name-items.ensures.rest) c.loop-name.yielded_by c.in-None.is c.next.ensures.steps in
+    let long = end.1 in
     let home_is : Some c.in-Some.home.now ≡ slice_get c.args.self.now.other.now.packages c.args.id = search rules in
-    none_same (merging_of c.args.self.now) _ _ (of_home (merging_of c.args.self.now) _ c.args.id c.in-Some.home.now home_is) (none_all (merging_of c.args.self.now) (interface_part (merging_of c.args.self.now) c.in-Some.home.now.name) c.in-Some.home.now.interfaces c.loop-index.index (omega arith) c.loop-index.invariant.none)
+    none_same (merging_of c.args.self.now) _ _ (of_home (merging_of c.args.self.now) _ c.args.id c.in-Some.home.now home_is) (none_all (merging_of c.args.self.now) (interface_part (merging_of c.args.self.now) c.in-Some.home.now.name) c.in-Some.home.now.interfaces (length c.loop-name.yielded) (omega arith) c.loop-name.invariant.none)
