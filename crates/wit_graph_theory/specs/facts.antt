@@ -1,3 +1,4 @@
+pub mod AliasFacts
 pub mod CarriedImages
 pub mod Covered
 pub mod CoveredIsValid

@@ -1,6 +1,6 @@
 -- What is told of what isn't there is a reason.
 use Rattle.std.proofs.Common.{◌≡◌, ◌∙◌, ◌<◌, ◌+◌, ◌⊎◌, inl, inr, ℕ, Bool, true, false, List, [], length, Option, None, Some, is_some, slice_get, refl, sym, ap, subst, arith, Contains, if◌then◌else◌}
-use Rattle.std.proofs.lemmas.Bool.{cases_lt, false≢true}
+use Rattle.std.proofs.lemmas.Bool.{false≢true}
 use Rattle.std.specs.Map.{lookup}
 use Rattle.std.specs.Prelude.{◌≢◌}
 use Rattle.wit_digraph.specs.facts.MemberFacts.{Contains-nil}
@@ -19,7 +19,7 @@ use Rattle.wit_data.specs.declared.unresolved.AstItem.TheVariants as item
 use Rattle.wit_sources.specs.Span.{moved_by}
 use Rattle.wit_graph_data.specs.declared.cause.Cause.TheVariants.{TypeNotDefined}
 use Rattle.wit_graph_data.specs.declared.error_kind.ResolveErrorKind.TheVariants.{PackageNotFound, Semantic}
-use Rattle.wit_graph_theory.specs.facts.ListFacts.{contained_at, found_at, some_at}
+use Rattle.wit_graph_theory.specs.facts.ListFacts.{below_or_same, contained_at, found_at, some_at}
 use Rattle.wit_link_spec.specs.Addition.{Addition}
 use Rattle.wit_link_spec.specs.Cause.{IsCause, interface_not_found_3, package_not_found_1, type_not_defined_13, world_not_found_2}
 use Rattle.wit_link_spec.specs.CauseText.{type_not_defined_text}
@@ -107,9 +107,6 @@ type_missing a t def name i i' s at foreign active called owned owner_active fou
     })
 
 -- ---- where nothing is missing
-
-below_or_same : (i n : ℕ) → i < n + 1 → (i < n) ⊎ (i ≡ n)
-below_or_same i n within = elim (cases_lt i n) [ inl below ↦ inl below | inr above ↦ inr (omega arith) ]
 
 -- one package more
 pub packages-next : (a : Addition) (n : ℕ) (name : PackageName) (items : List ForeignItem) (home : Option ℕ) → ArePackagesThere a n → IsHome a n name items home → ArePackagesThere a (n + 1)

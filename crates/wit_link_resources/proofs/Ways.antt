@@ -9,7 +9,7 @@ use Rattle.wit_link_resources.specs.declared.incoming.Incoming.{Incoming}
 use Rattle.wit_link_resources.specs.steps.IncomingTypes.{AreTold, CanComeIn, IsRemap, IsRemapped, NamesNext, leads_in}
 use Rattle.wit_link_resources.specs.facts.IncomingLeads.{leads_alias}
 use Rattle.wit_link_resources.specs.facts.Leads.{walk_falls}
-use Rattle.wit_link_resources.specs.facts.Rows.{alias_acyclic}
+use Rattle.wit_graph_theory.specs.facts.AliasFacts.{alias_acyclic}
 
 module _ (s : Incoming) (can : CanComeIn s) (known : List (Option Bool)) (t u : ℕ) (names : NamesNext s known t u) where
   pub next_remapped : IsRemapped s.ids.now u

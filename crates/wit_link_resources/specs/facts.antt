@@ -1,4 +1,3 @@
 pub mod IncomingLeads
 pub mod Leads
 pub mod MetTypes
-pub mod Rows

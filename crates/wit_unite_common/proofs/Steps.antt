@@ -11,7 +11,7 @@ use Rattle.wit_data.specs.declared.function.Function.{Function}
 use Rattle.wit_data.specs.declared.interface.Interface.{Interface}
 use Rattle.wit_data.specs.declared.function.Param.{Param}
 use Rattle.wit_remap_spec.specs.FunctionMismatch.{AreOfOneKind, FunctionMismatch, HaveFunctionMismatch, function_mismatch_text, kinds_differ, parameter_counts_differ, parameter_names_differ, parameter_types_differ, result_counts_differ, results_differ}
-use Rattle.wit_graph_theory.specs.facts.ListFacts.{contained_at, place_of}
+use Rattle.wit_graph_theory.specs.facts.ListFacts.{below_or_same, contained_at, place_of}
 use Rattle.wit_unite_common.specs.steps.Agreeing.{AgreesIn, DisagreesIn, ParamAgrees, ParamMismatch, ParamsAgree, ResultsAgree, names_differ, types_differ}
 
 -- what follows where there is nothing
@@ -24,9 +24,6 @@ none-weaker follows (Some x) h = h
 -- the first n parameters agree with those in their places
 abbrev pub FirstAgree : ℕ → List Param → List Param → Type 0
 FirstAgree n from into = (i : ℕ) (a b : Param) → i < n → slice_get from i ≡ Some a → slice_get into i ≡ Some b → ParamAgrees a b
-
-below_or_same : (i n : ℕ) → i < n + 1 → (i < n) ⊎ (i ≡ n)
-below_or_same i n within = grind arith
 
 pub params-next : (from into : List Param) (n : ℕ) (a b : Param) → slice_get from n ≡ Some a → slice_get into n ≡ Some b → FirstAgree n from into → ParamAgrees a b
     → FirstAgree (n + 1) from into

@@ -1,4 +1,4 @@
--- A finished world comes of sources where its listed one does. (The two laws of wit_graph on elaborated worlds
+-- A finished world comes of sources where its listed one does. (The two laws of wit_elaboration on elaborated worlds
 -- are premises, as a law's contract gives them.)
 use Rattle.std.proofs.Common.{◌≡◌, ◌∙◌, ◌⊎◌, inl, inr, ℕ, [], length, refl, sym, ap, subst, Contains}
 use Rattle.wit_digraph.specs.Relation.{IsAcyclic}

@@ -1,5 +1,4 @@
--- What stands where in lists, and what rows and mapped lists contain. (wit_link's OwnerPlaces has them too, until it goes: these
--- facts belong into the lowest crate that needs them, once.)
+-- What stands where in lists, and what rows and mapped lists contain.
 use Rattle.std.proofs.Common.{◌≡◌, ◌∙◌, ℕ, zero, suc, ◌+◌, ◌<◌, List, [], ◌∷◌, ◌++◌, ◌⊎◌, inl, inr, map, length, Option, None, Some, option_map, slice_get, refl, sym, ap, subst, arith, Contains, IsSomeAnd}
 use Rattle.std.specs.List.{flat_map}
 use Rattle.std.proofs.lemmas.List.{map-append}
@@ -115,6 +114,10 @@ pub get_at : {X : Type 0} (xs : List X) (i : ℕ) → i < length xs → (x : X) 
 get_at [] i within = absurd (omega arith)
 get_at (x ∷ xs) zero within = (x, refl)
 get_at (x ∷ xs) (suc i) within = get_at xs i (omega arith)
+
+-- below one number more is below it or the same
+pub below_or_same : (i n : ℕ) → i < n + 1 → (i < n) ⊎ (i ≡ n)
+below_or_same i n within = grind arith
 
 -- one place has one thing
 pub same_at : {X : Type 0} (xs : List X) (i j : ℕ) (x y : X) → i ≡ j → slice_get xs i ≡ Some x → slice_get xs j ≡ Some y → x ≡ y

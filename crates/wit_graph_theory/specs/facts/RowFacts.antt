@@ -1,5 +1,5 @@
 -- Rows and paths, over plain lists of lists: a simulation of rows lifts paths, and rows that grow by later
--- nodes, which use old ones or ones of smaller rank, stay acyclic. (Belongs into wit_digraph.)
+-- nodes, which use old ones or ones of smaller rank, stay acyclic.
 use Rattle.std.proofs.Common.{◌≡◌, ◌⊎◌, inl, inr, ℕ, ◌<◌, ◌≤◌, zero, suc, List, [], ◌∷◌, ◌++◌, length, refl, sym, subst, ap, arith, Contains, All}
 use Rattle.std.proofs.lemmas.Bool.{cases_lt}
 use Rattle.std.proofs.lemmas.List.{length-append}

@@ -25,7 +25,7 @@ use Rattle.wit_link_spec.specs.ValueRemap.{ValueRemap, positions, types_without_
 use Rattle.wit_link_spec.specs.steps.NewThings.{is_from, is_new}
 use Rattle.wit_link_resources.specs.steps.IncomingTypes.{CanCome, IsRemapOf, IsRemapped, leads_in}
 use Rattle.wit_link_resources.specs.facts.Leads.{leads_here, leads_on, leads_stays, target_there, walk_falls}
-use Rattle.wit_link_resources.specs.facts.Rows.{alias_acyclic}
+use Rattle.wit_graph_theory.specs.facts.AliasFacts.{alias_acyclic}
 
 abbrev row : TypeDef → List ℕ
 row def = option_to_list (alias_target def.kind)

@@ -10,7 +10,7 @@ use Rattle.wit_data.specs.Uses.{alias_rows}
 use Rattle.wit_link_spec.specs.Resources.{leads_to_resource}
 use Rattle.wit_link_resources.specs.steps.Leading.{AreRight}
 use Rattle.wit_link_resources.specs.facts.Leads.{leads_stays}
-use Rattle.wit_link_resources.specs.facts.Rows.{alias_acyclic}
+use Rattle.wit_graph_theory.specs.facts.AliasFacts.{alias_acyclic}
 
 -- where nothing was met
 pub right-begun : (types : List TypeDef) (met : List (ℕ × Bool)) → met ≡ [] → AreRight types met

@@ -16,8 +16,7 @@ use Rattle.wit_data.specs.declared.types.TypeDef.{TypeDef}
 use Rattle.wit_data.specs.declared.types.TypeDefKind.{TypeDefKind}
 use Rattle.wit_data.specs.declared.types.TypeDefKind.TheVariants as kind
 use Rattle.wit_elaboration.specs.Valid.{IsValid}
-use Rattle.wit_graph_data.specs.facts.ContentFacts.{rows_acyclic}
-use Rattle.wit_graph_theory.specs.facts.GoodTypes.{alias_referred}
+use Rattle.wit_graph_theory.specs.facts.AliasFacts.{alias_acyclic}
 use Rattle.wit_remap_spec.specs.Image.{kind_image, type_image}
 use Rattle.wit_graph_theory.specs.facts.ListFacts.{from_row, in_row}
 use Rattle.wit_graph_theory.specs.facts.ReferredFacts.{alias_image}
@@ -70,9 +69,6 @@ target_from (Some x) u has =
 
 target_into : (o : Option ℕ) (u : ℕ) → o ≡ Some u → Contains (option_to_list o) u
 target_into o u is = subst (λ (p : Option ℕ). Contains (option_to_list p) u) (sym is) (Contains-here u [])
-
-pub alias_acyclic : (types : List TypeDef) → IsAcyclic (type_references types) → IsAcyclic (alias_rows types)
-alias_acyclic types acyclic = rows_acyclic (λ k. option_to_list (alias_target k)) (λ k t has. alias_referred k t (target_from (alias_target k) t has)) types acyclic
 
 -- a resource is there, and is of that kind
 resource_from : (types : List TypeDef) (t : ℕ) → is_resource types t ≡ true → (def : TypeDef) × (slice_get types t ≡ Some def) × (is_resource_kind def.kind ≡ true)

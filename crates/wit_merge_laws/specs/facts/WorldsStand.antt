@@ -8,7 +8,7 @@ use Rattle.std.proofs.lemmas.Bool.{cases_Bool, false≢true}
 use Rattle.std.proofs.lemmas.Map.Views.{Contains-from_lookup, IsSome-lookup_from_Contains}
 use Rattle.std.proofs.lemmas.Slice.Eq.{bytes_eq-Decides}
 use Rattle.std.specs.Cmp.Lexicographic.{nat_list_eq_equiv}
-use Rattle.wit_digraph.specs.facts.MemberFacts.{Contains-cons_cases, Contains-flat_map, Contains-flat_map_cases, Contains-here, Contains-nil}
+use Rattle.wit_digraph.specs.facts.MemberFacts.{Contains-flat_map, Contains-flat_map_cases, Contains-here}
 use Rattle.wit_data.specs.Each.{SomeAt}
 use Rattle.wit_data.specs.Entries.{Entry, entries_of}
 use Rattle.wit_data.specs.Ownership.{entry_type, world_types}
@@ -34,6 +34,7 @@ use Rattle.wit_graph_theory.specs.facts.ListFacts.{Contains-map, found_at, some_
 use Rattle.wit_graph_theory.specs.Operations.{merge_sources}
 use Rattle.wit_graph_theory.specs.facts.OptionFacts.{some_by, some_parts, some_same}
 use Rattle.wit_graph_theory.specs.steps.Sources.{Carries, IsGoodSource, WorldStands}
+use Rattle.wit_link_laws.specs.facts.ListedTypes.{lists_type}
 use Rattle.wit_link_spec.specs.Include.{joined_entry, joined_item}
 use Rattle.wit_merge_spec.specs.Cause.{same_sort, HasNoMismatch}
 use Rattle.wit_merge_spec.specs.Cause as differ
@@ -54,23 +55,6 @@ entry k held = (k, held)
 
 -- ---- types that worlds list
 
--- a type that an entry lists: the entry is it, under its name
-pub record ListsType (e : Entry) (name : List ℕ) (t : ℕ) : Type 0 where
-  pub span : Option (ℕ × ℕ)
-  pub is : e ≡ entry (key.Name name) (item.Type_ t span)
-
-pub lists_is : (e : Entry) (name : List ℕ) (t : ℕ) → Contains (entry_type e.0 e.1) (name, t) → ListsType e name t
-lists_is e name t has = by e.0 e.1 has
-  where
-    by : (k : WorldKey) (held : WorldItem) → Contains (entry_type k held) (name, t) → ListsType (entry k held) name t
-    by (key.Name label) (item.Type_ u span) has = elim (Contains-cons_cases (label, u) (name, t) [] has) [
-      | inl same ↦ record { span = span; is = λ i. entry (key.Name (same i).0) (item.Type_ (same i).1 span) }
-      | inr none ↦ absurd (Contains-nil none)
-    ]
-    by (key.Name label) (item.Interface i stability docs span external_id) has = absurd (Contains-nil has)
-    by (key.Name label) (item.Function fn) has = absurd (Contains-nil has)
-    by (key.Interface f) held has = absurd (Contains-nil has)
-
 -- the entry that lists a type of a world
 pub record ListedBy (world : World) (name : List ℕ) (t : ℕ) : Type 0 where
   pub span : Option (ℕ × ℕ)
@@ -79,8 +63,9 @@ pub record ListedBy (world : World) (name : List ℕ) (t : ℕ) : Type 0 where
 pub listed_by : (world : World) (name : List ℕ) (t : ℕ) → Contains (world_types world) (name, t) → ListedBy world name t
 listed_by world name t has =
     let from = Contains-flat_map_cases (λ (e : Entry). entry_type e.0 e.1) world.imports (name, t) has in
-    let is = lists_is from.0 name t from.1.1 in
-    record { span = is.span; has = subst (Contains world.imports) is.is from.1.0 }
+    let listed = lists_type from.0 name t from.1.1 in
+    let is : from.0 ≡ entry (key.Name name) (item.Type_ t listed.span) = λ i. (listed.key_is i, listed.held_is i) in
+    record { span = listed.span; has = subst (Contains world.imports) is from.1.0 }
 
 pub lists_it : (world : World) (name : List ℕ) (t : ℕ) (span : Option (ℕ × ℕ)) → Contains world.imports (entry (key.Name name) (item.Type_ t span)) → Contains (world_types world) (name, t)
 lists_it world name t span has = Contains-flat_map (λ (e : Entry). entry_type e.0 e.1) world.imports (entry (key.Name name) (item.Type_ t span)) (name, t) has (Contains-here (name, t) [])

@@ -5,7 +5,7 @@ use Rattle.wit_link_spec.specs.Resources.{leads_to_resource}
 use Rattle.wit_link_resources.specs.steps.Leading.{AreRight}
 use Rattle.wit_link_resources.specs.facts.Leads.{leads_on, target_there, walk_falls}
 use Rattle.wit_link_resources.specs.facts.MetTypes.{begins_more, begins_same, right-more}
-use Rattle.wit_link_resources.specs.facts.Rows.{alias_acyclic}
+use Rattle.wit_graph_theory.specs.facts.AliasFacts.{alias_acyclic}
 use Rattle.wit_link_resources.proofs.met.note_way.Goals as goal
 
 pub loop-target-smaller : goal.loop-target-smaller
