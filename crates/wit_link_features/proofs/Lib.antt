@@ -1,4 +1,5 @@
 pub mod AskedGates
+pub mod Elements
 pub mod Flags
 pub mod ForeignGates
 pub mod Ready

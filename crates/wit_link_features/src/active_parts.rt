@@ -69,8 +69,8 @@ fn type_flags(
     ensures { IfOk result (λ flags. flags ≡ map (type_is_active features.now unresolved.now.types) (range_with_len 0 (length unresolved.now.types))) }
 {
     let mut flags = Items::new(alloc);
-    for index in 0..unresolved.types.len() {
-        flags.push(is_active(features, &unresolved.types.at(index).stability))?;
+    for def in unresolved.types.as_slice() {
+        flags.push(is_active(features, &def.stability))?;
     }
     Ok(flags)
 }
@@ -84,9 +84,9 @@ fn interface_flags(
     ensures { IfOk result (λ flags. flags ≡ map (own_interface_flag features.now unresolved.now) (range_with_len 0 (length unresolved.now.interfaces))) }
 {
     let foreign = foreign_interfaces(alloc, &unresolved.foreign_deps)?.len();
+    let interfaces = unresolved.interfaces.as_slice();
     let mut flags = Items::new(alloc);
-    for index in 0..unresolved.interfaces.len() {
-        let interface = unresolved.interfaces.at(index);
+    for (index, interface) in interfaces.iter().enumerate() {
         flags.push(index >= foreign && is_active(features, &interface.stability))?;
     }
     Ok(flags)
@@ -101,9 +101,9 @@ fn world_flags(
     ensures { IfOk result (λ flags. flags ≡ map (own_world_flag features.now unresolved.now) (range_with_len 0 (length unresolved.now.worlds))) }
 {
     let foreign = foreign_worlds(alloc, &unresolved.foreign_deps)?.len();
+    let worlds = unresolved.worlds.as_slice();
     let mut flags = Items::new(alloc);
-    for index in 0..unresolved.worlds.len() {
-        let world = unresolved.worlds.at(index);
+    for (index, world) in worlds.iter().enumerate() {
         flags.push(index >= foreign && is_active(features, &world.stability))?;
     }
     Ok(flags)
@@ -118,8 +118,7 @@ fn mark_packages(
     requires { Each (λ (e : PackageName × List ForeignItem). Each (λ (item : ForeignItem). HasFlag activity.old item.1.0) e.1) deps.now }
     ensures { IsMarked features.now (foreign_items deps.now) activity.old activity.new }
 {
-    for index in 0..deps.len() {
-        let (_, items) = deps.entry_at(index);
+    for (_, items) in deps.iter() {
         mark_items(features, items, activity);
     }
 }
@@ -133,8 +132,7 @@ fn mark_items(
     requires { Each (λ (item : ForeignItem). HasFlag activity.old item.1.0) items.now }
     ensures { IsMarked features.now items.now activity.old activity.new }
 {
-    for index in 0..items.len() {
-        let (_, (item, notes)) = items.entry_at(index);
+    for (_, (item, notes)) in items.iter() {
         if !some_active(features, notes) {
             continue;
         }

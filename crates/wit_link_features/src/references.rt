@@ -101,8 +101,8 @@ impl<'a> Checker<'a> {
         ensures stay { OnOk result (Each (λ t. Stays self.now (AType t)) ids.now) }
         ensures cause { IfErr result (MayRefuse self.now) }
     {
-        for index in 0..ids.len() {
-            self.look_at(Needed::Type(*ids.at(index)), span)?;
+        for id in ids.as_slice() {
+            self.look_at(Needed::Type(*id), span)?;
         }
         Ok(())
     }
@@ -113,12 +113,12 @@ impl<'a> Checker<'a> {
         ensures stay { OnOk result (EachAt (TypesStay self.now) self.now.adding.unresolved.now.types) }
         ensures cause { IfErr result (MayRefuse self.now) }
     {
-        let types = &self.adding.unresolved.types;
-        for index in 0..types.len() {
+        let types = self.adding.unresolved.types.as_slice();
+        for (index, def) in types.iter().enumerate() {
             if !flag_at(&self.activity.types, index) {
                 continue;
             }
-            self.look_at_type(types.at(index))?;
+            self.look_at_type(def)?;
         }
         Ok(())
     }
@@ -157,8 +157,8 @@ impl<'a> Checker<'a> {
         ensures stay { OnOk result (Each (FieldStays self.now) fields.now) }
         ensures cause { IfErr result (MayRefuse self.now) }
     {
-        for index in 0..fields.len() {
-            self.look_at_field(fields.at(index))?;
+        for field in fields.as_slice() {
+            self.look_at_field(field)?;
         }
         Ok(())
     }
@@ -216,12 +216,12 @@ impl<'a> Checker<'a> {
         ensures stay { OnOk result (EachAt (FunctionsStay self.now) self.now.adding.unresolved.now.interfaces) }
         ensures cause { IfErr result (MayRefuse self.now) }
     {
-        let interfaces = &self.adding.unresolved.interfaces;
-        for index in 0..interfaces.len() {
+        let interfaces = self.adding.unresolved.interfaces.as_slice();
+        for (index, interface) in interfaces.iter().enumerate() {
             if !flag_at(&self.activity.interfaces, index) {
                 continue;
             }
-            self.look_at_functions(&interfaces.at(index).functions)?;
+            self.look_at_functions(&interface.functions)?;
         }
         Ok(())
     }
@@ -258,12 +258,11 @@ impl<'a> Checker<'a> {
         ensures stay { OnOk result (EachAt (PartsStay self.now) self.now.adding.unresolved.now.worlds) }
         ensures cause { IfErr result (MayRefuse self.now) }
     {
-        let worlds = &self.adding.unresolved.worlds;
-        for index in 0..worlds.len() {
+        let worlds = self.adding.unresolved.worlds.as_slice();
+        for (index, world) in worlds.iter().enumerate() {
             if !flag_at(&self.activity.worlds, index) {
                 continue;
             }
-            let world = worlds.at(index);
             self.look_at_entries(&world.imports)?;
             self.look_at_entries(&world.exports)?;
             self.look_at_includes(&world.includes)?;
@@ -315,8 +314,8 @@ impl<'a> Checker<'a> {
         ensures stay { OnOk result (Each (IncludeStays self.now) includes.now) }
         ensures cause { IfErr result (MayRefuse self.now) }
     {
-        for index in 0..includes.len() {
-            self.look_at_include(includes.at(index))?;
+        for include in includes.as_slice() {
+            self.look_at_include(include)?;
         }
         Ok(())
     }

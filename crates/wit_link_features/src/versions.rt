@@ -125,8 +125,7 @@ impl<'a> Checker<'a> {
         ensures met { OnOk result (Each (IsMet self.now) (asked_gates self.now.adding.features.now notes.now)) }
         ensures cause { IfErr result (MayRefuse self.now) }
     {
-        for index in 0..notes.len() {
-            let note = notes.at(index);
+        for note in notes.as_slice() {
             self.check_gate(note, span)?;
             if self.is_active(note) {
                 return Ok(());
@@ -140,9 +139,7 @@ impl<'a> Checker<'a> {
         ensures met { OnOk result (Each (λ (def : TypeDef). IsMet self.now def.stability) self.now.adding.unresolved.now.types) }
         ensures cause { IfErr result (MayRefuse self.now) }
     {
-        let types = &self.adding.unresolved.types;
-        for index in 0..types.len() {
-            let def = types.at(index);
+        for def in self.adding.unresolved.types.as_slice() {
             self.check_gate(&def.stability, def.span)?;
         }
         Ok(())
@@ -219,12 +216,12 @@ impl<'a> Checker<'a> {
         ensures met { OnOk result (EachAt (MeetsFunctions self.now) self.now.adding.unresolved.now.interfaces) }
         ensures cause { IfErr result (MayRefuse self.now) }
     {
-        let interfaces = &self.adding.unresolved.interfaces;
-        for index in 0..interfaces.len() {
+        let interfaces = self.adding.unresolved.interfaces.as_slice();
+        for (index, interface) in interfaces.iter().enumerate() {
             if !flag_at(&self.activity.interfaces, index) {
                 continue;
             }
-            self.check_functions(&interfaces.at(index).functions)?;
+            self.check_functions(&interface.functions)?;
         }
         Ok(())
     }
@@ -247,12 +244,11 @@ impl<'a> Checker<'a> {
         ensures met { OnOk result (EachAt (MeetsParts self.now) self.now.adding.unresolved.now.worlds) }
         ensures cause { IfErr result (MayRefuse self.now) }
     {
-        let worlds = &self.adding.unresolved.worlds;
-        for index in 0..worlds.len() {
+        let worlds = self.adding.unresolved.worlds.as_slice();
+        for (index, world) in worlds.iter().enumerate() {
             if !flag_at(&self.activity.worlds, index) {
                 continue;
             }
-            let world = worlds.at(index);
             self.check_entries(&world.imports)?;
             self.check_entries(&world.exports)?;
             self.check_includes(&world.includes)?;
@@ -295,8 +291,7 @@ impl<'a> Checker<'a> {
         ensures met { OnOk result (Each (λ (i : WorldInclude). IsMet self.now i.stability) includes.now) }
         ensures cause { IfErr result (MayRefuse self.now) }
     {
-        for index in 0..includes.len() {
-            let include = includes.at(index);
+        for include in includes.as_slice() {
             self.check_gate(&include.stability, include.span)?;
         }
         Ok(())

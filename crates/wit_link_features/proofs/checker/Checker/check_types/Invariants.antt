@@ -4,5 +4,5 @@ use Rattle.wit_link_features.specs.steps.FeatureSteps.{IsMet}
 use Rattle.wit_link_features.proofs.checker.Checker.check_types.Given as goal
 
 -- the first ones are met
-abbrev pub invariant-loop-index : goal.invariant-loop-index
-invariant-loop-index l = EachBelow l.index (λ _ (def : TypeDef). IsMet l.self def.stability) l.self.adding.unresolved.now.types
+abbrev pub invariant-loop-def : goal.invariant-loop-def
+invariant-loop-def l = EachBelow l.def-index (λ _ (def : TypeDef). IsMet l.self def.stability) l.self.adding.unresolved.now.types

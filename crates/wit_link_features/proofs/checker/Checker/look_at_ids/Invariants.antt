@@ -4,5 +4,5 @@ use Rattle.wit_link_features.specs.steps.FeatureSteps.{Stays}
 use Rattle.wit_link_features.proofs.checker.Checker.look_at_ids.Given as goal
 
 -- the first ones aren't left out
-abbrev pub invariant-loop-index : goal.invariant-loop-index
-invariant-loop-index l = EachBelow l.index (λ _ t. Stays l.self (AType t)) l.ids
+abbrev pub invariant-loop-id : goal.invariant-loop-id
+invariant-loop-id l = EachBelow l.id-index (λ _ t. Stays l.self (AType t)) l.ids

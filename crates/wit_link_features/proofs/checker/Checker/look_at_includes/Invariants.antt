@@ -3,5 +3,5 @@ use Rattle.wit_link_features.specs.steps.FeatureSteps.{IncludeStays}
 use Rattle.wit_link_features.proofs.checker.Checker.look_at_includes.Given as goal
 
 -- what the first ones need isn't left out
-abbrev pub invariant-loop-index : goal.invariant-loop-index
-invariant-loop-index l = EachBelow l.index (λ _. IncludeStays l.self) l.includes
+abbrev pub invariant-loop-include : goal.invariant-loop-include
+invariant-loop-include l = EachBelow l.include-index (λ _. IncludeStays l.self) l.includes
