@@ -13,8 +13,8 @@ use Rattle.wit_data.specs.declared.types.TypeDef.{TypeDef}
 use Rattle.wit_data.specs.declared.types.TypeOwner.{TypeOwner}
 use Rattle.wit_data.specs.declared.unresolved.UnresolvedPackage.{UnresolvedPackage}
 use Rattle.wit_data.specs.declared.types.TypeOwner.TheVariants as owner
+use Rattle.wit_graph_data.specs.Named.{interface_in, world_in}
 use Rattle.wit_graph_data.specs.declared.graph.Graph.{Graph}
-use Rattle.wit_graph_data.specs.declared.graph.Package.{Package}
 
 -- ---- what is named
 
@@ -38,13 +38,11 @@ find_package g own name = if same_package own name then None else lookup (same_p
 
 -- the interface of this name in it
 abbrev pub find_interface : Graph → PackageName → PackageName → List ℕ → Option ℕ
-find_interface g own home name =
-    option_and_then (λ p. option_and_then (λ (there : Package). lookup (bytes_eq name) there.interfaces) (slice_get g.packages p)) (find_package g own home)
+find_interface g own home name = option_and_then (interface_in g name) (find_package g own home)
 
 -- the world of this name in it
 abbrev pub find_world : Graph → PackageName → PackageName → List ℕ → Option ℕ
-find_world g own home name =
-    option_and_then (λ p. option_and_then (λ (there : Package). lookup (bytes_eq name) there.worlds) (slice_get g.packages p)) (find_package g own home)
+find_world g own home name = option_and_then (world_in g name) (find_package g own home)
 
 -- the interface of the graph that foreign interface i of the package names
 abbrev pub foreign_interface_id : Graph → UnresolvedPackage → ℕ → Option ℕ
