@@ -11,7 +11,7 @@ use wit_data::{
     TypeOwner, WorldId, WorldItem, WorldKey,
 };
 use wit_labels::Renamings;
-use wit_remap::{Moves, Place};
+use wit_remap::{Moves, Update};
 
 /// Where what an include copies of a world goes. All ids are of one graph, and one that isn't in these
 /// tables stays.
@@ -94,7 +94,7 @@ impl<'a> Copies<'a> {
         ensures { IfOk result (λ copy. copy ≡ type_image (maps_of self.now) def.now) }
     {
         let mut copy = def.try_clone()?;
-        copy.place(self);
+        copy.update(self);
         if let TypeOwner::World(world) = def.owner {
             if world == self.from {
                 let name = self.name(alloc, &def.name)?;
@@ -119,7 +119,7 @@ impl<'a> Copies<'a> {
         ensures { IfOk result (λ copy. copy ≡ interface_image (maps_of self.now) interface.now) }
     {
         let mut copy = interface.try_clone()?;
-        copy.place(self);
+        copy.update(self);
         Ok(copy)
     }
 
@@ -176,9 +176,9 @@ impl<'a> Copies<'a> {
             WorldItem::Function(function) => {
                 let name = self.label(alloc, &function.name)?;
                 function.name = name;
-                function.place(self);
+                function.update(self);
             }
-            WorldItem::Type_ { id, .. } => id.place(self),
+            WorldItem::Type_ { id, .. } => id.update(self),
         }
         Ok(copy)
     }

@@ -11,7 +11,7 @@ use crate::stabilities::join_stability;
 use crate::union_plan::UnionPlan;
 use std::alloc::{AllocError, Global};
 use wit_data::{Function, Interface, Items, Names, TryClone};
-use wit_remap::Place;
+use wit_remap::Update;
 
 /// One that moves takes its place; one that stays gets what the other brings behind what it has, and the stability of
 /// the other is joined to its own.
@@ -29,7 +29,7 @@ impl Part for Interface {
 
     fn moved(&self, uniting: &UnionPlan<'_>) -> Result<Interface, AllocError> {
         let mut moved = self.try_clone()?;
-        moved.place(&uniting.mover(self.package));
+        moved.update(&uniting.mover(self.package));
         Ok(moved)
     }
 
@@ -82,7 +82,7 @@ fn moved_function(uniting: &UnionPlan<'_>, function: &Function) -> Result<Functi
     ensures { IfOk result (λ moved. moved ≡ function_image (merge_maps (merging_of uniting.now)) function.now) }
 {
     let mut moved = function.try_clone()?;
-    moved.place(&uniting.mover(None));
+    moved.update(&uniting.mover(None));
     Ok(moved)
 }
 

@@ -9,7 +9,7 @@ use crate::stabilities::join_stability;
 use crate::union_plan::UnionPlan;
 use std::alloc::{AllocError, Global};
 use wit_data::{Items, TryClone, TypeDef};
-use wit_remap::Place;
+use wit_remap::Update;
 
 /// One that moves takes its place; to one that stays the stability of the other is joined.
 impl Part for TypeDef {
@@ -27,7 +27,7 @@ impl Part for TypeDef {
 
     fn moved(&self, uniting: &UnionPlan<'_>) -> Result<TypeDef, AllocError> {
         let mut moved = self.try_clone()?;
-        moved.place(&uniting.mover(None));
+        moved.update(&uniting.mover(None));
         Ok(moved)
     }
 

@@ -2,36 +2,36 @@
 ghost use Rattle.wit_remap_spec.specs.Image.{function_image, function_kind_image, interface_image, param_image};
 
 use crate::moves::Moves;
-use crate::place::Place;
+use crate::update::Update;
 use wit_data::{Function, FunctionKind, Interface, Param};
 
-impl Place for Param {
+impl Update for Param {
     ghost fits = { λ P param. P param.span };
 
-    ghost placed = { param_image };
+    ghost image = { param_image };
 
-    fn place<M: Moves>(&mut self, mover: &M) {
-        self.ty.place(mover);
+    fn update<M: Moves>(&mut self, mover: &M) {
+        self.ty.update(mover);
         self.span = mover.span(self.span);
     }
 }
 
-impl Place for FunctionKind {
+impl Update for FunctionKind {
     ghost fits = { λ _ _. Unit {0} };
 
-    ghost placed = { function_kind_image };
+    ghost image = { function_kind_image };
 
-    fn place<M: Moves>(&mut self, mover: &M) {
+    fn update<M: Moves>(&mut self, mover: &M) {
         match self {
-            FunctionKind::Method(id) => id.place(mover),
-            FunctionKind::AsyncMethod(id) => id.place(mover),
-            FunctionKind::Static(id) => id.place(mover),
-            FunctionKind::AsyncStatic(id) => id.place(mover),
-            FunctionKind::Constructor(id) => id.place(mover),
-            FunctionKind::MethodGetter(id) => id.place(mover),
-            FunctionKind::MethodSetter(id) => id.place(mover),
-            FunctionKind::StaticGetter(id) => id.place(mover),
-            FunctionKind::StaticSetter(id) => id.place(mover),
+            FunctionKind::Method(id) => id.update(mover),
+            FunctionKind::AsyncMethod(id) => id.update(mover),
+            FunctionKind::Static(id) => id.update(mover),
+            FunctionKind::AsyncStatic(id) => id.update(mover),
+            FunctionKind::Constructor(id) => id.update(mover),
+            FunctionKind::MethodGetter(id) => id.update(mover),
+            FunctionKind::MethodSetter(id) => id.update(mover),
+            FunctionKind::StaticGetter(id) => id.update(mover),
+            FunctionKind::StaticSetter(id) => id.update(mover),
             FunctionKind::Freestanding
             | FunctionKind::AsyncFreestanding
             | FunctionKind::Getter
@@ -40,31 +40,31 @@ impl Place for FunctionKind {
     }
 }
 
-impl Place for Function {
+impl Update for Function {
     ghost use Rattle.wit_remap.specs.steps.Fits.{FunctionFits};
 
     ghost fits = { FunctionFits };
 
-    ghost placed = { function_image };
+    ghost image = { function_image };
 
-    fn place<M: Moves>(&mut self, mover: &M) {
-        self.kind.place(mover);
-        self.params.place(mover);
-        self.result_.place(mover);
+    fn update<M: Moves>(&mut self, mover: &M) {
+        self.kind.update(mover);
+        self.params.update(mover);
+        self.result_.update(mover);
         self.span = mover.span(self.span);
     }
 }
 
-impl Place for Interface {
+impl Update for Interface {
     ghost use Rattle.wit_remap.specs.steps.Fits.{InterfaceFits};
 
     ghost fits = { InterfaceFits };
 
-    ghost placed = { interface_image };
+    ghost image = { interface_image };
 
-    fn place<M: Moves>(&mut self, mover: &M) {
-        self.types.place(mover);
-        self.functions.place(mover);
+    fn update<M: Moves>(&mut self, mover: &M) {
+        self.types.update(mover);
+        self.functions.update(mover);
         self.package = Some(mover.home());
         self.span = mover.span(self.span);
     }

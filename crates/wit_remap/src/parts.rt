@@ -21,8 +21,8 @@ ghost use Rattle.wit_remap.specs.steps.Parts.{kept_of};
 
 use crate::mover::Mover;
 use crate::part::{Part, selected, selected_with_index};
-use crate::place::Place;
 use crate::tables::{interface_table, world_table};
+use crate::update::Update;
 use crate::worlds::{PlacedWorld, placed_worlds};
 use std::alloc::{AllocError, Global};
 use std::mem;
@@ -47,7 +47,7 @@ fn add_types(
 {
     let first = TypeId::from_index(graph.types.len());
     let mut own = selected(types, mover.places.types.as_slice(), &first);
-    own.place(mover);
+    own.update(mover);
     own.append(owns)?;
     graph.types.append(own)?;
     Ok(())
@@ -91,7 +91,7 @@ fn placed_interfaces(
     for item in interfaces.into_vec() {
         let (_, mut interface) = item;
         part.cut_interface(&mut interface);
-        interface.place(mover);
+        interface.update(mover);
         placed.push(interface)?;
     }
     Ok(placed)

@@ -3,16 +3,16 @@ ghost use Rattle.std.specs.Prelude.{◌≡◌};
 ghost use Rattle.wit_remap_spec.specs.Image.{case_image, enum_case_image, field_image, flag_image, handle_image, kind_image, owner_image, target_image, type_image, value_image};
 
 use crate::moves::Moves;
-use crate::place::Place;
+use crate::update::Update;
 use wit_data::{Case, EnumCase, Field, Flag, Handle, Type_, TypeDef, TypeDefKind, TypeOwner};
 
 /// A type at a value position.
-impl Place for Type_ {
+impl Update for Type_ {
     ghost fits = { λ _ _. Unit {0} };
 
-    ghost placed = { value_image };
+    ghost image = { value_image };
 
-    fn place<M: Moves>(&mut self, mover: &M) {
+    fn update<M: Moves>(&mut self, mover: &M) {
         if let Type_::Id(id) = self {
             *id = mover.value_id(*id);
         }
@@ -24,71 +24,71 @@ fn place_target<M: Moves>(ty: &mut Type_, mover: &M)
     ensures { ty.new ≡ target_image (M.maps mover.now) ty.old }
 {
     if let Type_::Id(id) = ty {
-        id.place(mover);
+        id.update(mover);
     }
 }
 
-impl Place for Field {
+impl Update for Field {
     ghost fits = { λ P f. P f.span };
 
-    ghost placed = { field_image };
+    ghost image = { field_image };
 
-    fn place<M: Moves>(&mut self, mover: &M) {
-        self.ty.place(mover);
+    fn update<M: Moves>(&mut self, mover: &M) {
+        self.ty.update(mover);
         self.span = mover.span(self.span);
     }
 }
 
-impl Place for Case {
+impl Update for Case {
     ghost fits = { λ P c. P c.span };
 
-    ghost placed = { case_image };
+    ghost image = { case_image };
 
-    fn place<M: Moves>(&mut self, mover: &M) {
-        self.ty.place(mover);
+    fn update<M: Moves>(&mut self, mover: &M) {
+        self.ty.update(mover);
         self.span = mover.span(self.span);
     }
 }
 
-impl Place for Flag {
+impl Update for Flag {
     ghost fits = { λ P f. P f.span };
 
-    ghost placed = { flag_image };
+    ghost image = { flag_image };
 
-    fn place<M: Moves>(&mut self, mover: &M) {
+    fn update<M: Moves>(&mut self, mover: &M) {
         self.span = mover.span(self.span);
     }
 }
 
-impl Place for EnumCase {
+impl Update for EnumCase {
     ghost fits = { λ P c. P c.span };
 
-    ghost placed = { enum_case_image };
+    ghost image = { enum_case_image };
 
-    fn place<M: Moves>(&mut self, mover: &M) {
+    fn update<M: Moves>(&mut self, mover: &M) {
         self.span = mover.span(self.span);
     }
 }
 
-impl Place for Handle {
+impl Update for Handle {
     ghost fits = { λ _ _. Unit {0} };
 
-    ghost placed = { handle_image };
+    ghost image = { handle_image };
 
-    fn place<M: Moves>(&mut self, mover: &M) {
+    fn update<M: Moves>(&mut self, mover: &M) {
         match self {
-            Handle::Own(id) => id.place(mover),
-            Handle::Borrow(id) => id.place(mover),
+            Handle::Own(id) => id.update(mover),
+            Handle::Borrow(id) => id.update(mover),
         }
     }
 }
 
-impl Place for TypeOwner {
+impl Update for TypeOwner {
     ghost fits = { λ _ _. Unit {0} };
 
-    ghost placed = { owner_image };
+    ghost image = { owner_image };
 
-    fn place<M: Moves>(&mut self, mover: &M) {
+    fn update<M: Moves>(&mut self, mover: &M) {
         match self {
             TypeOwner::World(id) => *id = mover.world_id(*id),
             TypeOwner::Interface(id) => *id = mover.interface_id(*id),
@@ -97,34 +97,34 @@ impl Place for TypeOwner {
     }
 }
 
-impl Place for TypeDefKind {
+impl Update for TypeDefKind {
     ghost use Rattle.wit_remap.specs.steps.Fits.{KindFits};
 
     ghost fits = { KindFits };
 
-    ghost placed = { kind_image };
+    ghost image = { kind_image };
 
-    fn place<M: Moves>(&mut self, mover: &M) {
+    fn update<M: Moves>(&mut self, mover: &M) {
         match self {
-            TypeDefKind::Record { fields } => fields.place(mover),
-            TypeDefKind::Flags { flags } => flags.place(mover),
-            TypeDefKind::Tuple { types } => types.place(mover),
-            TypeDefKind::Variant { cases } => cases.place(mover),
-            TypeDefKind::Enum { cases } => cases.place(mover),
-            TypeDefKind::Handle(handle) => handle.place(mover),
+            TypeDefKind::Record { fields } => fields.update(mover),
+            TypeDefKind::Flags { flags } => flags.update(mover),
+            TypeDefKind::Tuple { types } => types.update(mover),
+            TypeDefKind::Variant { cases } => cases.update(mover),
+            TypeDefKind::Enum { cases } => cases.update(mover),
+            TypeDefKind::Handle(handle) => handle.update(mover),
             TypeDefKind::Result_ { ok, err } => {
-                ok.place(mover);
-                err.place(mover);
+                ok.update(mover);
+                err.update(mover);
             }
             TypeDefKind::Map(key, value) => {
-                key.place(mover);
-                value.place(mover);
+                key.update(mover);
+                value.update(mover);
             }
-            TypeDefKind::Option(ty) => ty.place(mover),
-            TypeDefKind::List(ty) => ty.place(mover),
-            TypeDefKind::FixedLengthList(ty, _) => ty.place(mover),
-            TypeDefKind::Future(ty) => ty.place(mover),
-            TypeDefKind::Stream(ty) => ty.place(mover),
+            TypeDefKind::Option(ty) => ty.update(mover),
+            TypeDefKind::List(ty) => ty.update(mover),
+            TypeDefKind::FixedLengthList(ty, _) => ty.update(mover),
+            TypeDefKind::Future(ty) => ty.update(mover),
+            TypeDefKind::Stream(ty) => ty.update(mover),
             TypeDefKind::Type_(ty) => place_target(ty, mover),
             TypeDefKind::Resource | TypeDefKind::Unknown => {}
         }
@@ -132,16 +132,16 @@ impl Place for TypeDefKind {
 }
 
 /// Its name stays, whatever a label becomes.
-impl Place for TypeDef {
+impl Update for TypeDef {
     ghost use Rattle.wit_remap.specs.steps.Fits.{TypeFits};
 
     ghost fits = { TypeFits };
 
-    ghost placed = { λ m def. record (type_image m def) { name = def.name } };
+    ghost image = { λ m def. record (type_image m def) { name = def.name } };
 
-    fn place<M: Moves>(&mut self, mover: &M) {
-        self.kind.place(mover);
-        self.owner.place(mover);
+    fn update<M: Moves>(&mut self, mover: &M) {
+        self.kind.update(mover);
+        self.owner.update(mover);
         self.span = mover.span(self.span);
     }
 }

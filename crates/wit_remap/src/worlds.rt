@@ -12,7 +12,7 @@ ghost use Rattle.wit_remap.specs.steps.Parts.{kept_of};
 use crate::mover::Mover;
 use crate::moves::Moves;
 use crate::part::Part;
-use crate::place::Place;
+use crate::update::Update;
 use std::alloc::{AllocError, Global};
 use std::mem;
 use wit_data::{Items, Table, World, WorldId, WorldInclude, WorldItem, WorldKey};
@@ -117,9 +117,9 @@ fn placed_item(mover: &Mover<'_>, item: WorldItem) -> WorldItem
             *id = mover.interface_id(*id);
             *span = mover.span(*span);
         }
-        WorldItem::Function(function) => function.place(mover),
+        WorldItem::Function(function) => function.update(mover),
         WorldItem::Type_ { id, span } => {
-            id.place(mover);
+            id.update(mover);
             *span = mover.span(*span);
         }
     }

@@ -6,14 +6,14 @@ use Rattle.wit_remap.proofs.Kept.{Each-selected}
 use Rattle.wit_remap.proofs.LabelsStay.{names_stay}
 use Rattle.wit_remap.proofs.parts.add_types.Goals as goal
 
-pub place-requires : goal.place-requires
-place-requires c =
+pub update-requires : goal.update-requires
+update-requires c =
     let fits = TypeFits (Fits c.args.mover.now.offset) in
     subst (Each fits) (sym c.selected-own.ensures) (Each-selected fits _ c.args.types c.requires)
 
 pub returns-clause-ok : goal.returns-clause-ok
 returns-clause-ok c =
-    let placed = c.place.ensures ∙ names_stay c.args.mover.now c.selected-own.result in
+    let placed = c.update.ensures ∙ names_stay c.args.mover.now c.selected-own.result in
     rw (c.in_ok-append-2.ensures.ok, c.in_ok-append.ensures.ok, placed, c.selected-own.ensures, c.from_index-first.ensures, c.len.ensures, c.as_slice.ensures) refl
 
 pub returns-in_err-append-clause-grown : goal.returns-in_err-append-clause-grown

@@ -17,8 +17,8 @@ cut_fits offset kept interface fits = record {
   functions = Each-filter (λ (e : List ℕ × Function). FunctionFits (Fits offset) e.1) (λ (e : List ℕ × Function). kept.functions e.1) interface.functions fits.functions;
 }
 
-pub place-requires : goal.place-requires
-place-requires c =
+pub update-requires : goal.update-requires
+update-requires c =
     subst (InterfaceFits (Fits c.args.mover.now.offset)) (sym c.cut_interface.ensures) (cut_fits c.args.mover.now.offset (kept_of c.args.part.now) c.in-Some.item.1
     (first_of (λ (e : ℕ × Interface). InterfaceFits (Fits c.args.mover.now.offset) e.1) (into_iter_items c.loop-item.item-iterator) (into_iter_items c.next.new.self) c.in-Some.item c.loop-item.invariant.fits c.in-Some.ensures.steps.0))
 
@@ -37,6 +37,6 @@ loop-item-preserved c =
     let left = into_iter_items c.loop-item.item-iterator in
     let rest = into_iter_items c.next.new.self in
     record {
-      all = rw c.in_ok-push.ensures.ok (mapped-next f c.loop-item.placed left rest (map f c.args.interfaces) c.in-Some.item c.place.new.self (c.place.ensures ∙ ap (interface_image (maps_of c.args.mover.now)) c.cut_interface.ensures) c.loop-item.invariant.all c.in-Some.ensures.steps.0);
+      all = rw c.in_ok-push.ensures.ok (mapped-next f c.loop-item.placed left rest (map f c.args.interfaces) c.in-Some.item c.update.new.self (c.update.ensures ∙ ap (interface_image (maps_of c.args.mover.now)) c.cut_interface.ensures) c.loop-item.invariant.all c.in-Some.ensures.steps.0);
       fits = others_of (λ (e : ℕ × Interface). InterfaceFits (Fits c.args.mover.now.offset) e.1) left rest c.in-Some.item c.loop-item.invariant.fits c.in-Some.ensures.steps.0;
     }

@@ -8,5 +8,5 @@ pub returns : goal.returns
 returns c = λ index.
     let mover = c.mover.result in
     let can = c.requires.can in
-    c.place.ensures ∙ ap (interface_image (maps_of mover)) c.in_ok-moved.ensures
+    c.update.ensures ∙ ap (interface_image (maps_of mover)) c.in_ok-moved.ensures
     ∙ interface_is c.args.uniting.now c.requires.ready mover c.mover.ensures.places c.mover.ensures.values c.mover.ensures.offset c.args.self.now can (c.mover.ensures.home can.home can.home_is can.there)

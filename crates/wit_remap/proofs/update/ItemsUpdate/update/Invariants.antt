@@ -1,7 +1,7 @@
 use Rattle.std.proofs.Common.{◌≡◌}
 use Rattle.wit_remap.proofs.Firsts.{map_first}
-use Rattle.wit_remap.proofs.place.ItemsPlace.place.Given as goal
+use Rattle.wit_remap.proofs.update.ItemsUpdate.update.Given as goal
 
 -- the first ones are at their places
 abbrev pub invariant-loop-index : goal.invariant-loop-index
-invariant-loop-index g l = l.self ≡ map_first (g.T.Place.placed (g.M.Moves.maps l.mover)) l.index l.initial.self
+invariant-loop-index g l = l.self ≡ map_first (g.T.Update.image (g.M.Moves.maps l.mover)) l.index l.initial.self

@@ -1,7 +1,0 @@
-use Rattle.std.proofs.Common.{◌≡◌}
-use Rattle.wit_remap.proofs.Firsts.{at_value, map_first}
-use Rattle.wit_remap.proofs.place.NamesPlace.place.Given as goal
-
--- the first ones are at their places
-abbrev pub invariant-loop-index : goal.invariant-loop-index
-invariant-loop-index g l = l.map.entries ≡ map_first (at_value (g.V.Place.placed (g.M.Moves.maps l.mover))) l.index l.initial.map.entries
