@@ -1,7 +1,8 @@
 -- Lists that are gone through.
-use Rattle.std.proofs.Common.{◌≡◌, ◌∙◌, ℕ, ◌+◌, List, [], ◌∷◌, ◌++◌, map, slice_get, take, Some, sym, ap, append_assoc, Result, Ok, Err, IfOk}
+use Rattle.std.proofs.Common.{◌≡◌, ◌∙◌, ℕ, ◌+◌, ◌<◌, List, [], ◌∷◌, ◌++◌, map, length, get_or, slice_get, take, Some, refl, sym, ap, subst, append_assoc, Result, Ok, Err, IfOk}
 use Rattle.std.specs.List.{flat_map}
 use Rattle.std.proofs.lemmas.List.{append-nil}
+use Rattle.std.proofs.lemmas.Option.{slice_get_read}
 use Rattle.wit_values.specs.facts.Lists.{map-next}
 
 -- a table that is gone through: what is there, with what is left, and one of it more
@@ -26,6 +27,10 @@ module _ {X Y : Type 0} where
       now ≡ old ++ map f (take i xs) → next ≡ now ++ f x ∷ [] → next ≡ old ++ map f (take (i + 1) xs)
   map_added f xs i x old now next at so_far more =
       more ∙ (ap (λ (w : List Y). w ++ f x ∷ []) so_far ∙ (append_assoc old (map f (take i xs)) (f x ∷ []) ∙ ap (λ (w : List Y). old ++ w) (sym (map-next f xs i x at))))
+
+-- what a loop over a list that is lent yields stands at its place
+pub lent_at : {X : Type 0} (list lent : List X) (i : ℕ) → lent ≡ list → i < length lent → (x : X) → x ≡ get_or lent i x → slice_get list i ≡ Some x
+lent_at list lent i same within x is = subst (λ xs. slice_get xs i ≡ Some x) same (slice_get_read lent _ i x refl within is)
 
 -- what follows of a success
 module _ {X : Type 0} {E : Type 0} (P Q : X → Type 0) where

@@ -30,8 +30,8 @@ fn include_each(
     ensures grown { Grown graph.old graph.new }
 {
     let mut world = world;
-    for place in 0..includes.len() {
-        world = include(alloc, graph, world, includes.at(place), home)?;
+    for included in includes.as_slice() {
+        world = include(alloc, graph, world, included, home)?;
     }
     Ok(world)
 }

@@ -32,8 +32,8 @@ pub(crate) fn check_names(
         return Ok(());
     }
     let words = words_of(alloc, world)?;
-    for place in 0..names.len() {
-        let name = &names.at(place).name;
+    for renaming in names.as_slice() {
+        let name = &renaming.name;
         if !words.contains(name.as_str()) {
             return Err(unmatched(alloc, span, name)?);
         }
