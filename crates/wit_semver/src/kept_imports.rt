@@ -24,8 +24,7 @@ impl<'a> UpgradePlan<'a> {
         ensures { IfOk result (λ imports. imports ≡ kept_imports (upgrade_of self.now)) }
     {
         let mut imports = Table::new(alloc);
-        for index in 0..self.world.imports.len() {
-            let (key, item) = self.world.imports.entry_at(index);
+        for (key, item) in self.world.imports.iter() {
             if !is_replaced(&self.replaced, key) {
                 push_copy(&mut imports, key, item)?;
             }
@@ -80,8 +79,7 @@ fn push_entries(
 ) -> Result<(), AllocError>
     ensures { OnOk result (ids.new ≡ ids.old ++ flat_map (entry_types graph.now.interfaces) entries.now) }
 {
-    for index in 0..entries.len() {
-        let (_, item) = entries.entry_at(index);
+    for (_, item) in entries.iter() {
         push_item(graph, item, ids)?;
     }
     Ok(())
@@ -105,8 +103,7 @@ fn push_item(graph: &Graph, item: &WorldItem, ids: &mut Items<TypeId>) -> Result
 fn push_types(types: &Names<TypeId>, ids: &mut Items<TypeId>) -> Result<(), AllocError>
     ensures { OnOk result (ids.new ≡ ids.old ++ map (λ (e : List ℕ × ℕ). e.1) types.now) }
 {
-    for index in 0..types.len() {
-        let (_, id) = types.entry_at(index);
+    for (_, id) in types.iter() {
         ids.push(*id)?;
     }
     Ok(())
