@@ -1,22 +1,18 @@
 -- Lists that are read from a place on, and texts that are made line by line.
-use Rattle.std.proofs.Common.{◌≡◌, ℕ, suc, zero, ◌+◌, Bool, true, false, List, [], ◌∷◌, ◌++◌, take, drop, filter, Some, slice_get, refl, ap, sym, ◌∙◌, add-one, append_assoc}
+use Rattle.std.proofs.Common.{◌≡◌, ℕ, suc, zero, ◌+◌, Bool, true, false, List, [], ◌∷◌, ◌++◌, drop, filter, Some, slice_get, refl, ap, sym, ◌∙◌, add-one, append_assoc}
 use Rattle.std.proofs.lemmas.List.{append-nil}
 use Rattle.std.specs.List.{flat_map}
 
 module _ {X : Type 0} where
-  flat_map-suc : (f : X → List ℕ) (xs : List X) (i : ℕ) (x : X) → slice_get xs i ≡ Some x → flat_map f (take (suc i) xs) ≡ flat_map f (take i xs) ++ f x
-  flat_map-suc f [] i x at = cc
-  flat_map-suc f (y ∷ ys) zero x at = let same : y ≡ x = cc in append-nil (f y) ∙ ap f same
-  flat_map-suc f (y ∷ ys) (suc i) x at = ap (λ (l : List ℕ). f y ++ l) (flat_map-suc f ys i x at) ∙ sym (append_assoc (f y) (flat_map f (take i ys)) (f x))
+  -- a text with one more piece, and the pieces that are left
+  pub text-more : (f : X → List ℕ) (left others : List X) (x : X) (so_far after whole : List ℕ) → left ≡ x ∷ others
+      → so_far ++ flat_map f left ≡ whole → after ≡ so_far ++ f x → after ++ flat_map f others ≡ whole
+  text-more f left others x so_far after whole first had next =
+      ap (λ (l : List ℕ). l ++ flat_map f others) next ∙ append_assoc so_far (f x) (flat_map f others) ∙ ap (λ (l : List X). so_far ++ flat_map f l) (sym first) ∙ had
 
-  -- the piece of one more element
-  pub flat_map-next : (f : X → List ℕ) (xs : List X) (i : ℕ) (x : X) → slice_get xs i ≡ Some x → flat_map f (take (i + 1) xs) ≡ flat_map f (take i xs) ++ f x
-  flat_map-next f xs i x at = rw add-one (flat_map-suc f xs i x at)
-
-  -- a text with one more piece
-  pub text-more : (f : X → List ℕ) (xs : List X) (i : ℕ) (x : X) (so_far after : List ℕ) → slice_get xs i ≡ Some x
-      → so_far ≡ flat_map f (take i xs) → after ≡ so_far ++ f x → after ≡ flat_map f (take (i + 1) xs)
-  text-more f xs i x so_far after at had next = next ∙ ap (λ (l : List ℕ). l ++ f x) had ∙ sym (flat_map-next f xs i x at)
+  -- where none is left
+  pub text-all : (f : X → List ℕ) (left : List X) (so_far whole : List ℕ) → left ≡ [] → so_far ++ flat_map f left ≡ whole → so_far ≡ whole
+  text-all f left so_far whole none had = sym (append-nil so_far) ∙ ap (λ (l : List X). so_far ++ flat_map f l) (sym none) ∙ had
 
   drop-suc_at : (xs : List X) (i : ℕ) (x : X) → slice_get xs i ≡ Some x → drop i xs ≡ x ∷ drop (suc i) xs
   drop-suc_at [] i x at = cc

@@ -301,8 +301,7 @@ fn worlds_of(
     ensures err { IfErr result (λ e. e ≡ kinds.OutOfMemory) }
 {
     let mut lines = String::new(alloc);
-    for index in 0..package.worlds.len() {
-        let (name, _) = package.worlds.entry_at(index);
+    for (name, _) in package.worlds.iter() {
         let text = graph.id_of_name(alloc, id, name)?;
         write!(lines, "\n  {text}")?;
     }

@@ -20,8 +20,7 @@ pub(crate) fn newest_by_track(
     ensures { IfOk result (λ newest. IsNewestTable rule graph.now (keyed_interfaces entries.now) newest.entries) }
 {
     let mut newest = IndexMap::new(alloc);
-    for index in 0..entries.len() {
-        let (key, _) = entries.entry_at(index);
+    for (key, _) in entries.iter() {
         match key {
             WorldKey::Interface(id) => note(alloc, graph, rule, &mut newest, *id)?,
             WorldKey::Name(_) => {}

@@ -28,8 +28,7 @@ pub(crate) fn replacements(
 {
     let newest = newest_by_track(alloc, graph, rule, &world.imports)?;
     let mut found = Items::from_vec(vec![in alloc; None; graph.interfaces.len()]?);
-    for index in 0..world.imports.len() {
-        let (key, _) = world.imports.entry_at(index);
+    for (key, _) in world.imports.iter() {
         match key {
             WorldKey::Interface(id) => {
                 let by = replacement(alloc, graph, rule, &newest, *id)?;

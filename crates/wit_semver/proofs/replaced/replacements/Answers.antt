@@ -1,6 +1,8 @@
 use Rattle.std.proofs.Common.{◌≡◌, ◌∙◌, ◌++◌, ◌&&◌, ◌≤◌, ℕ, List, Bool, true, false, None, Some, length, nat_eq, slice_set, take, refl, sym, ap, subst, arith, if◌then◌else◌}
-use Rattle.std.proofs.lemmas.List.{append-nil, take_all}
+use Rattle.std.proofs.lemmas.List.{append-nil, length_push, take_all}
+use Rattle.std.proofs.lemmas.Map.Iter.{iter_end, iter_turn}
 use Rattle.std.specs.List.{list_any}
+use Rattle.std.specs.Map.Iter.{deref_pair}
 use Rattle.wit_data.specs.declared.world.WorldKey.{WorldKey}
 use Rattle.wit_elaboration.specs.Entries.{Entry, key_interface, keyed_interfaces}
 use Rattle.wit_semver_spec.specs.Rewritten.{Upgrade, imported, is_older_than, newest}
@@ -8,7 +10,6 @@ use Rattle.wit_semver.specs.steps.Replacing.{IsFilled, replacement, upgrade}
 use Rattle.wit_semver.proofs.Filled.{filled-next}
 use Rattle.wit_semver.proofs.Keyed.{keyed-at, keyed-next}
 use Rattle.wit_semver.proofs.replaced.replacements.Goals as goal
-use Rattle.wit_semver.proofs.replaced.replacements.Goals.{in-Interface+in_ok-by-in-Interface, in-Name}
 
 -- what isn't imported isn't replaced
 not_imported : (u : Upgrade) (i : ℕ) (b : Bool) → list_any (nat_eq i) (imported u) ≡ b → (if b then replacement u i else None) ≡ replacement u i
@@ -17,42 +18,55 @@ not_imported u i false is = sym (ap (λ (b : Bool). if b && list_any (is_older_t
 
 pub set-requires : goal.set-requires
 set-requires c =
+    let turn = iter_turn deref_pair c.args.world.now.imports c.loop-key.yielded _ _ _ _ (c.into_iter-key-iterator.ensures.into_iter_gives ∙ c.iter-key-items.ensures.rest) c.loop-key.yielded_by _ c.in-Some.is c.next.ensures.steps in
     let imports = c.args.world.now.imports in
-    let has = keyed-at imports c.loop-index.index (c.entry_at.result.0.now, c.entry_at.result.1.now) c.in-Interface.id c.entry_at.ensures c.in-Interface.is in
+    let has = keyed-at imports (length c.loop-key.yielded) (c.in-Some.key.now, c.in-Some.field-0-1.now) c.in-Interface.id turn.1 c.in-Interface.is in
     let within = c.requires.in_range c.in-Interface.id has in
-    let long = c.loop-index.invariant.0 in
+    let long = c.loop-key.invariant.0 in
     let same = c.index.ensures in
     omega (arith, within, long, same)
 
-pub loop-index-preserved : goal.loop-index-preserved
-loop-index-preserved c =
+pub loop-key-preserved-in-Interface : goal.loop-key-preserved-in-Interface
+loop-key-preserved-in-Interface c =
+    let turn = iter_turn deref_pair c.args.world.now.imports c.loop-key.yielded _ _ _ _ (c.into_iter-key-iterator.ensures.into_iter_gives ∙ c.iter-key-items.ensures.rest) c.loop-key.yielded_by _ c.in-Some.is c.next.ensures.steps in
     let g = c.args.graph.now in
     let world = c.args.world.now in
     let imports = world.imports in
-    let e : Entry = (c.entry_at.result.0.now, c.entry_at.result.1.now) in
+    let i : ℕ = length c.loop-key.yielded in
+    let e : Entry = (c.in-Some.key.now, c.in-Some.field-0-1.now) in
     let f = replacement (upgrade c.args.rule g world) in
-    let ids = keyed_interfaces (take c.loop-index.index imports) in
-    let next = keyed-next imports c.loop-index.index e c.entry_at.ensures in
-    elim c.match-key.branch [
-      | in-Interface+in_ok-by-in-Interface w ↦
-          let id = w.in-Interface.id in
-          let has = keyed-at imports c.loop-index.index e id c.entry_at.ensures w.in-Interface.is in
-          let by = w.in_ok-by-in-Interface.ensures world c.in_ok-newest.ensures has in
-          subst (λ (is : List ℕ). IsFilled f is (length g.interfaces) c.match-key.found) (sym (next ∙ ap (λ (k : WorldKey). ids ++ key_interface k) w.in-Interface.is))
-          (filled-next f (length g.interfaces) ids id c.loop-index.found c.match-key.found (c.requires.in_range id has) c.loop-index.invariant
-          (w.found-is ∙ w.set.ensures ∙ ap (λ (i : ℕ). slice_set c.loop-index.found i w.in_ok-by-in-Interface.by) w.index.ensures ∙ ap (slice_set c.loop-index.found id) by))
-      | in-Name w ↦
-          subst (λ (is : List ℕ). IsFilled f is (length g.interfaces) c.match-key.found) (sym (next ∙ ap (λ (k : WorldKey). ids ++ key_interface k) w.in-Name.is ∙ append-nil ids))
-          (subst (IsFilled f ids (length g.interfaces)) (sym w.found-is) c.loop-index.invariant)
-    ]
+    let ids = keyed_interfaces (take i imports) in
+    let next = keyed-next imports i e turn.1 in
+    let id = c.in-Interface.id in
+    let has = keyed-at imports i e id turn.1 c.in-Interface.is in
+    let by = c.in_ok-by-in-Interface.ensures world c.in_ok-newest.ensures has in
+    rw length_push
+    (subst (λ (is : List ℕ). IsFilled f is (length g.interfaces) c.set.new.self) (sym (next ∙ ap (λ (k : WorldKey). ids ++ key_interface k) c.in-Interface.is))
+    (filled-next f (length g.interfaces) ids id c.loop-key.found c.set.new.self (c.requires.in_range id has) c.loop-key.invariant
+    (c.set.ensures ∙ ap (λ (i : ℕ). slice_set c.loop-key.found i c.in_ok-by-in-Interface.by) c.index.ensures ∙ ap (slice_set c.loop-key.found id) by)))
+
+pub loop-key-preserved : goal.loop-key-preserved
+loop-key-preserved c =
+    let turn = iter_turn deref_pair c.args.world.now.imports c.loop-key.yielded _ _ _ _ (c.into_iter-key-iterator.ensures.into_iter_gives ∙ c.iter-key-items.ensures.rest) c.loop-key.yielded_by _ c.in-Some.is c.next.ensures.steps in
+    let g = c.args.graph.now in
+    let imports = c.args.world.now.imports in
+    let i : ℕ = length c.loop-key.yielded in
+    let e : Entry = (c.in-Some.key.now, c.in-Some.field-0-1.now) in
+    let f = replacement (upgrade c.args.rule g c.args.world.now) in
+    let ids = keyed_interfaces (take i imports) in
+    let next = keyed-next imports i e turn.1 in
+    rw length_push
+    (subst (λ (is : List ℕ). IsFilled f is (length g.interfaces) c.loop-key.found) (sym (next ∙ ap (λ (k : WorldKey). ids ++ key_interface k) c.in-Name.is ∙ append-nil ids)) c.loop-key.invariant)
 
 pub returns : goal.returns
 returns c =
+    let end = iter_end deref_pair c.args.world.now.imports c.loop-key.yielded _ _ _ _ (c.into_iter-key-iterator.ensures.into_iter_gives ∙ c.iter-key-items.ensures.rest) c.loop-key.yielded_by c.in-None.is c.next.ensures.steps in
+    let long = end.1 in
     let u = upgrade c.args.rule c.args.graph.now c.args.world.now in
     let imports = c.args.world.now.imports in
-    let past : length imports ≤ c.loop-index.index = omega (arith, c.loop-index-test.false, c.len-index-end.ensures.len) in
-    let all : keyed_interfaces (take c.loop-index.index imports) ≡ imported u = ap keyed_interfaces (take_all c.loop-index.index imports past) in (
-      c.loop-index.invariant.0,
+    let past : length imports ≤ length c.loop-key.yielded = omega arith in
+    let all : keyed_interfaces (take (length c.loop-key.yielded) imports) ≡ imported u = ap keyed_interfaces (take_all (length c.loop-key.yielded) imports past) in (
+      c.loop-key.invariant.0,
       λ i.
-          c.loop-index.invariant.1 i ∙ ap (λ (ids : List ℕ). if list_any (nat_eq i) ids then replacement u i else None) all ∙ not_imported u i (list_any (nat_eq i) (imported u)) refl,
+          c.loop-key.invariant.1 i ∙ ap (λ (ids : List ℕ). if list_any (nat_eq i) ids then replacement u i else None) all ∙ not_imported u i (list_any (nat_eq i) (imported u)) refl,
     )

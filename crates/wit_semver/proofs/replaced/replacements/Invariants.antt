@@ -4,5 +4,5 @@ use Rattle.wit_semver.specs.steps.Replacing.{IsFilled, replacement, upgrade}
 use Rattle.wit_semver.proofs.replaced.replacements.Given as goal
 
 -- what replaces the first ones is in its place
-abbrev pub invariant-loop-index : goal.invariant-loop-index
-invariant-loop-index l = IsFilled (replacement (upgrade l.rule l.graph l.world)) (keyed_interfaces (take l.index l.world.imports)) (length l.graph.interfaces) l.found
+abbrev pub invariant-loop-key : goal.invariant-loop-key
+invariant-loop-key l = IsFilled (replacement (upgrade l.rule l.graph l.world)) (keyed_interfaces (take (length l.yielded) l.world.imports)) (length l.graph.interfaces) l.found
