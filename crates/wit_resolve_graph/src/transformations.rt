@@ -86,8 +86,7 @@ fn key_answers(
     ensures err { IfErr result (λ kind. kind ≡ OutOfMemory) }
 {
     let mut answers = Items::new(alloc);
-    for index in 0..imports.len() {
-        let (key, _) = imports.entry_at(index);
+    for (key, _) in imports.iter() {
         answers.push(is_listed(alloc, graph, keys, key)?)?;
     }
     Ok(answers)

@@ -1,5 +1,5 @@
 -- Worlds that are found by their names.
-use Rattle.std.proofs.Common.{◌≡◌, ◌∙◌, ℕ, ◌<◌, List, Some, length, option_and_then, slice_get, ap}
+use Rattle.std.proofs.Common.{◌≡◌, ℕ, ◌<◌, List, Option, None, Some, IfSome, length, slice_get, sym}
 use Rattle.std.specs.Map.{lookup}
 use Rattle.std.specs.Str.{bytes_eq}
 use Rattle.std.proofs.lemmas.Map.Views.{Contains-from_lookup}
@@ -13,23 +13,21 @@ use Rattle.wit_graph_data.specs.declared.graph.Package.{Package}
 use Rattle.wit_graph_theory.specs.facts.ListFacts.{found_at, place_of}
 use Rattle.wit_graph_data.specs.Named.{package_named, world_in, world_named}
 
--- a world of a valid graph that is named is there
-pub world_within : (g : Graph) → IsValid g → (name : PackageName) (world : List ℕ) (w : ℕ) → world_named g name world ≡ Some w → w < length g.worlds
-world_within g valid name world w is =
-    option_and_then_some (world_in g world) (package_named g name) w is
-    (λ p named inside.
+-- a world that a package of a valid graph has is there
+pub world_in_within : (g : Graph) → IsValid g → (world : List ℕ) (p w : ℕ) → world_in g world p ≡ Some w → w < length g.worlds
+world_in_within g valid world p w inside =
     option_and_then_some (λ (x : Package). lookup (bytes_eq world) x.worlds) (slice_get g.packages p) w inside
     (λ home at found.
     let place = place_of home.worlds (world, w) (Contains-from_lookup (λ a b. (bytes_eq-Decides a b).0) world w home.worlds found) in
     let there = found_at (λ (x : World). (x.name ≡ world) × (x.package ≡ Some p)) g.worlds w (valid.well_formed.tables.world_tables p home at place.0 (world, w) place.1) in
-    slice_get_within g.worlds w there.0 there.1))
+    slice_get_within g.worlds w there.0 there.1)
 
--- what is found by one name after another is named
-named-by : (g : Graph) (name : PackageName) (world : List ℕ) (p : ℕ) (home : Package) (w : ℕ) → package_named g name ≡ Some p → slice_get g.packages p ≡ Some home
-    → lookup (bytes_eq world) home.worlds ≡ Some w → world_named g name world ≡ Some w
-named-by g name world p home w named at found =
-    ap (option_and_then (world_in g world)) named ∙ ap (option_and_then (λ (x : Package). lookup (bytes_eq world) x.worlds)) at ∙ found
+-- so one that is named
+pub world_within : (g : Graph) → IsValid g → (name : PackageName) (world : List ℕ) (w : ℕ) → world_named g name world ≡ Some w → w < length g.worlds
+world_within g valid name world w is =
+    option_and_then_some (world_in g world) (package_named g name) w is (λ p named inside. world_in_within g valid world p w inside)
 
-pub found_within : (g : Graph) → IsValid g → (name : PackageName) (world : List ℕ) (p : ℕ) (home : Package) (w : ℕ) → package_named g name ≡ Some p → slice_get g.packages p ≡ Some home
-    → lookup (bytes_eq world) home.worlds ≡ Some w → w < length g.worlds
-found_within g valid name world p home w named at found = world_within g valid name world w (named-by g name world p home w named at found)
+-- so what is found in a package, if anything is
+pub found_within : (g : Graph) → IsValid g → (world : List ℕ) (p : ℕ) (o : Option ℕ) → o ≡ world_in g world p → IfSome o (λ w. w < length g.worlds)
+found_within g valid world p None is = tt
+found_within g valid world p (Some w) is = world_in_within g valid world p w (sym is)
