@@ -1,8 +1,9 @@
 //! The graph of WIT packages: five lists of plain data in which each name has become a typed number, its errors with
 //! their numbers and texts, canonical worlds, and what is asked of a graph.
 //!
-//! [`Graph`] has public fields; its own methods `id_of`, `id_of_name` and `name_world_key` give id texts, [`queries`] has
-//! the other questions as functions, and [`GraphQueries`] has them as methods. [`elaborate`] makes a world canonical,
+//! [`Graph`] has public fields; its own methods `id_of`, `id_of_name` and `name_world_key` give id texts, `interface_in` and
+//! `world_in` find what a package has under a name, [`queries`] has the other questions as functions, and
+//! [`GraphQueries`] has them as methods. [`elaborate`] makes a world canonical,
 //! [`rows`] has what interfaces reach and makes all worlds canonical, [`is_valid`] tells whether a graph is valid, as the
 //! graph of each `Resolve` is. A [`ResolveError`] has a number and fields of its kind, and renders itself with its line of
 //! the sources.

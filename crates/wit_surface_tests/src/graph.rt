@@ -67,6 +67,38 @@ fn dependencies_are_told(rt: HostRuntime) {
     );
 }
 
+/// What the packages have under names: interface 0 under `i`, interface 1 under `j` and world 0 under `w`; nothing of the
+/// other package, of another sort, or of a package that isn't there.
+fn parts_of_packages(rt: &impl Abort, alloc: Global) -> String {
+    let graph = graph(rt, alloc, SCRIPT);
+    let mut out = String::new(alloc);
+    for index in 0..3 {
+        let home = PackageId::from_index(index);
+        for name in ["i", "j", "w"] {
+            write_place(
+                rt,
+                &mut out,
+                graph.interface_in(home, name).map(|id| id.index()),
+            );
+            write_place(
+                rt,
+                &mut out,
+                graph.world_in(home, name).map(|id| id.index()),
+            );
+        }
+    }
+    out
+}
+
+#[test]
+fn parts_of_packages_are_found(rt: HostRuntime) {
+    assert_text(
+        &rt,
+        parts_of_packages(&rt, rt.alloc()),
+        "0 - - - - - - - 1 - - 0 - - - - - - ",
+    );
+}
+
 /// Interface 0 by its id text and its canonical one, by its name in package 0, and by its key.
 fn names(rt: &impl Abort, alloc: Global) -> String {
     let graph = graph(rt, alloc, SCRIPT);
