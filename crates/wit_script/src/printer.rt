@@ -53,8 +53,7 @@ fn print_entries(
     ensures err { IfErr result (λ e. e ≡ OutOfMemory) }
     ensures text { OnOk result (string_bytes text.new ≡ string_bytes text.old ++ flat_map (entry_line graph.now word.now) entries.now) }
 {
-    for index in 0..entries.len() {
-        let (key, item) = entries.entry_at(index);
+    for (key, item) in entries.iter() {
         let entry = print_entry(alloc, graph, key, item)?;
         write!(text, "  {word} {entry}\n")?;
     }

@@ -1,9 +1,14 @@
-use Rattle.std.proofs.Common.{rules, ◌≡◌, ◌++◌, string_bytes}
+use Rattle.std.proofs.Common.{rules, ◌≡◌, ◌∙◌, ◌++◌, string_bytes}
+use Rattle.std.proofs.lemmas.List.{length_push}
+use Rattle.std.proofs.lemmas.Map.Iter.{iter_turn}
+use Rattle.std.specs.Map.Iter.{deref_pair}
 use Rattle.wit_script.specs.World.{entry_line}
 use Rattle.wit_script.proofs.Pieces.{text-next}
 use Rattle.wit_script.proofs.printer.print_entries.Goals as goal
 
-pub loop-index-preserved : goal.loop-index-preserved
-loop-index-preserved c =
-    let line : string_bytes c.write.new.self ≡ string_bytes c.loop-index.text ++ entry_line c.args.graph.now c.args.word.now (c.entry_at.result.0.now, c.entry_at.result.1.now) = search rules in
-    text-next (entry_line c.args.graph.now c.args.word.now) _ _ _ _ _ _ c.entry_at.ensures c.loop-index.invariant line
+pub loop-key-preserved : goal.loop-key-preserved
+loop-key-preserved c =
+    let turn = iter_turn deref_pair c.args.entries.now c.loop-key.yielded _ _ _ _ (c.into_iter-key-iterator.ensures.into_iter_gives ∙ c.iter-key-items.ensures.rest) c.loop-key.yielded_by _ c.in-Some.is c.next.ensures.steps in
+    let line : string_bytes c.write.new.self ≡ string_bytes c.loop-key.text ++ entry_line c.args.graph.now c.args.word.now (c.in-Some.key.now, c.in-Some.item.now) = search rules in
+    rw length_push
+    (text-next (entry_line c.args.graph.now c.args.word.now) _ _ _ _ _ _ turn.1 c.loop-key.invariant line)
