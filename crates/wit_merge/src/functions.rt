@@ -46,9 +46,9 @@ fn push_interfaces<'a>(
     requires { AreMatches graph.now other.now matches.now }
     ensures { OnOk result (seen functions.new.items ≡ seen functions.old.items ++ flat_map (λ (e : ℕ × Interface). interface_functions (merge_of_graphs graph.now other.now) e.0 e.1) (enumerate_from 0 other.now.interfaces)) }
 {
-    for place in 0..other.interfaces.len() {
-        let into = matched_interface(graph, matches, place);
-        push_brought(functions, other.interfaces.at(place), into)?;
+    for (index, from) in other.interfaces.as_slice().iter().enumerate() {
+        let into = matched_interface(graph, matches, index);
+        push_brought(functions, from, into)?;
     }
     Ok(())
 }
@@ -113,9 +113,9 @@ fn push_worlds<'a>(
 ) -> Result<(), AllocError>
     ensures { OnOk result (seen functions.new.items ≡ seen functions.old.items ++ flat_map (λ (e : ℕ × World). world_functions e.1) (selected_with_index (moves matches.now.worlds) other.now.worlds)) }
 {
-    for place in 0..other.worlds.len() {
-        if moves(&matches.worlds, place) {
-            push_world(functions, other.worlds.at(place))?;
+    for (index, world) in other.worlds.as_slice().iter().enumerate() {
+        if moves(&matches.worlds, index) {
+            push_world(functions, world)?;
         }
     }
     Ok(())

@@ -115,9 +115,9 @@ fn move_all<S, T: Part>(
     ensures { IfOk result (λ made. made ≡ map (T.image (merging_of uniting.now)) (selected_with_index (moves found.now) others.now)) }
 {
     let mut made = Items::new(alloc);
-    for index in 0..others.len() {
+    for (index, other) in others.as_slice().iter().enumerate() {
         if moves(found, index) {
-            made.push(others.at(index).moved(uniting)?)?;
+            made.push(other.moved(uniting)?)?;
         }
     }
     Ok(made)

@@ -7,7 +7,7 @@ use Rattle.wit_merge_match.specs.steps.Matched.{merge_of_graphs}
 use Rattle.wit_merge.proofs.functions.push_interfaces.Given as goal
 
 -- what has been added, and what those will add that are left
-abbrev pub invariant-loop-place : goal.invariant-loop-place
-invariant-loop-place l =
-    seen l.functions.items ++ flat_map (λ (e : ℕ × Interface). interface_functions (merge_of_graphs l.graph l.other) e.0 e.1) (enumerate_from l.place (drop l.place l.other.interfaces))
+abbrev pub invariant-loop-index : goal.invariant-loop-index
+invariant-loop-index l =
+    seen l.functions.items ++ flat_map (λ (e : ℕ × Interface). interface_functions (merge_of_graphs l.graph l.other) e.0 e.1) (enumerate_from l.index (drop l.index l.other.interfaces))
     ≡ seen l.fn.functions.items ++ flat_map (λ (e : ℕ × Interface). interface_functions (merge_of_graphs l.graph l.other) e.0 e.1) (enumerate_from 0 l.other.interfaces)

@@ -8,7 +8,7 @@ use Rattle.wit_merge_match.specs.steps.Matched.{moves}
 use Rattle.wit_merge.proofs.functions.push_worlds.Given as goal
 
 -- what has been added, and what those will add that are left
-abbrev pub invariant-loop-place : goal.invariant-loop-place
-invariant-loop-place l =
-    seen l.functions.items ++ flat_map (λ (e : ℕ × World). world_functions e.1) (filter (λ (e : ℕ × World). moves l.matches.worlds e.0) (enumerate_from l.place (drop l.place l.other.worlds)))
+abbrev pub invariant-loop-index : goal.invariant-loop-index
+invariant-loop-index l =
+    seen l.functions.items ++ flat_map (λ (e : ℕ × World). world_functions e.1) (filter (λ (e : ℕ × World). moves l.matches.worlds e.0) (enumerate_from l.index (drop l.index l.other.worlds)))
     ≡ seen l.fn.functions.items ++ flat_map (λ (e : ℕ × World). world_functions e.1) (selected_with_index (moves l.matches.worlds) l.other.worlds)
