@@ -1,7 +1,6 @@
 -- The words of labels, and the renamings that are of them.
 use Rattle.std.proofs.Common.{◌≡◌, ◌∙◌, ℕ, zero, suc, ◌+◌, ◌≤◌, ◌||◌, nat_eq, Bool, true, false, cond, List, [], ◌∷◌, ◌++◌, Option, Some, None, length, take, drop, refl, ap, sym, subst, slice_get, Contains, is_some, arith}
 use Rattle.std.proofs.Math.Bool.{or_assoc}
-use Rattle.std.proofs.lemmas.List.{map-append}
 use Rattle.std.proofs.lemmas.List.Elements.{Contains-append_right}
 use Rattle.std.proofs.lemmas.List.Folds.{list_any-append}
 use Rattle.std.specs.Cmp.Lexicographic.{nat_list_eq_equiv, same_text}
@@ -10,7 +9,6 @@ use Rattle.std.specs.Map.{keys_of}
 use Rattle.std.specs.Option.{option_map_or}
 use Rattle.std.specs.Str.{bytes_eq}
 use Rattle.wit_values.specs.facts.Lists.{take-next_at}
-use Rattle.wit_data.specs.Entries.{Entry}
 use Rattle.wit_data.specs.declared.world.IncludeName.{IncludeName}
 use Rattle.wit_data.specs.declared.world.World.{World}
 use Rattle.wit_data.specs.declared.world.WorldKey.{WorldKey}
@@ -40,7 +38,7 @@ renames-word name label = by (begins_group (rest_of label))
 
 -- ---- tests of lists
 
-or-false : (a : Bool) → (a || false) ≡ a
+pub or-false : (a : Bool) → (a || false) ≡ a
 or-false true = refl
 or-false false = refl
 
@@ -59,41 +57,20 @@ word-added words w v true there = by (bytes_eq v w) refl
         rw has refl
 word-added words w v false there = list_any-append (bytes_eq v) words (w ∷ []) ∙ ap (λ (b : Bool). list_any (bytes_eq v) words || b) (or-false (bytes_eq v w))
 
--- the words of one entry more, of which this test tells whether a word is its word
-words-by : (words words' old : List (List ℕ)) (entries : List Entry) (i : ℕ) (e : Entry) → slice_get entries i ≡ Some e
-    → ((word : List ℕ) → list_any (bytes_eq word) words ≡ (list_any (bytes_eq word) old || list_any (has_word word) (keys_of (take i entries))))
-    → ((word : List ℕ) → list_any (bytes_eq word) words' ≡ (list_any (bytes_eq word) words || has_word word e.0))
-    → (word : List ℕ) → list_any (bytes_eq word) words' ≡ (list_any (bytes_eq word) old || list_any (has_word word) (keys_of (take (i + 1) entries)))
-words-by words words' old entries i e at earlier more word =
-    let more_keys : keys_of (take (i + 1) entries) ≡ keys_of (take i entries) ++ e.0 ∷ [] = ap keys_of (take-next_at entries i e at) ∙ map-append (λ (d : Entry). d.0) (take i entries) (e ∷ []) in
-    let tested : list_any (has_word word) (keys_of (take (i + 1) entries)) ≡ (list_any (has_word word) (keys_of (take i entries)) || has_word word e.0) =
-    ap (list_any (has_word word)) more_keys ∙ list_any-append (has_word word) (keys_of (take i entries)) (e.0 ∷ []) ∙ ap (λ (b : Bool). list_any (has_word word) (keys_of (take i entries)) || b) (or-false (has_word word e.0)) in
-    more word ∙ ap (λ (b : Bool). b || has_word word e.0) (earlier word)
-    ∙ or_assoc (list_any (bytes_eq word) old) (list_any (has_word word) (keys_of (take i entries))) (has_word word e.0)
-    ∙ ap (λ (b : Bool). list_any (bytes_eq word) old || b) (sym tested)
+-- the words with that of a label
+pub words-label : (words words' : List (List ℕ)) (k : WorldKey) (label w : List ℕ) → k ≡ key.Name label → word_of label ≡ Some w → words' ≡ cond (list_any (bytes_eq w) words) words (words ++ w ∷ [])
+    → (word : List ℕ) → list_any (bytes_eq word) words' ≡ (list_any (bytes_eq word) words || has_word word k)
+words-label words words' k label w called is added word =
+    ap (list_any (bytes_eq word)) added ∙ word-added words w word (list_any (bytes_eq w) words) refl
+    ∙ ap (λ (b : Bool). list_any (bytes_eq word) words || b) (sym (ap (has_word word) called ∙ ap (λ (o : Option (List ℕ)). option_map_or (bytes_eq word) o false) is))
 
-pub words-label : (words words' old : List (List ℕ)) (entries : List Entry) (i : ℕ) (e : Entry) (label w : List ℕ) → slice_get entries i ≡ Some e → e.0 ≡ key.Name label → word_of label ≡ Some w
-    → words' ≡ cond (list_any (bytes_eq w) words) words (words ++ w ∷ [])
-    → ((word : List ℕ) → list_any (bytes_eq word) words ≡ (list_any (bytes_eq word) old || list_any (has_word word) (keys_of (take i entries))))
-    → (word : List ℕ) → list_any (bytes_eq word) words' ≡ (list_any (bytes_eq word) old || list_any (has_word word) (keys_of (take (i + 1) entries)))
-words-label words words' old entries i e label w at called is added earlier =
-    words-by words words' old entries i e at earlier
-    (λ word. ap (list_any (bytes_eq word)) added ∙ word-added words w word (list_any (bytes_eq w) words) refl
-    ∙ ap (λ (b : Bool). list_any (bytes_eq word) words || b) (sym (ap (has_word word) called ∙ ap (λ (o : Option (List ℕ)). option_map_or (bytes_eq word) o false) is)))
-
--- an entry without a word: the key of an interface, or a label of which no renaming is
-pub words-other : (words words' old : List (List ℕ)) (entries : List Entry) (i : ℕ) (e : Entry) → slice_get entries i ≡ Some e → ((word : List ℕ) → has_word word e.0 ≡ false) → words' ≡ words
-    → ((word : List ℕ) → list_any (bytes_eq word) words ≡ (list_any (bytes_eq word) old || list_any (has_word word) (keys_of (take i entries))))
-    → (word : List ℕ) → list_any (bytes_eq word) words' ≡ (list_any (bytes_eq word) old || list_any (has_word word) (keys_of (take (i + 1) entries)))
-words-other words words' old entries i e at none same earlier =
-    words-by words words' old entries i e at earlier
-    (λ word. ap (list_any (bytes_eq word)) same ∙ sym (or-false (list_any (bytes_eq word) words)) ∙ ap (λ (b : Bool). list_any (bytes_eq word) words || b) (sym (none word)))
-
-pub label-without : (k : WorldKey) (label : List ℕ) → k ≡ key.Name label → word_of label ≡ None → (word : List ℕ) → has_word word k ≡ false
-label-without k label called none word = ap (has_word word) called ∙ ap (λ (o : Option (List ℕ)). option_map_or (bytes_eq word) o false) none
-
-pub interface-without : (k : WorldKey) (i : ℕ) → k ≡ key.Interface i → (word : List ℕ) → has_word word k ≡ false
-interface-without k i called word = ap (has_word word) called
+-- the words so far, and those that are left, after one key more
+pub words-next : (words words' : List (List ℕ)) (k : WorldKey) (rest : List WorldKey) (whole : List ℕ → Bool)
+    → ((word : List ℕ) → list_any (bytes_eq word) words' ≡ (list_any (bytes_eq word) words || has_word word k))
+    → ((word : List ℕ) → (list_any (bytes_eq word) words || list_any (has_word word) (k ∷ rest)) ≡ whole word)
+    → (word : List ℕ) → (list_any (bytes_eq word) words' || list_any (has_word word) rest) ≡ whole word
+words-next words words' k rest whole more earlier word =
+    ap (λ (b : Bool). b || list_any (has_word word) rest) (more word) ∙ or_assoc (list_any (bytes_eq word) words) (has_word word k) (list_any (has_word word) rest) ∙ earlier word
 
 -- ---- renamings of a world
 

@@ -59,14 +59,19 @@ fn add_words(
 ) -> Result<(), AllocError>
     ensures { OnOk result ((word : List ℕ) → list_any (bytes_eq word) words.new ≡ (list_any (bytes_eq word) words.old || list_any (has_word word) (keys_of entries.now))) }
 {
-    for place in 0..entries.len() {
-        match entries.entry_at(place).0 {
-            WorldKey::Name(label) => {
-                if let Some(word) = word_of(label.as_str()) {
-                    words.insert(alloc, word)?;
-                }
-            }
-            WorldKey::Interface(_) => {}
+    for (key, _) in entries.iter() {
+        add_word(alloc, words, key)?;
+    }
+    Ok(())
+}
+
+/// Adds the word of a label; the key of an interface has none.
+fn add_word(alloc: Global, words: &mut NameSet, key: &WorldKey) -> Result<(), AllocError>
+    ensures { OnOk result ((word : List ℕ) → list_any (bytes_eq word) words.new ≡ (list_any (bytes_eq word) words.old || has_word word key.now)) }
+{
+    if let WorldKey::Name(label) = key {
+        if let Some(word) = word_of(label.as_str()) {
+            words.insert(alloc, word)?;
         }
     }
     Ok(())

@@ -1,24 +1,23 @@
-use Rattle.std.proofs.Common.{rules, ◌≡◌, ◌∙◌, Some, None}
-use Rattle.wit_data.specs.declared.world.WorldKey.TheVariants as key
-use Rattle.wit_link_include.specs.steps.Included.{word_of}
-use Rattle.wit_link_include.proofs.Words.{interface-without, label-without, words-label, words-other}
+use Rattle.std.proofs.Common.{◌≡◌, ◌∙◌, ◌||◌, ℕ, Bool, List, ap, subst, sym}
+use Rattle.std.proofs.lemmas.Map.Iter.{rest_more, rest_all}
+use Rattle.std.specs.List.{list_any}
+use Rattle.std.specs.Map.{keys_of}
+use Rattle.std.specs.Map.Iter.{deref_pair}
+use Rattle.std.specs.Str.{bytes_eq}
+use Rattle.wit_data.specs.Entries.{Entry}
+use Rattle.wit_link_include.specs.steps.Included.{has_word}
+use Rattle.wit_link_include.proofs.Words.{or-false, words-next}
 use Rattle.wit_link_include.proofs.renaming.add_words.Goals as goal
-use Rattle.wit_link_include.proofs.renaming.add_words.Goals.{in-Name+in-Some+in_ok-insert-in-Name, in-Name+in_default, in-Interface}
 
-pub loop-place-preserved : goal.loop-place-preserved
-loop-place-preserved c =
-    elim c.match-entry_at.branch [
-      | in-Name+in-Some+in_ok-insert-in-Name w ↦
-          let called : c.entry_at.result.0.now ≡ key.Name w.in-Name.label = search rules in
-          let is : word_of w.in-Name.label ≡ Some w.in-Some.word.now = search rules in
-          words-label c.loop-place.words c.match-entry_at.words c.args.words.now c.args.entries.now c.loop-place.place (c.entry_at.result.0.now, c.entry_at.result.1.now) w.in-Name.label w.in-Some.word.now
-          c.entry_at.ensures called is (w.words-is ∙ w.in_ok-insert-in-Name.ensures.ok) c.loop-place.invariant
-      | in-Name+in_default w ↦
-          let called : c.entry_at.result.0.now ≡ key.Name w.in-Name.label = search rules in
-          let is : word_of w.in-Name.label ≡ None = search rules in
-          words-other c.loop-place.words c.match-entry_at.words c.args.words.now c.args.entries.now c.loop-place.place (c.entry_at.result.0.now, c.entry_at.result.1.now)
-          c.entry_at.ensures (label-without c.entry_at.result.0.now w.in-Name.label called is) w.words-is c.loop-place.invariant
-      | in-Interface w ↦
-          words-other c.loop-place.words c.match-entry_at.words c.args.words.now c.args.entries.now c.loop-place.place (c.entry_at.result.0.now, c.entry_at.result.1.now)
-          c.entry_at.ensures (interface-without c.entry_at.result.0.now w.in-Interface.field-0 w.in-Interface.is) w.words-is c.loop-place.invariant
-    ]
+pub loop-key-preserved : goal.loop-key-preserved
+loop-key-preserved c =
+    let more = rest_more deref_pair _ _ _ _ c.in-Some.is c.next.ensures.steps in
+    let whole : List ℕ → Bool = λ word. list_any (bytes_eq word) c.args.words.now || list_any (has_word word) (keys_of c.args.entries.now) in
+    let left : List Entry = c.next.new.self in
+    words-next c.loop-key.words c.add_word.new.words c.in-Some.key.now (keys_of left) whole c.in_ok-add_word.ensures
+    (λ word. subst (λ (es : List Entry). (list_any (bytes_eq word) c.loop-key.words || list_any (has_word word) (keys_of es)) ≡ whole word) more (c.loop-key.invariant word))
+
+pub returns : goal.returns
+returns c =
+    let none = rest_all deref_pair _ _ _ c.in-None.is c.next.ensures.steps in
+    λ word. sym (or-false (list_any (bytes_eq word) c.loop-key.words)) ∙ ap (λ (es : List Entry). list_any (bytes_eq word) c.loop-key.words || list_any (has_word word) (keys_of es)) (sym none) ∙ c.loop-key.invariant word
