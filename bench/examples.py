@@ -5,7 +5,8 @@
 
 An example is a line `**N**, `CASE`` and the block below it: without its lines that begin with `# ` it is the script of
 the case, and those lines, without the `# `, are what the case prints. Ends with status 1 where one differs, where an
-example of a number doesn't print a refusal of that number, or where one of 1 to 26 has no example.
+example of a number doesn't print a refusal of that number, or where a number of the table of refusals has no example but
+27 and 28, which have no script.
 """
 import re
 import sys
@@ -22,8 +23,10 @@ def cases():
 
 def main():
     stored = cases()
-    examples = re.findall(r"(?ms)^\*\*(\d+)\*\*, `([^`]+)`\n\n```\n(.*?)^```$", open(DOCUMENT).read())
-    wrong = [number for number in range(1, 27) if str(number) not in {example[0] for example in examples}]
+    document = open(DOCUMENT).read()
+    examples = re.findall(r"(?ms)^\*\*(\d+)\*\*, `([^`]+)`\n\n```\n(.*?)^```$", document)
+    listed = set(re.findall(r"(?m)^\| (\d+) \| `", document)) - {"27", "28"}
+    wrong = sorted(map(int, listed - {example[0] for example in examples}))
     for number, case, block in examples:
         lines = block.splitlines(keepends=True)
         script = "".join(line for line in lines if not line.startswith("# "))

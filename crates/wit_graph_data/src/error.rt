@@ -82,9 +82,9 @@ impl ResolveError {
         &mut self.kind
     }
 
-    /// The number of the refusal: 1 to 8 for the kinds in their order up to `StabilityMismatch`, the
-    /// number of the cause for `Semantic` (9 to 26, or 0 for `Other`), 27 for `OffsetOverflow`, and
-    /// 28 for `OutOfMemory`.
+    /// The number of the refusal: 1 to 8 for the kinds in their order up to `StabilityMismatch`, that
+    /// of the cause for `Semantic` ([`Cause::number`]), 27 for `OffsetOverflow`, and 28 for
+    /// `OutOfMemory`.
     pub fn number(&self) -> u32
         ensures { result ≡ error_number self.now }
     {
