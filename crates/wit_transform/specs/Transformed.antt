@@ -1,6 +1,6 @@
 -- Turned worlds: a world whose exports become its imports, or whose imports become its exports.
 -- Source: `importize` and `exportize` of wit-parser 0.263.0.
-use Rattle.std.specs.Prelude.{ℕ, ◌≡◌, Bool, true, false, not, List, [], ◌∷◌, ◌++◌, Option, Some, None, codes, filter, filter_map, nat_eq, slice_get, slice_set, Contains, if◌then◌else◌, zip, ◌≢◌, ◌<◌, length, IsSomeAnd, option_map}
+use Rattle.std.specs.Prelude.{ℕ, ◌≡◌, Bool, true, false, not, List, [], ◌∷◌, ◌++◌, Option, Some, None, codes, filter, filter_map, map, nat_eq, slice_get, slice_set, Contains, if◌then◌else◌, zip, ◌≢◌, ◌<◌, length, IsSomeAnd, option_map}
 use Rattle.std.specs.Map.{keys_of}
 use Rattle.std.specs.Option.{option_map_or}
 use Rattle.wit_data.specs.declared.world.World.{World}
@@ -155,22 +155,18 @@ first_refusal [] = None
 first_refusal (None ∷ rest) = first_refusal rest
 first_refusal (Some error ∷ rest) = Some error
 
--- the label of an entry that is a type
-abbrev pub type_label : WorldKey → WorldItem → Option (List ℕ)
-type_label (key.Name label) held = if is_type held then Some label else None
-type_label (key.Interface i) held = None
+-- 21: a type would be exported
+abbrev pub type_refusal : WorldKey → WorldItem → Option ResolveErrorKind
+type_refusal (key.Name label) held = if is_type held then Some (Semantic None (type_exported_text label) TypeExported) else None
+type_refusal (key.Interface i) held = None
 
--- the labels under which types stand among some entries
-abbrev pub type_labels : List Entry → List (List ℕ)
-type_labels entries = filter_map (λ (e : Entry). type_label e.0 e.1) entries
+-- why an entry can't be an export: the first of these refusals
+abbrev pub entry_refusal : WorldKey → WorldItem → Option ResolveErrorKind
+entry_refusal k held = first_refusal (type_refusal k held ∷ [])
 
--- 21: a type would be exported; the first one is told
-abbrev pub type_refusal : List Entry → Option ResolveErrorKind
-type_refusal exports = option_map (λ label. Semantic None (type_exported_text label) TypeExported) (slice_get (type_labels exports) 0)
-
--- why these can't be the exports of a world: the first of these refusals
+-- why these can't be the exports of a world: the refusal of the first of them that can't be one
 abbrev pub export_refusal : List Entry → Option ResolveErrorKind
-export_refusal exports = first_refusal (type_refusal exports ∷ [])
+export_refusal exports = first_refusal (map (λ (e : Entry). entry_refusal e.0 e.1) exports)
 
 -- ---- the reasons, by their numbers
 

@@ -1,13 +1,12 @@
 //! The lists of a transformed world, before they are elaborated, and the errors where there are none.
-ghost use Rattle.std.specs.Prelude.{◌≡◌, ◌++◌, ◌∷◌, ◌⊎◌, [], false, true, IfErr, IfNone, IfOk, IfSome, None, OnOk, Some, Contains, List, ℕ, length, not, slice_get, string_bytes, if◌then◌else◌};
+ghost use Rattle.std.specs.Prelude.{◌≡◌, ◌++◌, ◌∷◌, ◌⊎◌, [], false, true, IfErr, IfNone, IfOk, IfSome, None, OnOk, Some, Contains, List, ℕ, length, not, string_bytes, if◌then◌else◌};
 ghost use Rattle.std.specs.Map.{keys_of, lookup};
-ghost use Rattle.std.specs.Option.{option_copied};
 ghost use Rattle.wit_data.specs.contracts.world.WorldKeyPartialEq.TheImpl.{eq-value};
 ghost use Rattle.wit_graph_data.specs.declared.cause.Cause.TheVariants as cause;
 ghost use Rattle.wit_graph_data.specs.declared.error_kind.ResolveErrorKind.TheVariants.{OutOfMemory, Semantic};
 ghost use Rattle.wit_data.specs.declared.world.WorldKey.{WorldKey};
 ghost use Rattle.wit_data.specs.declared.world.WorldKey.TheVariants as key;
-ghost use Rattle.wit_transform.specs.Transformed.{HasClash, export_refusal, label_clash_text, name_taken_text, type_exported_text, type_labels, type_refusal, AreUnderLabels, entries_by_answer, is_type, type_entries};
+ghost use Rattle.wit_transform.specs.Transformed.{HasClash, entry_refusal, export_refusal, label_clash_text, name_taken_text, type_exported_text, type_refusal, AreUnderLabels, entries_by_answer, is_type, type_entries};
 
 use std::alloc::{AllocError, Global};
 use wit_data::{Items, Span, Table, Text, World, WorldItem, WorldKey};
@@ -180,45 +179,51 @@ fn with_answer(
     Ok(table)
 }
 
-/// The first label under which some entries have a type.
-fn type_label(entries: &Table<WorldKey, WorldItem>) -> Option<&Text>
-    ensures { option_copied result ≡ slice_get (type_labels entries.now) 0 }
-{
-    for (key, item) in entries.iter() {
-        match key {
-            WorldKey::Name(label) => {
-                if holds_type(item) {
-                    return Some(label);
-                }
-            }
-            WorldKey::Interface(_) => {}
-        }
-    }
-    None
-}
-
 /// 21: a type would be exported.
 fn type_refusal(
     alloc: Global,
-    exports: &Table<WorldKey, WorldItem>,
+    key: &WorldKey,
+    item: &WorldItem,
 ) -> Result<Option<ResolveError>, AllocError>
-    ensures { IfOk result (λ refusal. refusal ≡ type_refusal exports.now) }
+    ensures { IfOk result (λ refusal. refusal ≡ type_refusal key.now item.now) }
 {
-    match type_label(exports) {
-        Some(label) => Ok(Some(type_exported(alloc, label)?)),
-        None => Ok(None),
+    match key {
+        WorldKey::Name(label) => {
+            if holds_type(item) {
+                Ok(Some(type_exported(alloc, label)?))
+            } else {
+                Ok(None)
+            }
+        }
+        WorldKey::Interface(_) => Ok(None),
     }
 }
 
-/// Why these can't be the exports of a world: the first refusal that there is.
+/// Why an entry can't be an export: the first refusal that there is.
+fn entry_refusal(
+    alloc: Global,
+    key: &WorldKey,
+    item: &WorldItem,
+) -> Result<Option<ResolveError>, AllocError>
+    ensures { IfOk result (λ refusal. refusal ≡ entry_refusal key.now item.now) }
+{
+    if let Some(refusal) = type_refusal(alloc, key, item)? {
+        return Ok(Some(refusal));
+    }
+    Ok(None)
+}
+
+/// Why these can't be the exports of a world: the refusal of the first of them that can't be one.
 fn export_refusal(
     alloc: Global,
     exports: &Table<WorldKey, WorldItem>,
 ) -> Result<Option<ResolveError>, AllocError>
     ensures { IfOk result (λ refusal. refusal ≡ export_refusal exports.now) }
 {
-    if let Some(refusal) = type_refusal(alloc, exports)? {
-        return Ok(Some(refusal));
+    for (key, item) in exports.iter() {
+        if let Some(refusal) = entry_refusal(alloc, key, item)? {
+            return Ok(Some(refusal));
+        }
     }
     Ok(None)
 }

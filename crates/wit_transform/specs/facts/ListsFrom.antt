@@ -1,12 +1,12 @@
 -- What the lists of a transformed world have of the lists that they were.
 use Rattle.std.proofs.Common.{◌≡◌, inl, inr, ℕ, zero, suc, Bool, true, false, List, [], ◌∷◌, ◌++◌, Option, None, Some, slice_get, refl, ap, ◌∙◌, subst, Contains, if◌then◌else◌}
-use Rattle.std.specs.List.{cons_option}
 use Rattle.std.specs.Map.{keys_of}
 use Rattle.std.proofs.lemmas.List.Elements.{Contains-append_cases, Contains-append_left, Contains-append_right}
 use Rattle.wit_data.specs.declared.world.World.{World}
 use Rattle.wit_data.specs.declared.world.WorldItem.{WorldItem}
 use Rattle.wit_data.specs.declared.world.WorldKey.{WorldKey}
 use Rattle.wit_data.specs.declared.world.WorldItem.TheVariants as item
+use Rattle.wit_data.specs.declared.world.WorldKey.TheVariants as key
 use Rattle.wit_digraph.specs.facts.MemberFacts.{Contains-cons_cases, Contains-here, Contains-nil, Contains-there}
 use Rattle.wit_elaboration.specs.facts.Filters.{Contains-filter, Contains-filtered}
 use Rattle.wit_elaboration.specs.Entries.{Entry}
@@ -16,7 +16,10 @@ use Rattle.wit_graph_theory.specs.facts.Covered.{IsNoType}
 use Rattle.wit_graph_theory.specs.facts.CutIsGood.{distinct_kept}
 use Rattle.wit_graph_theory.specs.facts.ListFacts.{contained_at, place_of}
 use Rattle.wit_transform.specs.facts.Distinct.{head_apart, joined_distinct, key_of_entry, more_distinct, tail_distinct}
-use Rattle.wit_transform.specs.Transformed.{HasClash, type_label, type_labels, AreUnderLabels, WorldLists, entries_by_answer, exportized, importized, is_type, type_entries}
+use Rattle.wit_graph_data.specs.declared.cause.Cause.TheVariants.{TypeExported}
+use Rattle.wit_graph_data.specs.declared.error_kind.ResolveErrorKind.{ResolveErrorKind}
+use Rattle.wit_graph_data.specs.declared.error_kind.ResolveErrorKind.TheVariants.{Semantic}
+use Rattle.wit_transform.specs.Transformed.{HasClash, type_exported_text, type_refusal, AreUnderLabels, WorldLists, entries_by_answer, exportized, importized, is_type, type_entries}
 
 -- the new lists are made of the entries of the old ones: no key comes twice in one, none of the types is
 -- exported nor lost, and no entry is imported and exported
@@ -97,27 +100,13 @@ no_type (item.Interface i stability docs span external_id) not = tt
 no_type (item.Function f) not = tt
 no_type (item.Type_ t span) not = not refl
 
--- the label of a type among some entries
-pub label_there : (es : List Entry) (e : Entry) → AreUnderLabels (type_entries es) → Contains es e → is_type e.1 ≡ true → (label : List ℕ) × (type_label e.0 e.1 ≡ Some label)
-label_there es e labels has is =
-    let label = labels e.0 (key_of_entry (type_entries es) e (Contains-filtered (λ (f : Entry). is_type f.1) es e has is)) in
-    (label.0, ap (λ (k : WorldKey). type_label k e.1) label.1 ∙ ap (λ (b : Bool). if b then Some label.0 else None) is)
-
--- where types stand under no label, none of the entries has one
-no_label : (es : List Entry) (e : Entry) (label : List ℕ) → type_labels es ≡ [] → Contains es e → type_label e.0 e.1 ≡ Some label → ⊥
-no_label [] e label none has is = Contains-nil has
-no_label (x ∷ es) e label none has is = elim (Contains-cons_cases x e es has) [
-  | inl same ↦ here (type_label x.0 x.1) (ap (λ (y : Entry). type_label y.0 y.1) same ∙ is) none
-  | inr there ↦ no_label es e label (rest (type_label x.0 x.1) none) there is
-]
-  where
-    here : (o : Option (List ℕ)) → o ≡ Some label → cons_option o (type_labels es) ≡ [] → ⊥
-    here None some empty = cc
-    here (Some other) some empty = cc
-
-    rest : (o : Option (List ℕ)) → cons_option o (type_labels es) ≡ [] → type_labels es ≡ []
-    rest None empty = empty
-    rest (Some other) empty = cc
+-- a type under a label can't be exported
+is_refused : (k : WorldKey) (held : WorldItem) (label : List ℕ) → k ≡ key.Name label → is_type held ≡ true → type_refusal k held ≡ None → ⊥
+is_refused k held label name is none =
+    let error : ResolveErrorKind = Semantic None (type_exported_text label) TypeExported in
+    let told : type_refusal k held ≡ Some error = ap (λ (other : WorldKey). type_refusal other held) name ∙ ap (λ (b : Bool). if b then Some error else None) is in
+    let never : None ≡ Some error = sym none ∙ told in
+    cc
 
 -- what is answered with the other answer
 other_answer : (es : List Entry) (answers : List Bool) (i : ℕ) (e : Entry) → slice_get es i ≡ Some e → (slice_get answers i ≡ Some true → ⊥) → (b : Bool) → slice_get answers i ≡ Some b → slice_get answers i ≡ Some false
@@ -126,12 +115,13 @@ other_answer es answers i e at not false given = given
 
 pub exportized_comes : (old : World) (answers : List Bool) (out : Option (List ℕ)) → HasDistinctKeys old.imports → AreUnderLabels (type_entries old.imports)
     → ((i : ℕ) (e : Entry) → slice_get old.imports i ≡ Some e → (b : Bool) × (slice_get answers i ≡ Some b))
-    → type_labels (entries_by_answer true old.imports answers) ≡ [] → ComesFrom old (exportized answers out old)
+    → ((e : Entry) → Contains (entries_by_answer true old.imports answers) e → type_refusal e.0 e.1 ≡ None) → ComesFrom old (exportized answers out old)
 exportized_comes old answers out distinct labels given clear =
     let stays : (e : Entry) → Contains (entries_by_answer true old.imports answers) e → is_type e.1 ≡ true → ⊥ =
     λ e has is.
-    let label = label_there old.imports e labels (answered_in true old.imports answers e has) is in
-    no_label (entries_by_answer true old.imports answers) e label.0 clear has label.1 in
+    let among = Contains-filtered (λ (f : Entry). is_type f.1) old.imports e (answered_in true old.imports answers e has) is in
+    let label = labels e.0 (key_of_entry (type_entries old.imports) e among) in
+    is_refused e.0 e.1 label.0 label.1 is (clear e has) in
     record {
       imports = λ e has. Contains-append_left old.imports old.exports e (answered_in false old.imports answers e has);
       exports = λ e has. (Contains-append_left old.imports old.exports e (answered_in true old.imports answers e has), no_type e.1 (stays e has));

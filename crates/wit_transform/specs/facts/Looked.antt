@@ -23,7 +23,7 @@ use Rattle.wit_values.specs.Table.{HasDistinctKeys}
 use Rattle.wit_graph_theory.specs.facts.ListFacts.{contained_at}
 use Rattle.wit_transform.specs.facts.Distinct.{entry_of_key, key_of_entry}
 use Rattle.wit_transform.specs.facts.ListsFrom.{answered_in}
-use Rattle.wit_transform.specs.Transformed.{type_label, entries_by_answer, is_type, type_entries}
+use Rattle.wit_transform.specs.Transformed.{entries_by_answer, is_type, type_entries}
 
 module _ {K V : Type 0} {eq : K → K → Bool} (laws : IsEquivalence eq) (faithful : (a b : K) → eq a b ≡ true → a ≡ b) where
   none_or : (o : Option V) → (IsSome o → ⊥) → o ≡ None
@@ -265,36 +265,3 @@ no_label-next es i k v Q at before here label has so =
         | inr none ↦ Contains-nil none
       ]
     ]
-
--- what is read of some entries, one by one
-module _ {X Y : Type 0} (read : X → Option Y) where
-  none-suc : (xs : List X) (i : ℕ) (x : X) → slice_get xs i ≡ Some x → filter_map read (take i xs) ≡ [] → read x ≡ None → filter_map read (take (suc i) xs) ≡ []
-  none-suc [] i x at none is = cc
-  none-suc (y ∷ ys) zero x at none is = let same : y ≡ x = inside y x at in ap (λ (o : Option Y). cons_option o []) (ap read same ∙ is)
-  none-suc (y ∷ ys) (suc i) x at none is = behind (read y) (filter_map read (take i ys)) (filter_map read (take (suc i) ys)) none (λ before. none-suc ys i x at before is)
-    where
-      behind : (o : Option Y) (before after : List Y) → cons_option o before ≡ [] → (before ≡ [] → after ≡ []) → cons_option o after ≡ []
-      behind None before after empty next = next empty
-      behind (Some z) before after empty next = cc
-
-  -- nothing so far, and with one more of which nothing is
-  pub none-next : (xs : List X) (i : ℕ) (x : X) → slice_get xs i ≡ Some x → filter_map read (take i xs) ≡ [] → read x ≡ None → filter_map read (take (i + 1) xs) ≡ []
-  none-next xs i x at none is = rw add-one (none-suc xs i x at none is)
-
-  -- the first that is read
-  pub first-here : (xs : List X) (i : ℕ) (x : X) (y : Y) → slice_get xs i ≡ Some x → filter_map read (take i xs) ≡ [] → read x ≡ Some y → slice_get (filter_map read xs) 0 ≡ Some y
-  first-here [] i x y at none is = cc
-  first-here (z ∷ zs) zero x y at none is = ap (λ (o : Option Y). slice_get (cons_option o (filter_map read zs)) 0) (ap read (inside z x at) ∙ is)
-  first-here (z ∷ zs) (suc i) x y at none is = behind (read z) (filter_map read (take i zs)) (filter_map read zs) none (λ before. first-here zs i x y at before is)
-    where
-      behind : (o : Option Y) (before all : List Y) → cons_option o before ≡ [] → (before ≡ [] → slice_get all 0 ≡ Some y) → slice_get (cons_option o all) 0 ≡ Some y
-      behind None before all empty next = next empty
-      behind (Some w) before all empty next = cc
-
--- the label of an entry that is a type
-pub type_label_of : (k : WorldKey) (v : WorldItem) (label : List ℕ) → k ≡ key.Name label → is_type v ≡ true → type_label k v ≡ Some label
-type_label_of k v label name is = ap (λ (other : WorldKey). type_label other v) name ∙ ap (λ (b : Bool). if b then Some label else None) is
-
--- and of one that isn't
-pub no_type_label : (k : WorldKey) (v : WorldItem) (label : List ℕ) → k ≡ key.Name label → is_type v ≡ false → type_label k v ≡ None
-no_type_label k v label name fails = ap (λ (other : WorldKey). type_label other v) name ∙ ap (λ (b : Bool). if b then Some label else None) fails
