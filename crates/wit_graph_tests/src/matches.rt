@@ -40,9 +40,9 @@ fn show_places(rt: &impl Abort, going: &MergeRemap, text: &mut String) {
         show(rt, package.index(), text);
     }
     text.push_str(";").expect(rt, "memory");
-    show_ids(rt, &going.places.worlds, text);
-    show_ids(rt, &going.places.interfaces, text);
-    show_ids(rt, &going.places.types, text);
+    show_ids(rt, &going.new_ids.worlds, text);
+    show_ids(rt, &going.new_ids.interfaces, text);
+    show_ids(rt, &going.new_ids.types, text);
 }
 
 fn show_ids<S>(rt: &impl Abort, ids: &Items<Option<Id<S>>>, text: &mut String) {

@@ -20,7 +20,7 @@ use Rattle.wit_data.specs.declared.world.WorldKey.{WorldKey}
 use Rattle.wit_data.specs.declared.world.WorldItem.TheVariants as item
 use Rattle.wit_data.specs.declared.world.WorldKey.TheVariants as key
 use Rattle.wit_labels.specs.steps.Placing.{getters_of, order_after_getters, stand_at, waiters, waits_for}
-use Rattle.wit_labels.specs.Setters.{after, indexed_entries, is_under, later_getter, placed, waiting_setters, wanted_getter}
+use Rattle.wit_labels.specs.Setters.{after, indexed_entries, is_under, later_getter, setters_placed, waiting_setters, wanted_getter}
 
 -- ---- numbers from one on
 
@@ -391,8 +391,8 @@ own-same : (entries : List Entry) (i : ℕ) (e : Entry) (o : Option ℕ) → sli
 own-same entries i e None at = ap (λ (x : Option Entry). cons_option x []) at
 own-same entries i e (Some g) at = refl
 
-pub placed-are : (entries arranged : List Entry) → AllZip (λ place (x : Entry). slice_get entries place ≡ Some x) (order_after_getters (getters_of entries)) arranged → arranged ≡ placed entries
-placed-are entries arranged all =
+pub setters_placed-are : (entries arranged : List Entry) → AllZip (λ place (x : Entry). slice_get entries place ≡ Some x) (order_after_getters (getters_of entries)) arranged → arranged ≡ setters_placed entries
+setters_placed-are entries arranged all =
     let getters = getters_of entries in
     let h = slice_get entries in
     let long : length getters ≡ length entries = length-getters entries in
@@ -529,8 +529,8 @@ pub placing-differ : (entries items arranged : List Entry) (order : List ℕ) �
 placing-differ entries items arranged order is distinct all =
     arranged-differ entries (order_after_getters (getters_of entries)) arranged distinct (order-once (getters_of entries)) (zip-of entries items arranged order is all)
 
-pub placing-placed : (entries items arranged : List Entry) (order : List ℕ) → IsPlacing entries items order → AllZip (λ place (x : Entry). slice_get items place ≡ Some x) order arranged → arranged ≡ placed entries
-placing-placed entries items arranged order is all = placed-are entries arranged (zip-of entries items arranged order is all)
+pub placing-setters_placed : (entries items arranged : List Entry) (order : List ℕ) → IsPlacing entries items order → AllZip (λ place (x : Entry). slice_get items place ≡ Some x) order arranged → arranged ≡ setters_placed entries
+placing-setters_placed entries items arranged order is all = setters_placed-are entries arranged (zip-of entries items arranged order is all)
 
 pub placing-of : (entries kept items : List Entry) (getters : List (Option ℕ)) (order places_of : List ℕ) → kept ≡ entries → getters ≡ getters_of kept → order ≡ order_after_getters getters → items ≡ kept
     → places_of ≡ order → IsPlacing entries items places_of

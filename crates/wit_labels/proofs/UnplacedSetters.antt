@@ -5,7 +5,7 @@ use Rattle.std.specs.List.{enumerate_from}
 use Rattle.std.specs.Option.{option_eq}
 use Rattle.wit_data.specs.Each.{Each}
 use Rattle.wit_data.specs.Entries.{Entry}
-use Rattle.wit_labels.specs.Setters.{later_getter, placed, waiting_setters, wanted_getter}
+use Rattle.wit_labels.specs.Setters.{later_getter, setters_placed, waiting_setters, wanted_getter}
 
 -- the entry asks for no getter
 abbrev pub AsksNone : Entry → Type 0
@@ -33,5 +33,5 @@ module _ (whole : List Entry) where
       let waits : waiting_setters whole n ≡ [] = ap (map (λ (s : ℕ × Entry). s.1)) (none_waits 0 n whole all) in
       rw (awaits_none n e (asks 0 e refl), waits) (ap (λ (l : List Entry). e ∷ l) (none_moves (n + 1) es (λ i x at. asks (suc i) x at) all))
 
-pub none_placed : (entries : List Entry) → Each AsksNone entries → placed entries ≡ entries
+pub none_placed : (entries : List Entry) → Each AsksNone entries → setters_placed entries ≡ entries
 none_placed entries asks = none_moves entries 0 entries asks asks

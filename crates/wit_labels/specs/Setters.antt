@@ -46,11 +46,11 @@ IsSetter label e = (e.0 ≡ key.Name label) × (is_function e.1 && is_setter_lab
 abbrev pub HaveGetters : List Entry → Type 0
 HaveGetters entries = (e : Entry) (label : List ℕ) → Contains entries e → IsSetter label e → Contains (keys_of entries) (key.Name (getter_label label))
 
--- the entry at this place is a setter without a getter
-pub record LacksGetterAt (entries : List Entry) (place : ℕ) : Type 0 where
+-- the entry at this index is a setter without a getter
+pub record LacksGetterAt (entries : List Entry) (index : ℕ) : Type 0 where
   pub label : List ℕ
   pub entry : Entry
-  pub at : slice_get entries place ≡ Some entry
+  pub at : slice_get entries index ≡ Some entry
   pub setter : IsSetter label entry
   pub absent : Contains (keys_of entries) (key.Name (getter_label label)) → ⊥
 
@@ -65,7 +65,7 @@ is_under label (key.Interface i) = false
 abbrev pub indexed_entries : List Entry → List (ℕ × Entry)
 indexed_entries entries = enumerate_from 0 entries
 
--- the place that was found, where it is after place i
+-- the index that was found, where it is after index i
 abbrev pub after : ℕ → Option ℕ → Option ℕ
 after i None = None
 after i (Some g) = if nat_lt i g then Some g else None
@@ -79,5 +79,5 @@ abbrev pub waiting_setters : List Entry → ℕ → List Entry
 waiting_setters entries g = map (λ (s : ℕ × Entry). s.1) (filter (λ (s : ℕ × Entry). option_eq nat_eq (later_getter entries s.0 s.1) (Some g)) (indexed_entries entries))
 
 -- the list with each setter that stands before its getter moved to just after it; nothing else moves
-abbrev pub placed : List Entry → List Entry
-placed entries = flat_map (λ (p : ℕ × Entry). (if is_some (later_getter entries p.0 p.1) then [] else p.1 ∷ []) ++ waiting_setters entries p.0) (indexed_entries entries)
+abbrev pub setters_placed : List Entry → List Entry
+setters_placed entries = flat_map (λ (p : ℕ × Entry). (if is_some (later_getter entries p.0 p.1) then [] else p.1 ∷ []) ++ waiting_setters entries p.0) (indexed_entries entries)

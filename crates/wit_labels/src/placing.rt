@@ -6,7 +6,7 @@ ghost use Rattle.wit_data.specs.Each.{Each};
 ghost use Rattle.wit_data.specs.Entries.{Entry};
 ghost use Rattle.wit_data.specs.contracts.world.WorldKeyPartialEq.TheImpl.{eq-value};
 ghost use Rattle.wit_labels.specs.steps.Placing.{getters_of, order_after_getters, waiters};
-ghost use Rattle.wit_labels.specs.Setters.{after, later_getter, placed, wanted_getter};
+ghost use Rattle.wit_labels.specs.Setters.{after, later_getter, setters_placed, wanted_getter};
 
 use crate::setters::{is_setter, wanted_getter};
 use indexmap::IndexMap;
@@ -22,7 +22,7 @@ pub fn place_setters(
     alloc: Global,
     entries: Table<WorldKey, WorldItem>,
 ) -> Result<Table<WorldKey, WorldItem>, AllocError>
-    ensures { IfOk result (λ new. new ≡ placed entries) }
+    ensures { IfOk result (λ new. new ≡ setters_placed entries) }
 {
     if has_no_setter(&entries) {
         Ok(entries)
@@ -48,7 +48,7 @@ fn moved_setters(
     alloc: Global,
     entries: Table<WorldKey, WorldItem>,
 ) -> Result<Table<WorldKey, WorldItem>, AllocError>
-    ensures { IfOk result (λ new. new ≡ placed entries) }
+    ensures { IfOk result (λ new. new ≡ setters_placed entries) }
 {
     entries.keys_differ();
     let map = entries.into_map();
@@ -58,7 +58,7 @@ fn moved_setters(
     table_of(alloc, items)
 }
 
-/// For each entry the place of the getter that it waits for.
+/// For each entry the index of the getter that it waits for.
 fn getters_of(
     alloc: Global,
     entries: &IndexMap<WorldKey, WorldItem>,
@@ -72,7 +72,7 @@ fn getters_of(
     Ok(getters)
 }
 
-/// The entry at a place.
+/// The entry at an index.
 fn entry_at(entries: &IndexMap<WorldKey, WorldItem>, place: usize) -> (&WorldKey, &WorldItem)
     requires { place < length entries.now.entries }
     ensures { slice_get entries.now.entries place ≡ Some (result.0.now, result.1.now) }
@@ -83,7 +83,7 @@ fn entry_at(entries: &IndexMap<WorldKey, WorldItem>, place: usize) -> (&WorldKey
     }
 }
 
-/// The place of the getter that the entry at a place waits for.
+/// The index of the getter that the entry at an index waits for.
 fn later_getter(
     alloc: Global,
     entries: &IndexMap<WorldKey, WorldItem>,
@@ -99,7 +99,7 @@ fn later_getter(
     }
 }
 
-/// The place that was found, where it is after another.
+/// The index that was found, where it is after another.
 fn after(place: usize, found: Option<usize>) -> Option<usize>
     ensures { result ≡ after place found }
 {
@@ -109,7 +109,7 @@ fn after(place: usize, found: Option<usize>) -> Option<usize>
     }
 }
 
-/// The places with each setter after its getter.
+/// The indices with each setter after its getter.
 fn order_after_getters(
     alloc: Global,
     getters: &Items<Option<usize>>,
@@ -126,7 +126,7 @@ fn order_after_getters(
     Ok(order)
 }
 
-/// Adds a place that waits for none.
+/// Adds an index that waits for none.
 fn push_unless_waiting(
     order: &mut Items<usize>,
     getter: Option<usize>,
@@ -140,7 +140,7 @@ fn push_unless_waiting(
     }
 }
 
-/// For each place those that wait for it.
+/// For each index those that wait for it.
 fn waiting_rows(
     alloc: Global,
     getters: &Items<Option<usize>>,
@@ -155,7 +155,7 @@ fn waiting_rows(
     Ok(rows)
 }
 
-/// Adds a place to the row of the getter that it waits for.
+/// Adds an index to the row of the getter that it waits for.
 fn add_waiter(
     alloc: Global,
     rows: &mut Items<Items<usize>>,
@@ -172,7 +172,7 @@ fn add_waiter(
     }
 }
 
-/// Adds a place to the end of a row.
+/// Adds an index to the end of a row.
 fn add_to_row(
     alloc: Global,
     rows: &mut Items<Items<usize>>,

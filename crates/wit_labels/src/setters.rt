@@ -71,7 +71,7 @@ fn wanted_by(alloc: Global, label: &str) -> Result<Option<Text>, AllocError>
     }
 }
 
-/// The place, from 0, of a setter that has no getter in the same list, or None where each has one.
+/// The index, from 0, of a setter that has no getter in the same list, or None where each has one.
 /// The only error is want of memory.
 ///
 /// Source: `process_world_includes` of wit-parser 0.263.0.

@@ -18,15 +18,15 @@ use Rattle.wit_link_spec.specs.Addition.{Addition, active_includes, active_world
 use Rattle.wit_link_spec.specs.steps.AdditionRefs.{new_ids_of}
 use Rattle.wit_link_spec.specs.Cause.{AdditionIsAccepted, IsCause, borrow_in_result_15, duplicate_5, excluded_11, excluded_owner_12, gate_unreleased_10, gate_without_version_9, interface_not_found_3, not_a_resource_14, of_world, offset_overflow_27, package_not_found_1, type_not_defined_13, world_not_found_2}
 use Rattle.wit_link_spec.specs.Gates.{include_is_active}
-use Rattle.wit_link_spec.specs.Pushed.{placed_include, pushed}
-use Rattle.wit_link_spec.specs.facts.Linked.{placed_includes}
+use Rattle.wit_link_spec.specs.Pushed.{updated_include, pushed}
+use Rattle.wit_link_spec.specs.facts.Linked.{updated_includes}
 use Rattle.wit_link_spec.specs.WorldReasons.{WorldIsAccepted}
 use Rattle.wit_link_spec.specs.facts.PassedFacts.{has_image}
 use Rattle.wit_link_spec.specs.Reasons.{HasPackage, IsResolved}
 use Rattle.wit_link_spec.specs.facts.OwnThingFacts.{own_world_from}
 use Rattle.wit_remap.specs.steps.Fits.{added_world}
 use Rattle.wit_remap.specs.steps.Movers.{goes, id_or}
-use Rattle.wit_remap.specs.declared.worlds.PlacedWorld.{PlacedWorld}
+use Rattle.wit_remap.specs.declared.worlds.UpdatedWorld.{UpdatedWorld}
 use Rattle.wit_link.specs.Appending.{IsAdded}
 use Rattle.wit_link.specs.steps.Checked.{IsChecked, IsNameTaken, IsNew, PackageFits}
 use Rattle.wit_link.specs.steps.Including.{include_at, ready_world, ready_worlds, world_with}
@@ -75,7 +75,7 @@ is_new a none fits = record { absent = not_there (lookup (same_package a.unresol
 pub checked_image : (a : Addition) → IsChecked a → IsResolved a
 checked_image a checked = has_image a checked.met checked.needs checked.found
 
--- ---- the worlds at their places
+-- ---- the worlds with their new ids
 
 map_twice : {X Y Z : Type 0} (f : Y → Z) (g : X → Y) (h : X → Z) (xs : List X) → ((i : ℕ) (x : X) → slice_get xs i ≡ Some x → f (g x) ≡ h x) → map f (map g xs) ≡ map h xs
 map_twice f g h [] each = refl
@@ -96,7 +96,7 @@ place_is a w within =
     by (Some p) = refl
 
 module _ (a : Addition) (shaped : IsShaped a.unresolved) where
-  includes_go : (k : ℕ) (e : ℕ × World) → slice_get (own_worlds a) k ≡ Some e → map (include_at (new_ids_of a) a.offset) (active_includes a e.1) ≡ placed_includes a e.1
+  includes_go : (k : ℕ) (e : ℕ × World) → slice_get (own_worlds a) k ≡ Some e → map (include_at (new_ids_of a) a.offset) (active_includes a e.1) ≡ updated_includes a e.1
   includes_go k e at =
       let own = own_world_from a k e at in
       agree (active_includes a e.1) (λ i include on.
@@ -108,14 +108,14 @@ module _ (a : Addition) (shaped : IsShaped a.unresolved) where
       place_is a include.id (omega (arith, earlier, within)))
     where
       agree : (xs : List WorldInclude) → ((i : ℕ) (include : WorldInclude) → slice_get xs i ≡ Some include → goes (new_ids_of a).worlds include.id ≡ remapped_world a include.id)
-          → map (include_at (new_ids_of a) a.offset) xs ≡ map (placed_include a) xs
+          → map (include_at (new_ids_of a) a.offset) xs ≡ map (updated_include a) xs
       agree [] each = refl
       agree (x ∷ xs) each =
           ap (λ (id : ℕ). (record x { id = id; span = moved_by a.offset x.span }) ∷ map (include_at (new_ids_of a) a.offset) xs) (each 0 x refl)
-          ∙ ap (λ (l : List WorldInclude). placed_include a x ∷ l) (agree xs (λ i. each (suc i)))
+          ∙ ap (λ (l : List WorldInclude). updated_include a x ∷ l) (agree xs (λ i. each (suc i)))
 
   -- the worlds are as they are added
   pub worlds_ready : map (world_with (new_ids_of a) a.offset) (map (added_world a) (own_worlds a)) ≡ ready_worlds a
   worlds_ready =
       map_twice (world_with (new_ids_of a) a.offset) (added_world a) (ready_world a) (own_worlds a)
-      (λ k e at. ap (λ (l : List WorldInclude). let p : PlacedWorld = record { place = e.0; world = world_image (addition_maps a) e.0 e.1; includes = l } in p) (includes_go k e at))
+      (λ k e at. ap (λ (l : List WorldInclude). let p : UpdatedWorld = record { id = e.0; world = world_image (addition_maps a) e.0 e.1; includes = l } in p) (includes_go k e at))

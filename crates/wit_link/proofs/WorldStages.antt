@@ -16,7 +16,7 @@ use Rattle.wit_graph_theory.specs.facts.ListFacts.{from_map}
 use Rattle.wit_link_spec.specs.Addition.{Addition, own_worlds}
 use Rattle.wit_link_spec.specs.Cause.{IsCause, IsReached}
 use Rattle.wit_link_spec.specs.Pushed.{pushed, with_parts, with_world, with_worlds}
-use Rattle.wit_link_spec.specs.facts.Linked.{placed_includes}
+use Rattle.wit_link_spec.specs.facts.Linked.{updated_includes}
 use Rattle.wit_link_spec.specs.Reasons.{IsResolved}
 use Rattle.wit_link_spec.specs.WorldReasons.{AtWorld, WorldIsAccepted}
 use Rattle.wit_link_spec.specs.facts.WorldCauseFacts.{cause_world}
@@ -24,45 +24,45 @@ use Rattle.wit_link_laws.specs.laws.StageFacts.{IncludedAreThere, IncludesCanBe,
 use Rattle.wit_link_include.specs.facts.AdditionFacts.{home, image_at, next_stage, reached_accepted, world_cause}
 use Rattle.wit_link_include.specs.steps.Included as local
 use Rattle.wit_link_include.specs.facts.ReadyFacts.{can_be_added}
-use Rattle.wit_remap.specs.declared.worlds.PlacedWorld.{PlacedWorld}
+use Rattle.wit_remap.specs.declared.worlds.UpdatedWorld.{UpdatedWorld}
 use Rattle.wit_link.specs.steps.Including.{ready_world, ready_worlds}
 
 -- so many worlds are added, and no cause holds against them
-pub record IsAdding (a : Addition) (done : List PlacedWorld) (g : Graph) : Type 0 where
+pub record IsAdding (a : Addition) (done : List UpdatedWorld) (g : Graph) : Type 0 where
   pub graph : g ≡ with_worlds a (length done)
   pub fine : IsReached a (length done)
 
 pub adding-none : (a : Addition) (g : Graph) → g ≡ with_parts a → IsAdding a [] g
 adding-none a g is = record { graph = is; fine = λ i before. absurd (omega (arith, before)) }
 
-module _ (a : Addition) (done rest : List PlacedWorld) (placed : PlacedWorld) (g : Graph) (is : IsAdding a done g) (are : done ++ placed ∷ rest ≡ ready_worlds a) where
+module _ (a : Addition) (done rest : List UpdatedWorld) (updated : UpdatedWorld) (g : Graph) (is : IsAdding a done g) (are : done ++ updated ∷ rest ≡ ready_worlds a) where
   -- the world whose turn it is
-  abbrev from : (e : ℕ × World) × (slice_get (own_worlds a) (length done) ≡ Some e) × (ready_world a e ≡ placed)
-  from = from_map (ready_world a) (own_worlds a) (length done) placed (subst (λ (l : List PlacedWorld). slice_get l (length done) ≡ Some placed) are (slice_get-behind done rest placed))
+  abbrev from : (e : ℕ × World) × (slice_get (own_worlds a) (length done) ≡ Some e) × (ready_world a e ≡ updated)
+  from = from_map (ready_world a) (own_worlds a) (length done) updated (subst (λ (l : List UpdatedWorld). slice_get l (length done) ≡ Some updated) are (slice_get-behind done rest updated))
 
   abbrev turn : AtWorld a (length done)
-  turn = record { place = from.0.0; world = from.0.1; is = from.1 }
+  turn = record { id = from.0.0; world = from.0.1; is = from.1 }
 
   -- what is told of the stage is told of the graph and the world
-  told : (P : Graph → World → List WorldInclude → Type 0) → P (with_worlds a (length done)) (image_at a turn.place turn.world) (placed_includes a turn.world) → P g placed.world placed.includes
-  told P p = subst (λ (x : PlacedWorld). P g x.world x.includes) from.2 (subst (λ (h : Graph). P h (image_at a turn.place turn.world) (placed_includes a turn.world)) (sym is.graph) p)
+  told : (P : Graph → World → List WorldInclude → Type 0) → P (with_worlds a (length done)) (image_at a turn.id turn.world) (updated_includes a turn.world) → P g updated.world updated.includes
+  told P p = subst (λ (x : UpdatedWorld). P g x.world x.includes) from.2 (subst (λ (h : Graph). P h (image_at a turn.id turn.world) (updated_includes a turn.world)) (sym is.graph) p)
 
-  back : (P : Graph → World → List WorldInclude → Type 0) → P g placed.world placed.includes → P (with_worlds a (length done)) (image_at a turn.place turn.world) (placed_includes a turn.world)
-  back P p = subst (λ (h : Graph). P h (image_at a turn.place turn.world) (placed_includes a turn.world)) is.graph (subst (λ (x : PlacedWorld). P g x.world x.includes) (sym from.2) p)
+  back : (P : Graph → World → List WorldInclude → Type 0) → P g updated.world updated.includes → P (with_worlds a (length done)) (image_at a turn.id turn.world) (updated_includes a turn.world)
+  back P p = subst (λ (h : Graph). P h (image_at a turn.id turn.world) (updated_includes a turn.world)) is.graph (subst (λ (x : UpdatedWorld). P g x.world x.includes) (sym from.2) p)
 
-  pub is_ready : IncludedAreThere → IncludesCanBe → WorldsCanBe → IsValid a.graph → IsShaped a.unresolved → IsResolved a → local.CanBeAdded (home a) g placed.world placed.includes
+  pub is_ready : IncludedAreThere → IncludesCanBe → WorldsCanBe → IsValid a.graph → IsShaped a.unresolved → IsResolved a → local.CanBeAdded (home a) g updated.world updated.includes
   is_ready there includes worlds valid shaped image = told (local.CanBeAdded (home a)) (can_be_added there includes worlds a valid shaped image (length done) is.fine turn)
 
-  pub adding-next : (new : Graph) → new ≡ local.with_including (home a) g placed.world placed.includes → NoCause (local.IsWorldCause (home a) g placed.world placed.includes) → IsAdding a (done ++ placed ∷ []) new
+  pub adding-next : (new : Graph) → new ≡ local.with_including (home a) g updated.world updated.includes → NoCause (local.IsWorldCause (home a) g updated.world updated.includes) → IsAdding a (done ++ updated ∷ []) new
   adding-next new new_is fine =
-      let long : length (done ++ placed ∷ []) ≡ length done + 1 = length_push done placed in
+      let long : length (done ++ updated ∷ []) ≡ length done + 1 = length_push done updated in
       let one : WorldIsAccepted a (length done) = reached_accepted a (length done) turn (back (λ (h : Graph) (w : World) (l : List WorldInclude). NoCause (local.IsWorldCause (home a) h w l)) fine) in
       record {
         graph = back (λ (h : Graph) (w : World) (l : List WorldInclude). new ≡ local.with_including (home a) h w l) new_is ∙ sym (next_stage a (length done) turn) ∙ ap (with_worlds a) (sym long);
         fine = subst (IsReached a) (sym long) (below_more (WorldIsAccepted a) (length done) is.fine one);
       }
 
-  pub refused_here : IsResolved a → (kind : ResolveErrorKind) → (kind ≡ OutOfMemory) ⊎ local.IsWorldCause (home a) g placed.world placed.includes kind → (kind ≡ OutOfMemory) ⊎ IsCause a kind
+  pub refused_here : IsResolved a → (kind : ResolveErrorKind) → (kind ≡ OutOfMemory) ⊎ local.IsWorldCause (home a) g updated.world updated.includes kind → (kind ≡ OutOfMemory) ⊎ IsCause a kind
   refused_here image kind (inl memory) = inl memory
   refused_here image kind (inr why) =
       inr (world_cause a (length done) turn image is.fine kind (back (λ (h : Graph) (w : World) (l : List WorldInclude). local.IsWorldCause (home a) h w l kind) why))
@@ -71,7 +71,7 @@ module _ (a : Addition) (done rest : List PlacedWorld) (placed : PlacedWorld) (g
 
 module _ (a : Addition) (k : ℕ) (past : length (own_worlds a) ≤ k) where
   no_world : AtWorld a k → ⊥
-  no_world at = let within : k < length (own_worlds a) = slice_get_within (own_worlds a) k (at.place, at.world) at.is in omega arith
+  no_world at = let within : k < length (own_worlds a) = slice_get_within (own_worlds a) k (at.id, at.world) at.is in omega arith
 
   -- where there is no world no cause holds against it
   pub none_fine : WorldIsAccepted a k
@@ -89,7 +89,7 @@ take-all [] (suc n) within = refl
 take-all (x ∷ xs) zero within = absurd (omega arith)
 take-all (x ∷ xs) (suc n) within = ap (λ (l : List (ℕ × World)). x ∷ l) (take-all xs n (omega arith))
 
-module _ (a : Addition) (done : List PlacedWorld) (g : Graph) (is : IsAdding a done g) (are : done ≡ ready_worlds a) where
+module _ (a : Addition) (done : List UpdatedWorld) (g : Graph) (is : IsAdding a done g) (are : done ≡ ready_worlds a) where
   all_long : length done ≡ length (own_worlds a)
   all_long = ap length are ∙ length-map (own_worlds a) (ready_world a)
 

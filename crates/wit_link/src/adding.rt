@@ -15,7 +15,7 @@ ghost use Rattle.wit_remap.specs.Grown.{Begins, Grown};
 
 use crate::checking::{Checked, check};
 use crate::fits::spans_fit;
-use crate::including::place_includes;
+use crate::including::update_includes;
 use std::alloc::{AllocError, Global};
 use wit_data::{Items, PackageId, Span, Table, TypeId, UnresolvedPackage};
 use wit_elaboration::Elaborator;
@@ -23,7 +23,7 @@ use wit_graph_data::{Features, Graph, ResolveError, ResolveErrorKind, ResolveRes
 use wit_link_include::add_world;
 use wit_link_laws::laws::{included_are_there, includes_can_be, pushes_stay_valid, worlds_can_be};
 use wit_link_spec::AdditionRef;
-use wit_remap::{Mark, Part, PlacedWorld, add_parts};
+use wit_remap::{Mark, Part, UpdatedWorld, add_parts};
 
 /// Adds an `is_shaped` package to a valid graph under features, its spans moved by so many positions, and answers its
 /// id. The graph stays valid.
@@ -160,7 +160,7 @@ fn add_checked(
     requires new { IsNew (addition features.now graph.old «package» span_offset) }
     requires checked { IsChecked (addition features.now graph.old «package» span_offset) }
     requires activity { checked.activity ≡ activity_of (addition features.now graph.old «package» span_offset) }
-    requires places { checked.places ≡ new_ids_of (addition features.now graph.old «package» span_offset) }
+    requires new_ids { checked.new_ids ≡ new_ids_of (addition features.now graph.old «package» span_offset) }
     requires values { checked.values ≡ values_of (addition features.now graph.old «package» span_offset) }
     ensures ok { IfOk result (λ id. IsAdded (addition features.now graph.old «package» span_offset) graph.new id) }
     ensures valid { OnOk result (IsValid graph.new) }
@@ -174,35 +174,35 @@ fn add_checked(
     worlds_can_be();
     included_are_there();
     let id = PackageId::from_index(graph.packages.len());
-    let worlds = add_placed(alloc, graph, features, checked, package, span_offset)?;
+    let worlds = add_updated(alloc, graph, features, checked, package, span_offset)?;
     let types = graph.types.as_slice();
     elaborator.grow(alloc, types, graph.interfaces.as_slice())?;
-    for placed in worlds.into_vec() {
-        let PlacedWorld {
-            place: _,
+    for updated in worlds.into_vec() {
+        let UpdatedWorld {
+            id: _,
             world,
             includes,
-        } = placed;
+        } = updated;
         add_world(alloc, graph, elaborator, world, &includes, id)?;
     }
     Ok(id)
 }
 
-/// Adds the types and interfaces of a package at their places, and the package, and answers its worlds at theirs.
-fn add_placed(
+/// Adds the types and interfaces of a package under their new ids, and the package, and answers its worlds with theirs.
+fn add_updated(
     alloc: Global,
     graph: &mut Graph,
     features: &Features,
     checked: Checked,
     package: UnresolvedPackage,
     span_offset: u32,
-) -> Result<Items<PlacedWorld>, AllocError>
+) -> Result<Items<UpdatedWorld>, AllocError>
     requires shaped { IsShaped «package» }
     requires valid { IsValid graph.old }
     requires new { IsNew (addition features.now graph.old «package» span_offset) }
     requires checked { IsChecked (addition features.now graph.old «package» span_offset) }
     requires activity { checked.activity ≡ activity_of (addition features.now graph.old «package» span_offset) }
-    requires places { checked.places ≡ new_ids_of (addition features.now graph.old «package» span_offset) }
+    requires new_ids { checked.new_ids ≡ new_ids_of (addition features.now graph.old «package» span_offset) }
     requires values { checked.values ≡ values_of (addition features.now graph.old «package» span_offset) }
     ensures ok { OnOk result (graph.new ≡ with_parts (addition features.now graph.old «package» span_offset)) }
     ensures worlds { IfOk result (λ worlds. worlds ≡ ready_worlds (addition features.now graph.old «package» span_offset)) }
@@ -210,13 +210,13 @@ fn add_placed(
 {
     let Checked {
         activity,
-        places,
+        new_ids,
         values,
     } = checked;
     let part = Part {
         features,
         activity: &activity,
     };
-    let placed = add_parts(alloc, graph, &part, &places, values, package, span_offset)?;
-    place_includes(alloc, placed, &places, span_offset)
+    let updated = add_parts(alloc, graph, &part, &new_ids, values, package, span_offset)?;
+    update_includes(alloc, updated, &new_ids, span_offset)
 }

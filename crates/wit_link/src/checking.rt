@@ -15,7 +15,7 @@ use std::alloc::Global;
 use wit_data::{Table, TypeId};
 use wit_graph_data::ResolveResult;
 use wit_link_features::{activity, check_references, check_versions};
-use wit_link_foreign::places;
+use wit_link_foreign::new_ids_of;
 use wit_link_resources::{check_resources, check_results, values};
 use wit_link_spec::{Activity, AdditionRef, NewIds, Values};
 
@@ -23,7 +23,7 @@ use wit_link_spec::{Activity, AdditionRef, NewIds, Values};
 #[derive(Drop)]
 pub(crate) struct Checked {
     pub(crate) activity: Activity,
-    pub(crate) places: NewIds,
+    pub(crate) new_ids: NewIds,
     pub(crate) values: Values,
 }
 
@@ -43,16 +43,16 @@ pub(crate) fn check(
     ensures met_before { Begins met.old met.new }
     ensures checked { OnOk result (IsChecked (addition_of adding.now)) }
     ensures activity { IfOk result (λ checked. checked.activity ≡ activity_of (addition_of adding.now)) }
-    ensures places { IfOk result (λ checked. checked.places ≡ new_ids_of (addition_of adding.now)) }
+    ensures new_ids { IfOk result (λ checked. checked.new_ids ≡ new_ids_of (addition_of adding.now)) }
     ensures values { IfOk result (λ checked. checked.values ≡ values_of (addition_of adding.now)) }
     ensures cause { IfErr result (λ kind. (kind ≡ OutOfMemory) ⊎ IsCause (addition_of adding.now) kind) }
 {
     let activity = checked_activity(alloc, adding)?;
-    let places = checked_places(alloc, adding, &activity, met)?;
-    let values = values(alloc, adding, &activity, &places, met)?;
+    let new_ids = checked_ids(alloc, adding, &activity, met)?;
+    let values = values(alloc, adding, &activity, &new_ids, met)?;
     Ok(Checked {
         activity,
-        places,
+        new_ids,
         values,
     })
 }
@@ -75,7 +75,7 @@ fn checked_activity(alloc: Global, adding: &AdditionRef<'_>) -> ResolveResult<Ac
 /// Refuses a package that names what isn't there (1 to 3 and 13), where a type has to be a resource that is none (14)
 /// or a result holds a borrow (15), else answers what its things are remapped to.
 #[tactic(auto, using(crate::proofs::Checks::passed_image))]
-fn checked_places(
+fn checked_ids(
     alloc: Global,
     adding: &AdditionRef<'_>,
     activity: &Activity,
@@ -89,14 +89,14 @@ fn checked_places(
     requires met { AreRight adding.now.graph.now.types met.old }
     ensures met { AreRight adding.now.graph.now.types met.new }
     ensures met_before { Begins met.old met.new }
-    ensures places { IfOk result (λ places. places ≡ new_ids_of (addition_of adding.now)) }
+    ensures new_ids { IfOk result (λ new_ids. new_ids ≡ new_ids_of (addition_of adding.now)) }
     ensures found { OnOk result (IsAllFound (addition_of adding.now)) }
     ensures resources { OnOk result (HasResources (addition_of adding.now)) }
     ensures no_borrow { OnOk result (ReturnsNoBorrow (addition_of adding.now)) }
     ensures cause { IfErr result (λ kind. (kind ≡ OutOfMemory) ⊎ IsCause (addition_of adding.now) kind) }
 {
-    let places = places(alloc, adding, activity)?;
-    check_resources(alloc, adding, &places, met)?;
-    check_results(alloc, adding, activity, &places)?;
-    Ok(places)
+    let new_ids = new_ids_of(alloc, adding, activity)?;
+    check_resources(alloc, adding, &new_ids, met)?;
+    check_results(alloc, adding, activity, &new_ids)?;
+    Ok(new_ids)
 }

@@ -5,21 +5,21 @@ ghost use Rattle.wit_link.specs.steps.Including.{include_at, world_with};
 use std::alloc::{AllocError, Global};
 use wit_data::{Items, WorldInclude};
 use wit_link_spec::NewIds;
-use wit_remap::PlacedWorld;
+use wit_remap::UpdatedWorld;
 
-/// Worlds with their includes at their places. A span that can't be moved is answered as want of memory: all spans were
+/// Worlds of which the includes have new ids and spans. A span that can't be moved is answered as want of memory: all spans were
 /// seen to fit.
-pub(crate) fn place_includes(
+pub(crate) fn update_includes(
     alloc: Global,
-    worlds: Items<PlacedWorld>,
-    places: &NewIds,
+    worlds: Items<UpdatedWorld>,
+    new_ids: &NewIds,
     offset: u32,
-) -> Result<Items<PlacedWorld>, AllocError>
-    ensures { IfOk result (λ new. new ≡ map (world_with places.now offset) worlds) }
+) -> Result<Items<UpdatedWorld>, AllocError>
+    ensures { IfOk result (λ new. new ≡ map (world_with new_ids.now offset) worlds) }
 {
     let mut new = Items::new(alloc);
     for world in worlds.into_vec() {
-        new.push(world_with(alloc, world, places, offset)?)?;
+        new.push(world_with(alloc, world, new_ids, offset)?)?;
     }
     Ok(new)
 }
@@ -27,37 +27,37 @@ pub(crate) fn place_includes(
 /// The same of one world.
 fn world_with(
     alloc: Global,
-    world: PlacedWorld,
-    places: &NewIds,
+    world: UpdatedWorld,
+    new_ids: &NewIds,
     offset: u32,
-) -> Result<PlacedWorld, AllocError>
-    ensures { IfOk result (λ new. new ≡ world_with places.now offset world) }
+) -> Result<UpdatedWorld, AllocError>
+    ensures { IfOk result (λ new. new ≡ world_with new_ids.now offset world) }
 {
-    let PlacedWorld {
+    let UpdatedWorld {
         place,
         world,
         includes,
     } = world;
-    let includes = includes_at(alloc, includes, places, offset)?;
-    Ok(PlacedWorld {
+    let includes = includes_at(alloc, includes, new_ids, offset)?;
+    Ok(UpdatedWorld {
         place,
         world,
         includes,
     })
 }
 
-/// Includes at their places.
+/// Includes with new ids and spans.
 fn includes_at(
     alloc: Global,
     includes: Items<WorldInclude>,
-    places: &NewIds,
+    new_ids: &NewIds,
     offset: u32,
 ) -> Result<Items<WorldInclude>, AllocError>
-    ensures { IfOk result (λ new. new ≡ map (include_at places.now offset) includes) }
+    ensures { IfOk result (λ new. new ≡ map (include_at new_ids.now offset) includes) }
 {
     let mut new = Items::new(alloc);
     for include in includes.into_vec() {
-        new.push(include_at(include, places, offset)?)?;
+        new.push(include_at(include, new_ids, offset)?)?;
     }
     Ok(new)
 }
@@ -65,17 +65,17 @@ fn includes_at(
 /// The same of one include.
 fn include_at(
     include: WorldInclude,
-    places: &NewIds,
+    new_ids: &NewIds,
     offset: u32,
 ) -> Result<WorldInclude, AllocError>
-    ensures { IfOk result (λ new. new ≡ include_at places.now offset include) }
+    ensures { IfOk result (λ new. new ≡ include_at new_ids.now offset include) }
 {
     let mut include = include;
     match include.span.moved(offset) {
         Some(span) => include.span = span,
         None => return Err(AllocError),
     }
-    if let Some(Some(place)) = places.worlds.get(include.id.index()) {
+    if let Some(Some(id)) = new_ids.worlds.get(include.id.index()) {
         include.id = *place;
     }
     Ok(include)

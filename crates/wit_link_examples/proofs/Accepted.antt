@@ -93,7 +93,7 @@ abbrev the_first : Addition
 the_first = adding no_features empty_graph first_package
 
 abbrev first_world : AtWorld the_first 0
-first_world = record { place = 0; world = _; is = refl }
+first_world = record { id = 0; world = _; is = refl }
 
 pub accepted : AdditionIsAccepted the_first
 accepted = is_accepted the_first first_world (record {
@@ -111,7 +111,7 @@ accepted = is_accepted the_first first_world (record {
 -- ---- a package that uses another
 
 abbrev using_world : AtWorld add_using 0
-using_world = record { place = 0; world = _; is = refl }
+using_world = record { id = 0; world = _; is = refl }
 
 pub using_accepted : AdditionIsAccepted add_using
 unfolding post_order post_order_within
@@ -133,7 +133,7 @@ abbrev the_including : Addition
 the_including = including ((codes "d", include_with [] ∷ []) ∷ [])
 
 abbrev base_include : AtInclude the_including 0 0
-base_include = record { at = record { place = 1; world = _; is = refl }; include = _; is = refl; before = _; before_is = refl; old = _; old_is = refl }
+base_include = record { at = record { id = 1; world = _; is = refl }; include = _; is = refl; before = _; before_is = refl; old = _; old_is = refl }
 
 pub including_accepted : AdditionIsAccepted the_including
 unfolding post_order post_order_within

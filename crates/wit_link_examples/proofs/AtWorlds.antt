@@ -12,14 +12,14 @@ use Rattle.wit_link_spec.specs.WorldReasons.{AtInclude, AtWorld, IncludeIsAccept
 
 -- the lists of world k by which its labels are told: with all its includes, or as they are written where it lists none
 pub data HaveLists (a : Addition) (k : ℕ) : EntryLists → Type 0 where
-  made : (at : AtWorld a k) → IsResolved a → ((j : ℕ) → IncludeIsAccepted a k j) → HaveLists a k (with_all_includes a at.place at.world (with_worlds a k)).lists
+  made : (at : AtWorld a k) → IsResolved a → ((j : ℕ) → IncludeIsAccepted a k j) → HaveLists a k (with_all_includes a at.id at.world (with_worlds a k)).lists
   written : (at : AtWorld a k) → at.world.includes ≡ [] → HaveLists a k (lists_of at.world)
 
 module _ (a : Addition) (k : ℕ) where
-  pub world_same : (x y : AtWorld a k) → (x.place ≡ y.place) × (x.world ≡ y.world)
+  pub world_same : (x y : AtWorld a k) → (x.id ≡ y.id) × (x.world ≡ y.world)
   world_same x y =
-      let one : ℕ × World = (x.place, x.world) in
-      let other : ℕ × World = (y.place, y.world) in
+      let one : ℕ × World = (x.id, x.world) in
+      let other : ℕ × World = (y.id, y.world) in
       let both : one ≡ other = some_same one other (sym x.is ∙ y.is) in
       (ap (λ (e : ℕ × World). e.0) both, ap (λ (e : ℕ × World). e.1) both)
 
@@ -36,7 +36,7 @@ module _ (a : Addition) (k : ℕ) where
       let before : x.before ≡ y.before =
       x.before_is
       ∙ (ap (λ (p : ℕ). with_includes a p x.at.world (take j (active_includes a x.at.world)) (with_worlds a k)) at.0
-      ∙ (ap (λ (w : World). with_includes a y.at.place w (take j (active_includes a w)) (with_worlds a k)) at.1 ∙ sym y.before_is)) in
+      ∙ (ap (λ (w : World). with_includes a y.at.id w (take j (active_includes a w)) (with_worlds a k)) at.1 ∙ sym y.before_is)) in
       let old : x.old ≡ y.old =
       some_same _ _
       (sym x.old_is
@@ -53,10 +53,10 @@ module _ (a : Addition) (k : ℕ) where
   pub fine_without : (j : ℕ) → (AtInclude a k j → ⊥) → IncludeIsAccepted a k j
   fine_without j none error c = none c.at
 
-  pub lists_are : (y : AtWorld a k) (lists : EntryLists) → HaveLists a k lists → (lists ≡ (with_all_includes a y.place y.world (with_worlds a k)).lists) ⊎ ((y.world.includes ≡ []) × (lists ≡ lists_of y.world))
+  pub lists_are : (y : AtWorld a k) (lists : EntryLists) → HaveLists a k lists → (lists ≡ (with_all_includes a y.id y.world (with_worlds a k)).lists) ⊎ ((y.world.includes ≡ []) × (lists ≡ lists_of y.world))
   lists_are y _ (made at image fine) =
       let same = world_same at y in
-      inl (ap (λ (p : ℕ). (with_all_includes a p at.world (with_worlds a k)).lists) same.0 ∙ ap (λ (w : World). (with_all_includes a y.place w (with_worlds a k)).lists) same.1)
+      inl (ap (λ (p : ℕ). (with_all_includes a p at.world (with_worlds a k)).lists) same.0 ∙ ap (λ (w : World). (with_all_includes a y.id w (with_worlds a k)).lists) same.1)
   lists_are y _ (written at none) =
       let same = world_same at y in
       inr (subst (λ (w : World). w.includes ≡ []) same.1 none, ap lists_of same.1)
@@ -73,7 +73,7 @@ module _ (a : Addition) (later : (k : ℕ) → slice_get (own_worlds a) (suc k) 
   of_first P at not zero p = not p
   of_first P at not (suc k) p =
       let x = at (suc k) p in
-      let found : ℕ × World = (x.place, x.world) in
+      let found : ℕ × World = (x.id, x.world) in
       none_some found (sym (later k) ∙ x.is)
 
   -- what holds of an include holds of the first
@@ -82,7 +82,7 @@ module _ (a : Addition) (later : (k : ℕ) → slice_get (own_worlds a) (suc k) 
   of_first_include y none P at not zero (suc j) p = no_include a 0 y (suc j) (none j) (at 0 (suc j) p)
   of_first_include y none P at not (suc k) j p =
       let x : AtInclude a (suc k) j = at (suc k) j p in
-      let found : ℕ × World = (x.at.place, x.at.world) in
+      let found : ℕ × World = (x.at.id, x.at.world) in
       none_some found (sym (later k) ∙ x.at.is)
 
 -- all includes of a world with one are accepted where that is

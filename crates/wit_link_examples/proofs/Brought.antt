@@ -38,7 +38,7 @@ imports_image : (old new : List ℕ) → IsResolved (imports old new)
 imports_image old new = image (imports old new) (record { packages = refl; items = refl; types = refl; interfaces = refl; worlds = refl })
 
 abbrev import_include : (old new : List ℕ) → AtInclude (imports old new) 0 0
-import_include old new = record { at = record { place = 1; world = _; is = refl }; include = _; is = refl; before = _; before_is = refl; old = _; old_is = refl }
+import_include old new = record { at = record { id = 1; world = _; is = refl }; include = _; is = refl; before = _; before_is = refl; old = _; old_is = refl }
 
 imports_fine : (old new : List ℕ) → Passes (imports old new) 0 0 (import_include old new) → (j : ℕ) → IncludeIsAccepted (imports old new) 0 j
 imports_fine old new passes j = all_fine (imports old new) (import_include old new) (λ j. refl) (fine (imports old new) 0 0 (import_include old new) passes) j
@@ -52,13 +52,13 @@ exports_image : (old new : List ℕ) → IsResolved (exports (function_entry old
 exports_image old new = image (exports (function_entry old) (function_entry new)) (record { packages = refl; items = refl; types = refl; interfaces = refl; worlds = refl })
 
 abbrev export_include : (old new : List ℕ) → AtInclude (exports (function_entry old) (function_entry new)) 0 0
-export_include old new = record { at = record { place = 1; world = _; is = refl }; include = _; is = refl; before = _; before_is = refl; old = _; old_is = refl }
+export_include old new = record { at = record { id = 1; world = _; is = refl }; include = _; is = refl; before = _; before_is = refl; old = _; old_is = refl }
 
 gates_image : (old : Stability) → IsResolved (exports (gated_entry old) (gated_entry gate_f))
 gates_image old = image (exports (gated_entry old) (gated_entry gate_f)) (record { packages = refl; items = refl; types = refl; interfaces = refl; worlds = refl })
 
 abbrev gate_include : (old : Stability) → AtInclude (exports (gated_entry old) (gated_entry gate_f)) 0 0
-gate_include old = record { at = record { place = 1; world = _; is = refl }; include = _; is = refl; before = _; before_is = refl; old = _; old_is = refl }
+gate_include old = record { at = record { id = 1; world = _; is = refl }; include = _; is = refl; before = _; before_is = refl; old = _; old_is = refl }
 
 -- ---- a `@since` of another package
 
@@ -94,7 +94,7 @@ exporting_image : (i : ℕ) → IsResolved (exporting i)
 exporting_image i = image (exporting i) (record { packages = refl; items = refl; types = refl; interfaces = refl; worlds = refl })
 
 abbrev exporting_include : (i : ℕ) → AtInclude (exporting i) 0 0
-exporting_include i = record { at = record { place = 1; world = _; is = refl }; include = _; is = refl; before = _; before_is = refl; old = _; old_is = refl }
+exporting_include i = record { at = record { id = 1; world = _; is = refl }; include = _; is = refl; before = _; before_is = refl; old = _; old_is = refl }
 
 -- b isn't exported beside c and a
 b_outside : Contains {X = ℕ} (2 ∷ 0 ∷ []) 1 → ⊥
@@ -148,7 +148,7 @@ abbrev crosswise : Addition
 crosswise = adding no_features (sample [] (function_entry (codes "f") ∷ [])) (including_lists (function_entry (codes "f") ∷ []) [])
 
 abbrev crosswise_include : AtInclude crosswise 0 0
-crosswise_include = record { at = record { place = 1; world = _; is = refl }; include = _; is = refl; before = _; before_is = refl; old = _; old_is = refl }
+crosswise_include = record { at = record { id = 1; world = _; is = refl }; include = _; is = refl; before = _; before_is = refl; old = _; old_is = refl }
 
 pub included_causes : ExamplesOfIncludedCauses
 included_causes = record {

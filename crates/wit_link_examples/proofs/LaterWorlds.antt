@@ -38,10 +38,10 @@ plain_is_fine a k y no_includes p = plain_accepted a k y p (λ image j. fine_wit
 -- ---- the third world, and its second include
 
 abbrev first_gate : AtWorld two_gates 0
-first_gate = record { place = 0; world = _; is = refl }
+first_gate = record { id = 0; world = _; is = refl }
 
 abbrev second_gate : AtWorld two_gates 1
-second_gate = record { place = 1; world = _; is = refl }
+second_gate = record { id = 1; world = _; is = refl }
 
 abbrev includes_both : AtWorld two_gates 2
 includes_both = record { place = 2; world = _; is = refl }
@@ -97,7 +97,7 @@ written_alike a k place is = written_not_strongly_unique_17 _ (record {
 })
 
 abbrev empty_first : AtWorld (before_alike []) 0
-empty_first = record { place = 0; world = _; is = refl }
+empty_first = record { id = 0; world = _; is = refl }
 
 nothing_before : (i : ℕ) → i < 1 → WorldIsAccepted (before_alike []) i
 nothing_before zero below = plain_is_fine (before_alike []) 0 empty_first (λ j. refl) (record { lists = record { imports = refl; exports = refl; written = λ none. (refl, refl) }; no_exports = refl })
@@ -107,7 +107,7 @@ abbrev setter_first : Addition
 setter_first = before_alike (function_entry (codes "[set]p") ∷ [])
 
 abbrev setter_world : AtWorld setter_first 0
-setter_world = record { place = 0; world = _; is = refl }
+setter_world = record { id = 0; world = _; is = refl }
 
 lacks_getter : IsCauseAtWorld setter_first 0 (Semantic None (codes "import `[set]p` in world `v` has no corresponding getter `[get]p`") cause.NoGetter)
 lacks_getter = written_no_getter_18 _ _ (record {
@@ -138,7 +138,7 @@ lacks_version : LacksVersion including_unversioned None (codes "package [foo:mai
 lacks_version = record { note = since_one; place = None; asked = asked.of_interface 1 _ _ refl (0, lit< tt, refl); stable = tt; no_version = refl; span_is = refl; message_is = refl }
 
 abbrev unmade_world : AtWorld including_unversioned 0
-unmade_world = record { place = 1; world = _; is = refl }
+unmade_world = record { id = 1; world = _; is = refl }
 
 some_includes : (include : WorldInclude) → include ∷ [] ≡ [] → ⊥
 some_includes include none = cc
@@ -159,7 +159,7 @@ no_image : IsResolved unmade → ⊥
 no_image has = has.version None (codes "package [foo:bar] contains a feature gate with a version specifier, so it must have a version") unversioned_too
 
 abbrev including_second : AtWorld unmade 1
-including_second = record { place = 1; world = _; is = refl }
+including_second = record { id = 1; world = _; is = refl }
 
 lists_none : (at : AtWorld unmade 1) → at.world.includes ≡ [] → ⊥
 lists_none at none = some_includes (include_of 0) (subst (λ (w : World). w.includes ≡ []) (world_same unmade 1 at including_second).1 none)
@@ -171,7 +171,7 @@ second_unmade _ (written_not_strongly_unique_17 message is) = lists_none is.at i
 second_unmade _ (written_no_getter_18 span message is) = lists_none is.at is.no_includes
 
 fine_unmade : (i : ℕ) → i < 2 → WorldIsAccepted unmade i
-fine_unmade zero below = plain_is_fine unmade 0 (record { place = 0; world = _; is = refl }) (λ j. refl) (record { lists = record { imports = refl; exports = refl; written = λ none. (refl, refl) }; no_exports = refl })
+fine_unmade zero below = plain_is_fine unmade 0 (record { id = 0; world = _; is = refl }) (λ j. refl) (record { lists = record { imports = refl; exports = refl; written = λ none. (refl, refl) }; no_exports = refl })
 fine_unmade (suc zero) below = second_unmade
 fine_unmade (suc (suc i)) below = absurd (omega (arith, below))
 
@@ -179,7 +179,7 @@ shadowing_image : IsResolved (shadowing_first [])
 shadowing_image = image (shadowing_first []) (record { packages = refl; items = refl; types = refl; interfaces = refl; worlds = refl })
 
 abbrev shadowing_world : AtWorld (shadowing_first []) 1
-shadowing_world = record { place = 1; world = _; is = refl }
+shadowing_world = record { id = 1; world = _; is = refl }
 
 abbrev shadowing_include : AtInclude (shadowing_first []) 1 0
 shadowing_include = record { at = shadowing_world; include = include_of 0; is = refl; before = _; before_is = refl; old = _; old_is = refl }
@@ -201,7 +201,7 @@ refused_lists _ (made at has fine) = fine 0 _ shadows
 refused_lists _ (written at none) = some_includes (include_of 0) (subst (λ (w : World). w.includes ≡ []) (world_same (shadowing_first []) 1 at shadowing_world).1 none)
 
 behind_shadowing : (k : ℕ) → IsReached (shadowing_first []) k → ClashAt (shadowing_first []) k → ⊥
-behind_shadowing zero reached c = none_alike (shadowing_first []) 0 (record { place = 0; world = _; is = refl }) (record { imports = refl; exports = refl; written = λ none. (refl, refl) }) c
+behind_shadowing zero reached c = none_alike (shadowing_first []) 0 (record { id = 0; world = _; is = refl }) (record { imports = refl; exports = refl; written = λ none. (refl, refl) }) c
 behind_shadowing (suc zero) reached c = refused_lists c.lists c.have
 behind_shadowing (suc (suc k)) reached c =
     let below : 1 < suc (suc k) = omega arith in

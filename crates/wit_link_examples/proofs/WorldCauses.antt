@@ -53,7 +53,7 @@ gates_image : (note : Stability) (label : List ℕ) (names : List IncludeName) �
 gates_image note label names = image (gates note label names) (record { packages = refl; items = refl; types = refl; interfaces = refl; worlds = refl })
 
 abbrev the_include : (note : Stability) (label : List ℕ) (names : List IncludeName) → AtInclude (gates note label names) 0 0
-the_include note label names = record { at = record { place = 1; world = _; is = refl }; include = _; is = refl; before = _; before_is = refl; old = _; old_is = refl }
+the_include note label names = record { at = record { id = 1; world = _; is = refl }; include = _; is = refl; before = _; before_is = refl; old = _; old_is = refl }
 
 -- what holds of an include holds of this one
 of_gates : (note : Stability) (label : List ℕ) (names : List IncludeName) (P : ℕ → ℕ → Type 0) → ((k j : ℕ) → P k j → AtInclude (gates note label names) k j) → (P 0 0 → ⊥) → (k j : ℕ) → P k j → ⊥
@@ -158,7 +158,7 @@ abbrev two_labels : List ℕ → List ℕ → Addition
 two_labels a b = importing (function_entry a ∷ function_entry b ∷ [])
 
 abbrev labelled_world : (a b : List ℕ) → AtWorld (two_labels a b) 0
-labelled_world a b = record { place = 0; world = _; is = refl }
+labelled_world a b = record { id = 0; world = _; is = refl }
 
 not_alike : ClashAt (two_labels (codes "ab") (codes "ac")) 0 → ⊥
 not_alike = none_alike (two_labels (codes "ab") (codes "ac")) 0 (labelled_world (codes "ab") (codes "ac")) (record { imports = refl; exports = refl; written = λ none. (refl, refl) })
@@ -175,7 +175,7 @@ c_image : IsResolved (exporting (codes "c"))
 c_image = image (exporting (codes "c")) (record { packages = refl; items = refl; types = refl; interfaces = refl; worlds = refl })
 
 abbrev exporting_world : (other : List ℕ) → AtWorld (exporting other) 0
-exporting_world other = record { place = 0; world = _; is = refl }
+exporting_world other = record { id = 0; world = _; is = refl }
 
 -- b isn't exported
 b_outside : Contains {X = ℕ} (0 ∷ 2 ∷ []) 1 → ⊥
@@ -256,7 +256,7 @@ world_causes = record {
       let found = of_alike (two_labels (codes "ab") (codes "ac")) span message c in
       of_first (two_labels (codes "ab") (codes "ac")) (λ k. refl) (ClashAt (two_labels (codes "ab") (codes "ac"))) (λ k x. list_world _ k x.lists x.have) not_alike found.0 found.2;
   no_getter = reason.of_world 0 _ (first_reached one_setter) (written_no_getter_18 _ _ (record {
-    at = record { place = 0; world = _; is = refl };
+    at = record { id = 0; world = _; is = refl };
     no_includes = refl;
     word = codes "import";
     label = codes "[set]p";

@@ -23,7 +23,7 @@ use Rattle.wit_graph_theory.specs.facts.OptionFacts.{some_same}
 use Rattle.wit_graph_theory.specs.examples.TestFacts.{all_are, implied, implies, none_in}
 use Rattle.wit_elaboration.specs.Elaboration.{graph_uses}
 use Rattle.wit_elaboration.specs.Imported.{HasTransitiveConflict, exported_keys}
-use Rattle.wit_labels.specs.Setters.{IsSetter, getter_label, is_setter_label, placed}
+use Rattle.wit_labels.specs.Setters.{IsSetter, getter_label, is_setter_label, setters_placed}
 use Rattle.wit_labels.specs.Strong.{strong_key}
 use Rattle.wit_labels.specs.declared.strong.StrongKey.{StrongKey}
 use Rattle.wit_graph_data.specs.declared.error_kind.ResolveErrorKind.{ResolveErrorKind}
@@ -32,7 +32,7 @@ use Rattle.wit_link_spec.specs.Addition.{Addition}
 use Rattle.wit_link_spec.specs.Gates.{OptionalSpan}
 use Rattle.wit_link_spec.specs.Include.{EntryLists, IsListCalled, PartiallyLinked, lists_of}
 use Rattle.wit_link_spec.specs.WorldReasons.{HasStability, IsFirstUnmatched, IsIncludeCause, IsShadowed, LabelIsTaken, StabilitiesAreApart, mismatch_8, rename_unmatched_16, renamed_key, shadowing_7, AtInclude, AtWorld, IncludeIsAccepted, IsCauseAtFinish, IsCauseAtInclude, WorldIsAccepted, of_finish, of_include, written_no_getter_18, written_not_strongly_unique_17, IsFinishCause, conflict_4, no_getter_18, not_strongly_unique_17}
-use Rattle.wit_link_spec.specs.Pushed.{placed_include, unfinished_world, with_all_includes, with_worlds}
+use Rattle.wit_link_spec.specs.Pushed.{updated_include, unfinished_world, with_all_includes, with_worlds}
 use Rattle.wit_link_spec.specs.Reasons.{IsResolved}
 use Rattle.wit_link_examples.proofs.Matching.{ClashAt, LonelySetterAt, clash_at, conflict_in, lonely_at, taken_of}
 use Rattle.wit_link_examples.proofs.AtWorlds.{HaveLists, include_same, lists_are, world_same}
@@ -87,7 +87,7 @@ one_list word l l' es es' (inr a) (inr b) = inr (a.1, b.1)
 
 module _ (a : Addition) (k j : ℕ) (y : AtInclude a k j) where
   untaken : labels_come y.include y.before.lists.imports y.old.imports ≡ true → labels_come y.include y.before.lists.exports y.old.exports ≡ true
-      → (x : AtInclude a k j) (word name : List ℕ) → LabelIsTaken x.before (placed_include a x.include) x.old word name → ⊥
+      → (x : AtInclude a k j) (word name : List ℕ) → LabelIsTaken x.before (updated_include a x.include) x.old word name → ⊥
   untaken imports exports x word name c =
       let same = include_same a k j x y in
       let shadowed : IsShadowed c.current (map (λ (e : Entry). renamed_key y.include.names e.0) c.brought) name =
@@ -140,7 +140,7 @@ module _ (a : Addition) (k j : ℕ) (y : AtInclude a k j) where
   pub fine : Passes → IncludeIsAccepted a k j
   fine p error c = none c.at error c.cause
     where
-      none : (x : AtInclude a k j) (error : ResolveErrorKind) → IsIncludeCause (length a.graph.packages) x.before (placed_include a x.include) x.old error → ⊥
+      none : (x : AtInclude a k j) (error : ResolveErrorKind) → IsIncludeCause (length a.graph.packages) x.before (updated_include a x.include) x.old error → ⊥
       none x _ (shadowing_7 word name is) = untaken p.import_labels p.export_labels x word name is
       none x _ (mismatch_8 brings has is) = agrees p.import_keys p.export_keys x brings has is
       none x _ (rename_unmatched_16 name is) = without_names p.names x name is
@@ -150,8 +150,8 @@ module _ (a : Addition) (k j : ℕ) (y : AtInclude a k j) where
 module _ (a : Addition) (k : ℕ) (y : AtWorld a k) where
   -- both lists of the world pass a test, with its includes and, where it has none, as they are written
   pub record BothPass (test : List Entry → Bool) : Type 0 where
-    pub imports : test (with_all_includes a y.place y.world (with_worlds a k)).lists.imports ≡ true
-    pub exports : test (with_all_includes a y.place y.world (with_worlds a k)).lists.exports ≡ true
+    pub imports : test (with_all_includes a y.id y.world (with_worlds a k)).lists.imports ≡ true
+    pub exports : test (with_all_includes a y.id y.world (with_worlds a k)).lists.exports ≡ true
     pub written : y.world.includes ≡ [] → (test y.world.imports ≡ true) × (test y.world.exports ≡ true)
 
   -- then each list passes by which its labels are told
@@ -224,12 +224,12 @@ getters_there entries = list_all (getter_there (keys_of entries)) entries
 
 -- a conflict is one of what is begun
 pub conflict_of : (a : Addition) (k : ℕ) (y : AtWorld a k) (span : OptionalSpan) (name : List ℕ) → IsCauseAtFinish a k (InvalidTransitiveDependency span name)
-    → HasTransitiveConflict (graph_uses (with_all_includes a y.place y.world (with_worlds a k)).graph) (placed (with_all_includes a y.place y.world (with_worlds a k)).lists.exports)
+    → HasTransitiveConflict (graph_uses (with_all_includes a y.id y.world (with_worlds a k)).graph) (setters_placed (with_all_includes a y.id y.world (with_worlds a k)).lists.exports)
 conflict_of a k y span name c =
     let same = world_same a k c.at y in
-    let is : c.whole ≡ with_all_includes a y.place y.world (with_worlds a k) =
-    c.whole_is ∙ (ap (λ (p : ℕ). with_all_includes a p c.at.world (with_worlds a k)) same.0 ∙ ap (λ (w : World). with_all_includes a y.place w (with_worlds a k)) same.1) in
-    subst (λ (b : PartiallyLinked). HasTransitiveConflict (graph_uses b.graph) (placed b.lists.exports)) is (conflict_in _ _ span name c.cause).conflict
+    let is : c.whole ≡ with_all_includes a y.id y.world (with_worlds a k) =
+    c.whole_is ∙ (ap (λ (p : ℕ). with_all_includes a p c.at.world (with_worlds a k)) same.0 ∙ ap (λ (w : World). with_all_includes a y.id w (with_worlds a k)) same.1) in
+    subst (λ (b : PartiallyLinked). HasTransitiveConflict (graph_uses b.graph) (setters_placed b.lists.exports)) is (conflict_in _ _ span name c.cause).conflict
 
 -- ---- a world with which nothing is wrong
 
@@ -250,7 +250,7 @@ module _ (a : Addition) (k : ℕ) (y : AtWorld a k) where
   -- both lists are plain, and it exports no interface under its own key
   pub record IsPlain : Type 0 where
     pub lists : BothPass a k y is_plain
-    pub no_exports : exported_keys (placed (with_all_includes a y.place y.world (with_worlds a k)).lists.exports) ≡ []
+    pub no_exports : exported_keys (setters_placed (with_all_includes a y.id y.world (with_worlds a k)).lists.exports) ≡ []
 
   plain_labels : IsPlain → ClashAt a k → ⊥
   plain_labels p = none_alike (both_weaker a k y is_plain labels_differ (λ es passes. (and_parts (labels_differ es) (getters_there es) passes).0) p.lists)
@@ -268,7 +268,7 @@ module _ (a : Addition) (k : ℕ) (y : AtWorld a k) where
   plain_accepted p includes _ (of_include j error image earlier is) = includes image j error is
   plain_accepted p includes _ (of_finish error image accepted is) = none error is.cause
     where
-      none : (error : ResolveErrorKind) → IsFinishCause is.whole.graph (unfinished_world a is.at.place is.at.world is.whole.lists) error → ⊥
+      none : (error : ResolveErrorKind) → IsFinishCause is.whole.graph (unfinished_world a is.at.id is.at.world is.whole.lists) error → ⊥
       none _ (conflict_4 name c) = plain_exports p _ name (record { at = is.at; whole = is.whole; whole_is = is.whole_is; cause = conflict_4 name c })
       none _ (not_strongly_unique_17 word n m c) =
           plain_labels p (clash_at a k _ _ (of_finish _ image accepted (record { at = is.at; whole = is.whole; whole_is = is.whole_is; cause = not_strongly_unique_17 word n m c })))

@@ -111,11 +111,11 @@ module _ (a : Addition) (ids : AstItem → List ℕ) (look_up : Lookup) (active 
       ap (λ (o : Option ℕ). o ∷ left (after (has_new_id (active k) (found_id k)) (base + rank is_own k))) here ∙ ap (λ (l : List (Option ℕ)). remapped base k ∷ l) (ap left next ∙ assigned_from base n (k + 1))
 
   -- all of them
-  assigned : (base first : ℕ) (flags : List Bool) (places new : List (Option ℕ)) → first ≡ base → flags ≡ map active (range_with_len 0 count) → places ≡ map found_id (range_with_len 0 count)
-      → new ≡ assigned_ids first flags places → new ≡ map (remapped base) (range_with_len 0 count)
-  assigned base first flags places new first_is flags_are places_are new_are =
+  assigned : (base first : ℕ) (flags : List Bool) (new_ids new : List (Option ℕ)) → first ≡ base → flags ≡ map active (range_with_len 0 count) → new_ids ≡ map found_id (range_with_len 0 count)
+      → new ≡ assigned_ids first flags new_ids → new ≡ map (remapped base) (range_with_len 0 count)
+  assigned base first flags new_ids new first_is flags_are places_are new_are =
       let start : first ≡ base + 0 = omega arith in
-      new_are ∙ ap (λ (n : ℕ). assigned_ids n flags places) start ∙ ap (λ (l : List Bool). assigned_ids (base + 0) l places) flags_are
+      new_are ∙ ap (λ (n : ℕ). assigned_ids n flags new_ids) start ∙ ap (λ (l : List Bool). assigned_ids (base + 0) l new_ids) flags_are
       ∙ ap (assigned_ids (base + 0) (map active (range_with_len 0 count))) places_are ∙ assigned_from base count 0
 
 same_length : {X Y : Type 0} (f : ℕ → X) (g : ℕ → Y) (n : ℕ) (xs : List X) (ys : List Y) → xs ≡ map f (range_with_len 0 n) → ys ≡ map g (range_with_len 0 n) → length xs ≡ length ys

@@ -46,7 +46,7 @@ pub(crate) fn find_foreign(
     Ok(found)
 }
 
-/// So many places of nothing.
+/// So many times nothing.
 fn nothing<T: Copy>(alloc: Global, count: usize) -> Result<Items<Option<T>>, AllocError>
     ensures { IfOk result (λ items. items ≡ map (λ _. None) (range_with_len 0 count)) }
 {
@@ -57,7 +57,7 @@ fn nothing<T: Copy>(alloc: Global, count: usize) -> Result<Items<Option<T>>, All
     Ok(items)
 }
 
-/// Finds what is named of the package at a place.
+/// Finds what is named of the package at an index.
 fn find_named(
     alloc: Global,
     adding: &AdditionRef<'_>,

@@ -8,4 +8,4 @@ mod packages;
 mod refusal;
 mod types;
 
-pub use crate::lookup::places;
+pub use crate::lookup::new_ids_of;

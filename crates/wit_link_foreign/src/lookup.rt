@@ -18,14 +18,18 @@ use wit_link_spec::{Activity, AdditionRef, NewIds};
 ///
 /// Refused where a package of which something is named isn't there (1), or, of what is active, a world (2), an
 /// interface (3) or a type (13) of another package; the one that is added counts as there, and empty. Else it is
-/// refused for want of memory (28) alone. That is told too where a place that would be told ends past 4294967295, so
+/// refused for want of memory (28) alone. That is told too where a span that would be told ends past 4294967295, so
 /// the caller looks at the spans first.
 ///
 /// Source: `process_foreign_deps` of wit-parser 0.263.0.
-pub fn places(alloc: Global, adding: &AdditionRef<'_>, activity: &Activity) -> ResolveResult<NewIds>
+pub fn new_ids_of(
+    alloc: Global,
+    adding: &AdditionRef<'_>,
+    activity: &Activity,
+) -> ResolveResult<NewIds>
     requires shaped { IsShaped adding.now.unresolved.now }
     requires activity { activity.now ≡ activity_of (addition_of adding.now) }
-    ensures places { IfOk result (λ places. places ≡ new_ids_of (addition_of adding.now)) }
+    ensures new_ids { IfOk result (λ new_ids. new_ids ≡ new_ids_of (addition_of adding.now)) }
     ensures found { OnOk result (IsAllFound (addition_of adding.now)) }
     ensures cause { IfErr result (λ kind. (kind ≡ OutOfMemory) ⊎ IsCause (addition_of adding.now) kind) }
 {

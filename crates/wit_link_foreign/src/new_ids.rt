@@ -36,7 +36,7 @@ pub(crate) fn assign_id<S>(
     found: Option<Id<S>>,
     next: &mut usize,
 ) -> Result<Option<Id<S>>, AllocError>
-    ensures place { IfOk result (λ place. place ≡ goes active found next.old) }
+    ensures id { IfOk result (λ id. id ≡ goes active found next.old) }
     ensures next { OnOk result (next.new ≡ after (has_new_id active found) next.old) }
 {
     if active {

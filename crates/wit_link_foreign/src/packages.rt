@@ -18,11 +18,11 @@ pub(crate) struct Home<'a> {
     pub(crate) name: &'a PackageName,
     /// What is named of it.
     pub(crate) items: &'a Names<(AstItem, Items<Stability>)>,
-    /// Its place in the graph: None for the package that is added, which counts as there and empty.
+    /// Its id in the graph: None for the package that is added, which counts as there and empty.
     pub(crate) id: Option<PackageId>,
 }
 
-/// The package of which something is named at a place. Refused where there is none of that name (1), if any item
+/// The package of which something is named at an index. Refused where there is none of that name (1), if any item
 /// of it is named.
 pub(crate) fn find_home<'a>(
     alloc: Global,

@@ -30,20 +30,20 @@ pub(crate) fn type_ids(
     requires shaped { IsShaped adding.now.unresolved.now }
     requires activity { activity.now ≡ activity_of (addition_of adding.now) }
     requires found { found.now ≡ found_among (addition_of adding.now) (named_items adding.now.unresolved.now.foreign_deps) }
-    ensures places { IfOk result (λ places. places ≡ map (active_type_id (addition_of adding.now)) (range_with_len 0 (length adding.now.unresolved.now.types))) }
+    ensures new_ids { IfOk result (λ new_ids. new_ids ≡ map (active_type_id (addition_of adding.now)) (range_with_len 0 (length adding.now.unresolved.now.types))) }
     ensures there { OnOk result (AreTypesThere (addition_of adding.now) (length adding.now.unresolved.now.types)) }
     ensures cause { IfErr result (λ kind. (kind ≡ OutOfMemory) ⊎ IsCause (addition_of adding.now) kind) }
 {
-    let mut places = Items::new(alloc);
+    let mut new_ids = Items::new(alloc);
     let mut next = adding.graph.types.len();
     for t in 0..adding.unresolved.types.len() {
-        places.push(type_place(alloc, adding, activity, found, t, &mut next)?)?;
+        new_ids.push(new_type_id(alloc, adding, activity, found, t, &mut next)?)?;
     }
-    Ok(places)
+    Ok(new_ids)
 }
 
 /// Where one type goes, and the next id behind it.
-fn type_place(
+fn new_type_id(
     alloc: Global,
     adding: &AdditionRef<'_>,
     activity: &Activity,
@@ -56,7 +56,7 @@ fn type_place(
     requires found { found.now ≡ found_among (addition_of adding.now) (named_items adding.now.unresolved.now.foreign_deps) }
     requires inside { t < length adding.now.unresolved.now.types }
     requires next { next.old ≡ length adding.now.graph.now.types + rank (own_type (addition_of adding.now)) t }
-    ensures place { IfOk result (λ place. place ≡ active_type_id (addition_of adding.now) t) }
+    ensures id { IfOk result (λ id. id ≡ active_type_id (addition_of adding.now) t) }
     ensures next { OnOk result (next.new ≡ length adding.now.graph.now.types + rank (own_type (addition_of adding.now)) (t + 1)) }
     ensures there { OnOk result (IsTypeThere (addition_of adding.now) t) }
     ensures cause { IfErr result (λ kind. (kind ≡ OutOfMemory) ⊎ IsCause (addition_of adding.now) kind) }
@@ -82,7 +82,7 @@ fn foreign_type(
     requires inside { t < length adding.now.unresolved.now.types }
     requires foreign { t < length adding.now.unresolved.now.unknown_type_spans }
     requires active { type_is_active adding.now.features.now adding.now.unresolved.now.types t ≡ true }
-    ensures place { IfOk result (λ place. place ≡ foreign_type_id adding.now.graph.now adding.now.unresolved.now t) }
+    ensures id { IfOk result (λ id. id ≡ foreign_type_id adding.now.graph.now adding.now.unresolved.now t) }
     ensures there { OnOk result (IsTypeThere (addition_of adding.now) t) }
     ensures cause { IfErr result (λ kind. (kind ≡ OutOfMemory) ⊎ IsCause (addition_of adding.now) kind) }
 {

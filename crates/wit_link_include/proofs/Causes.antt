@@ -14,11 +14,11 @@ use Rattle.wit_graph_data.specs.declared.graph.Graph.{Graph}
 use Rattle.wit_graph_data.specs.declared.error_kind.ResolveErrorKind.{ResolveErrorKind}
 use Rattle.wit_graph_data.specs.declared.error_kind.ResolveErrorKind.TheVariants.{PackageNotFound, WorldNotFound, InterfaceNotFound, InvalidTransitiveDependency, DuplicatePackage, PackageCycle, ItemShadowing, StabilityMismatch, Semantic, OffsetOverflow, OutOfMemory}
 use Rattle.wit_graph_theory.specs.facts.ListFacts.{contained_at, same_at}
-use Rattle.wit_labels.specs.Setters.{HaveGetters, IsSetter, LacksGetterAt, getter_label, placed}
+use Rattle.wit_labels.specs.Setters.{HaveGetters, IsSetter, LacksGetterAt, getter_label, setters_placed}
 use Rattle.wit_labels.specs.Strong.{AreStronglyUnique, Clashes}
 use Rattle.wit_link_spec.specs.CauseText.{clash_text, getter_text}
 use Rattle.wit_link_spec.specs.Include.{IsListCalled, lists_of}
-use Rattle.wit_link_spec.specs.Pushed.{with_placed}
+use Rattle.wit_link_spec.specs.Pushed.{with_setters_placed}
 use Rattle.wit_link_spec.specs.WorldReasons.{IsFinishCause, conflict_4, no_getter_18, not_strongly_unique_17}
 use Rattle.wit_link_include.specs.steps.Included.{IsLabelError, IsListError, LabelsAreAccepted, ListIsAccepted, alone, clash}
 
@@ -63,7 +63,7 @@ label_cause g world kind (inr (inr error)) = inr (list_cause g world (codes "exp
 
 -- ---- the conflict
 
-pub conflict_cause : (g : Graph) (world : World) (kind : ResolveErrorKind) → IsConflictError g (with_placed world) kind → (kind ≡ OutOfMemory) ⊎ IsFinishCause g world kind
+pub conflict_cause : (g : Graph) (world : World) (kind : ResolveErrorKind) → IsConflictError g (with_setters_placed world) kind → (kind ≡ OutOfMemory) ⊎ IsFinishCause g world kind
 conflict_cause g world (PackageNotFound span requested known) is = absurd is
 conflict_cause g world (WorldNotFound span requested home) is = absurd is
 conflict_cause g world (InterfaceNotFound span requested home) is = absurd is
@@ -85,7 +85,7 @@ list_of_both world word entries labels (inl is) error found =
 list_of_both world word entries labels (inr is) error found =
     labels.exports.no_cause error (subst (λ (w : List ℕ). IsListError world.name w world.exports error) is.0 (subst (λ (l : List Entry). IsListError world.name word l error) is.1 found))
 
-pub finish_accepted : (g : Graph) (world : World) → LabelsAreAccepted world → (HasTransitiveConflict (graph_uses g) (placed world.exports) → ⊥) → NoCause (IsFinishCause g world)
+pub finish_accepted : (g : Graph) (world : World) → LabelsAreAccepted world → (HasTransitiveConflict (graph_uses g) (setters_placed world.exports) → ⊥) → NoCause (IsFinishCause g world)
 finish_accepted g world labels no_conflict _ (conflict_4 name is) = no_conflict is.conflict
 finish_accepted g world labels no_conflict _ (not_strongly_unique_17 word n m is) = list_of_both world word is.entries labels is.list _ (clash n m is.clash)
 finish_accepted g world labels no_conflict _ (no_getter_18 word label f is) = list_of_both world word is.entries labels is.list _ (alone label f is.setter is.absent)

@@ -8,7 +8,7 @@ use Rattle.wit_data.specs.declared.world.WorldInclude.{WorldInclude}
 use Rattle.wit_digraph.specs.Relation.{IsAcyclic}
 use Rattle.wit_elaboration.specs.Elaboration.{graph_uses}
 use Rattle.wit_elaboration.specs.Sound.{HasSoundEntries}
-use Rattle.wit_labels.specs.Setters.{placed}
+use Rattle.wit_labels.specs.Setters.{setters_placed}
 use Rattle.wit_graph_data.specs.Error.{NoCause}
 use Rattle.wit_graph_data.specs.declared.graph.Graph.{Graph}
 use Rattle.wit_graph_data.specs.declared.error_kind.ResolveErrorKind.{ResolveErrorKind}
@@ -161,7 +161,7 @@ pub begun_acyclic : (home : ℕ) (g : Graph) (world : World) (includes : List Wo
 begun_acyclic home g world includes g' can graph_is fine = subst (λ (h : Graph). IsAcyclic (graph_uses h)) (sym graph_is) (can.finishes fine).graph.uses
 
 pub begun_listed : (home : ℕ) (g : Graph) (world : World) (includes : List WorldInclude) (g' : Graph) (world' : World) → CanBeAdded home g world includes → g' ≡ (with_several home g world includes).graph
-    → world' ≡ with_entry_lists world (with_several home g world includes).lists → ((j : ℕ) → IsAcceptedAt home g world includes j) → HasSoundEntries g'.types (length g'.interfaces) (placed world'.imports) (placed world'.exports)
+    → world' ≡ with_entry_lists world (with_several home g world includes).lists → ((j : ℕ) → IsAcceptedAt home g world includes j) → HasSoundEntries g'.types (length g'.interfaces) (setters_placed world'.imports) (setters_placed world'.exports)
 begun_listed home g world includes g' world' can graph_is world_is fine =
-    subst (λ (h : Graph). HasSoundEntries h.types (length h.interfaces) (placed world'.imports) (placed world'.exports)) (sym graph_is)
-    (subst (λ (w : World). HasSoundEntries (with_several home g world includes).graph.types (length (with_several home g world includes).graph.interfaces) (placed w.imports) (placed w.exports)) (sym world_is) (can.finishes fine).listed)
+    subst (λ (h : Graph). HasSoundEntries h.types (length h.interfaces) (setters_placed world'.imports) (setters_placed world'.exports)) (sym graph_is)
+    (subst (λ (w : World). HasSoundEntries (with_several home g world includes).graph.types (length (with_several home g world includes).graph.interfaces) (setters_placed w.imports) (setters_placed w.exports)) (sym world_is) (can.finishes fine).listed)

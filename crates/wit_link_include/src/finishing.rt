@@ -1,13 +1,13 @@
 //! A world is finished.
 ghost use Rattle.std.specs.Prelude.{◌≡◌, ◌⊎◌, IfErr, IfOk, OnOk, OnErr, length};
 ghost use Rattle.wit_graph_data.specs.Error.{NoCause};
-ghost use Rattle.wit_link_spec.specs.Pushed.{with_finished, with_placed};
+ghost use Rattle.wit_link_spec.specs.Pushed.{with_finished, with_setters_placed};
 ghost use Rattle.wit_link_spec.specs.WorldReasons.{IsFinishCause};
 ghost use Rattle.wit_elaboration.specs.Elaboration.{elaborated_world, IsConflictError, graph_uses};
 ghost use Rattle.wit_elaboration.specs.Imported.{HasTransitiveConflict};
 ghost use Rattle.wit_elaboration.specs.Sound.{HasSoundEntries};
 ghost use Rattle.wit_graph_data.specs.declared.error_kind.ResolveErrorKind.TheVariants.{OutOfMemory};
-ghost use Rattle.wit_labels.specs.Setters.{placed};
+ghost use Rattle.wit_labels.specs.Setters.{setters_placed};
 ghost use Rattle.wit_digraph.specs.Relation.{IsAcyclic};
 
 use crate::labels::check_labels;
@@ -32,7 +32,7 @@ pub(crate) fn finish_world(
 ) -> ResolveResult<()>
     requires uses { elaborator.old ≡ graph_uses graph.old }
     requires acyclic { IsAcyclic (graph_uses graph.old) }
-    requires listed { HasSoundEntries graph.old.types (length graph.old.interfaces) (placed world.imports) (placed world.exports) }
+    requires listed { HasSoundEntries graph.old.types (length graph.old.interfaces) (setters_placed world.imports) (setters_placed world.exports) }
     ensures ok { OnOk result (graph.new ≡ with_finished graph.old world) }
     ensures fine { OnOk result (NoCause (IsFinishCause graph.old world)) }
     ensures err { OnErr result (graph.new ≡ graph.old) }
@@ -75,7 +75,7 @@ fn elaborated(
 
 /// The world with its setters after their getters.
 fn with_placed_setters(alloc: Global, world: World) -> Result<World, AllocError>
-    ensures { IfOk result (λ new. new ≡ with_placed world) }
+    ensures { IfOk result (λ new. new ≡ with_setters_placed world) }
 {
     let mut world = world;
     let imports = mem::replace(&mut world.imports, Table::new(alloc));

@@ -78,7 +78,7 @@ fn new_item(other: bool, key: &WorldKey, item: WorldItem) -> WorldItem
     item
 }
 
-/// Joins an item to the one at a place.
+/// Joins an item to the one at an index.
 fn join_at(
     other: bool,
     span: Span,

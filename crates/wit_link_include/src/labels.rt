@@ -60,7 +60,7 @@ fn not_strongly_unique(
     .into())
 }
 
-/// 18: the entry at this place is a setter without a getter.
+/// 18: the entry at this index is a setter without a getter.
 fn no_getter(
     alloc: Global,
     word: &str,

@@ -38,7 +38,7 @@ fn deps_of(
     Ok(deps)
 }
 
-/// Adds a place where there is one.
+/// Adds an index where there is one.
 fn push_found(deps: &mut Items<usize>, found: Option<usize>) -> Result<(), AllocError>
     ensures { OnOk result (deps.new ≡ deps.old ++ option_to_list found) }
 {

@@ -10,7 +10,7 @@ use std::alloc::{AllocError, Global};
 use wit_data::{Items, PackageName, Table, TryClone, UnresolvedPackage};
 use wit_graph_data::ResolveResult;
 
-/// Each unresolved package's place under its name. Refused where two have one name.
+/// Each unresolved package's index under its name. Refused where two have one name.
 pub(crate) fn indices_by_name(
     alloc: Global,
     unresolved: &Items<(UnresolvedPackage, u32)>,
@@ -29,7 +29,7 @@ pub(crate) fn indices_by_name(
     Ok(places)
 }
 
-/// The places in the order of the names.
+/// The indices in the order of the names.
 pub(crate) fn package_indices_by_name(
     alloc: Global,
     places: Table<PackageName, usize>,

@@ -18,7 +18,7 @@ use wit_graph_data::ResolveResult;
 /// span for each package that it names things of, as one that has its shape does.
 ///
 /// Refused where two have one name (5), where packages depend on each other, or one on itself (6),
-/// where a place that would be told ends past 4294967295 (27), and for want of memory (28). Each
+/// where a span that would be told ends past 4294967295 (27), and for want of memory (28). Each
 /// package is moved, and let go after a refusal.
 ///
 /// Source: `sort_unresolved_packages` of wit-parser 0.263.0.
@@ -35,7 +35,7 @@ pub fn sort_groups(
     Ok(in_order(alloc, unresolved, order.as_slice())?)
 }
 
-/// The places of the packages in that order.
+/// The indices of the packages in that order.
 fn group_order(
     alloc: Global,
     unresolved: &Items<(UnresolvedPackage, u32)>,

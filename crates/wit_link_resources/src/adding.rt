@@ -15,7 +15,7 @@ use wit_link_spec::{Activity, AdditionRef, NewIds, Values};
 use wit_values::Table;
 
 /// What types are remapped to at value positions, and the `own`s that come for that. The package has its shape, the graph is valid,
-/// what is active of the package and what it is remapped to is told by `activity` of wit_link_features and `places` of wit_link_foreign, and
+/// what is active of the package and what it is remapped to is told by `activity` of wit_link_features and `new_ids_of` of wit_link_foreign, and
 /// none of 1 to 3 and 9 to 13 holds against the addition. The only error is want of memory.
 ///
 /// It takes a step for each part of the package, and for each alias of the graph on the way from the types of other
@@ -27,13 +27,13 @@ pub fn values(
     alloc: Global,
     adding: &AdditionRef<'_>,
     activity: &Activity,
-    places: &NewIds,
+    new_ids: &NewIds,
     met: &mut Table<TypeId, bool>,
 ) -> Result<Values, AllocError>
     requires shaped { IsShaped adding.now.unresolved.now }
     requires valid { IsValid adding.now.graph.now }
     requires activity { activity.now ≡ activity_of (addition_of adding.now) }
-    requires places { places.now ≡ new_ids_of (addition_of adding.now) }
+    requires new_ids { new_ids.now ≡ new_ids_of (addition_of adding.now) }
     requires image { IsResolved (addition_of adding.now) }
     requires met { AreRight adding.now.graph.now.types met.old }
     ensures values { IfOk result (λ values. values ≡ values_of (addition_of adding.now)) }
@@ -44,7 +44,7 @@ pub fn values(
     let incoming = Incoming {
         graph_types: &adding.graph.types,
         types: &adding.unresolved.types,
-        ids: &places.types,
+        ids: &new_ids.types,
     };
     remapped_values(alloc, &incoming, functions.as_slice(), met)
 }

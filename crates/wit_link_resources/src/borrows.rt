@@ -97,20 +97,20 @@ pub fn holds_borrow(
 fn is_borrow_there(
     alloc: Global,
     adding: &AdditionRef<'_>,
-    places: &NewIds,
+    new_ids: &NewIds,
     free: &mut IndexSet<usize>,
     place: usize,
 ) -> Result<bool, AllocError>
     requires shaped { IsShaped adding.now.unresolved.now }
     requires valid { IsValid adding.now.graph.now }
-    requires places { places.now ≡ new_ids_of (addition_of adding.now) }
+    requires new_ids { new_ids.now ≡ new_ids_of (addition_of adding.now) }
     requires there { place < length adding.now.unresolved.now.types }
     requires free { AreFreeTypes adding.now.graph.now.types free.old.keys }
     ensures holds { IfOk result (λ holds. IsTrue holds ↔ IsBorrowThere (addition_of adding.now) place) }
     ensures free { IfOk result (λ holds. holds ≡ false → AreFreeTypes adding.now.graph.now.types free.new.keys) }
 {
     if place < adding.unresolved.unknown_type_spans.len() {
-        match *places.types.at(place) {
+        match *new_ids.types.at(place) {
             Some(found) => holds_borrow(alloc, adding.graph.types.as_slice(), free, found),
             None => Ok(false),
         }
@@ -125,13 +125,13 @@ fn is_borrow_there(
 pub(crate) fn may_hold_borrow(
     alloc: Global,
     adding: &AdditionRef<'_>,
-    places: &NewIds,
+    new_ids: &NewIds,
     free: &mut Free,
     id: TypeId,
 ) -> Result<bool, AllocError>
     requires shaped { IsShaped adding.now.unresolved.now }
     requires valid { IsValid adding.now.graph.now }
-    requires places { places.now ≡ new_ids_of (addition_of adding.now) }
+    requires new_ids { new_ids.now ≡ new_ids_of (addition_of adding.now) }
     requires there { id < length adding.now.unresolved.now.types }
     requires unresolved { AreFreeOfUnresolved (addition_of adding.now) free.old.unresolved.keys }
     requires graph { AreFreeTypes adding.now.graph.now.types free.old.graph.keys }
@@ -143,7 +143,7 @@ pub(crate) fn may_hold_borrow(
     stack.push(id.index())?;
     while let Some(place) = stack.pop() {
         if free.unresolved.insert(place)? {
-            if is_borrow_there(alloc, adding, places, &mut free.graph, place)? {
+            if is_borrow_there(alloc, adding, new_ids, &mut free.graph, place)? {
                 return Ok(true);
             }
             push_held(alloc, &mut stack, &adding.unresolved.types.at(place).kind)?;

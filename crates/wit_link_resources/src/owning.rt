@@ -50,7 +50,7 @@ pub fn remapped_values(
         }
     }
     Ok(Values {
-        places: value_ids,
+        new_ids: value_ids,
         owns,
     })
 }

@@ -8,7 +8,7 @@ use std::alloc::{AllocError, Global};
 use wit_data::{Function, Span, Text};
 use wit_graph_data::{Cause, ResolveError, ResolveErrorKind};
 
-/// A message at a place of the package, whose spans move by an offset.
+/// A message with a span of the package, whose spans move by an offset.
 fn semantic(span: Span, offset: u32, message: String, cause: Cause) -> ResolveError
     ensures { IsErrorAtSpan span offset (string_bytes message) cause result }
 {

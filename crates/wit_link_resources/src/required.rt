@@ -17,7 +17,7 @@ use wit_link_spec::{AdditionRef, NewIds};
 use wit_values::Table;
 
 /// Refuses a type that has to be a resource and doesn't lead to one (14). The package has its
-/// shape, the graph is valid, and what things are remapped to is told by `places` of wit_link_foreign. A place that
+/// shape, the graph is valid, and what things are remapped to is told by `new_ids_of` of wit_link_foreign. A place that
 /// would be told and ends past 4294967295 is refused (27), and else want of memory (28) alone.
 ///
 /// It takes a step for each such type, and for each alias of the graph on the way to what they
@@ -28,12 +28,12 @@ use wit_values::Table;
 pub fn check_resources(
     alloc: Global,
     adding: &AdditionRef<'_>,
-    places: &NewIds,
+    new_ids: &NewIds,
     met: &mut Table<TypeId, bool>,
 ) -> ResolveResult<()>
     requires shaped { IsShaped adding.now.unresolved.now }
     requires valid { IsValid adding.now.graph.now }
-    requires places { places.now ≡ new_ids_of (addition_of adding.now) }
+    requires new_ids { new_ids.now ≡ new_ids_of (addition_of adding.now) }
     requires met { AreRight adding.now.graph.now.types met.old }
     ensures met { AreRight adding.now.graph.now.types met.new }
     ensures begins { take (length met.old) met.new ≡ met.old }
@@ -41,7 +41,7 @@ pub fn check_resources(
     ensures cause { IfErr result (λ kind. (kind ≡ OutOfMemory) ⊎ IsCause (addition_of adding.now) kind) }
 {
     for &(id, span) in adding.unresolved.required_resource_types.as_slice() {
-        check_required(alloc, adding, places, met, id, span)?;
+        check_required(alloc, adding, new_ids, met, id, span)?;
     }
     Ok(())
 }
@@ -51,14 +51,14 @@ pub fn check_resources(
 fn check_required(
     alloc: Global,
     adding: &AdditionRef<'_>,
-    places: &NewIds,
+    new_ids: &NewIds,
     met: &mut Table<TypeId, bool>,
     id: TypeId,
     span: Span,
 ) -> ResolveResult<()>
     requires shaped { IsShaped adding.now.unresolved.now }
     requires valid { IsValid adding.now.graph.now }
-    requires places { places.now ≡ new_ids_of (addition_of adding.now) }
+    requires new_ids { new_ids.now ≡ new_ids_of (addition_of adding.now) }
     requires met { AreRight adding.now.graph.now.types met.old }
     requires required { Contains adding.now.unresolved.now.required_resource_types (id, span) }
     ensures ok { OnOk result (LeadsWhereFound (addition_of adding.now) id) }
@@ -66,7 +66,7 @@ fn check_required(
     ensures met { AreRight adding.now.graph.now.types met.new }
     ensures begins { take (length met.old) met.new ≡ met.old }
 {
-    let Some(found) = *places.types.at(id.index()) else {
+    let Some(found) = *new_ids.types.at(id.index()) else {
         return Ok(());
     };
     let leads = leads_to_resource(adding.graph.types.as_slice(), met, found)?;

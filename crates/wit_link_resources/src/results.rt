@@ -20,8 +20,8 @@ use wit_graph_data::ResolveResult;
 use wit_link_spec::{Activity, AdditionRef, NewIds};
 
 /// Refuses a function whose result holds a borrow (15). The package has its shape, the graph is valid, what is active
-/// of the package and what it is remapped to is told by `activity` of wit_link_features and `places` of wit_link_foreign, and none of 1 to 3
-/// and 9 to 13 holds against the addition. A place that would be told and ends past 4294967295 is refused (27), and
+/// of the package and what it is remapped to is told by `activity` of wit_link_features and `new_ids_of` of wit_link_foreign, and none of 1 to 3
+/// and 9 to 13 holds against the addition. A span that would be told and ends past 4294967295 is refused (27), and
 /// else want of memory (28) alone.
 ///
 /// It takes a step for each function of the package that is active, and for each type that their results hold, of the
@@ -32,12 +32,12 @@ pub fn check_results(
     alloc: Global,
     adding: &AdditionRef<'_>,
     activity: &Activity,
-    places: &NewIds,
+    new_ids: &NewIds,
 ) -> ResolveResult<()>
     requires shaped { IsShaped adding.now.unresolved.now }
     requires valid { IsValid adding.now.graph.now }
     requires activity { activity.now ≡ activity_of (addition_of adding.now) }
-    requires places { places.now ≡ new_ids_of (addition_of adding.now) }
+    requires new_ids { new_ids.now ≡ new_ids_of (addition_of adding.now) }
     requires image { IsResolved (addition_of adding.now) }
     ensures no_borrow { OnOk result (ReturnsNoBorrow (addition_of adding.now)) }
     ensures cause { IfErr result (λ kind. (kind ≡ OutOfMemory) ⊎ IsCause (addition_of adding.now) kind) }
@@ -45,7 +45,7 @@ pub fn check_results(
     let functions = active_functions(alloc, adding, activity)?;
     let mut free = Free::new(alloc);
     for function in &functions {
-        check_result(alloc, adding, places, &mut free, function)?;
+        check_result(alloc, adding, new_ids, &mut free, function)?;
     }
     Ok(())
 }
@@ -54,13 +54,13 @@ pub fn check_results(
 fn check_result(
     alloc: Global,
     adding: &AdditionRef<'_>,
-    places: &NewIds,
+    new_ids: &NewIds,
     free: &mut Free,
     function: &Function,
 ) -> ResolveResult<()>
     requires shaped { IsShaped adding.now.unresolved.now }
     requires valid { IsValid adding.now.graph.now }
-    requires places { places.now ≡ new_ids_of (addition_of adding.now) }
+    requires new_ids { new_ids.now ≡ new_ids_of (addition_of adding.now) }
     requires image { IsResolved (addition_of adding.now) }
     requires active { IsActiveFunction (addition_of adding.now) function.now }
     requires unresolved { AreFreeOfUnresolved (addition_of adding.now) free.old.unresolved.keys }
@@ -73,7 +73,7 @@ fn check_result(
     let Some(id) = result_type(function) else {
         return Ok(());
     };
-    if may_hold_borrow(alloc, adding, places, free, id)? {
+    if may_hold_borrow(alloc, adding, new_ids, free, id)? {
         return Err(borrow_in_result(alloc, function, adding.offset)?);
     }
     Ok(())

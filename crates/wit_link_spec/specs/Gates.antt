@@ -1,6 +1,6 @@
 -- Feature gates: which things of an unresolved package are active, which are excluded, and whose gates are asked. A
 -- gate is a note on an item: none, `@since(version = ..)`, or `@unstable(feature = ..)`, of which the deprecation is
--- never asked. A foreign interface or world has several notes, those of the places that name it.
+-- never asked. A foreign interface or world has several notes, one for each time that it is named.
 -- Source: the WIT page of the component model, "Feature gates"; `include_stability` of wit-parser 0.263.0.
 pub use Rattle.wit_link_order.specs.GroupOrder.{OptionalSpan}
 use Rattle.std.specs.Prelude.{◌≡◌, ◌⊎◌, ◌||◌, ℕ, suc, Bool, true, false, List, [], ◌∷◌, length, take, nat_eq, nat_lt, slice_get, Some, Contains, if◌then◌else◌, flat_map, bytes_eq, ◌++◌, map, option_to_list}
@@ -64,7 +64,7 @@ is_foreign_interface u i = nat_lt i (length (foreign_interfaces u.foreign_deps))
 abbrev pub is_foreign_world : UnresolvedPackage → ℕ → Bool
 is_foreign_world u w = nat_lt w (length (foreign_worlds u.foreign_deps))
 
--- the gates of interface i: of a foreign one those of the places that name it, else its own
+-- the gates of interface i: of a foreign one those with which it is named, else its own
 abbrev pub interface_gates : UnresolvedPackage → ℕ → List Stability
 interface_gates u i =
     if is_foreign_interface u i then foreign_gates interface_id u.foreign_deps i
@@ -122,13 +122,13 @@ IsExcludedWorld features u w = world_is_active features u w ≡ false
 abbrev pub HasEntry : World → Entry → Type 0
 HasEntry world e = Contains world.imports e ⊎ Contains world.exports e
 
--- the gate of an entry that has one of its own, and its place
+-- the gate of an entry that has one of its own, and its span
 abbrev pub HasOwnGate : WorldItem → Stability → OptionalSpan → Type 0
 HasOwnGate (item.Interface id stability docs span external_id) note place = (note ≡ stability) × (place ≡ span)
 HasOwnGate (item.Function function) note place = (note ≡ function.stability) × (place ≡ function.span)
 HasOwnGate (item.Type_ id span) note place = ⊥
 
--- the gates that are asked, each with the place of its item
+-- the gates that are asked, each with the span of its item
 pub data IsAsked (features : Features) (u : UnresolvedPackage) : Stability → OptionalSpan → Type 0 where
   -- those of all types, also of foreign ones and of those whose owner is excluded
   of_type : (t : ℕ) (def : TypeDef) → slice_get u.types t ≡ Some def → IsAsked features u def.stability def.span

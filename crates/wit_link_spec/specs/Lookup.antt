@@ -18,7 +18,7 @@ use Rattle.wit_graph_data.specs.declared.graph.Graph.{Graph}
 
 -- ---- what is named
 
--- what is named of other packages: the place and the name of the package, and the item
+-- what is named of other packages: the index and the name of the package, and the item
 abbrev pub named_items : ForeignItems → List (ℕ × PackageName × ForeignItem)
 named_items deps = flat_map (λ (e : ℕ × (PackageName × List ForeignItem)). map (λ (i : ForeignItem). (e.0, e.1.0, i)) e.1.1) (enumerate_from 0 deps)
 

@@ -14,7 +14,7 @@ use Rattle.wit_remap_spec.specs.Image.{interface_image, world_image}
 use Rattle.wit_link_spec.specs.Addition.{Addition, active_includes, addition_maps, own_interface, own_interfaces, own_world, own_worlds, remap_of_addition, remapped_interface, remapped_world, selected_with_index}
 use Rattle.wit_link_spec.specs.Include.{EntryLists, PartiallyLinked, lists_of, with_entry_lists, with_include_of}
 use Rattle.wit_link_spec.specs.ValueRemap.{types_behind}
-use Rattle.wit_labels.specs.Setters.{placed}
+use Rattle.wit_labels.specs.Setters.{setters_placed}
 
 -- ---- the package
 
@@ -40,8 +40,8 @@ with_parts a = record {
 -- ---- its worlds
 
 -- an include of the package with the id and the span that it has in the graph
-abbrev pub placed_include : Addition → WorldInclude → WorldInclude
-placed_include a include = record include { id = remapped_world a include.id; span = moved_by a.offset include.span }
+abbrev pub updated_include : Addition → WorldInclude → WorldInclude
+updated_include a include = record include { id = remapped_world a include.id; span = moved_by a.offset include.span }
 
 -- one include more of the world that comes next
 abbrev pub with_include : Addition → ℕ → PartiallyLinked → WorldInclude → PartiallyLinked
@@ -56,12 +56,12 @@ abbrev pub with_all_includes : Addition → ℕ → World → Graph → Partiall
 with_all_includes a w world g = with_includes a w world (active_includes a world) g
 
 -- a world with its setters after their getters
-abbrev pub with_placed : World → World
-with_placed world = record world { imports = placed world.imports; exports = placed world.exports }
+abbrev pub with_setters_placed : World → World
+with_setters_placed world = record world { imports = setters_placed world.imports; exports = setters_placed world.exports }
 
 -- a world, finished: its setters after their getters, elaborated over the types and interfaces of a graph
 abbrev pub finished_world : Graph → World → World
-finished_world g world = elaborated_world g (with_placed world)
+finished_world g world = elaborated_world g (with_setters_placed world)
 
 -- the graph with a world behind its worlds, finished
 abbrev pub with_finished : Graph → World → Graph

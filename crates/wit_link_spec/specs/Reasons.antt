@@ -1,4 +1,4 @@
--- Why an addition is refused: a record for each reason, with the fields and the place that the error tells.
+-- Why an addition is refused: a record for each reason, with the fields and the span that the error tells.
 -- Most read the features, the graph and the package alone.
 -- Source: `append` of wit-parser 0.263.0.
 use Rattle.std.specs.Prelude.{◌≡◌, ◌≢◌, ◌⊎◌, ◌≤◌, ◌+◌, ◌^◌, ℕ, true, false, List, [], ◌∷◌, ◌++◌, map, slice_get, Option, None, Some, Contains, codes, is_some, if◌then◌else◌, flat_map}
@@ -134,7 +134,7 @@ IsExcluded a (AType t) = IsExcludedType a.features a.unresolved t
 IsExcluded a (AnInterface i) = IsExcludedInterface a.features a.unresolved i
 IsExcluded a (AWorld w) = IsExcludedWorld a.features a.unresolved w
 
--- the types that a type refers to, each with the place: that of the field, or of the type
+-- the types that a type refers to, each with the span: that of the field, or of the type
 abbrev pub kind_references : TypeDefKind → OptionalSpan → List (ℕ × OptionalSpan)
 kind_references (kind.Record fields) span = flat_map (λ (f : Field). map (λ (t : ℕ). (t, f.span)) (named_type f.ty)) fields
 kind_references other span = map (λ (t : ℕ). (t, span)) (referred other)
@@ -146,12 +146,12 @@ pub data IsActiveFunction (a : Addition) : Function → Type 0 where
   of_world : (w : ℕ) (world : World) (k : WorldKey) (f : Function) → slice_get a.unresolved.worlds w ≡ Some world → world_is_active a.features a.unresolved w ≡ true
       → HasEntry world (k, item.Function f) → function_is_active a.features f ≡ true → IsActiveFunction a f
 
--- what is active refers to a thing, at a place
+-- what is active refers to a thing, at a span
 pub data RefersTo (a : Addition) : Thing → OptionalSpan → Type 0 where
   -- a type to those that its kind names, whatever owns it
   of_type : (t : ℕ) (def : TypeDef) (named : ℕ) (place : OptionalSpan) → slice_get a.unresolved.types t ≡ Some def → type_is_active a.features a.unresolved.types t ≡ true
       → Contains (kind_references def.kind def.span) (named, place) → RefersTo a (AType named) place
-  -- a foreign type to its interface, at no known place
+  -- a foreign type to its interface, at no known span
   of_foreign_type : (t : ℕ) (def : TypeDef) (i : ℕ) → slice_get a.unresolved.types t ≡ Some def → def.kind ≡ kind.Unknown → type_is_active a.features a.unresolved.types t ≡ true
       → def.owner ≡ owner.Interface i → RefersTo a (AnInterface i) None
   -- a function to its resource and to the types of its parameters and of its result

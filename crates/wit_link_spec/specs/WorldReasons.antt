@@ -13,12 +13,12 @@ use Rattle.wit_graph_data.specs.Error.{NoCause}
 use Rattle.wit_graph_data.specs.declared.cause.Cause.TheVariants as cause
 use Rattle.wit_graph_data.specs.declared.error_kind.ResolveErrorKind.{ResolveErrorKind}
 use Rattle.wit_graph_data.specs.declared.error_kind.ResolveErrorKind.TheVariants.{Semantic, ItemShadowing, StabilityMismatch, InvalidTransitiveDependency}
-use Rattle.wit_labels.specs.Setters.{getter_label, IsSetter, placed}
+use Rattle.wit_labels.specs.Setters.{getter_label, IsSetter, setters_placed}
 use Rattle.wit_link_spec.specs.Addition.{Addition, active_includes, own_worlds, remapped_world}
 use Rattle.wit_link_spec.specs.CauseText.{clash_text, getter_text, rename_text}
 use Rattle.wit_link_spec.specs.Gates.{OptionalSpan}
 use Rattle.wit_link_spec.specs.Include.{PartiallyLinked, IsListCalled, include_stability, is_other_package, lists_of}
-use Rattle.wit_link_spec.specs.Pushed.{placed_include, unfinished_world, with_all_includes, with_includes, with_worlds}
+use Rattle.wit_link_spec.specs.Pushed.{updated_include, unfinished_world, with_all_includes, with_includes, with_worlds}
 use Rattle.wit_link_spec.specs.Reasons.{IsResolved}
 use Rattle.std.specs.Map.{keys_of}
 use Rattle.wit_data.specs.Each.{Each}
@@ -42,8 +42,8 @@ use Rattle.wit_labels.specs.Strong.{Clashes}
 
 -- 4: what its exports need from outside is exported; by the name of the first export that leads there
 pub record WorldIsInConflict (g : Graph) (world : World) (name : List ℕ) : Type 0 where
-  pub conflict : HasTransitiveConflict (graph_uses g) (placed world.exports)
-  pub name_is : IsRefusedName g.packages g.interfaces (graph_uses g) (placed world.exports) name
+  pub conflict : HasTransitiveConflict (graph_uses g) (setters_placed world.exports)
+  pub name_is : IsRefusedName g.packages g.interfaces (graph_uses g) (setters_placed world.exports) name
 
 -- 17: labels n and m of one of its lists are not strongly unique
 pub record LabelsClash (world : World) (word n m : List ℕ) : Type 0 where
@@ -143,9 +143,9 @@ pub data IsIncludeCause (home : ℕ) (b : PartiallyLinked) (include : WorldInclu
 
 -- world k of those that are active, as it is when its turn comes
 pub record AtWorld (a : Addition) (k : ℕ) : Type 0 where
-  pub place : ℕ
+  pub id : ℕ
   pub world : World
-  pub is : slice_get (own_worlds a) k ≡ Some (place, world)
+  pub is : slice_get (own_worlds a) k ≡ Some (id, world)
 
 -- include j of it, as it is when its turn comes: what is begun, and the world that is included
 pub record AtInclude (a : Addition) (k j : ℕ) : Type 0 where
@@ -153,7 +153,7 @@ pub record AtInclude (a : Addition) (k j : ℕ) : Type 0 where
   pub include : WorldInclude
   pub is : slice_get (active_includes a at.world) j ≡ Some include
   pub before : PartiallyLinked
-  pub before_is : before ≡ with_includes a at.place at.world (take j (active_includes a at.world)) (with_worlds a k)
+  pub before_is : before ≡ with_includes a at.id at.world (take j (active_includes a at.world)) (with_worlds a k)
   pub old : World
   pub old_is : slice_get before.graph.worlds (remapped_world a include.id) ≡ Some old
 
@@ -162,7 +162,7 @@ pub record AtInclude (a : Addition) (k j : ℕ) : Type 0 where
 -- include j of world k, as it is when its turn comes, is refused for this
 pub record IsCauseAtInclude (a : Addition) (k j : ℕ) (error : ResolveErrorKind) : Type 0 where
   pub at : AtInclude a k j
-  pub cause : IsIncludeCause (length a.graph.packages) at.before (placed_include a at.include) at.old error
+  pub cause : IsIncludeCause (length a.graph.packages) at.before (updated_include a at.include) at.old error
 
 -- include j of world k is accepted: no cause holds against it
 abbrev pub IncludeIsAccepted : Addition → ℕ → ℕ → Type 0
@@ -174,8 +174,8 @@ IncludeIsAccepted a k j = NoCause (IsCauseAtInclude a k j)
 pub record IsCauseAtFinish (a : Addition) (k : ℕ) (error : ResolveErrorKind) : Type 0 where
   pub at : AtWorld a k
   pub whole : PartiallyLinked
-  pub whole_is : whole ≡ with_all_includes a at.place at.world (with_worlds a k)
-  pub cause : IsFinishCause whole.graph (unfinished_world a at.place at.world whole.lists) error
+  pub whole_is : whole ≡ with_all_includes a at.id at.world (with_worlds a k)
+  pub cause : IsFinishCause whole.graph (unfinished_world a at.id at.world whole.lists) error
 
 -- ---- 17, 18: of a world as it is written
 

@@ -33,6 +33,6 @@ pub struct NewIds {
 /// Where the types of a package go at value positions, an id for each, and the `own`s that come for that.
 #[derive(Drop)]
 pub struct Values {
-    pub places: Items<TypeId>,
+    pub new_ids: Items<TypeId>,
     pub owns: Items<TypeDef>,
 }

@@ -27,7 +27,7 @@ module _ (m : GraphMerge) (valid : IsValid m.graph) (valid_other : IsValid m.oth
   types = m.other.types
 
   abbrev all_ids : List (Option ℕ)
-  all_ids = (merge_remap_of m).places.types
+  all_ids = (merge_remap_of m).new_ids.types
 
   abbrev first : ℕ
   first = length m.graph.types

@@ -15,10 +15,10 @@ use Rattle.wit_merge.proofs.UnitedIs.{moves_is}
 abbrev pub Table : Type 0
 Table = List (List ℕ × ℕ)
 
-module _ (found places : List (Option ℕ)) (kept : ℕ → Bool) (place : ℕ → ℕ) (count : ℕ) (same : moves found ≡ kept) (go : (x : ℕ) → x < count → goes places x ≡ place x) where
-  names_are : (from : Table) → ((e : List ℕ × ℕ) → Contains from e → e.1 < count) → moved_names found places from ≡ map (λ (e : List ℕ × ℕ). (e.0, place e.1)) (filter (λ (e : List ℕ × ℕ). kept e.1) from)
+module _ (found new_ids : List (Option ℕ)) (kept : ℕ → Bool) (place : ℕ → ℕ) (count : ℕ) (same : moves found ≡ kept) (go : (x : ℕ) → x < count → goes new_ids x ≡ place x) where
+  names_are : (from : Table) → ((e : List ℕ × ℕ) → Contains from e → e.1 < count) → moved_names found new_ids from ≡ map (λ (e : List ℕ × ℕ). (e.0, place e.1)) (filter (λ (e : List ℕ × ℕ). kept e.1) from)
   names_are from there =
-      each_same (λ (e : List ℕ × ℕ). (e.0, goes places e.1)) (λ (e : List ℕ × ℕ). (e.0, place e.1)) (filter (λ (e : List ℕ × ℕ). moves found e.1) from)
+      each_same (λ (e : List ℕ × ℕ). (e.0, goes new_ids e.1)) (λ (e : List ℕ × ℕ). (e.0, place e.1)) (filter (λ (e : List ℕ × ℕ). moves found e.1) from)
       (λ e has j. (e.0, go e.1 (there e (Contains-filter (λ (d : List ℕ × ℕ). moves found d.1) from e has).0) j))
       ∙ (λ j. map (λ (e : List ℕ × ℕ). (e.0, place e.1)) (filter (λ (e : List ℕ × ℕ). same j e.1) from))
 
@@ -34,16 +34,16 @@ module _ (u : UnionPlan) (ready : CanUnite u) where
   m = merging_of u
 
   pub types_moved : (from : Table) → ((e : List ℕ × ℕ) → Contains from e → e.1 < length u.other.now.types)
-      → moved_names u.matches.now.types u.merge_remap.now.places.types from ≡ map (λ (e : List ℕ × ℕ). (e.0, merged_type m e.1)) (filter (λ (e : List ℕ × ℕ). moves_type m e.1) from)
-  types_moved = names_are u.matches.now.types u.merge_remap.now.places.types (moves_type m) (merged_type m) (length u.other.now.types) (moves_is (counterpart_type m) (length u.other.now.types) u.matches.now.types ready.matches.types) (types_go u ready)
+      → moved_names u.matches.now.types u.merge_remap.now.new_ids.types from ≡ map (λ (e : List ℕ × ℕ). (e.0, merged_type m e.1)) (filter (λ (e : List ℕ × ℕ). moves_type m e.1) from)
+  types_moved = names_are u.matches.now.types u.merge_remap.now.new_ids.types (moves_type m) (merged_type m) (length u.other.now.types) (moves_is (counterpart_type m) (length u.other.now.types) u.matches.now.types ready.matches.types) (types_go u ready)
 
   pub interfaces_moved : (from : Table) → ((e : List ℕ × ℕ) → Contains from e → e.1 < length u.other.now.interfaces)
-      → moved_names u.matches.now.interfaces u.merge_remap.now.places.interfaces from ≡ map (λ (e : List ℕ × ℕ). (e.0, merged_interface m e.1)) (filter (λ (e : List ℕ × ℕ). moves_interface m e.1) from)
+      → moved_names u.matches.now.interfaces u.merge_remap.now.new_ids.interfaces from ≡ map (λ (e : List ℕ × ℕ). (e.0, merged_interface m e.1)) (filter (λ (e : List ℕ × ℕ). moves_interface m e.1) from)
   interfaces_moved =
-      names_are u.matches.now.interfaces u.merge_remap.now.places.interfaces (moves_interface m) (merged_interface m) (length u.other.now.interfaces)
+      names_are u.matches.now.interfaces u.merge_remap.now.new_ids.interfaces (moves_interface m) (merged_interface m) (length u.other.now.interfaces)
       (moves_is (counterpart_interface m) (length u.other.now.interfaces) u.matches.now.interfaces ready.matches.interfaces) (interfaces_go u ready)
 
   pub worlds_moved : (from : Table) → ((e : List ℕ × ℕ) → Contains from e → e.1 < length u.other.now.worlds)
-      → moved_names u.matches.now.worlds u.merge_remap.now.places.worlds from ≡ map (λ (e : List ℕ × ℕ). (e.0, merged_world m e.1)) (filter (λ (e : List ℕ × ℕ). moves_world m e.1) from)
+      → moved_names u.matches.now.worlds u.merge_remap.now.new_ids.worlds from ≡ map (λ (e : List ℕ × ℕ). (e.0, merged_world m e.1)) (filter (λ (e : List ℕ × ℕ). moves_world m e.1) from)
   worlds_moved =
-      names_are u.matches.now.worlds u.merge_remap.now.places.worlds (moves_world m) (merged_world m) (length u.other.now.worlds) (moves_is (counterpart_world m) (length u.other.now.worlds) u.matches.now.worlds ready.matches.worlds) (worlds_go u ready)
+      names_are u.matches.now.worlds u.merge_remap.now.new_ids.worlds (moves_world m) (merged_world m) (length u.other.now.worlds) (moves_is (counterpart_world m) (length u.other.now.worlds) u.matches.now.worlds ready.matches.worlds) (worlds_go u ready)

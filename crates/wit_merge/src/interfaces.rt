@@ -40,7 +40,7 @@ impl Part for Interface {
             &mut joined.types,
             &from.types,
             found,
-            &uniting.merge_remap.places.types,
+            &uniting.merge_remap.new_ids.types,
         )?;
         push_functions(
             uniting,
@@ -53,7 +53,7 @@ impl Part for Interface {
     }
 }
 
-/// Adds those functions of another interface whose names aren't among the known ones, at their places.
+/// Adds those functions of another interface whose names aren't among the known ones, with new ids and spans.
 fn push_functions(
     uniting: &UnionPlan<'_>,
     into: &mut Names<Function>,
@@ -75,7 +75,7 @@ fn push_functions(
     Ok(())
 }
 
-/// A function at its place.
+/// A function with new ids and spans.
 fn moved_function(uniting: &UnionPlan<'_>, function: &Function) -> Result<Function, AllocError>
     requires ready { CanUnite uniting.now }
     requires moves { FunctionMoves (merging_of uniting.now) function.now }

@@ -8,7 +8,7 @@ ghost use Rattle.wit_merge.specs.steps.UnionSteps.{moved_names};
 use std::alloc::AllocError;
 use wit_data::{Id, Items, Names, TryClone};
 
-/// Whether the thing at a place moves, by what is found of all: it is matched with none.
+/// Whether the thing of an id moves, by what is found of all: it is matched with none.
 pub(crate) fn moves<S>(found: &Items<Option<Id<S>>>, index: usize) -> bool
     ensures { result ≡ moves found.now index }
 {
@@ -20,10 +20,10 @@ pub(crate) fn moves<S>(found: &Items<Option<Id<S>>>, index: usize) -> bool
 }
 
 /// What a thing is remapped to. One that isn't there stays.
-fn goes<S>(places: &Items<Option<Id<S>>>, id: &Id<S>) -> Result<Id<S>, AllocError>
-    ensures { IfOk result (λ place. place ≡ goes places.now id.now) }
+fn goes<S>(new_ids: &Items<Option<Id<S>>>, id: &Id<S>) -> Result<Id<S>, AllocError>
+    ensures { IfOk result (λ place. place ≡ goes new_ids.now id.now) }
 {
-    match places.get(id.try_clone()?.index()) {
+    match new_ids.get(id.try_clone()?.index()) {
         Some(Some(new)) => new.try_clone(),
         _ => id.try_clone(),
     }
@@ -34,15 +34,15 @@ pub(crate) fn push_moved<S>(
     into: &mut Names<Id<S>>,
     from: &Names<Id<S>>,
     found: &Items<Option<Id<S>>>,
-    places: &Items<Option<Id<S>>>,
+    new_ids: &Items<Option<Id<S>>>,
 ) -> Result<(), AllocError>
-    requires { HasDistinctKeys (into.old ++ moved_names found.now places.now from.now) }
-    ensures { OnOk result (into.new ≡ into.old ++ moved_names found.now places.now from.now) }
+    requires { HasDistinctKeys (into.old ++ moved_names found.now new_ids.now from.now) }
+    ensures { OnOk result (into.new ≡ into.old ++ moved_names found.now new_ids.now from.now) }
 {
     let alloc = into.allocator();
     for (name, id) in from.iter() {
         if moves(found, id.try_clone()?.index()) {
-            into.push(String::from_str(alloc, name)?, goes(places, id)?)?;
+            into.push(String::from_str(alloc, name)?, goes(new_ids, id)?)?;
         }
     }
     Ok(())

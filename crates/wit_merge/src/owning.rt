@@ -30,13 +30,13 @@ pub(crate) fn values(
     requires valid_other { IsValid other.now }
     requires matches { AreMatches graph.now other.now matches.now }
     requires merge_remap { merge_remap.now ≡ merge_remap_of (merge_of_graphs graph.now other.now) }
-    ensures { IfOk result (λ values. (offset : ℕ) → (values.places ≡ value_ids (merge_of_graphs_by graph.now other.now offset)) × (values.owns ≡ owns (remap_of_merge (merge_of_graphs_by graph.now other.now offset)))) }
+    ensures { IfOk result (λ values. (offset : ℕ) → (values.new_ids ≡ value_ids (merge_of_graphs_by graph.now other.now offset)) × (values.owns ≡ owns (remap_of_merge (merge_of_graphs_by graph.now other.now offset)))) }
 {
     let functions = moved_functions(alloc, graph, other, matches)?;
     let incoming = Incoming {
         graph_types: &graph.types,
         types: &other.types,
-        ids: &merge_remap.places.types,
+        ids: &merge_remap.new_ids.types,
     };
     let mut met = Table::new(alloc);
     remapped_values(alloc, &incoming, functions.as_slice(), &mut met)

@@ -49,25 +49,25 @@ fn push_tables(
     into: &mut Package,
     from: &Package,
 ) -> Result<(), AllocError>
-    requires interfaces { HasDistinctKeys (into.old.interfaces ++ moved_names uniting.now.matches.now.interfaces uniting.now.merge_remap.now.places.interfaces from.now.interfaces) }
-    requires worlds { HasDistinctKeys (into.old.worlds ++ moved_names uniting.now.matches.now.worlds uniting.now.merge_remap.now.places.worlds from.now.worlds) }
+    requires interfaces { HasDistinctKeys (into.old.interfaces ++ moved_names uniting.now.matches.now.interfaces uniting.now.merge_remap.now.new_ids.interfaces from.now.interfaces) }
+    requires worlds { HasDistinctKeys (into.old.worlds ++ moved_names uniting.now.matches.now.worlds uniting.now.merge_remap.now.new_ids.worlds from.now.worlds) }
     ensures { OnOk result (into.new ≡ record into.old {
-      interfaces = into.old.interfaces ++ moved_names uniting.now.matches.now.interfaces uniting.now.merge_remap.now.places.interfaces from.now.interfaces;
-      worlds = into.old.worlds ++ moved_names uniting.now.matches.now.worlds uniting.now.merge_remap.now.places.worlds from.now.worlds;
+      interfaces = into.old.interfaces ++ moved_names uniting.now.matches.now.interfaces uniting.now.merge_remap.now.new_ids.interfaces from.now.interfaces;
+      worlds = into.old.worlds ++ moved_names uniting.now.matches.now.worlds uniting.now.merge_remap.now.new_ids.worlds from.now.worlds;
     }) }
 {
-    let (matches, places) = (uniting.matches, &uniting.merge_remap.places);
+    let (matches, new_ids) = (uniting.matches, &uniting.merge_remap.new_ids);
     push_moved(
         &mut into.interfaces,
         &from.interfaces,
         &matches.interfaces,
-        &places.interfaces,
+        &new_ids.interfaces,
     )?;
     push_moved(
         &mut into.worlds,
         &from.worlds,
         &matches.worlds,
-        &places.worlds,
+        &new_ids.worlds,
     )
 }
 

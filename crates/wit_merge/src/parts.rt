@@ -83,7 +83,7 @@ fn join_all<S, T: Part>(
     Ok(made)
 }
 
-/// A copy of a thing, with the one at a place joined to it, if there is one.
+/// A copy of a thing, with the one at an index joined to it, if there is one.
 fn join_one<T: Part>(
     uniting: &UnionPlan<'_>,
     others: &Items<T>,

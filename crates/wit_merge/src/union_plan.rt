@@ -27,7 +27,7 @@ impl<'a> UnionPlan<'a> {
     /// None, and where the package goes isn't asked.
     pub(crate) fn mover(&self, home: Option<PackageId>) -> Mover<'a>
         requires { CanUnite self.now }
-        ensures places { result.places.now ≡ self.now.merge_remap.now.places }
+        ensures new_ids { result.new_ids.now ≡ self.now.merge_remap.now.new_ids }
         ensures values { result.values.now ≡ self.now.values.now }
         ensures home { (p : ℕ) → home ≡ Some p → p < length self.now.other.now.packages → result.«package» ≡ merged_package (merging_of self.now) p }
         ensures offset { result.offset ≡ self.now.offset }
@@ -37,7 +37,7 @@ impl<'a> UnionPlan<'a> {
             None => PackageId::from_index(0),
         };
         Mover {
-            places: &self.merge_remap.places,
+            new_ids: &self.merge_remap.new_ids,
             values: self.values,
             package,
             offset: self.offset,

@@ -88,14 +88,14 @@ pub fn union_of(alloc: Global, graph: &Graph, other: &Graph, offset: u32) -> Res
 
 /// Where things are now, as it is answered.
 fn into_remap(merge_remap: MergeRemap) -> Remap
-    ensures { result ≡ record { types = merge_remap.places.types; interfaces = merge_remap.places.interfaces; worlds = merge_remap.places.worlds; packages = merge_remap.packages } }
+    ensures { result ≡ record { types = merge_remap.new_ids.types; interfaces = merge_remap.new_ids.interfaces; worlds = merge_remap.new_ids.worlds; packages = merge_remap.packages } }
 {
-    let MergeRemap { places, packages } = merge_remap;
+    let MergeRemap { new_ids, packages } = merge_remap;
     let NewIds {
         types,
         interfaces,
         worlds,
-    } = places;
+    } = new_ids;
     Remap::from_lists(types, interfaces, worlds, packages)
 }
 
@@ -118,7 +118,7 @@ fn as_listed(
     ensures cause { IfErr result (λ e. (e ≡ OutOfMemory) ⊎ IsMergeCause (merge_of_graphs_by graph.now other.now offset) e) }
 {
     let Values {
-        places: value_ids,
+        new_ids: value_ids,
         owns,
     } = values(alloc, graph, other, matches, merge_remap)?;
     let counterparts = counterparts(alloc, &matches.interfaces, graph.interfaces.len())?;

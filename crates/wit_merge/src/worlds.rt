@@ -11,7 +11,7 @@ use crate::union_plan::UnionPlan;
 use std::alloc::{AllocError, Global};
 use std::mem;
 use wit_data::{InterfaceId, Items, Stability, Table, TryClone, World, WorldItem, WorldKey};
-use wit_remap::{Moves, placed_entries};
+use wit_remap::{Moves, updated_entries};
 
 /// One that moves takes its place; to one that stays, and to what it holds under the keys of interfaces, the
 /// stabilities of the other are joined.
@@ -33,10 +33,10 @@ impl Part for World {
         let alloc = self.imports.allocator();
         let mut moved = self.try_clone()?;
         let imports = mem::replace(&mut moved.imports, Table::new(alloc));
-        let imports = placed_entries(alloc, &mover, imports)?;
+        let imports = updated_entries(alloc, &mover, imports)?;
         moved.imports = imports;
         let exports = mem::replace(&mut moved.exports, Table::new(alloc));
-        let exports = placed_entries(alloc, &mover, exports)?;
+        let exports = updated_entries(alloc, &mover, exports)?;
         moved.exports = exports;
         moved.package = Some(mover.home());
         moved.span = mover.span(moved.span);

@@ -1,7 +1,7 @@
 //! Where all things of another graph go.
 ghost use Rattle.std.specs.Prelude.{◌≡◌, IfOk, Some, length, map};
 ghost use Rattle.std.specs.List.{range_with_len};
-ghost use Rattle.wit_merge_match.specs.steps.Matched.{AreMatches, merge_of_graphs, merge_remap_of, place_from};
+ghost use Rattle.wit_merge_match.specs.steps.Matched.{AreMatches, merge_of_graphs, merge_remap_of, new_id_from};
 
 use crate::matches::Matches;
 use std::alloc::{AllocError, Global};
@@ -13,7 +13,7 @@ use wit_link_spec::{NewIds, next_new_id};
 /// the next ids, in its order.
 #[derive(Drop)]
 pub struct MergeRemap {
-    pub places: NewIds,
+    pub new_ids: NewIds,
     pub packages: Items<PackageId>,
 }
 
@@ -29,45 +29,45 @@ pub fn find_remap(
     requires { AreMatches graph.now other.now matches.now }
     ensures { IfOk result (λ merge_remap. merge_remap ≡ merge_remap_of (merge_of_graphs graph.now other.now)) }
 {
-    let places = NewIds {
-        types: places(alloc, &matches.types, graph.types.len())?,
-        interfaces: places(alloc, &matches.interfaces, graph.interfaces.len())?,
-        worlds: places(alloc, &matches.worlds, graph.worlds.len())?,
+    let new_ids = NewIds {
+        types: new_ids(alloc, &matches.types, graph.types.len())?,
+        interfaces: new_ids(alloc, &matches.interfaces, graph.interfaces.len())?,
+        worlds: new_ids(alloc, &matches.worlds, graph.worlds.len())?,
     };
-    let packages = package_places(alloc, &matches.packages, graph.packages.len())?;
-    Ok(MergeRemap { places, packages })
+    let packages = package_ids(alloc, &matches.packages, graph.packages.len())?;
+    Ok(MergeRemap { new_ids, packages })
 }
 
 /// Where each of some things goes.
-fn places<S>(
+fn new_ids<S>(
     alloc: Global,
     found: &Items<Option<Id<S>>>,
     first: usize,
 ) -> Result<Items<Option<Id<S>>>, AllocError>
-    ensures { IfOk result (λ places. places ≡ map (λ i. Some (place_from found.now first i)) (range_with_len 0 (length found.now))) }
+    ensures { IfOk result (λ new_ids. new_ids ≡ map (λ i. Some (new_id_from found.now first i)) (range_with_len 0 (length found.now))) }
 {
-    let mut places = Items::new(alloc);
+    let mut new_ids = Items::new(alloc);
     let mut next = first;
     for there in found.as_slice() {
         let there = there.try_clone()?;
-        places.push(Some(next_new_id(there, &mut next)?))?;
+        new_ids.push(Some(next_new_id(there, &mut next)?))?;
     }
-    Ok(places)
+    Ok(new_ids)
 }
 
 /// Where each package goes.
-fn package_places(
+fn package_ids(
     alloc: Global,
     found: &Items<Option<PackageId>>,
     first: usize,
 ) -> Result<Items<PackageId>, AllocError>
-    ensures { IfOk result (λ places. places ≡ map (place_from found.now first) (range_with_len 0 (length found.now))) }
+    ensures { IfOk result (λ new_ids. new_ids ≡ map (new_id_from found.now first) (range_with_len 0 (length found.now))) }
 {
-    let mut places = Items::new(alloc);
+    let mut new_ids = Items::new(alloc);
     let mut next = first;
     for there in found.as_slice() {
         let there = there.try_clone()?;
-        places.push(next_new_id(there, &mut next)?)?;
+        new_ids.push(next_new_id(there, &mut next)?)?;
     }
-    Ok(places)
+    Ok(new_ids)
 }

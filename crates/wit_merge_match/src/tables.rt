@@ -24,7 +24,7 @@ pub(crate) fn package_matches(
     Ok(found)
 }
 
-/// What is found at a place; None past the end.
+/// What is found at an index; None past the end.
 pub(crate) fn match_at<T: Copy>(found: &Items<Option<T>>, place: usize) -> Option<T>
     ensures { result ≡ get_or found.now place None }
 {

@@ -1,4 +1,4 @@
--- Entries of worlds that take their places one after another.
+-- Entries of worlds that are updated one after another.
 use Rattle.std.proofs.Common.{◌≡◌, ◌∙◌, ℕ, zero, suc, List, [], ◌∷◌, ◌++◌, map, slice_get, None, refl, ap, sym, subst, append_assoc}
 use Rattle.std.proofs.lemmas.List.{append-nil}
 use Rattle.std.specs.List.{IsDistinct}
@@ -23,19 +23,19 @@ pub others_fit : (offset : ℕ) (left rest : List Entry) (e : Entry) → Entries
 others_fit offset left rest e fits first i x at = fits (suc i) x (ap (λ (l : List Entry). slice_get l (suc i)) first ∙ at)
 
 module _ (f : Entry → Entry) where
-  -- one entry more is placed
-  pub placed-next : (done left rest whole : List Entry) (e : Entry) → done ++ map f left ≡ whole → left ≡ e ∷ rest → (done ++ f e ∷ []) ++ map f rest ≡ whole
-  placed-next done left rest whole e all first = append_assoc done (f e ∷ []) (map f rest) ∙ (ap (λ (l : List Entry). done ++ map f l) (sym first) ∙ all)
+  -- one entry more is updated
+  pub updated-next : (done left rest whole : List Entry) (e : Entry) → done ++ map f left ≡ whole → left ≡ e ∷ rest → (done ++ f e ∷ []) ++ map f rest ≡ whole
+  updated-next done left rest whole e all first = append_assoc done (f e ∷ []) (map f rest) ∙ (ap (λ (l : List Entry). done ++ map f l) (sym first) ∙ all)
 
   -- its key is new
-  pub placed-new : (done left rest whole : List Entry) (e : Entry) → IsDistinct same_key (keys_of whole) → done ++ map f left ≡ whole → left ≡ e ∷ rest → lookup (same_key (f e).0) done ≡ None
-  placed-new done left rest whole e distinct all first =
+  pub updated-new : (done left rest whole : List Entry) (e : Entry) → IsDistinct same_key (keys_of whole) → done ++ map f left ≡ whole → left ≡ e ∷ rest → lookup (same_key (f e).0) done ≡ None
+  updated-new done left rest whole e distinct all first =
       let split : done ++ f e ∷ map f rest ≡ whole = ap (λ (l : List Entry). done ++ map f l) (sym first) ∙ all in
       lookup-before key_laws done (map f rest) (f e).0 (f e).1 (subst (λ (l : List Entry). IsDistinct same_key (keys_of l)) (sym split) distinct)
 
-  -- and all are placed where none is left
-  pub placed-all : (done left whole : List Entry) → done ++ map f left ≡ whole → left ≡ [] → done ≡ whole
-  placed-all done left whole all none = sym (append-nil done) ∙ (ap (λ (l : List Entry). done ++ map f l) (sym none) ∙ all)
+  -- and all are updated where none is left
+  pub updated-all : (done left whole : List Entry) → done ++ map f left ≡ whole → left ≡ [] → done ≡ whole
+  updated-all done left whole all none = sym (append-nil done) ∙ (ap (λ (l : List Entry). done ++ map f l) (sym none) ∙ all)
 
 module _ (m : Mover) where
   key_same : (v w : ℕ) (k : WorldKey) → key_image (maps_of m) v k ≡ key_image (maps_of m) w k

@@ -1,4 +1,4 @@
--- The keys of what is active of a world still differ at their places.
+-- The keys of what is active of a world still differ with their new ids.
 use Rattle.std.proofs.Common.{◌≡◌, ℕ, suc, Bool, true, false, cond, List, [], ◌∷◌, map, filter, Some, slice_get, refl, subst, arith}
 use Rattle.std.specs.List.{AllByRecursion, IsDistinct}
 use Rattle.std.specs.Map.{keys_of}

@@ -1,4 +1,4 @@
--- The places and values of an addition stand for its maps, and its activity for what is active.
+-- The new ids and values of an addition stand for its maps, and its activity for what is active.
 use Rattle.std.proofs.Common.{◌≡◌, ◌∙◌, ℕ, ◌+◌, ◌≤◌, Bool, true, false, length, Option, None, Some, unwrap_or, slice_get, refl, sym, ap, if◌then◌else◌}
 use Rattle.std.proofs.lemmas.Bool.{false_from_ne_true, false≢true}
 use Rattle.wit_data.specs.Shape.{IsShaped}
@@ -40,11 +40,11 @@ module _ (a : Addition) (shaped : IsShaped a.unresolved) (image : IsResolved a) 
       let stays : remapped_type a t ≡ t = ap (λ (o : Option ℕ). unwrap_or o t) (goes_nowhere t past) in
       ap (λ (b : Bool). if b then length a.graph.types + length (own_types a) + rank (needs_own (remap_of_addition a)) t else remapped_type a t) none ∙ stays
 
-  values_go : value_id (remap_of_addition a) ≡ (λ t. unwrap_or (slice_get (values_of a).places t) t)
+  values_go : value_id (remap_of_addition a) ≡ (λ t. unwrap_or (slice_get (values_of a).new_ids t) t)
   values_go = values-are (value_id (remap_of_addition a)) (length a.unresolved.types) value_past
 
-  -- the maps of the places are those of the addition
-  pub maps_are : maps_with (new_ids_of a) (values_of a).places (length a.graph.packages) a.offset ≡ addition_maps a
+  -- the maps of the new ids are those of the addition
+  pub maps_are : maps_with (new_ids_of a) (values_of a).new_ids (length a.graph.packages) a.offset ≡ addition_maps a
   maps_are = λ j. record {
     types = types_go j;
     values = sym values_go j;

@@ -26,11 +26,11 @@ use Rattle.wit_link_spec.specs.declared.addition.NewIds.{NewIds}
 use Rattle.wit_link_spec.specs.ValueRemap.{owns}
 use Rattle.wit_link_spec.specs.steps.NewThings.{is_new}
 use Rattle.wit_link_spec.specs.facts.NewFacts.{new_interfaces, new_types, new_worlds}
-use Rattle.wit_remap.specs.steps.Fits.{CanMoveParts, added_world, added_worlds, interfaces_at, moved_package, moved_parts, placed_world, worlds_at}
+use Rattle.wit_remap.specs.steps.Fits.{CanMoveParts, added_world, added_worlds, interfaces_at, moved_package, moved_parts, updated_world, worlds_at}
 use Rattle.wit_remap.specs.steps.Movers.{maps_with}
 use Rattle.wit_remap.specs.steps.Parts.{kept_of}
 use Rattle.wit_remap.specs.declared.part.Part.{Part}
-use Rattle.wit_remap.specs.declared.worlds.PlacedWorld.{PlacedWorld}
+use Rattle.wit_remap.specs.declared.worlds.UpdatedWorld.{UpdatedWorld}
 use Rattle.wit_remap.proofs.KeysApart.{world_keys_apart}
 use Rattle.wit_remap.proofs.NamesApart.{keys_all, keys_named, names_all, names_differ, names_some}
 use Rattle.wit_remap.proofs.SpansFit.{interfaces_fit, types_fit, worlds_fit}
@@ -90,26 +90,26 @@ joined f g (x ∷ xs) = ap (λ l. f (g x) ∷ l) (joined f g xs)
 
 -- and so are the worlds
 pub worlds_are : (a : Addition) (valid : IsValid a.graph) (shaped : IsShaped a.unresolved) (image : IsResolved a) (part : Part) → part.features.now ≡ a.features → kept_of part ≡ active a
-    → map (placed_world (addition_maps a) part) (selected_with_index (is_new (length a.graph.worlds) (new_ids_of a).worlds) a.unresolved.worlds) ≡ added_worlds a
+    → map (updated_world (addition_maps a) part) (selected_with_index (is_new (length a.graph.worlds) (new_ids_of a).worlds) a.unresolved.worlds) ≡ added_worlds a
 worlds_are a valid shaped image part features kept =
-    let world_of : KeptIds → (ℕ × World) → PlacedWorld = λ k e. record { place = e.0; world = world_image (addition_maps a) e.0 (cut_world k e.1); includes = filter (include_is_active part.features.now) e.1.includes } in
-    ap (λ (own : ℕ → Bool). map (placed_world (addition_maps a) part) (selected_with_index own a.unresolved.worlds)) (new_worlds a valid shaped image)
+    let world_of : KeptIds → (ℕ × World) → UpdatedWorld = λ k e. record { id = e.0; world = world_image (addition_maps a) e.0 (cut_world k e.1); includes = filter (include_is_active part.features.now) e.1.includes } in
+    ap (λ (own : ℕ → Bool). map (updated_world (addition_maps a) part) (selected_with_index own a.unresolved.worlds)) (new_worlds a valid shaped image)
     ∙ (ap (λ (k : KeptIds). map (world_of k) (selected_with_index (own_world a) a.unresolved.worlds)) kept
-    ∙ (ap (λ (features : Features). map (λ (e : ℕ × World). let r : PlacedWorld = record { place = e.0; world = world_image (addition_maps a) e.0 (cut_world (active a) e.1); includes = filter (include_is_active features) e.1.includes } in r) (selected_with_index (own_world a) a.unresolved.worlds)) features
+    ∙ (ap (λ (features : Features). map (λ (e : ℕ × World). let r : UpdatedWorld = record { id = e.0; world = world_image (addition_maps a) e.0 (cut_world (active a) e.1); includes = filter (include_is_active features) e.1.includes } in r) (selected_with_index (own_world a) a.unresolved.worlds)) features
     ∙ joined (added_world a) (λ (e : ℕ × World). let r : ℕ × World = (e.0, cut_world (active a) e.1) in r) (selected_with_index (own_world a) a.unresolved.worlds)))
 
 -- what is ready by one account is by an equal one
 pub ready_so : (p q : NewIds) (m n : Maps) (k l : KeptIds) (g : Graph) (u : UnresolvedPackage) → p ≡ q → m ≡ n → k ≡ l → CanMoveParts q n l g u → CanMoveParts p m k g u
-ready_so p q m n k l g u places maps kept ready =
-    subst (λ (x : NewIds). CanMoveParts x m k g u) (sym places) (subst (λ (x : Maps). CanMoveParts q x k g u) (sym maps) (subst (λ (x : KeptIds). CanMoveParts q n x g u) (sym kept) ready))
+ready_so p q m n k l g u new_ids maps kept ready =
+    subst (λ (x : NewIds). CanMoveParts x m k g u) (sym new_ids) (subst (λ (x : Maps). CanMoveParts q x k g u) (sym maps) (subst (λ (x : KeptIds). CanMoveParts q n x g u) (sym kept) ready))
 
 -- the same of maps, parts and worlds
 pub maps_so : (p q : NewIds) (v w : List ℕ) (h k offset : ℕ) → p ≡ q → v ≡ w → h ≡ k → maps_with p v h offset ≡ maps_with q w k offset
-maps_so p q v w h k offset places values home = λ j. maps_with (places j) (values j) (home j) offset
+maps_so p q v w h k offset new_ids values home = λ j. maps_with (new_ids j) (values j) (home j) offset
 
 pub moved_so : (p q : NewIds) (m n : Maps) (k l : KeptIds) (o r : List TypeDef) (u : UnresolvedPackage) (g : Graph) → p ≡ q → m ≡ n → k ≡ l → o ≡ r → moved_parts p m k o u g ≡ moved_parts q n l r u g
-moved_so p q m n k l o r u g places maps kept owns = λ j. moved_parts (places j) (maps j) (kept j) (owns j) u g
+moved_so p q m n k l o r u g new_ids maps kept owns = λ j. moved_parts (new_ids j) (maps j) (kept j) (owns j) u g
 
-pub placed_so : (p q : NewIds) (m n : Maps) (part : Part) (first : ℕ) (worlds : List World) → p ≡ q → m ≡ n
-    → map (placed_world m part) (selected_with_index (is_new first p.worlds) worlds) ≡ map (placed_world n part) (selected_with_index (is_new first q.worlds) worlds)
-placed_so p q m n part first worlds places maps = λ j. map (placed_world (maps j) part) (selected_with_index (is_new first (places j).worlds) worlds)
+pub updated_so : (p q : NewIds) (m n : Maps) (part : Part) (first : ℕ) (worlds : List World) → p ≡ q → m ≡ n
+    → map (updated_world m part) (selected_with_index (is_new first p.worlds) worlds) ≡ map (updated_world n part) (selected_with_index (is_new first q.worlds) worlds)
+updated_so p q m n part first worlds new_ids maps = λ j. map (updated_world (maps j) part) (selected_with_index (is_new first (new_ids j).worlds) worlds)

@@ -1,4 +1,4 @@
-//! Functions and interfaces, at their places.
+//! Functions and interfaces, with new ids and spans.
 ghost use Rattle.wit_remap_spec.specs.Image.{function_image, function_kind_image, interface_image, param_image};
 
 use crate::moves::Moves;

@@ -25,4 +25,4 @@ pub use crate::part::Part;
 pub use crate::parts::add_parts;
 pub use crate::remap::Remap;
 pub use crate::update::Update;
-pub use crate::worlds::{PlacedWorld, placed_entries};
+pub use crate::worlds::{UpdatedWorld, updated_entries};

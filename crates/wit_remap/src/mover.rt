@@ -8,7 +8,7 @@ use wit_link_spec::NewIds;
 /// package, stays.
 #[derive(Clone, Copy)]
 pub struct Mover<'a> {
-    pub places: &'a NewIds,
+    pub new_ids: &'a NewIds,
     /// What types are remapped to at value positions.
     pub values: &'a Items<TypeId>,
     /// The package that things come to be of.
@@ -26,7 +26,7 @@ impl<'a> Moves for Mover<'a> {
     ghost fits = { λ m. Fits m.offset };
 
     fn type_id(&self, id: TypeId) -> TypeId {
-        match self.places.types.get(id.index()) {
+        match self.new_ids.types.get(id.index()) {
             Some(Some(new)) => *new,
             _ => id,
         }
@@ -40,14 +40,14 @@ impl<'a> Moves for Mover<'a> {
     }
 
     fn interface_id(&self, id: InterfaceId) -> InterfaceId {
-        match self.places.interfaces.get(id.index()) {
+        match self.new_ids.interfaces.get(id.index()) {
             Some(Some(new)) => *new,
             _ => id,
         }
     }
 
     fn world_id(&self, id: WorldId) -> WorldId {
-        match self.places.worlds.get(id.index()) {
+        match self.new_ids.worlds.get(id.index()) {
             Some(Some(new)) => *new,
             _ => id,
         }

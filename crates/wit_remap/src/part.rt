@@ -119,34 +119,34 @@ impl<'a> Part<'a> {
 /// What goes to ids from the first one on.
 pub(crate) fn selected<S, T: Drop>(
     items: Items<T>,
-    places: &[Option<Id<S>>],
+    new_ids: &[Option<Id<S>>],
     first: &Id<S>,
 ) -> Items<T>
-    ensures { result ≡ selected (is_new first.now places.now) items }
+    ensures { result ≡ selected (is_new first.now new_ids.now) items }
 {
     let mut items = items.into_vec();
-    let mut places = places.iter();
+    let mut new_ids = new_ids.iter();
     items.retain(
         move |_item: &T| -> bool
-            ensures answer { result ≡ is_from first.entry.now (slice_get (iter_rest places.entry) 0) }
-            ensures rest { iter_rest places.exit ≡ drop 1 (iter_rest places.entry) }
-        { is_from(places.next(), first) },
+            ensures answer { result ≡ is_from first.entry.now (slice_get (iter_rest new_ids.entry) 0) }
+            ensures rest { iter_rest new_ids.exit ≡ drop 1 (iter_rest new_ids.entry) }
+        { is_from(new_ids.next(), first) },
     );
     Items::from_vec(items)
 }
 
-/// What goes to ids from the first one on, each with its place.
+/// What goes to ids from the first one on, each with its index.
 pub(crate) fn selected_with_index<S, T: Drop>(
     alloc: Global,
     items: Items<T>,
-    places: &[Option<Id<S>>],
+    new_ids: &[Option<Id<S>>],
     first: &Id<S>,
 ) -> Result<Items<(usize, T)>, AllocError>
-    ensures { IfOk result (λ selected. selected ≡ selected_with_index (is_new first.now places.now) items) }
+    ensures { IfOk result (λ selected. selected ≡ selected_with_index (is_new first.now new_ids.now) items) }
 {
     let mut selected = Items::new(alloc);
     for (index, item) in items.into_vec().into_iter().enumerate() {
-        if is_new(places, first, index) {
+        if is_new(new_ids, first, index) {
             selected.push((index, item))?;
         }
     }

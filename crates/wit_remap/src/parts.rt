@@ -14,7 +14,7 @@ ghost use Rattle.wit_remap_spec.specs.Image.{interface_image, type_image};
 ghost use Rattle.wit_data.specs.Each.{Each};
 ghost use Rattle.wit_names.specs.PackageName.{same_package};
 ghost use Rattle.wit_data.specs.Shape.{IsShaped};
-ghost use Rattle.wit_remap.specs.steps.Fits.{CanMoveParts, added_worlds, addition, interfaces_at, moved_parts, placed_world, with_interfaces, Fits, InterfaceFits, TypeFits};
+ghost use Rattle.wit_remap.specs.steps.Fits.{CanMoveParts, added_worlds, addition, interfaces_at, moved_parts, updated_world, with_interfaces, Fits, InterfaceFits, TypeFits};
 ghost use Rattle.wit_remap.specs.Grown.{Grown};
 ghost use Rattle.wit_remap.specs.steps.Movers.{maps_of};
 ghost use Rattle.wit_remap.specs.steps.Parts.{kept_of};
@@ -23,7 +23,7 @@ use crate::mover::Mover;
 use crate::part::{Part, selected, selected_with_index};
 use crate::tables::{interface_table, world_table};
 use crate::update::Update;
-use crate::worlds::{PlacedWorld, placed_worlds};
+use crate::worlds::{UpdatedWorld, updated_worlds};
 use std::alloc::{AllocError, Global};
 use std::mem;
 use wit_data::{
@@ -33,7 +33,7 @@ use wit_data::{
 use wit_graph_data::{Graph, Package};
 use wit_link_spec::{NewIds, Values};
 
-/// Adds the types of a package that are its own, at their places, and the `own`s. Where there is no memory some of
+/// Adds the types of a package that are its own, under their new ids, and the `own`s. Where there is no memory some of
 /// them may be there.
 fn add_types(
     graph: &mut Graph,
@@ -42,18 +42,18 @@ fn add_types(
     owns: Items<TypeDef>,
 ) -> Result<(), AllocError>
     requires { Each (TypeFits (Fits mover.now.offset)) types }
-    ensures ok { OnOk result (graph.new ≡ record graph.old { types = graph.old.types ++ (map (type_image (maps_of mover.now)) (selected (is_new (length graph.old.types) mover.now.places.now.types) types) ++ owns) }) }
+    ensures ok { OnOk result (graph.new ≡ record graph.old { types = graph.old.types ++ (map (type_image (maps_of mover.now)) (selected (is_new (length graph.old.types) mover.now.new_ids.now.types) types) ++ owns) }) }
     ensures grown { Grown graph.old graph.new }
 {
     let first = TypeId::from_index(graph.types.len());
-    let mut own = selected(types, mover.places.types.as_slice(), &first);
+    let mut own = selected(types, mover.new_ids.types.as_slice(), &first);
     own.update(mover);
     own.append(owns)?;
     graph.types.append(own)?;
     Ok(())
 }
 
-/// Adds the interfaces of a package that are its own, of each what is active, at their places, and answers the
+/// Adds the interfaces of a package that are its own, of each what is active, under their new ids, and answers the
 /// table of those that have names.
 fn add_interfaces(
     alloc: Global,
@@ -63,38 +63,38 @@ fn add_interfaces(
     interfaces: Items<Interface>,
 ) -> Result<Names<InterfaceId>, AllocError>
     requires fits { Each (InterfaceFits (Fits mover.now.offset)) interfaces }
-    requires names { IsDistinct bytes_eq (keys_of (interfaces_at (maps_of mover.now) (selected_with_index (is_new (length graph.old.interfaces) mover.now.places.now.interfaces) interfaces))) }
-    ensures ok { OnOk result (graph.new ≡ record graph.old { interfaces = graph.old.interfaces ++ map (interface_image (maps_of mover.now)) (map (cut_interface (kept_of part.now)) (selected (is_new (length graph.old.interfaces) mover.now.places.now.interfaces) interfaces)) }) }
-    ensures table { IfOk result (λ table. table ≡ interfaces_at (maps_of mover.now) (selected_with_index (is_new (length graph.old.interfaces) mover.now.places.now.interfaces) interfaces)) }
+    requires names { IsDistinct bytes_eq (keys_of (interfaces_at (maps_of mover.now) (selected_with_index (is_new (length graph.old.interfaces) mover.now.new_ids.now.interfaces) interfaces))) }
+    ensures ok { OnOk result (graph.new ≡ record graph.old { interfaces = graph.old.interfaces ++ map (interface_image (maps_of mover.now)) (map (cut_interface (kept_of part.now)) (selected (is_new (length graph.old.interfaces) mover.now.new_ids.now.interfaces) interfaces)) }) }
+    ensures table { IfOk result (λ table. table ≡ interfaces_at (maps_of mover.now) (selected_with_index (is_new (length graph.old.interfaces) mover.now.new_ids.now.interfaces) interfaces)) }
     ensures grown { Grown graph.old graph.new }
 {
     let first = InterfaceId::from_index(graph.interfaces.len());
-    let places = mover.places.interfaces.as_slice();
-    let own = selected_with_index(alloc, interfaces, places, &first)?;
+    let new_ids = mover.new_ids.interfaces.as_slice();
+    let own = selected_with_index(alloc, interfaces, new_ids, &first)?;
     let table = interface_table(alloc, mover, own.as_slice())?;
-    let placed = placed_interfaces(alloc, mover, part, own)?;
-    graph.interfaces.append(placed)?;
+    let updated = updated_interfaces(alloc, mover, part, own)?;
+    graph.interfaces.append(updated)?;
     Ok(table)
 }
 
-/// Interfaces at their places, of each what is active.
-fn placed_interfaces(
+/// Interfaces with new ids and spans, of each what is active.
+fn updated_interfaces(
     alloc: Global,
     mover: &Mover<'_>,
     part: &Part<'_>,
     interfaces: Items<(usize, Interface)>,
 ) -> Result<Items<Interface>, AllocError>
     requires { Each (λ e. InterfaceFits (Fits mover.now.offset) e.1) interfaces }
-    ensures { IfOk result (λ placed. placed ≡ map (λ e. interface_image (maps_of mover.now) (cut_interface (kept_of part.now) e.1)) interfaces) }
+    ensures { IfOk result (λ updated. updated ≡ map (λ e. interface_image (maps_of mover.now) (cut_interface (kept_of part.now) e.1)) interfaces) }
 {
-    let mut placed = Items::new(alloc);
+    let mut updated = Items::new(alloc);
     for item in interfaces.into_vec() {
         let (_, mut interface) = item;
         part.cut_interface(&mut interface);
         interface.update(mover);
-        placed.push(interface)?;
+        updated.push(interface)?;
     }
-    Ok(placed)
+    Ok(updated)
 }
 
 /// Adds a package under its name.
@@ -120,8 +120,8 @@ fn add_with_worlds(
 ) -> Result<(), AllocError>
     requires new { lookup (same_package unresolved.name) graph.old.package_names ≡ None }
     requires fits { Each (InterfaceFits (Fits mover.now.offset)) unresolved.interfaces }
-    requires names { IsDistinct bytes_eq (keys_of (interfaces_at (maps_of mover.now) (selected_with_index (is_new (length graph.old.interfaces) mover.now.places.now.interfaces) unresolved.interfaces))) }
-    ensures ok { OnOk result (graph.new ≡ with_interfaces mover.now.places.now (maps_of mover.now) (kept_of part.now) unresolved worlds graph.old) }
+    requires names { IsDistinct bytes_eq (keys_of (interfaces_at (maps_of mover.now) (selected_with_index (is_new (length graph.old.interfaces) mover.now.new_ids.now.interfaces) unresolved.interfaces))) }
+    ensures ok { OnOk result (graph.new ≡ with_interfaces mover.now.new_ids.now (maps_of mover.now) (kept_of part.now) unresolved worlds graph.old) }
     ensures grown { Grown graph.old graph.new }
 {
     let mut unresolved = unresolved;
@@ -137,7 +137,7 @@ fn add_with_worlds(
     add_package(graph, package)
 }
 
-/// Adds a package at the ends of a graph, its parts at their places, and answers its worlds. Where there is no
+/// Adds a package at the ends of a graph, its parts under their new ids, and answers its worlds. Where there is no
 /// memory some of its parts may be there.
 fn move_parts(
     alloc: Global,
@@ -146,10 +146,10 @@ fn move_parts(
     part: &Part<'_>,
     owns: Items<TypeDef>,
     unresolved: UnresolvedPackage,
-) -> Result<Items<PlacedWorld>, AllocError>
-    requires { CanMoveParts mover.now.places.now (maps_of mover.now) (kept_of part.now) graph.old unresolved }
-    ensures ok { OnOk result (graph.new ≡ moved_parts mover.now.places.now (maps_of mover.now) (kept_of part.now) owns unresolved graph.old) }
-    ensures worlds { IfOk result (λ worlds. worlds ≡ map (placed_world (maps_of mover.now) part.now) (selected_with_index (is_new (length graph.old.worlds) mover.now.places.now.worlds) unresolved.worlds)) }
+) -> Result<Items<UpdatedWorld>, AllocError>
+    requires { CanMoveParts mover.now.new_ids.now (maps_of mover.now) (kept_of part.now) graph.old unresolved }
+    ensures ok { OnOk result (graph.new ≡ moved_parts mover.now.new_ids.now (maps_of mover.now) (kept_of part.now) owns unresolved graph.old) }
+    ensures worlds { IfOk result (λ worlds. worlds ≡ map (updated_world (maps_of mover.now) part.now) (selected_with_index (is_new (length graph.old.worlds) mover.now.new_ids.now.worlds) unresolved.worlds)) }
     ensures grown { Grown graph.old graph.new }
 {
     let mut unresolved = unresolved;
@@ -157,14 +157,14 @@ fn move_parts(
     add_types(graph, mover, types, owns)?;
     let worlds = mem::replace(&mut unresolved.worlds, Items::new(alloc));
     let first = WorldId::from_index(graph.worlds.len());
-    let own = selected_with_index(alloc, worlds, mover.places.worlds.as_slice(), &first)?;
+    let own = selected_with_index(alloc, worlds, mover.new_ids.worlds.as_slice(), &first)?;
     let table = world_table(alloc, mover, own.as_slice())?;
     add_with_worlds(alloc, graph, mover, part, unresolved, table)?;
-    placed_worlds(alloc, mover, part, own)
+    updated_worlds(alloc, mover, part, own)
 }
 
 /// Adds the parts of a package to a graph: the types and interfaces that are its own and are active, the `own`s that
-/// values ask for, and the package with its tables. Answers its worlds at their places, each with what it includes;
+/// values ask for, and the package with its tables. Answers its worlds with new ids and spans, each with what it includes;
 /// none of them is in the graph yet.
 ///
 /// For an `is_shaped` package and a valid graph that has none of its name, where nothing leaves the package without
@@ -179,30 +179,30 @@ pub fn add_parts(
     alloc: Global,
     graph: &mut Graph,
     part: &Part<'_>,
-    places: &NewIds,
+    new_ids: &NewIds,
     values: Values,
     unresolved: UnresolvedPackage,
     offset: u32,
-) -> Result<Items<PlacedWorld>, AllocError>
+) -> Result<Items<UpdatedWorld>, AllocError>
     requires shaped { IsShaped unresolved }
     requires valid { IsValid graph.old }
     requires image { IsResolved (addition part.now graph.old unresolved offset) }
     requires new { lookup (same_package unresolved.name) graph.old.package_names ≡ None }
     requires fits { AdditionOverflows (addition part.now graph.old unresolved offset) → ⊥ }
     requires activity { part.now.activity.now ≡ activity_of (addition part.now graph.old unresolved offset) }
-    requires places { places.now ≡ new_ids_of (addition part.now graph.old unresolved offset) }
+    requires new_ids { new_ids.now ≡ new_ids_of (addition part.now graph.old unresolved offset) }
     requires values { values ≡ values_of (addition part.now graph.old unresolved offset) }
     ensures ok { OnOk result (graph.new ≡ with_parts (addition part.now graph.old unresolved offset)) }
     ensures worlds { IfOk result (λ worlds. worlds ≡ added_worlds (addition part.now graph.old unresolved offset)) }
     ensures grown { Grown graph.old graph.new }
 {
     let Values {
-        places: values,
+        new_ids: values,
         owns,
     } = values;
     let id = PackageId::from_index(graph.packages.len());
     let mover = Mover {
-        places,
+        new_ids,
         values: &values,
         package: id,
         offset,

@@ -10,7 +10,7 @@ use wit_graph_data::{Cause, ResolveError, ResolveErrorKind, ResolveResult};
 use wit_link_spec::{excluded_message, excluded_owner_message};
 use wit_values::try_clone_four;
 
-/// The ids of the things that were handed in: for each place of the handed-in list the id in the graph that took it,
+/// The ids of the things that were handed in: for each index of the handed-in list the id in the graph that took it,
 /// or None where the thing isn't there because its feature isn't active.
 ///
 /// Source: `Remap` of wit-parser 0.263.0.
@@ -23,7 +23,7 @@ pub struct Remap {
 }
 
 impl Remap {
-    /// The remap of these lists, each with an id at each place of the handed-in list. It takes no memory.
+    /// The remap of these lists, each with an id at each index of the handed-in list. It takes no memory.
     pub fn from_lists(
         types: Items<Option<TypeId>>,
         interfaces: Items<Option<InterfaceId>>,
@@ -191,7 +191,7 @@ fn new_owner_id<S>(
     }
 }
 
-/// A refusal with this message, at this place.
+/// A refusal with this message and this span.
 fn refusal(message: String, span: Span, cause: Cause) -> ResolveError
     ensures { result ≡ Semantic span (string_bytes message) cause }
 {

@@ -11,7 +11,7 @@ use crate::moves::Moves;
 use std::alloc::{AllocError, Global};
 use wit_data::{Interface, InterfaceId, Names, World, WorldId};
 
-/// The interfaces that have a name under it, at their places.
+/// The interfaces that have a name under it, with their new ids.
 pub(crate) fn interface_table(
     alloc: Global,
     mover: &Mover<'_>,
@@ -33,7 +33,7 @@ pub(crate) fn interface_table(
     Ok(table)
 }
 
-/// The worlds under their names, at their places.
+/// The worlds under their names, with their new ids.
 pub(crate) fn world_table(
     alloc: Global,
     mover: &Mover<'_>,

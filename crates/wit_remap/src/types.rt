@@ -1,4 +1,4 @@
-//! Types, at their places.
+//! Types, with new ids and spans.
 ghost use Rattle.std.specs.Prelude.{◌≡◌};
 ghost use Rattle.wit_remap_spec.specs.Image.{case_image, enum_case_image, field_image, flag_image, handle_image, kind_image, owner_image, target_image, type_image, value_image};
 
@@ -20,7 +20,7 @@ impl Update for Type_ {
 }
 
 /// A type that an alias names.
-fn place_target<M: Moves>(ty: &mut Type_, mover: &M)
+fn update_target<M: Moves>(ty: &mut Type_, mover: &M)
     ensures { ty.new ≡ target_image (M.maps mover.now) ty.old }
 {
     if let Type_::Id(id) = ty {
@@ -125,7 +125,7 @@ impl Update for TypeDefKind {
             TypeDefKind::FixedLengthList(ty, _) => ty.update(mover),
             TypeDefKind::Future(ty) => ty.update(mover),
             TypeDefKind::Stream(ty) => ty.update(mover),
-            TypeDefKind::Type_(ty) => place_target(ty, mover),
+            TypeDefKind::Type_(ty) => update_target(ty, mover),
             TypeDefKind::Resource | TypeDefKind::Unknown => {}
         }
     }

@@ -1,11 +1,11 @@
-//! Worlds, at their places.
+//! Worlds, with new ids and spans.
 ghost use Rattle.std.specs.Prelude.{◌≡◌, ℕ, IfOk, map};
 ghost use Rattle.std.specs.List.{IsDistinct};
 ghost use Rattle.std.specs.Map.{keys_of};
 ghost use Rattle.wit_remap_spec.specs.Image.{entry_image, item_image, key_image};
 ghost use Rattle.wit_data.specs.Each.{Each};
 ghost use Rattle.wit_data.specs.facts.WorldKeyFacts.{same_key};
-ghost use Rattle.wit_remap.specs.steps.Fits.{EntriesFit, Fits, ItemFits, WorldFits, HasKeysApart, placed_world};
+ghost use Rattle.wit_remap.specs.steps.Fits.{EntriesFit, Fits, ItemFits, WorldFits, HasKeysApart, updated_world};
 ghost use Rattle.wit_remap.specs.steps.Movers.{maps_of};
 ghost use Rattle.wit_remap.specs.steps.Parts.{kept_of};
 
@@ -17,87 +17,87 @@ use std::alloc::{AllocError, Global};
 use std::mem;
 use wit_data::{Items, Table, World, WorldId, WorldInclude, WorldItem, WorldKey};
 
-/// A world of a package at its place, before its includes.
+/// A world of a package with new ids and spans, before its includes.
 #[derive(Drop)]
-pub struct PlacedWorld {
+pub struct UpdatedWorld {
     /// Its id in the package.
-    pub place: WorldId,
+    pub id: WorldId,
     pub world: World,
     /// What it includes, with the ids that it had in the package.
     pub includes: Items<WorldInclude>,
 }
 
-/// Worlds at their places, of each what is active.
-pub(crate) fn placed_worlds(
+/// Worlds with new ids and spans, of each what is active.
+pub(crate) fn updated_worlds(
     alloc: Global,
     mover: &Mover<'_>,
     part: &Part<'_>,
     worlds: Items<(usize, World)>,
-) -> Result<Items<PlacedWorld>, AllocError>
+) -> Result<Items<UpdatedWorld>, AllocError>
     requires fits { Each (λ e. WorldFits (Fits mover.now.offset) e.1) worlds }
     requires keys { Each (λ e. HasKeysApart (maps_of mover.now) (kept_of part.now) e.1) worlds }
-    ensures { IfOk result (λ placed. placed ≡ map (placed_world (maps_of mover.now) part.now) worlds) }
+    ensures { IfOk result (λ updated. updated ≡ map (updated_world (maps_of mover.now) part.now) worlds) }
 {
-    let mut placed = Items::new(alloc);
-    for (place, world) in worlds.into_vec() {
-        let place = WorldId::from_index(place);
-        placed.push(placed_world(alloc, mover, part, place, world)?)?;
+    let mut updated = Items::new(alloc);
+    for (index, world) in worlds.into_vec() {
+        let id = WorldId::from_index(index);
+        updated.push(updated_world(alloc, mover, part, id, world)?)?;
     }
-    Ok(placed)
+    Ok(updated)
 }
 
-/// A world at its place, of it what is active.
-fn placed_world(
+/// A world with new ids and spans, of it what is active.
+fn updated_world(
     alloc: Global,
     mover: &Mover<'_>,
     part: &Part<'_>,
-    place: WorldId,
+    id: WorldId,
     mut world: World,
-) -> Result<PlacedWorld, AllocError>
+) -> Result<UpdatedWorld, AllocError>
     requires fits { WorldFits (Fits mover.now.offset) world }
     requires keys { HasKeysApart (maps_of mover.now) (kept_of part.now) world }
-    ensures { IfOk result (λ placed. placed ≡ placed_world (maps_of mover.now) part.now (place, world)) }
+    ensures { IfOk result (λ updated. updated ≡ updated_world (maps_of mover.now) part.now (id, world)) }
 {
     let imports = mem::replace(&mut world.imports, Table::new(alloc));
-    let imports = placed_entries(alloc, mover, part.cut_entries(imports))?;
+    let imports = updated_entries(alloc, mover, part.cut_entries(imports))?;
     world.imports = imports;
     let exports = mem::replace(&mut world.exports, Table::new(alloc));
-    let exports = placed_entries(alloc, mover, part.cut_entries(exports))?;
+    let exports = updated_entries(alloc, mover, part.cut_entries(exports))?;
     world.exports = exports;
     let includes = part.cut_includes(mem::replace(&mut world.includes, Items::new(alloc)));
     world.package = Some(mover.package);
     world.span = mover.span(world.span);
-    Ok(PlacedWorld {
-        place,
+    Ok(UpdatedWorld {
+        id,
         world,
         includes,
     })
 }
 
-/// Entries of a package's world at their places, in their order: the ids of keys and items go and the
+/// Entries of a package's world, in their order, with new ids and spans: the ids of keys and items go and the
 /// spans move as the mover says. The spans can be moved, and the keys differ where they go. The only
 /// error is want of memory.
 ///
 /// Source: `update_world` and `update_world_key` of wit-parser 0.263.0.
-pub fn placed_entries(
+pub fn updated_entries(
     alloc: Global,
     mover: &Mover<'_>,
     entries: Table<WorldKey, WorldItem>,
 ) -> Result<Table<WorldKey, WorldItem>, AllocError>
     requires fits { EntriesFit (Fits mover.now.offset) entries }
     requires keys { IsDistinct same_key (keys_of (map (entry_image (maps_of mover.now) 0) entries)) }
-    ensures { IfOk result (λ placed. (w : ℕ) → placed ≡ map (entry_image (maps_of mover.now) w) entries) }
+    ensures { IfOk result (λ updated. (w : ℕ) → updated ≡ map (entry_image (maps_of mover.now) w) entries) }
 {
-    let mut placed = Table::new(alloc);
+    let mut updated = Table::new(alloc);
     for (key, item) in entries.into_map() {
-        placed.push(placed_key(mover, key), placed_item(mover, item))?;
+        updated.push(updated_key(mover, key), updated_item(mover, item))?;
     }
-    placed.shrink();
-    Ok(placed)
+    updated.shrink();
+    Ok(updated)
 }
 
-/// A key of a world at its place.
-fn placed_key(mover: &Mover<'_>, key: WorldKey) -> WorldKey
+/// A key of a world with its new id.
+fn updated_key(mover: &Mover<'_>, key: WorldKey) -> WorldKey
     ensures { (w : ℕ) → result ≡ key_image (maps_of mover.now) w key }
 {
     match key {
@@ -106,8 +106,8 @@ fn placed_key(mover: &Mover<'_>, key: WorldKey) -> WorldKey
     }
 }
 
-/// What a world holds under a key, at its place.
-fn placed_item(mover: &Mover<'_>, item: WorldItem) -> WorldItem
+/// What a world holds under a key, with new ids and spans.
+fn updated_item(mover: &Mover<'_>, item: WorldItem) -> WorldItem
     requires { ItemFits (Fits mover.now.offset) item }
     ensures { (w : ℕ) → result ≡ item_image (maps_of mover.now) w item }
 {

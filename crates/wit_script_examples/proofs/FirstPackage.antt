@@ -104,7 +104,7 @@ module _ (features : Features) (g : Graph) (offset : ℕ) where
   duplicate there = reason.duplicate_5 foo_bar None None (record { there = there; name_is = refl; span1_is = refl; span2_is = refl })
 
   no_world : (k : ℕ) → AtWorld of_first k → ⊥
-  no_world k at = nowhere k (at.place, at.world) at.is
+  no_world k at = nowhere k (at.id, at.world) at.is
 
   no_function : (f : Function) → IsActiveFunction of_first f → ⊥
   no_function f (part.of_interface i interface name _ at active inside on) = nowhere i interface at

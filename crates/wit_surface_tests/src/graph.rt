@@ -67,26 +67,29 @@ fn dependencies_are_told(rt: HostRuntime) {
     );
 }
 
+/// Writes which interface and which world a package has under a name.
+fn write_named(rt: &impl Abort, out: &mut String, graph: &Graph, index: usize, name: &str) {
+    let home = PackageId::from_index(index);
+    let interface = graph.interface_in(home, name).map(|id| id.index());
+    write_place(rt, out, interface);
+    let world = graph.world_in(home, name).map(|id| id.index());
+    write_place(rt, out, world);
+}
+
 /// What the packages have under names: interface 0 under `i`, interface 1 under `j` and world 0 under `w`; nothing of the
 /// other package, of another sort, or of a package that isn't there.
 fn parts_of_packages(rt: &impl Abort, alloc: Global) -> String {
     let graph = graph(rt, alloc, SCRIPT);
     let mut out = String::new(alloc);
-    for index in 0..3 {
-        let home = PackageId::from_index(index);
-        for name in ["i", "j", "w"] {
-            write_place(
-                rt,
-                &mut out,
-                graph.interface_in(home, name).map(|id| id.index()),
-            );
-            write_place(
-                rt,
-                &mut out,
-                graph.world_in(home, name).map(|id| id.index()),
-            );
-        }
-    }
+    write_named(rt, &mut out, &graph, 0, "i");
+    write_named(rt, &mut out, &graph, 0, "j");
+    write_named(rt, &mut out, &graph, 0, "w");
+    write_named(rt, &mut out, &graph, 1, "i");
+    write_named(rt, &mut out, &graph, 1, "j");
+    write_named(rt, &mut out, &graph, 1, "w");
+    write_named(rt, &mut out, &graph, 2, "i");
+    write_named(rt, &mut out, &graph, 2, "j");
+    write_named(rt, &mut out, &graph, 2, "w");
     out
 }
 

@@ -8,7 +8,7 @@ use Rattle.wit_data.specs.declared.world.WorldKey.{WorldKey}
 use Rattle.wit_data.specs.declared.world.WorldItem.TheVariants as item
 use Rattle.wit_data.specs.declared.world.WorldKey.TheVariants as key
 use Rattle.wit_labels.specs.Rename.{renamed_label_by, renamed_label}
-use Rattle.wit_labels.specs.Setters.{HaveGetters, getter_label, is_setter_label, placed}
+use Rattle.wit_labels.specs.Setters.{HaveGetters, getter_label, is_setter_label, setters_placed}
 use Rattle.wit_labels.specs.Strong.{AreStronglyUnique, Clashes, strong_key}
 use Rattle.wit_labels.specs.declared.strong.Class.TheVariants.{Constructor, Getter, Setter}
 
@@ -53,8 +53,8 @@ pub record ExamplesOfSetters : Type 0 where
   pub getter_of : getter_label (codes "[static][set]r.s") ≡ codes "[static][get]r.s"
   pub is_setter : is_setter_label (codes "[static][set]r.s") ≡ true
   pub is_getter : is_setter_label (codes "[get]p") ≡ false
-  pub setter_first : placed (function_entry (codes "[set]p") ∷ function_entry (codes "f") ∷ function_entry (codes "[get]p") ∷ [])
+  pub setter_first : setters_placed (function_entry (codes "[set]p") ∷ function_entry (codes "f") ∷ function_entry (codes "[get]p") ∷ [])
       ≡ function_entry (codes "f") ∷ function_entry (codes "[get]p") ∷ function_entry (codes "[set]p") ∷ []
-  pub getter_first : placed (function_entry (codes "[get]p") ∷ function_entry (codes "f") ∷ function_entry (codes "[set]p") ∷ [])
+  pub getter_first : setters_placed (function_entry (codes "[get]p") ∷ function_entry (codes "f") ∷ function_entry (codes "[set]p") ∷ [])
       ≡ function_entry (codes "[get]p") ∷ function_entry (codes "f") ∷ function_entry (codes "[set]p") ∷ []
-  pub getter_missing : placed (function_entry (codes "[set]p") ∷ function_entry (codes "f") ∷ []) ≡ function_entry (codes "[set]p") ∷ function_entry (codes "f") ∷ []
+  pub getter_missing : setters_placed (function_entry (codes "[set]p") ∷ function_entry (codes "f") ∷ []) ≡ function_entry (codes "[set]p") ∷ function_entry (codes "f") ∷ []

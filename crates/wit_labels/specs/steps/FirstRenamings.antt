@@ -7,11 +7,11 @@ use Rattle.wit_data.specs.declared.world.IncludeName.{IncludeName}
 abbrev pub is_of : List ℕ → IncludeName → Bool
 is_of word name = bytes_eq word name.name
 
--- the place at which a renaming stands, none where there is no renaming
+-- the index at which a renaming stands, none where there is no renaming
 abbrev pub IsIndexOf : List IncludeName → Option ℕ → Option IncludeName → Type 0
 IsIndexOf names None found = found ≡ None
 IsIndexOf names (Some place) found = (name : IncludeName) × (slice_get names place ≡ Some name) × (found ≡ Some name)
 
--- a table has under each word the place of the first renaming of it, and no word more
+-- a table has under each word the index of the first renaming of it, and no word more
 abbrev pub AreFirstIndices : List IncludeName → List (List ℕ × ℕ) → Type 0
 AreFirstIndices names table = (word : List ℕ) → IsIndexOf names (lookup (bytes_eq word) table) (find (is_of word) names)

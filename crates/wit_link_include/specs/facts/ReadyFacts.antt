@@ -15,14 +15,14 @@ use Rattle.wit_elaboration.specs.Sound.{HasSoundEntries, IsUnderOwnKey}
 use Rattle.wit_elaboration.specs.Valid.{IsValid}
 use Rattle.wit_graph_data.specs.declared.graph.Graph.{Graph}
 use Rattle.wit_graph_theory.specs.facts.ListFacts.{contained_at, from_map, place_of}
-use Rattle.wit_labels.specs.Setters.{placed}
+use Rattle.wit_labels.specs.Setters.{setters_placed}
 use Rattle.wit_link_laws.specs.facts.PlacedFacts.{placed_into}
 use Rattle.wit_link_spec.specs.Addition.{Addition, active_includes, remapped_world}
 use Rattle.wit_link_spec.specs.Cause.{IsReached}
 use Rattle.wit_link_spec.specs.facts.Linked.{IncludeIsReached}
 use Rattle.wit_link_spec.specs.Include.{PartiallyLinked}
-use Rattle.wit_link_spec.specs.Pushed.{placed_include, with_parts, with_worlds}
-use Rattle.wit_link_spec.specs.facts.Linked.{placed_includes}
+use Rattle.wit_link_spec.specs.Pushed.{updated_include, with_parts, with_worlds}
+use Rattle.wit_link_spec.specs.facts.Linked.{updated_includes}
 use Rattle.wit_link_spec.specs.Reasons.{IsResolved}
 use Rattle.wit_link_spec.specs.WorldReasons.{AtWorld}
 use Rattle.wit_link_laws.specs.facts.ListedWorlds.{listed_worlds}
@@ -36,64 +36,64 @@ each_of : (P : Entry → Type 0) (xs : List Entry) → ((i : ℕ) (x : Entry) �
 each_of P [] each = tt
 each_of P (x ∷ xs) each = (each 0 x refl, each_of P xs (λ i. each (suc i)))
 
-own_from_placed : (es : List Entry) → AllByRecursion (λ (e : Entry). IsUnderOwnKey e.0 e.1) (placed es) → AllByRecursion (λ (e : Entry). IsUnderOwnKey e.0 e.1) es
+own_from_placed : (es : List Entry) → AllByRecursion (λ (e : Entry). IsUnderOwnKey e.0 e.1) (setters_placed es) → AllByRecursion (λ (e : Entry). IsUnderOwnKey e.0 e.1) es
 own_from_placed es own = each_of (λ (e : Entry). IsUnderOwnKey e.0 e.1) es (λ i e at. one e.0 e.1 (contained_at es i e at))
   where
     one : (k : WorldKey) (held : WorldItem) → Contains es (k, held) → IsUnderOwnKey k held
     one (key.Name label) held has = tt
     one (key.Interface f) held has =
-        let place = place_of (placed es) (key.Interface f, held) (placed_into es (key.Interface f, held) has refl) in
-        AllByRecursion-at (λ (e : Entry). IsUnderOwnKey e.0 e.1) (placed es) place.0 (key.Interface f, held) own place.1
+        let place = place_of (setters_placed es) (key.Interface f, held) (placed_into es (key.Interface f, held) has refl) in
+        AllByRecursion-at (λ (e : Entry). IsUnderOwnKey e.0 e.1) (setters_placed es) place.0 (key.Interface f, held) own place.1
 
 module _ (there : IncludedAreThere) (includes : IncludesCanBe) (worlds : WorldsCanBe) (a : Addition) (valid : IsValid a.graph) (shaped : IsShaped a.unresolved) (image : IsResolved a) (k : ℕ) (reached : IsReached a k) (at : AtWorld a k) where
   abbrev here : Graph
   here = with_worlds a k
 
   abbrev its : List WorldInclude
-  its = placed_includes a at.world
+  its = updated_includes a at.world
 
   abbrev begins : ℕ → PartiallyLinked
-  begins j = local.with_several (home a) here (image_at a at.place at.world) (take j its)
+  begins j = local.with_several (home a) here (image_at a at.id at.world) (take j its)
 
   abbrev Fine : ℕ → Type 0
-  Fine j = local.IsAcceptedAt (home a) here (image_at a at.place at.world) its j
+  Fine j = local.IsAcceptedAt (home a) here (image_at a at.id at.world) its j
 
   is_reached : (j : ℕ) → ((i : ℕ) → i < j → Fine i) → IncludeIsReached a k j
   is_reached j fine = record { has_image = image; worlds = reached; includes = λ i before. include_reached a k i at (fine i before) }
 
   -- the world that an include names is there
-  old_of : (j : ℕ) (include : WorldInclude) → slice_get (active_includes a at.world) j ≡ Some include → ((i : ℕ) → i < j → Fine i) → (old : World) × local.IsIncluded (begins j) (placed_include a include) old
+  old_of : (j : ℕ) (include : WorldInclude) → slice_get (active_includes a at.world) j ≡ Some include → ((i : ℕ) → i < j → Fine i) → (old : World) × local.IsIncluded (begins j) (updated_include a include) old
   old_of j include is fine =
       let found = there a k j valid shaped (is_reached j fine) at include is in
-      (found.0, subst (λ (b : PartiallyLinked). slice_get b.graph.worlds (remapped_world a include.id) ≡ Some found.0) (sym (stage_is a here at.place at.world j)) found.1)
+      (found.0, subst (λ (b : PartiallyLinked). slice_get b.graph.worlds (remapped_world a include.id) ≡ Some found.0) (sym (stage_is a here at.id at.world j)) found.1)
 
-  can_include : (j : ℕ) (include : WorldInclude) → slice_get (active_includes a at.world) j ≡ Some include → ((i : ℕ) → i < j → Fine i) → local.CanBeIncluded (begins j) (placed_include a include)
+  can_include : (j : ℕ) (include : WorldInclude) → slice_get (active_includes a at.world) j ≡ Some include → ((i : ℕ) → i < j → Fine i) → local.CanBeIncluded (begins j) (updated_include a include)
   can_include j include is fine old found =
       includes a k j valid shaped (is_reached j fine) (record {
         at = at;
         include = include;
         is = is;
         before = begins j;
-        before_is = stage_is a here at.place at.world j;
+        before_is = stage_is a here at.id at.world j;
         old = old;
         old_is = found;
       })
 
-  can_finish : ((j : ℕ) → Fine j) → CanBeLinked (local.with_several (home a) here (image_at a at.place at.world) its)
+  can_finish : ((j : ℕ) → Fine j) → CanBeLinked (local.with_several (home a) here (image_at a at.id at.world) its)
   can_finish fine = subst CanBeLinked (sym (begun_same a k at)) (worlds a k valid shaped image reached (λ j. include_reached a k j at (fine j)) at)
 
   -- its lists are in order before its includes
-  listed : HasSoundEntries (with_parts a).types (length (with_parts a).interfaces) (placed (image_at a at.place at.world).imports) (placed (image_at a at.place at.world).exports)
-  listed = listed_worlds a valid shaped image (with_parts a).types (with_parts a).interfaces (record { types_are = refl; interfaces_are = refl }) k (at.place, at.world) at.is
+  listed : HasSoundEntries (with_parts a).types (length (with_parts a).interfaces) (setters_placed (image_at a at.id at.world).imports) (setters_placed (image_at a at.id at.world).exports)
+  listed = listed_worlds a valid shaped image (with_parts a).types (with_parts a).interfaces (record { types_are = refl; interfaces_are = refl }) k (at.id, at.world) at.is
 
   none_before : (i : ℕ) → i < 0 → Fine i
   none_before i before = absurd (omega (arith, before))
 
   on_its_way : (l : List WorldInclude) → active_includes a at.world ≡ l → IsPartiallyLinked here
   on_its_way [] none =
-      let nothing : its ≡ [] = ap (map (placed_include a)) none in
+      let nothing : its ≡ [] = ap (map (updated_include a)) none in
       let fine : (j : ℕ) → Fine j = λ j include found. nowhere j include (subst (λ (l : List WorldInclude). slice_get l j ≡ Some include) nothing found) in
-      subst (λ (l : List WorldInclude). IsPartiallyLinked (local.with_several (home a) here (image_at a at.place at.world) l).graph) nothing (can_finish fine).graph
+      subst (λ (l : List WorldInclude). IsPartiallyLinked (local.with_several (home a) here (image_at a at.id at.world) l).graph) nothing (can_finish fine).graph
     where
       nowhere : {P : Type 0} (j : ℕ) (include : WorldInclude) → slice_get [] j ≡ Some include → P
       nowhere j include found = absurd (let none : None ≡ Some include = found in impossible none)
@@ -105,23 +105,23 @@ module _ (there : IncludedAreThere) (includes : IncludesCanBe) (worlds : WorldsC
       let old = old_of 0 x is none_before in
       (can_include 0 x is none_before old.0 old.1).graph
 
-  pub can_be_added : local.CanBeAdded (home a) here (image_at a at.place at.world) its
+  pub can_be_added : local.CanBeAdded (home a) here (image_at a at.id at.world) its
   can_be_added = record {
     graph = on_its_way (active_includes a at.world) refl;
     begins = record {
       there = λ j include is fine.
-          let from = from_map (placed_include a) (active_includes a at.world) j include is in
+          let from = from_map (updated_include a) (active_includes a at.world) j include is in
           let old = old_of j from.0 from.1 fine in
           let front : slice_get here.worlds (remapped_world a from.0.id) ≡ Some old.0 =
-          subst (λ (ws : List World). slice_get ws (remapped_world a from.0.id) ≡ Some old.0) (several_worlds (home a) (take j its) (local.before_includes here (image_at a at.place at.world))) old.1 in
+          subst (λ (ws : List World). slice_get ws (remapped_world a from.0.id) ≡ Some old.0) (several_worlds (home a) (take j its) (local.before_includes here (image_at a at.id at.world))) old.1 in
           let within : remapped_world a from.0.id < length here.worlds = slice_get_within here.worlds (remapped_world a from.0.id) old.0 front in
           subst (λ (x : WorldInclude). x.id < length here.worlds) from.2 within;
       own_keys = record {
-        imports = own_from_placed (image_at a at.place at.world).imports listed.of_imports.own_keys;
-        exports = own_from_placed (image_at a at.place at.world).exports listed.of_exports.own_keys;
+        imports = own_from_placed (image_at a at.id at.world).imports listed.of_imports.own_keys;
+        exports = own_from_placed (image_at a at.id at.world).exports listed.of_exports.own_keys;
       };
       each = λ j include is fine.
-          let from = from_map (placed_include a) (active_includes a at.world) j include is in
+          let from = from_map (updated_include a) (active_includes a at.world) j include is in
           subst (λ (x : WorldInclude). local.CanBeIncluded (begins j) x) from.2 (can_include j from.0 from.1 fine);
     };
     finishes = can_finish;

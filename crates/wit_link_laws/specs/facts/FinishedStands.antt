@@ -33,8 +33,8 @@ use Rattle.wit_graph_theory.specs.steps.UnnamedOnce.{Holds, Origin, StandsOnceOn
 use Rattle.wit_graph_theory.specs.facts.UnnamedOnceCarried.{StandsOnceOnly-of_covered, named_not}
 use Rattle.wit_graph_theory.specs.facts.UnnamedOnceFrom.{cut_has_one_place}
 use Rattle.wit_graph_theory.specs.steps.Sources.{Carries, IsGoodSource, Source}
-use Rattle.wit_link_spec.specs.Pushed.{with_placed}
-use Rattle.wit_labels.specs.Setters.{placed}
+use Rattle.wit_link_spec.specs.Pushed.{with_setters_placed}
+use Rattle.wit_labels.specs.Setters.{setters_placed}
 use Rattle.wit_link_laws.specs.facts.ListedTypes.{lists_type}
 use Rattle.wit_link_laws.specs.facts.PartiallyLinked.{IsSoundSoFar}
 use Rattle.wit_link_laws.specs.facts.PlacedFacts.{placed_in, placed_into}
@@ -43,7 +43,7 @@ use Rattle.wit_link_laws.specs.facts.Remains.{beside, export_remains, import_rem
 
 -- world `host` at place `into` becomes `done`, its elaboration, and all else stays
 module _ (laws : LawsOfElaboration) (g : Graph) (stands : IsSoundSoFar g) (into : ℕ) (host : World) (host_at : slice_get g.worlds into ≡ Some host) (done : World)
-    (elaborated : Elaborated g.types (uses_of g.types g.interfaces) (with_placed host) done)
+    (elaborated : Elaborated g.types (uses_of g.types g.interfaces) (with_setters_placed host) done)
     (worlds : List World) (done_at : slice_get worlds into ≡ Some done) (others : (w : ℕ) → (w ≡ into → ⊥) → slice_get worlds w ≡ slice_get g.worlds w) where
   abbrev new : Graph
   new = record g { worlds = worlds }
@@ -62,10 +62,10 @@ module _ (laws : LawsOfElaboration) (g : Graph) (stands : IsSoundSoFar g) (into 
 
   -- ---- it comes of itself
 
-  listed_comes : WorldComes sources new into (with_placed host)
+  listed_comes : WorldComes sources new into (with_setters_placed host)
   listed_comes = record {
-    imports = λ i e on. let place = place_of host.imports e (placed_in host.imports e (contained_at (placed host.imports) i e on)) in inl (import_remains g stands.items (graph_source g) into host place.0 e host_at place.1);
-    exports = λ i e on. let place = place_of host.exports e (placed_in host.exports e (contained_at (placed host.exports) i e on)) in inl (export_remains g stands.items (graph_source g) into host place.0 e host_at place.1);
+    imports = λ i e on. let place = place_of host.imports e (placed_in host.imports e (contained_at (setters_placed host.imports) i e on)) in inl (import_remains g stands.items (graph_source g) into host place.0 e host_at place.1);
+    exports = λ i e on. let place = place_of host.exports e (placed_in host.exports e (contained_at (setters_placed host.exports) i e on)) in inl (export_remains g stands.items (graph_source g) into host place.0 e host_at place.1);
     distinct_imports = imports_distinct g stands into host host_at;
     distinct_exports = exports_distinct g stands into host host_at;
     no_includes = (stands.items.worlds into host host_at).no_includes;
@@ -73,7 +73,7 @@ module _ (laws : LawsOfElaboration) (g : Graph) (stands : IsSoundSoFar g) (into 
 
   done_comes : WorldComes sources new into done
   done_comes =
-      elaborated_comes sources new into (with_placed host) done laws.entries laws.distinct stands.uses (placed_in_order g stands into host host_at) (used_named g stands into host host_at) (exported_named g stands into host host_at)
+      elaborated_comes sources new into (with_setters_placed host) done laws.entries laws.distinct stands.uses (placed_in_order g stands into host host_at) (used_named g stands into host host_at) (exported_named g stands into host host_at)
       listed_comes elaborated (ap (λ (x : World). x.includes) elaborated.world_is ∙ (stands.items.worlds into host host_at).no_includes)
 
   finished_covered : IsCovered everything sources new
@@ -94,12 +94,12 @@ module _ (laws : LawsOfElaboration) (g : Graph) (stands : IsSoundSoFar g) (into 
       let lists = lists_type d.0 e.0 e.1 d.1.1 in
       let type_entry : Entry = (key.Name e.0, item.Type_ e.1 lists.span) in
       let is : d.0 ≡ type_entry = λ i. (lists.key_is i, lists.held_is i) in
-      let listed : Contains (placed host.imports) type_entry = placed_into host.imports type_entry (subst (Contains host.imports) is d.1.0) refl in
-      let sorted = in_by_class g.types (placed host.imports) type_entry listed in
-      let under : Contains (labelled (by_class g.types (placed host.imports))) type_entry = Contains-filtered (λ (x : Entry). is_label x.0) (by_class g.types (placed host.imports)) type_entry sorted refl in
-      let stays = laws.labels g.types uses (with_placed host) done stands.uses (placed_in_order g stands into host host_at) (imports_distinct g stands into host host_at) elaborated in
+      let listed : Contains (setters_placed host.imports) type_entry = placed_into host.imports type_entry (subst (Contains host.imports) is d.1.0) refl in
+      let sorted = in_by_class g.types (setters_placed host.imports) type_entry listed in
+      let under : Contains (labelled (by_class g.types (setters_placed host.imports))) type_entry = Contains-filtered (λ (x : Entry). is_label x.0) (by_class g.types (setters_placed host.imports)) type_entry sorted refl in
+      let stays = laws.labels g.types uses (with_setters_placed host) done stands.uses (placed_in_order g stands into host host_at) (imports_distinct g stands into host host_at) elaborated in
       let among : Contains (labelled done.imports) (listed_without_span type_entry) =
-      subst (λ (es : List Entry). Contains es (listed_without_span type_entry)) (sym stays) (Contains-map listed_without_span (labelled (by_class g.types (placed host.imports))) type_entry under) in
+      subst (λ (es : List Entry). Contains es (listed_without_span type_entry)) (sym stays) (Contains-map listed_without_span (labelled (by_class g.types (setters_placed host.imports))) type_entry under) in
       let import : Contains done.imports type_entry = (Contains-filter (λ (x : Entry). is_label x.0) done.imports (listed_without_span type_entry) among).0 in
       Contains-flat_map (λ (x : Entry). entry_type x.0 x.1) done.imports type_entry e import (Contains-here e [])
 
@@ -176,12 +176,12 @@ module _ (laws : LawsOfElaboration) (g : Graph) (stands : IsSoundSoFar g) (into 
 
   stood : (b : Bool) (f' : ℕ) (e : Entry) → is_unnamed g.interfaces f' ≡ true → Contains (entries_of b done) e → item_interface e.1 ≡ f' ∷ [] → Stood b f'
   stood false f' e unnamed has held =
-      elim ((laws.entries g.types uses (with_placed host) done e stands.uses (placed_in_order g stands into host host_at) elaborated).0 has) [
+      elim ((laws.entries g.types uses (with_setters_placed host) done e stands.uses (placed_in_order g stands into host host_at) elaborated).0 has) [
         | inl stays ↦ stood_in false f' stays.0 (placed_in host.imports stays.0 stays.1) (sym (interface_without_span stays.0.1) ∙ ap (λ (d : Entry). item_interface d.1) (sym stays.2) ∙ held)
         | inr made ↦ absurd (added_named made.1 f' (ap (λ (d : Entry). item_interface d.1) (sym made.2) ∙ held) (used_named g stands into host host_at made.1 made.3) unnamed)
       ]
   stood true f' e unnamed has held =
-      elim ((laws.entries g.types uses (with_placed host) done e stands.uses (placed_in_order g stands into host host_at) elaborated).1 has) [
+      elim ((laws.entries g.types uses (with_setters_placed host) done e stands.uses (placed_in_order g stands into host host_at) elaborated).1 has) [
         | inl stays ↦ stood_in true f' e (placed_in host.exports e stays) held
         | inr made ↦ absurd (added_named made.1 f' (ap (λ (d : Entry). item_interface d.1) (sym made.2) ∙ held) (exported_named g stands into host host_at made.1 made.3) unnamed)
       ]

@@ -49,12 +49,12 @@ module _ (a : Addition) (valid : IsValid a.graph) (shaped : IsShaped a.unresolve
 
 pub included_are_there : IncludedAreThere
 included_are_there a k j valid shaped reached at include is =
-    let e : ℕ × World = (at.place, at.world) in
+    let e : ℕ × World = (at.id, at.world) in
     let before = slice_get_within (own_worlds a) k e at.is in
     let are = grown a k (omega arith) in
     let long = ap length are.worlds_are in
     let many = are.many in
     let within = included_within a valid shaped reached.has_image k e include at.is (contained_at (active_includes a at.world) j include is) in
     let there = get_at (with_worlds a k).worlds (remapped_world a include.id) (omega (arith, within, long, many, length-append a.graph.worlds are.done)) in
-    let more = begun_more a at.place at.world (take j (active_includes a at.world)) (with_worlds a k) in
+    let more = begun_more a at.id at.world (take j (active_includes a at.world)) (with_worlds a k) in
     (there.0, ap (λ (worlds : List World). slice_get worlds (remapped_world a include.id)) more.worlds_are ∙ there.1)

@@ -28,7 +28,7 @@ use Rattle.wit_link_spec.specs.facts.ApartFacts.{KeyIsActive, keys_apart}
 use Rattle.wit_link_spec.specs.facts.ClosedCut.{closed_part}
 use Rattle.wit_link_spec.specs.Gates.{interface_is_active}
 use Rattle.wit_link_spec.specs.facts.OwnThingFacts.{own_world_from}
-use Rattle.wit_link_spec.specs.Pushed.{with_placed}
+use Rattle.wit_link_spec.specs.Pushed.{with_setters_placed}
 use Rattle.wit_link_spec.specs.facts.RankFacts.{selected_with_index-at}
 use Rattle.wit_link_spec.specs.Reasons.{IsResolved}
 use Rattle.wit_link_laws.specs.facts.NamedAliases.{aliases_named, interface_within, named_goes}
@@ -44,7 +44,7 @@ cut a whole = cut_world (part a) whole
 
 -- world w of the package, as it is listed behind the graph before it is elaborated
 abbrev pub listed_own : Addition → ℕ → World → World
-listed_own a w whole = with_placed (world_image (addition_maps a) w (cut a whole))
+listed_own a w whole = with_setters_placed (world_image (addition_maps a) w (cut a whole))
 
 -- world w of the package is active
 pub record IsActiveWorld (a : Addition) (w : ℕ) (whole : World) : Type 0 where
@@ -175,8 +175,8 @@ module _ (a : Addition) (valid : IsValid a.graph) (shaped : IsShaped a.unresolve
 
   -- the keys and ids of each world that is active are in order before it is elaborated
   pub listed_worlds : (k : ℕ) (e : ℕ × World) → slice_get (own_worlds a) k ≡ Some e
-      → HasSoundEntries types (length interfaces) (with_placed (world_image (addition_maps a) e.0 e.1)).imports (with_placed (world_image (addition_maps a) e.0 e.1)).exports
+      → HasSoundEntries types (length interfaces) (with_setters_placed (world_image (addition_maps a) e.0 e.1)).imports (with_setters_placed (world_image (addition_maps a) e.0 e.1)).exports
   listed_worlds k e at =
       let is = own_world_from a k e at in
-      subst (λ (world : World). HasSoundEntries types (length interfaces) (with_placed (world_image (addition_maps a) e.0 world)).imports (with_placed (world_image (addition_maps a) e.0 world)).exports) is.is
+      subst (λ (world : World). HasSoundEntries types (length interfaces) (with_setters_placed (world_image (addition_maps a) e.0 world)).imports (with_setters_placed (world_image (addition_maps a) e.0 world)).exports) is.is
       (is_listed e.0 is.world (record { there = is.there; takes = is.own }))

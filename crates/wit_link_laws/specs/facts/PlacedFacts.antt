@@ -15,7 +15,7 @@ use Rattle.wit_graph_theory.specs.facts.CutIsGood.{distinct_kept}
 use Rattle.wit_graph_theory.specs.facts.ListFacts.{contained_at, from_map, place_of, same_at}
 use Rattle.wit_graph_theory.specs.facts.PackagesAcyclic.{numbered_from, numbered_into}
 use Rattle.wit_link_laws.specs.facts.KeysApart.{joined_apart}
-use Rattle.wit_labels.specs.Setters.{after, indexed_entries, is_under, later_getter, placed, waiting_setters, wanted_getter}
+use Rattle.wit_labels.specs.Setters.{after, indexed_entries, is_under, later_getter, setters_placed, waiting_setters, wanted_getter}
 
 -- ---- keys of lists joined end to end
 
@@ -133,7 +133,7 @@ module _ (es : List Entry) where
       let one : home s ≡ home t = ap (λ (r : Placed). home r) (one_place s t a.0 b.0 same) in
       places_apart i j p q first second (sym a.1 ∙ one ∙ b.1))
 
-  tagged : placed es ≡ map (λ (s : Placed). s.1) (flat_map block (indexed_entries es))
+  tagged : setters_placed es ≡ map (λ (s : Placed). s.1) (flat_map block (indexed_entries es))
   tagged = flat_tagged (λ (p : Placed). (if is_some (later_getter es p.0 p.1) then [] else p.1 ∷ []) ++ waiting_setters es p.0) block (λ (s : Placed). s.1) each (indexed_entries es)
     where
       of_own : (b : Bool) (p : Placed) → (if b then [] else p.1 ∷ []) ≡ map (λ (s : Placed). s.1) (if b then [] else p ∷ [])
@@ -144,16 +144,16 @@ module _ (es : List Entry) where
       each p = ap (λ (l : List Entry). l ++ waiting_setters es p.0) (of_own (is_some (later_getter es p.0 p.1)) p) ∙ sym (map-append (λ (s : Placed). s.1) (own p) (waits p.0))
 
   -- what stands there stood there
-  pub placed_in : (e : Entry) → Contains (placed es) e → Contains es e
+  pub placed_in : (e : Entry) → Contains (setters_placed es) e → Contains es e
   placed_in e has =
-      let place = place_of (placed es) e has in
+      let place = place_of (setters_placed es) e has in
       let from = from_map (λ (s : Placed). s.1) (flat_map block (indexed_entries es)) place.0 e (subst (λ (l : List Entry). slice_get l place.0 ≡ Some e) tagged place.1) in
       let part = Contains-flat_map_cases block (indexed_entries es) from.0 (contained_at (flat_map block (indexed_entries es)) place.0 from.0 from.1) in
       let is = numbered from.0 (in_block part.0 from.0 part.1.0 part.1.1).0 in
       subst (Contains es) from.2 (contained_at es from.0.0 from.0.1 is)
 
   -- what is no setter stays
-  pub placed_into : (e : Entry) → Contains es e → wanted_getter e.0 e.1 ≡ None → Contains (placed es) e
+  pub placed_into : (e : Entry) → Contains es e → wanted_getter e.0 e.1 ≡ None → Contains (setters_placed es) e
   placed_into e has none =
       let place = place_of es e has in
       let at = contained_at (indexed_entries es) place.0 (0 + place.0, e) (numbered_into 0 es place.0 e place.1) in
@@ -163,7 +163,7 @@ module _ (es : List Entry) where
       (subst (λ (o : Option ℕ). Contains (if is_some o then [] else e ∷ []) e) (sym free) (Contains-here e [])))
 
   -- keys that differed differ
-  pub placed_distinct : HasDistinctKeys es → HasDistinctKeys (placed es)
+  pub placed_distinct : HasDistinctKeys es → HasDistinctKeys (setters_placed es)
   placed_distinct distinct i j e f first second same =
       let all = flat_map block (indexed_entries es) in
       let a = from_map (λ (s : Placed). s.1) all i e (subst (λ (l : List Entry). slice_get l i ≡ Some e) tagged first) in

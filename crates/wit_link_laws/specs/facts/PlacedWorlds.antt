@@ -21,8 +21,8 @@ use Rattle.wit_elaboration.specs.facts.SoundFacts.{HasSoundEntries-of_world, lis
 use Rattle.wit_graph_data.specs.declared.graph.Graph.{Graph}
 use Rattle.wit_graph_theory.specs.facts.ListFacts.{contained_at, place_of}
 use Rattle.wit_graph_theory.specs.facts.NamedUses.{IsUsed_named}
-use Rattle.wit_link_spec.specs.Pushed.{with_placed}
-use Rattle.wit_labels.specs.Setters.{placed}
+use Rattle.wit_link_spec.specs.Pushed.{with_setters_placed}
+use Rattle.wit_labels.specs.Setters.{setters_placed}
 use Rattle.wit_link_laws.specs.facts.PartiallyLinked.{IsSoundSoFar}
 use Rattle.wit_link_laws.specs.facts.PlacedFacts.{placed_distinct, placed_in}
 
@@ -38,35 +38,35 @@ module _ (g : Graph) (stands : IsSoundSoFar g) where
   aliases_named i def at = (stands.items.types i def at).alias
 
   module _ (w : ℕ) (world : World) (at : slice_get g.worlds w ≡ Some world) where
-    placed_imports : ImportsAreAllowed g.interfaces g.types w (with_placed world)
+    placed_imports : ImportsAreAllowed g.interfaces g.types w (with_setters_placed world)
     placed_imports i e on =
-        let place = place_of world.imports e (placed_in world.imports e (contained_at (placed world.imports) i e on)) in
+        let place = place_of world.imports e (placed_in world.imports e (contained_at (setters_placed world.imports) i e on)) in
         ((stands.items.worlds w world at).imports place.0 e place.1).is
 
-    placed_exports : ExportsAreAllowed g.interfaces (with_placed world)
+    placed_exports : ExportsAreAllowed g.interfaces (with_setters_placed world)
     placed_exports i e on =
-        let place = place_of world.exports e (placed_in world.exports e (contained_at (placed world.exports) i e on)) in
+        let place = place_of world.exports e (placed_in world.exports e (contained_at (setters_placed world.exports) i e on)) in
         ((stands.items.worlds w world at).exports place.0 e place.1).is
 
     -- keys and ids are in order, over the interfaces and over the rows of their uses
-    pub placed_listed : HasSoundEntries g.types (length g.interfaces) (placed world.imports) (placed world.exports)
-    placed_listed = HasSoundEntries-of_world g.types g.interfaces aliases_named w (with_placed world) placed_imports placed_exports
+    pub placed_listed : HasSoundEntries g.types (length g.interfaces) (setters_placed world.imports) (setters_placed world.exports)
+    placed_listed = HasSoundEntries-of_world g.types g.interfaces aliases_named w (with_setters_placed world) placed_imports placed_exports
 
-    pub placed_in_order : HasSoundEntries g.types (length (uses_of g.types g.interfaces)) (placed world.imports) (placed world.exports)
-    placed_in_order = lists_in_order g.types g.interfaces aliases_named w (with_placed world) placed_imports placed_exports
+    pub placed_in_order : HasSoundEntries g.types (length (uses_of g.types g.interfaces)) (setters_placed world.imports) (setters_placed world.exports)
+    placed_in_order = lists_in_order g.types g.interfaces aliases_named w (with_setters_placed world) placed_imports placed_exports
 
-    pub imports_distinct : HasDistinctKeys (placed world.imports)
+    pub imports_distinct : HasDistinctKeys (setters_placed world.imports)
     imports_distinct = placed_distinct world.imports (stands.items.worlds w world at).distinct_imports
 
-    pub exports_distinct : HasDistinctKeys (placed world.exports)
+    pub exports_distinct : HasDistinctKeys (setters_placed world.exports)
     exports_distinct = placed_distinct world.exports (stands.items.worlds w world at).distinct_exports
 
     -- what its elaboration adds has a name
-    pub used_named : (j : ℕ) → IsUsed g.types (uses_of g.types g.interfaces) (placed world.imports) j → IsNamed g.interfaces j
-    used_named j used = IsUsed_named g.types g.interfaces aliases_named (placed world.imports) j used
+    pub used_named : (j : ℕ) → IsUsed g.types (uses_of g.types g.interfaces) (setters_placed world.imports) j → IsNamed g.interfaces j
+    used_named j used = IsUsed_named g.types g.interfaces aliases_named (setters_placed world.imports) j used
 
-    pub exported_named : (j : ℕ) → Contains (exported_keys (placed world.exports)) j → IsNamed g.interfaces j
+    pub exported_named : (j : ℕ) → Contains (exported_keys (setters_placed world.exports)) j → IsNamed g.interfaces j
     exported_named j has =
-        let part = Contains-flat_map_cases (λ (e : Entry). key_interface e.0) (placed world.exports) j has in
-        let place = place_of (placed world.exports) part.0 part.1.0 in
+        let part = Contains-flat_map_cases (λ (e : Entry). key_interface e.0) (setters_placed world.exports) j has in
+        let place = place_of (setters_placed world.exports) part.0 part.1.0 in
         named_export g.interfaces part.0.0 part.0.1 j part.1.1 (placed_exports place.0 part.0 place.1)

@@ -15,10 +15,10 @@ use Rattle.wit_graph_data.specs.declared.graph.Graph.{Graph}
 use Rattle.wit_graph_theory.specs.facts.LawsOfElaboration.{LawsOfElaboration}
 use Rattle.wit_link_spec.specs.Addition.{Addition, remapped_world}
 use Rattle.wit_link_spec.specs.Include.{PartiallyLinked, with_world_included}
-use Rattle.wit_link_spec.specs.Pushed.{unfinished_world, with_include, with_placed}
+use Rattle.wit_link_spec.specs.Pushed.{unfinished_world, with_include, with_setters_placed}
 use Rattle.wit_link_spec.specs.facts.Linked.{linked_world}
 use Rattle.wit_link_spec.specs.WorldReasons.{IsShadowed, renamed_key}
-use Rattle.wit_labels.specs.Setters.{placed}
+use Rattle.wit_labels.specs.Setters.{setters_placed}
 use Rattle.wit_link_laws.specs.facts.ListedStage.{listed_images}
 use Rattle.wit_link_laws.specs.facts.CopiesCarried.{IsUnshadowed}
 use Rattle.wit_link_laws.specs.facts.FinishedStands.{finished_stands}
@@ -96,11 +96,11 @@ module _ (a : Addition) (before : List World) (k : ℕ) (e : ℕ × World) (b : 
 
 module _ (laws : LawsOfElaboration) (a : Addition) (before : List World) (k : ℕ) (e : ℕ × World) (b : PartiallyLinked) where
   -- it is the elaboration of what is begun
-  pub finished_is : (HasTransitiveConflict (graph_uses b.graph) (placed b.lists.exports) → ⊥) → Elaborated b.graph.types (graph_uses b.graph) (with_placed (unfinished_world a e.0 e.1 b.lists)) (linked_world a e.0 e.1 b)
+  pub finished_is : (HasTransitiveConflict (graph_uses b.graph) (setters_placed b.lists.exports) → ⊥) → Elaborated b.graph.types (graph_uses b.graph) (with_setters_placed (unfinished_world a e.0 e.1 b.lists)) (linked_world a e.0 e.1 b)
   finished_is none = record { no_conflict = none; world_is = refl }
 
   -- and the next stage stands
-  pub finish_step : IsSoundSoFar (staged a before k e b) → (HasTransitiveConflict (graph_uses b.graph) (placed b.lists.exports) → ⊥)
+  pub finish_step : IsSoundSoFar (staged a before k e b) → (HasTransitiveConflict (graph_uses b.graph) (setters_placed b.lists.exports) → ⊥)
       → IsSoundSoFar (record b.graph { worlds = before ++ linked_world a e.0 e.1 b ∷ drop (suc k) (listed_images a) })
   finish_step stands none =
       let later = drop (suc k) (listed_images a) in

@@ -24,12 +24,12 @@ use Rattle.wit_graph_theory.specs.facts.LawsOfElaboration.{LawsOfElaboration}
 use Rattle.wit_graph_theory.specs.facts.ListFacts.{at_map, get_at}
 use Rattle.wit_link_spec.specs.Addition.{Addition, active_includes, addition_maps, own_worlds, remapped_world}
 use Rattle.wit_link_spec.specs.Include.{IsListCalled, PartiallyLinked, lists_of}
-use Rattle.wit_link_spec.specs.Pushed.{unfinished_world, with_all_includes, with_include, with_includes, with_parts, with_placed, with_world, with_worlds}
+use Rattle.wit_link_spec.specs.Pushed.{unfinished_world, with_all_includes, with_include, with_includes, with_parts, with_setters_placed, with_world, with_worlds}
 use Rattle.wit_link_spec.specs.facts.Linked.{linked_world}
 use Rattle.wit_link_spec.specs.Reasons.{IsResolved}
 use Rattle.wit_link_spec.specs.WorldReasons.{conflict_4, IsShadowed, renamed_key, shadowing_7, IncludeIsAccepted, WorldIsAccepted, of_finish}
 use Rattle.wit_link_spec.specs.facts.WorldCauseFacts.{includes_accepted}
-use Rattle.wit_labels.specs.Setters.{placed}
+use Rattle.wit_labels.specs.Setters.{setters_placed}
 use Rattle.wit_link_laws.specs.facts.ListedStage.{listed_images}
 use Rattle.wit_link_laws.specs.facts.StageGrows.{HasMore, begun_more}
 use Rattle.wit_link_laws.specs.facts.StageSteps.{IsFree, finish_step, finished_is, include_step, staged}
@@ -92,7 +92,7 @@ module _ (a : Addition) where
         none_shadowed : (word : List ℕ) (current brought : List Entry) (n : List ℕ) → IsListCalled word (begun_at j).lists current × IsListCalled word (lists_of old) brought
             → IsShadowed current (map (λ (d : Entry). renamed_key include.names d.0) brought) n → ⊥
         none_shadowed word current brought n list shadowed = fine _ (record {
-          at = record { at = record { place = e.0; world = e.1; is = at }; include = include; is = is; before = begun_at j; before_is = refl; old = old; old_is = there };
+          at = record { at = record { id = e.0; world = e.1; is = at }; include = include; is = is; before = begun_at j; before_is = refl; old = old; old_is = there };
           cause = shadowing_7 word n (record { current = current; brought = brought; list = list; shadowed = shadowed });
         })
 
@@ -138,14 +138,14 @@ module _ (a : Addition) where
       includes_fine : (j : ℕ) → IncludeIsAccepted a k j
       includes_fine = includes_accepted a k image fine
 
-      no_conflict : HasTransitiveConflict (graph_uses whole.graph) (placed whole.lists.exports) → ⊥
+      no_conflict : HasTransitiveConflict (graph_uses whole.graph) (setters_placed whole.lists.exports) → ⊥
       no_conflict conflict =
           let so_far = whole_stands stands includes_fine in
           let there = slice_get-behind before (drop (suc k) (listed_images a)) (unfinished_world a e.0 e.1 whole.lists) in
-          let refused = (laws.refused whole.graph.types (graph_uses whole.graph) (placed whole.lists.imports) (placed whole.lists.exports) so_far.uses
+          let refused = (laws.refused whole.graph.types (graph_uses whole.graph) (setters_placed whole.lists.imports) (setters_placed whole.lists.exports) so_far.uses
           (placed_in_order (staged a before k e whole) so_far (length before) (unfinished_world a e.0 e.1 whole.lists) there)).0 conflict in
           fine _ (of_finish _ image includes_fine (record {
-            at = record { place = e.0; world = e.1; is = at };
+            at = record { id = e.0; world = e.1; is = at };
             whole = whole;
             whole_is = refl;
             cause = conflict_4 (key_text whole.graph.packages whole.graph.interfaces refused.0) (record { conflict = conflict; name_is = (refused.0, refused.1, refl) });
@@ -176,7 +176,7 @@ module _ (a : Addition) where
           new_one : Elaborated whole.graph.types (graph_uses whole.graph) (linked_world a e.0 e.1 whole) (linked_world a e.0 e.1 whole)
           new_one =
               let there = slice_get-behind before (drop (suc k) (listed_images a)) (unfinished_world a e.0 e.1 whole.lists) in
-              laws.once whole.graph.types (graph_uses whole.graph) (with_placed (unfinished_world a e.0 e.1 whole.lists)) (linked_world a e.0 e.1 whole) so_far.uses
+              laws.once whole.graph.types (graph_uses whole.graph) (with_setters_placed (unfinished_world a e.0 e.1 whole.lists)) (linked_world a e.0 e.1 whole) so_far.uses
               (placed_in_order (staged a before k e whole) so_far (length before) (unfinished_world a e.0 e.1 whole.lists) there) (finished_is laws a before k e whole no_conflict)
 
           all : Each (λ (world : World). Elaborated whole.graph.types (graph_uses whole.graph) world world) (before ++ linked_world a e.0 e.1 whole ∷ [])

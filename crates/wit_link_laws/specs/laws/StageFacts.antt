@@ -20,7 +20,7 @@ use Rattle.wit_link_spec.specs.Include.{PartiallyLinked, is_owned_within, named_
 use Rattle.wit_link_spec.specs.Pushed.{pushed, with_all_includes, with_includes, with_worlds}
 use Rattle.wit_link_spec.specs.Reasons.{HasPackage, IsResolved}
 use Rattle.wit_link_spec.specs.WorldReasons.{AtInclude, AtWorld, IncludeIsAccepted}
-use Rattle.wit_labels.specs.Setters.{placed}
+use Rattle.wit_labels.specs.Setters.{setters_placed}
 
 -- a partially linked graph: no interface uses itself, no type refers to itself, ids are in range, and interfaces list and use
 -- types of their own
@@ -46,17 +46,17 @@ IncludesCanBe = (a : Addition) (k j : ℕ) → IsValid a.graph → IsShaped a.un
 -- the world that it names is there: one of the graph, or one of the package that is finished
 abbrev pub IncludedAreThere : Type 0
 IncludedAreThere = (a : Addition) (k j : ℕ) → IsValid a.graph → IsShaped a.unresolved → IncludeIsReached a k j → (at : AtWorld a k) (include : WorldInclude) → slice_get (active_includes a at.world) j ≡ Some include
-    → (old : World) × (slice_get (with_includes a at.place at.world (take j (active_includes a at.world)) (with_worlds a k)).graph.worlds (remapped_world a include.id) ≡ Some old)
+    → (old : World) × (slice_get (with_includes a at.id at.world (take j (active_includes a at.world)) (with_worlds a k)).graph.worlds (remapped_world a include.id) ≡ Some old)
 
 -- what is begun of a world can be finished: the graph is partially linked, and the keys and ids of the lists are in order
 pub record CanBeLinked (b : PartiallyLinked) : Type 0 where
   pub graph : IsPartiallyLinked b.graph
-  pub listed : HasSoundEntries b.graph.types (length b.graph.interfaces) (placed b.lists.imports) (placed b.lists.exports)
+  pub listed : HasSoundEntries b.graph.types (length b.graph.interfaces) (setters_placed b.lists.imports) (setters_placed b.lists.exports)
 
 -- before each world that is reached is finished, where its includes are accepted
 abbrev pub WorldsCanBe : Type 0
 WorldsCanBe = (a : Addition) (k : ℕ) → IsValid a.graph → IsShaped a.unresolved → IsResolved a → IsReached a k → ((j : ℕ) → IncludeIsAccepted a k j) → (at : AtWorld a k)
-    → CanBeLinked (with_all_includes a at.place at.world (with_worlds a k))
+    → CanBeLinked (with_all_includes a at.id at.world (with_worlds a k))
 
 -- a valid graph to which a package is added is valid, where the package has its shape and an image in the graph, the
 -- graph doesn't have it yet, and each of its worlds is accepted

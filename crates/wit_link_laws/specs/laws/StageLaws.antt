@@ -40,17 +40,17 @@ module _ (a : Addition) (before : List World) (k : ℕ) (e : ℕ × World) (b : 
 
 pub worlds_can_be : LawsOfElaboration → WorldsCanBe
 worlds_can_be laws a k valid shaped image reached fine at =
-    let e : ℕ × World = (at.place, at.world) in
+    let e : ℕ × World = (at.id, at.world) in
     let below = slice_get_within (own_worlds a) k e at.is in
-    can_finish a (with_worlds a k).worlds k e (with_all_includes a at.place at.world (with_worlds a k)) (whole_stands a k e at.is (stage_stands laws a valid shaped image k (omega arith) reached) fine)
+    can_finish a (with_worlds a k).worlds k e (with_all_includes a at.id at.world (with_worlds a k)) (whole_stands a k e at.is (stage_stands laws a valid shaped image k (omega arith) reached) fine)
 
 pub includes_can_be : LawsOfElaboration → IncludesCanBe
 includes_can_be laws a k j valid shaped reached at =
-    let e : ℕ × World = (at.at.place, at.at.world) in
+    let e : ℕ × World = (at.at.id, at.at.world) in
     let includes = active_includes a at.at.world in
-    let b = with_includes a at.at.place at.at.world (take j includes) (with_worlds a k) in
+    let b = with_includes a at.at.id at.at.world (take j includes) (with_worlds a k) in
     let below = slice_get_within (own_worlds a) k e at.at.is in
-    let more = begun_more a at.at.place at.at.world (take j includes) (with_worlds a k) in
+    let more = begun_more a at.at.id at.at.world (take j includes) (with_worlds a k) in
     let there : slice_get b.graph.worlds (remapped_world a at.include.id) ≡ Some at.old = subst (λ (x : PartiallyLinked). slice_get x.graph.worlds (remapped_world a at.include.id) ≡ Some at.old) at.before_is at.old_is in
     let in_front : slice_get (with_worlds a k).worlds (remapped_world a at.include.id) ≡ Some at.old = subst (λ (worlds : List World). slice_get worlds (remapped_world a at.include.id) ≡ Some at.old) more.worlds_are there in
     subst (λ (x : PartiallyLinked). CanInclude x.graph (remapped_world a at.include.id) at.old) (sym at.before_is)

@@ -58,7 +58,7 @@ IsRemap s functions r = IsRemapOf s.graph_types.now s.types.now s.ids.now functi
 
 -- what values are remapped to, and their `own`s
 abbrev pub values_in : ValueRemap → Values
-values_in r = record { places = map (value_id r) (range_with_len 0 r.count); owns = owns r }
+values_in r = record { new_ids = map (value_id r) (range_with_len 0 r.count); owns = owns r }
 
 -- ---- ways along aliases
 

@@ -5,13 +5,13 @@ use Rattle.wit_data.specs.declared.world.WorldInclude.{WorldInclude}
 use Rattle.wit_link_spec.specs.Addition.{Addition, active_includes}
 use Rattle.wit_link_spec.specs.Include.{PartiallyLinked}
 use Rattle.wit_link_spec.specs.Cause.{IsReached}
-use Rattle.wit_link_spec.specs.Pushed.{finished_world, placed_include, unfinished_world}
+use Rattle.wit_link_spec.specs.Pushed.{finished_world, updated_include, unfinished_world}
 use Rattle.wit_link_spec.specs.Reasons.{IsResolved}
 use Rattle.wit_link_spec.specs.WorldReasons.{IncludeIsAccepted}
 
 -- the active includes of a world, with the ids and the spans that they have in the graph
-abbrev pub placed_includes : Addition → World → List WorldInclude
-placed_includes a world = map (placed_include a) (active_includes a world)
+abbrev pub updated_includes : Addition → World → List WorldInclude
+updated_includes a world = map (updated_include a) (active_includes a world)
 
 -- world w of the package behind its includes, finished
 abbrev pub linked_world : Addition → ℕ → World → PartiallyLinked → World

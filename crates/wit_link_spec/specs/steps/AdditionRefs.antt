@@ -32,6 +32,6 @@ new_ids_of a = record {
 -- what its types are remapped to at value positions, and the `own`s that come for that
 abbrev pub values_of : Addition → Values
 values_of a = record {
-  places = map (value_id (remap_of_addition a)) (range_with_len 0 (length a.unresolved.types));
+  new_ids = map (value_id (remap_of_addition a)) (range_with_len 0 (length a.unresolved.types));
   owns = owns (remap_of_addition a);
 }

@@ -100,7 +100,7 @@ OwnerWithin interfaces worlds owner.None = Unit {0}
 
 -- the entries of a table whose things move, with what these are remapped to
 abbrev pub moved_names : List (Option ℕ) → List (Option ℕ) → List (List ℕ × ℕ) → List (List ℕ × ℕ)
-moved_names found places from = map (λ (e : List ℕ × ℕ). (e.0, goes places e.1)) (filter (λ (e : List ℕ × ℕ). moves found e.1) from)
+moved_names found new_ids from = map (λ (e : List ℕ × ℕ). (e.0, goes new_ids e.1)) (filter (λ (e : List ℕ × ℕ). moves found e.1) from)
 
 -- ---- types
 

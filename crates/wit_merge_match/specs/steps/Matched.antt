@@ -79,12 +79,12 @@ abbrev pub moves : List (Option ℕ) → ℕ → Bool
 moves found i = not (is_some (get_or found i None))
 
 -- what a thing is remapped to by what is found of all: to that, or to the next id from the first one on
-abbrev pub place_from : List (Option ℕ) → ℕ → ℕ → ℕ
-place_from found first i = unwrap_or (get_or found i None) (first + rank (moves found) i)
+abbrev pub new_id_from : List (Option ℕ) → ℕ → ℕ → ℕ
+new_id_from found first i = unwrap_or (get_or found i None) (first + rank (moves found) i)
 
 -- where all things go in a merge
 abbrev pub merge_remap_of : GraphMerge → MergeRemap
 merge_remap_of m = record {
-  places = record { types = (moved.merge_remap m).types; interfaces = (moved.merge_remap m).interfaces; worlds = (moved.merge_remap m).worlds };
+  new_ids = record { types = (moved.merge_remap m).types; interfaces = (moved.merge_remap m).interfaces; worlds = (moved.merge_remap m).worlds };
   packages = (moved.merge_remap m).packages;
 }

@@ -28,13 +28,13 @@ use Rattle.wit_link_spec.specs.declared.addition.NewIds.{NewIds}
 use Rattle.wit_link_spec.specs.steps.NewThings.{is_new}
 use Rattle.wit_remap.specs.steps.Parts.{kept_of}
 use Rattle.wit_remap.specs.declared.part.Part.{Part}
-use Rattle.wit_remap.specs.declared.worlds.PlacedWorld.{PlacedWorld}
+use Rattle.wit_remap.specs.declared.worlds.UpdatedWorld.{UpdatedWorld}
 
--- the place still ends within the last position
+-- the span, moved, still ends within the last position
 abbrev pub Fits : ℕ → OptionalSpan → Type 0
-Fits offset place = end_of place + offset < 2 ^ 32
+Fits offset span = end_of span + offset < 2 ^ 32
 
--- of any condition on places: those of the parts of a kind meet it
+-- of any condition on spans: those of the parts of a kind meet it
 abbrev pub KindFits : (OptionalSpan → Type 0) → TypeDefKind → Type 0
 KindFits P k = Each P (kind_spans k)
 
@@ -80,7 +80,7 @@ pub record PartsFit (offset : ℕ) (types : List TypeDef) (interfaces : List Int
   pub of_interfaces : Each (InterfaceFits (Fits offset)) interfaces
   pub of_worlds : Each (WholeWorldFits offset) worlds
 
--- The parts of a package at the ends of a graph, its tables and its worlds at their places.
+-- The parts of a package at the ends of a graph, its tables and its worlds under their new ids.
 
 -- the name of an interface that has one, with its id
 abbrev pub named_at : Maps → ℕ × Interface → Option (List ℕ × ℕ)
@@ -98,15 +98,15 @@ world_at m e = (e.1.name, m.worlds e.0)
 abbrev pub worlds_at : Maps → List (ℕ × World) → List (List ℕ × ℕ)
 worlds_at m worlds = map (world_at m) worlds
 
--- the keys of what is active still differ at their places
+-- the keys of what is active still differ with their new ids
 pub record HasKeysApart (m : Maps) (kept : KeptIds) (world : World) : Type 0 where
   pub imports : IsDistinct same_key (keys_of (map (entry_image m 0) (filter (λ (e : Entry). kept.items e.1) world.imports)))
   pub exports : IsDistinct same_key (keys_of (map (entry_image m 0) (filter (λ (e : Entry). kept.items e.1) world.exports)))
 
--- a world at its place, with what it includes
-abbrev pub placed_world : Maps → Part → ℕ × World → PlacedWorld
-placed_world m part e = record {
-  place = e.0;
+-- a world with new ids and spans, and what it includes
+abbrev pub updated_world : Maps → Part → ℕ × World → UpdatedWorld
+updated_world m part e = record {
+  id = e.0;
   world = world_image m e.0 (cut_world (kept_of part) e.1);
   includes = filter (include_is_active part.features.now) e.1.includes;
 }
@@ -115,24 +115,24 @@ placed_world m part e = record {
 abbrev pub addition : Part → Graph → UnresolvedPackage → ℕ → Addition
 addition part g u offset = record { features = part.features.now; graph = g; unresolved = u; offset = offset }
 
--- the worlds of its own of a package, at their places, each with the includes that are active
-abbrev pub added_world : Addition → ℕ × World → PlacedWorld
-added_world a e = record { place = e.0; world = world_image (addition_maps a) e.0 e.1; includes = active_includes a e.1 }
+-- the worlds of its own of a package, with new ids and spans, each with the includes that are active
+abbrev pub added_world : Addition → ℕ × World → UpdatedWorld
+added_world a e = record { id = e.0; world = world_image (addition_maps a) e.0 e.1; includes = active_includes a e.1 }
 
-abbrev pub added_worlds : Addition → List PlacedWorld
+abbrev pub added_worlds : Addition → List UpdatedWorld
 added_worlds a = map (added_world a) (own_worlds a)
 
 -- ---- the same by what ids are remapped to, whatever the addition
 
--- what can be moved to the ends of a graph: its spans fit, and names and keys differ at their places
-pub record CanMoveParts (places : NewIds) (m : Maps) (kept : KeptIds) (g : Graph) (u : UnresolvedPackage) : Type 0 where
+-- what can be moved to the ends of a graph: its spans fit, and names and keys differ with their new ids
+pub record CanMoveParts (new_ids : NewIds) (m : Maps) (kept : KeptIds) (g : Graph) (u : UnresolvedPackage) : Type 0 where
   pub new : lookup (same_package u.name) g.package_names ≡ None
   pub types : Each (TypeFits (Fits m.offset)) u.types
   pub interfaces : Each (InterfaceFits (Fits m.offset)) u.interfaces
   pub worlds : Each (WorldFits (Fits m.offset)) u.worlds
-  pub interface_names : IsDistinct bytes_eq (keys_of (interfaces_at m (selected_with_index (is_new (length g.interfaces) places.interfaces) u.interfaces)))
-  pub world_names : IsDistinct bytes_eq (keys_of (worlds_at m (selected_with_index (is_new (length g.worlds) places.worlds) u.worlds)))
-  pub keys : Each (λ (e : ℕ × World). HasKeysApart m kept e.1) (selected_with_index (is_new (length g.worlds) places.worlds) u.worlds)
+  pub interface_names : IsDistinct bytes_eq (keys_of (interfaces_at m (selected_with_index (is_new (length g.interfaces) new_ids.interfaces) u.interfaces)))
+  pub world_names : IsDistinct bytes_eq (keys_of (worlds_at m (selected_with_index (is_new (length g.worlds) new_ids.worlds) u.worlds)))
+  pub keys : Each (λ (e : ℕ × World). HasKeysApart m kept e.1) (selected_with_index (is_new (length g.worlds) new_ids.worlds) u.worlds)
 
 -- the package with the tables of what goes to new ids
 abbrev pub moved_package : Maps → UnresolvedPackage → (ℕ → Bool) → (ℕ → Bool) → Package
@@ -145,18 +145,18 @@ moved_package m u own_interface own_world = record {
 
 -- the graph with the parts that go to new ids
 abbrev pub moved_parts : NewIds → Maps → KeptIds → List TypeDef → UnresolvedPackage → Graph → Graph
-moved_parts places m kept owns u g = record {
-  types = g.types ++ (map (type_image m) (selected (is_new (length g.types) places.types) u.types) ++ owns);
-  interfaces = g.interfaces ++ map (interface_image m) (map (cut_interface kept) (selected (is_new (length g.interfaces) places.interfaces) u.interfaces));
+moved_parts new_ids m kept owns u g = record {
+  types = g.types ++ (map (type_image m) (selected (is_new (length g.types) new_ids.types) u.types) ++ owns);
+  interfaces = g.interfaces ++ map (interface_image m) (map (cut_interface kept) (selected (is_new (length g.interfaces) new_ids.interfaces) u.interfaces));
   worlds = g.worlds;
-  packages = g.packages ++ moved_package m u (is_new (length g.interfaces) places.interfaces) (is_new (length g.worlds) places.worlds) ∷ [];
+  packages = g.packages ++ moved_package m u (is_new (length g.interfaces) new_ids.interfaces) (is_new (length g.worlds) new_ids.worlds) ∷ [];
   package_names = g.package_names ++ (u.name, length g.packages) ∷ [];
 }
 
 -- the graph with its interfaces and the package, with a table of worlds
 abbrev pub with_interfaces : NewIds → Maps → KeptIds → UnresolvedPackage → List (List ℕ × ℕ) → Graph → Graph
-with_interfaces places m kept u worlds g =
-    let own = is_new (length g.interfaces) places.interfaces in
+with_interfaces new_ids m kept u worlds g =
+    let own = is_new (length g.interfaces) new_ids.interfaces in
     let home : Package = record { name = u.name; docs = u.docs; interfaces = interfaces_at m (selected_with_index own u.interfaces); worlds = worlds } in
     record g {
       interfaces = g.interfaces ++ map (interface_image m) (map (cut_interface kept) (selected own u.interfaces));

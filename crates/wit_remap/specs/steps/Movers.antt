@@ -10,17 +10,17 @@ id_or old None = old
 id_or old (Some None) = old
 id_or old (Some (Some new)) = new
 
--- what an id is remapped to by a list of places: one that isn't remapped stays
+-- what an id is remapped to by a list of new ids: one that isn't remapped stays
 abbrev pub goes : List (Option ℕ) → ℕ → ℕ
-goes places id = id_or id (slice_get places id)
+goes new_ids id = id_or id (slice_get new_ids id)
 
 -- the maps by such lists
 abbrev pub maps_with : NewIds → List ℕ → ℕ → ℕ → Maps
-maps_with places values home offset = record {
-  types = goes places.types;
+maps_with new_ids values home offset = record {
+  types = goes new_ids.types;
   values = λ t. unwrap_or (slice_get values t) t;
-  interfaces = goes places.interfaces;
-  worlds = goes places.worlds;
+  interfaces = goes new_ids.interfaces;
+  worlds = goes new_ids.worlds;
   home = λ p. Some home;
   labels = λ w name. name;
   offset = offset;
@@ -28,4 +28,4 @@ maps_with places values home offset = record {
 
 -- the maps that a mover stands for
 abbrev pub maps_of : Mover → Maps
-maps_of m = maps_with m.places.now m.values.now m.«package» m.offset
+maps_of m = maps_with m.new_ids.now m.values.now m.«package» m.offset

@@ -8,7 +8,7 @@ use Rattle.wit_link_spec.specs.Gates.{function_is_active, is_active}
 use Rattle.wit_link_spec.specs.declared.addition.Activity.{Activity}
 use Rattle.wit_remap.specs.declared.part.Part.{Part}
 
--- the flag at a place
+-- the flag at an index
 abbrev pub flag : List Bool → ℕ → Bool
 flag flags i = unwrap_or (slice_get flags i) false
 

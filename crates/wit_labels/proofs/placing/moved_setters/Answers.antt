@@ -1,4 +1,4 @@
-use Rattle.wit_labels.proofs.PlacingSteps.{getters-below, placing-below, placing-differ, placing-of, placing-once, placing-placed}
+use Rattle.wit_labels.proofs.PlacingSteps.{getters-below, placing-below, placing-differ, placing-of, placing-once, placing-setters_placed}
 use Rattle.wit_labels.proofs.placing.moved_setters.Goals as goal
 
 pub order_after_getters-requires : goal.order_after_getters-requires
@@ -26,7 +26,7 @@ table_of-requires c =
 pub returns : goal.returns
 returns c =
     let same =
-    placing-placed c.args.entries c.in_ok-items_of.field-0 c.in_ok-items.items c.as_slice.result.now
+    placing-setters_placed c.args.entries c.in_ok-items_of.field-0 c.in_ok-items.items c.as_slice.result.now
     (placing-of c.args.entries c.into_map-map.result.entries c.in_ok-items_of.field-0 c.in_ok-getters.getters c.in_ok-order.order c.as_slice.result.now
     c.into_map-map.ensures c.in_ok-getters.ensures c.in_ok-order.ensures c.in_ok-items_of.ensures c.as_slice.ensures)
     c.in_ok-items.ensures in

@@ -8,11 +8,11 @@ use Rattle.wit_link.proofs.WorldStages.{IsAdding}
 use Rattle.wit_link.proofs.adding.add_checked.Given as goal
 
 -- the worlds so far are added, and those to come
-abbrev pub invariant-loop-placed : goal.invariant-loop-placed
-invariant-loop-placed l = record {
+abbrev pub invariant-loop-updated : goal.invariant-loop-updated
+invariant-loop-updated l = record {
   adding : IsAdding (addition l.fn.features l.fn.graph l.fn.package l.fn.span_offset) l.yielded l.graph;
   uses : l.elaborator ≡ graph_uses l.graph;
   grown : Grown l.fn.graph l.graph;
   rows : Begins l.fn.elaborator l.elaborator;
-  left : l.yielded ++ into_iter_items l.placed-iterator ≡ ready_worlds (addition l.fn.features l.fn.graph l.fn.package l.fn.span_offset);
+  left : l.yielded ++ into_iter_items l.updated-iterator ≡ ready_worlds (addition l.fn.features l.fn.graph l.fn.package l.fn.span_offset);
 }

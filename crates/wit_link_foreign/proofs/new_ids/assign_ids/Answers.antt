@@ -11,7 +11,7 @@ loop-index-preserved g c =
     let active = c.args.active.now in
     let found = c.args.found.now in
     assigned-more active found c.loop-index.index c.loop-index.ids (assigned_ids c.args.first active found) c.loop-index.next c.loop-index.invariant c.at-is_active.result.now c.in_ok-there.there c.in_ok-assign_id.field-0
-    c.assign_id.new.next c.push.new.self c.at-is_active.ensures (c.at.ensures ∙ ap (λ (o : Option ℕ). Some o) (sym c.in_ok-there.ensures)) c.in_ok-assign_id.ensures.place c.in_ok-assign_id.ensures.next c.in_ok-push.ensures.ok
+    c.assign_id.new.next c.push.new.self c.at-is_active.ensures (c.at.ensures ∙ ap (λ (o : Option ℕ). Some o) (sym c.in_ok-there.ensures)) c.in_ok-assign_id.ensures.id c.in_ok-assign_id.ensures.next c.in_ok-push.ensures.ok
 
 pub returns : goal.returns
 returns g c =

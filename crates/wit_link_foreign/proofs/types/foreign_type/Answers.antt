@@ -25,7 +25,7 @@ returns-in_default-at c =
     ap (foreign_interface_id c.args.adding.now.graph.now c.args.adding.now.unresolved.now) (sym c.index.ensures)
     ∙ (sym (found_interface-at a (named_items c.args.adding.now.unresolved.now.foreign_deps) c.args.found.now c.requires.found c.index.result c.at.result.now c.at.ensures) ∙ c.in_default-at.is) in
     record {
-      place = sym (foreign_type_id-is a c.args.t c.at-def.result.now c.at-def.ensures c.in-Interface.owner c.in-Interface.is c.in-Some.name c.in-Some.is None home);
+      id = sym (foreign_type_id-is a c.args.t c.at-def.result.now c.at-def.ensures c.in-Interface.owner c.in-Interface.is c.in-Some.name c.in-Some.is None home);
       there = type-there a c.args.t c.at-def.result.now c.at-def.ensures c.in-Interface.owner c.in-Interface.is c.in-Some.name c.in-Some.is (λ i' active found absent. never i' (sym home ∙ found));
       cause = tt;
     }
@@ -60,7 +60,7 @@ returns c =
     ap (foreign_interface_id c.args.adding.now.graph.now c.args.adding.now.unresolved.now) (sym c.index.ensures)
     ∙ (sym (found_interface-at a (named_items c.args.adding.now.unresolved.now.foreign_deps) c.args.found.now c.requires.found c.index.result c.at.result.now c.at.ensures) ∙ c.in-Some-at.is) in
     record {
-      place = c.type_of-there.ensures ∙ sym (foreign_type_id-is a c.args.t c.at-def.result.now c.at-def.ensures c.in-Interface.owner c.in-Interface.is c.in-Some.name c.in-Some.is (Some c.in-Some-at.home) home);
+      id = c.type_of-there.ensures ∙ sym (foreign_type_id-is a c.args.t c.at-def.result.now c.at-def.ensures c.in-Interface.owner c.in-Interface.is c.in-Some.name c.in-Some.is (Some c.in-Some-at.home) home);
       there = type-there a c.args.t c.at-def.result.now c.at-def.ensures c.in-Interface.owner c.in-Interface.is c.in-Some.name c.in-Some.is
           (λ i' active found absent. elim c.else-is_none.branch [
             | else-is_none-via-then-is_none+else-at w ↦

@@ -10,10 +10,10 @@ pub loop-t-preserved : goal.loop-t-preserved
 loop-t-preserved c =
     let a = addition_of c.args.adding.now in
     record {
-      places = c.in_ok-push.ensures.ok ∙ ap (λ (l : List (Option ℕ)). l ++ c.in_ok-type_place.field-0 ∷ []) c.loop-t.invariant.places
-          ∙ ap (λ (p : Option ℕ). map (active_type_id a) (range_with_len 0 c.loop-t.t) ++ p ∷ []) c.in_ok-type_place.ensures.place ∙ sym (range-next (active_type_id a) c.loop-t.t);
-      next = c.in_ok-type_place.ensures.next;
-      there = types-next a c.loop-t.t c.loop-t.invariant.there c.in_ok-type_place.ensures.there;
+      new_ids = c.in_ok-push.ensures.ok ∙ ap (λ (l : List (Option ℕ)). l ++ c.in_ok-new_type_id.field-0 ∷ []) c.loop-t.invariant.new_ids
+          ∙ ap (λ (p : Option ℕ). map (active_type_id a) (range_with_len 0 c.loop-t.t) ++ p ∷ []) c.in_ok-new_type_id.ensures.id ∙ sym (range-next (active_type_id a) c.loop-t.t);
+      next = c.in_ok-new_type_id.ensures.next;
+      there = types-next a c.loop-t.t c.loop-t.invariant.there c.in_ok-new_type_id.ensures.there;
     }
 
 pub returns-clause-there : goal.returns-clause-there

@@ -94,7 +94,7 @@ returns-clause-values c = λ r is.
     let count = is.count in
     let now = c.loop-index.invariant.right r is in
     let last : c.loop-index.index ≡ r.count = let past = c.loop-index-test.false in let within = c.loop-index.auto.index-end in let lent = ap length c.as_slice-needs-items.ensures in omega arith in
-    let places : c.loop-index.value_ids ≡ map (value_id r) (range_with_len 0 r.count) = now.0 ∙ ap (λ (m : ℕ). map (value_id r) (range_with_len 0 m)) last in
+    let new_ids : c.loop-index.value_ids ≡ map (value_id r) (range_with_len 0 r.count) = now.0 ∙ ap (λ (m : ℕ). map (value_id r) (range_with_len 0 m)) last in
     let owns : c.loop-index.owns ≡ map (own_at r) (filter (needs_own r) (range_with_len 0 r.count)) = now.1 ∙ ap (λ (m : ℕ). map (own_at r) (filter (needs_own r) (range_with_len 0 m))) last in
-    ap (λ (ps : List ℕ). let v : Values = record { places = ps; owns = c.loop-index.owns } in v) places
-    ∙ ap (λ (os : List TypeDef). let v : Values = record { places = map (value_id r) (range_with_len 0 r.count); owns = os } in v) owns
+    ap (λ (ps : List ℕ). let v : Values = record { new_ids = ps; owns = c.loop-index.owns } in v) new_ids
+    ∙ ap (λ (os : List TypeDef). let v : Values = record { new_ids = map (value_id r) (range_with_len 0 r.count); owns = os } in v) owns

@@ -14,14 +14,14 @@ pub at-requires : goal.at-requires
 at-requires c =
     let a : Addition = addition_of c.args.adding.now in
     let there = required_is_foreign a c.requires.shaped c.args.id c.args.span c.requires.required in
-    subst (λ (k : ℕ). k < length c.args.places.now.types) (sym c.index.ensures) (place-inside a c.args.places.now c.requires.places c.args.id there.0)
+    subst (λ (k : ℕ). k < length c.args.new_ids.now.types) (sym c.index.ensures) (place-inside a c.args.new_ids.now c.requires.new_ids c.args.id there.0)
 
 pub returns-in_default-clause-ok : goal.returns-in_default-clause-ok
 returns-in_default-clause-ok c = λ t' active found.
     let a : Addition = addition_of c.args.adding.now in
     let there = required_is_foreign a c.requires.shaped c.args.id c.args.span c.requires.required in
     let taken : active_type_id a c.args.id ≡ None =
-    sym (place-is a c.args.places.now c.requires.places c.args.id c.at.result.now (subst (λ (k : ℕ). slice_get c.args.places.now.types k ≡ Some c.at.result.now) c.index.ensures c.at.ensures)) ∙ c.in_default.is in
+    sym (place-is a c.args.new_ids.now c.requires.new_ids c.args.id c.at.result.now (subst (λ (k : ℕ). slice_get c.args.new_ids.now.types k ≡ Some c.at.result.now) c.index.ensures c.at.ensures)) ∙ c.in_default.is in
     let goes : active_type_id a c.args.id ≡ Some t' = found_on a c.requires.shaped c.args.id t' active found in
     cc
 
@@ -30,7 +30,7 @@ leads_to_resource-requires-clause-there c =
     let a : Addition = addition_of c.args.adding.now in
     let there = required_is_foreign a c.requires.shaped c.args.id c.args.span c.requires.required in
     let taken : active_type_id a c.args.id ≡ Some c.in-Some.found =
-    sym (place-is a c.args.places.now c.requires.places c.args.id c.at.result.now (subst (λ (k : ℕ). slice_get c.args.places.now.types k ≡ Some c.at.result.now) c.index.ensures c.at.ensures)) ∙ c.in-Some.is in
+    sym (place-is a c.args.new_ids.now c.requires.new_ids c.args.id c.at.result.now (subst (λ (k : ℕ). slice_get c.args.new_ids.now.types k ≡ Some c.at.result.now) c.index.ensures c.at.ensures)) ∙ c.in-Some.is in
     let back = foreign_back a c.requires.shaped c.args.id c.in-Some.found there.1 taken in
     subst (λ (types : List TypeDef). c.in-Some.found < length types) (sym c.as_slice.ensures) (foreign_type_id-below a c.requires.valid c.args.id c.in-Some.found back.1)
 
@@ -39,7 +39,7 @@ returns-then-leads-clause-ok c = λ t' active found.
     let a : Addition = addition_of c.args.adding.now in
     let there = required_is_foreign a c.requires.shaped c.args.id c.args.span c.requires.required in
     let taken : active_type_id a c.args.id ≡ Some c.in-Some.found =
-    sym (place-is a c.args.places.now c.requires.places c.args.id c.at.result.now (subst (λ (k : ℕ). slice_get c.args.places.now.types k ≡ Some c.at.result.now) c.index.ensures c.at.ensures)) ∙ c.in-Some.is in
+    sym (place-is a c.args.new_ids.now c.requires.new_ids c.args.id c.at.result.now (subst (λ (k : ℕ). slice_get c.args.new_ids.now.types k ≡ Some c.at.result.now) c.index.ensures c.at.ensures)) ∙ c.in-Some.is in
     let goes : active_type_id a c.args.id ≡ Some t' = found_on a c.requires.shaped c.args.id t' active found in
     let same : c.in-Some.found ≡ t' = cc in
     subst (λ (k : ℕ). leads_to_resource a.graph.types k ≡ true) same
@@ -50,7 +50,7 @@ returns-clause-cause c =
     let a : Addition = addition_of c.args.adding.now in
     let there = required_is_foreign a c.requires.shaped c.args.id c.args.span c.requires.required in
     let taken : active_type_id a c.args.id ≡ Some c.in-Some.found =
-    sym (place-is a c.args.places.now c.requires.places c.args.id c.at.result.now (subst (λ (k : ℕ). slice_get c.args.places.now.types k ≡ Some c.at.result.now) c.index.ensures c.at.ensures)) ∙ c.in-Some.is in
+    sym (place-is a c.args.new_ids.now c.requires.new_ids c.args.id c.at.result.now (subst (λ (k : ℕ). slice_get c.args.new_ids.now.types k ≡ Some c.at.result.now) c.index.ensures c.at.ensures)) ∙ c.in-Some.is in
     let back = foreign_back a c.requires.shaped c.args.id c.in-Some.found there.1 taken in
     let none : leads_to_resource a.graph.types c.in-Some.found ≡ false =
     ap (λ (types : List TypeDef). leads_to_resource types c.in-Some.found) (sym c.as_slice.ensures) ∙ (sym c.in_ok-leads.ensures.leads ∙ c.if-leads.false) in

@@ -15,10 +15,10 @@ use Rattle.wit_remap.proofs.parts.add_interfaces.Goals as goal
 
 pub interface_table-requires : goal.interface_table-requires
 interface_table-requires c =
-    rw (c.as_slice.ensures, c.in_ok-own.ensures, c.from_index-first.ensures, c.len.ensures, c.as_slice-places.ensures) c.requires.names
+    rw (c.as_slice.ensures, c.in_ok-own.ensures, c.from_index-first.ensures, c.len.ensures, c.as_slice-new_ids.ensures) c.requires.names
 
-pub placed_interfaces-requires : goal.placed_interfaces-requires
-placed_interfaces-requires c =
+pub updated_interfaces-requires : goal.updated_interfaces-requires
+updated_interfaces-requires c =
     subst (λ (es : List (ℕ × Interface)). Each (λ (e : ℕ × Interface). InterfaceFits (Fits c.args.mover.now.offset) e.1) es) (sym c.in_ok-own.ensures)
     (Each-filter (λ (e : ℕ × Interface). InterfaceFits (Fits c.args.mover.now.offset) e.1) _ (enumerate_from 0 c.args.interfaces) (Each-enumerated (InterfaceFits (Fits c.args.mover.now.offset)) 0 c.args.interfaces c.requires.fits))
 
@@ -31,13 +31,13 @@ pub returns-clause-ok : goal.returns-clause-ok
 returns-clause-ok c =
     let f = interface_image (maps_of c.args.mover.now) in
     let cut = cut_interface (kept_of c.args.part.now) in
-    let own = selected_with_index (is_new (length c.args.graph.now.interfaces) c.args.mover.now.places.now.interfaces) c.args.interfaces in
-    rw (c.in_ok-append.ensures.ok, c.in_ok-placed.ensures, c.in_ok-own.ensures, c.from_index-first.ensures, c.len.ensures, c.as_slice-places.ensures)
+    let own = selected_with_index (is_new (length c.args.graph.now.interfaces) c.args.mover.now.new_ids.now.interfaces) c.args.interfaces in
+    rw (c.in_ok-append.ensures.ok, c.in_ok-updated.ensures, c.in_ok-own.ensures, c.from_index-first.ensures, c.len.ensures, c.as_slice-new_ids.ensures)
     (rw (map-pairs (λ (i : Interface). f (cut i)) own, joined f cut (map (λ (e : ℕ × Interface). e.1) own)) refl)
 
 pub returns-clause-table : goal.returns-clause-table
 returns-clause-table c =
-    rw (c.in_ok-table.ensures, c.as_slice.ensures, c.in_ok-own.ensures, c.from_index-first.ensures, c.len.ensures, c.as_slice-places.ensures) refl
+    rw (c.in_ok-table.ensures, c.as_slice.ensures, c.in_ok-own.ensures, c.from_index-first.ensures, c.len.ensures, c.as_slice-new_ids.ensures) refl
 
 pub returns-in_err-own-clause-grown : goal.returns-in_err-own-clause-grown
 returns-in_err-own-clause-grown c = Grown-same c.args.graph.now
@@ -45,11 +45,11 @@ returns-in_err-own-clause-grown c = Grown-same c.args.graph.now
 pub returns-in_err-table-clause-grown : goal.returns-in_err-table-clause-grown
 returns-in_err-table-clause-grown c = Grown-same c.args.graph.now
 
-pub returns-in_err-placed-clause-grown : goal.returns-in_err-placed-clause-grown
-returns-in_err-placed-clause-grown c = Grown-same c.args.graph.now
+pub returns-in_err-updated-clause-grown : goal.returns-in_err-updated-clause-grown
+returns-in_err-updated-clause-grown c = Grown-same c.args.graph.now
 
 pub returns-in_err-append-clause-grown : goal.returns-in_err-append-clause-grown
 returns-in_err-append-clause-grown c = interfaces_grow c.args.graph.now c.append.new.self (Begins-as c.args.graph.now.interfaces c.append.new.self c.in_err-append.ensures.err)
 
 pub returns-clause-grown : goal.returns-clause-grown
-returns-clause-grown c = interfaces_grow c.args.graph.now c.append.new.self (Begins-by c.args.graph.now.interfaces c.append.new.self c.in_ok-placed.placed c.in_ok-append.ensures.ok)
+returns-clause-grown c = interfaces_grow c.args.graph.now c.append.new.self (Begins-by c.args.graph.now.interfaces c.append.new.self c.in_ok-updated.updated c.in_ok-append.ensures.ok)

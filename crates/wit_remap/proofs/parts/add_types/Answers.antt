@@ -13,8 +13,8 @@ update-requires c =
 
 pub returns-clause-ok : goal.returns-clause-ok
 returns-clause-ok c =
-    let placed = c.update.ensures ∙ names_stay c.args.mover.now c.selected-own.result in
-    rw (c.in_ok-append-2.ensures.ok, c.in_ok-append.ensures.ok, placed, c.selected-own.ensures, c.from_index-first.ensures, c.len.ensures, c.as_slice.ensures) refl
+    let updated = c.update.ensures ∙ names_stay c.args.mover.now c.selected-own.result in
+    rw (c.in_ok-append-2.ensures.ok, c.in_ok-append.ensures.ok, updated, c.selected-own.ensures, c.from_index-first.ensures, c.len.ensures, c.as_slice.ensures) refl
 
 pub returns-in_err-append-clause-grown : goal.returns-in_err-append-clause-grown
 returns-in_err-append-clause-grown c = Grown-same c.args.graph.now

@@ -2,6 +2,6 @@ use Rattle.std.proofs.Common.{◌≡◌}
 use Rattle.wit_remap.proofs.Firsts.{map_first}
 use Rattle.wit_remap.proofs.update.ItemsUpdate.update.Given as goal
 
--- the first ones are at their places
+-- the first ones are updated
 abbrev pub invariant-loop-index : goal.invariant-loop-index
 invariant-loop-index g l = l.self ≡ map_first (g.T.Update.image (g.M.Moves.maps l.mover)) l.index l.initial.self

@@ -1,5 +1,0 @@
-use Rattle.std.proofs.Common.{rules}
-use Rattle.wit_remap.proofs.types.place_target.Goals as goal
-
-pub returns-in-Id : goal.returns-in-Id
-returns-in-Id g c = search rules
