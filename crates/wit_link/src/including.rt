@@ -34,13 +34,13 @@ fn world_with(
     ensures { IfOk result (λ new. new ≡ world_with new_ids.now offset world) }
 {
     let UpdatedWorld {
-        place,
+        id,
         world,
         includes,
     } = world;
     let includes = includes_at(alloc, includes, new_ids, offset)?;
     Ok(UpdatedWorld {
-        place,
+        id,
         world,
         includes,
     })
@@ -76,7 +76,7 @@ fn include_at(
         None => return Err(AllocError),
     }
     if let Some(Some(id)) = new_ids.worlds.get(include.id.index()) {
-        include.id = *place;
+        include.id = *id;
     }
     Ok(include)
 }
