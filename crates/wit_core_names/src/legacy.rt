@@ -116,9 +116,9 @@ fn value_field(
     ensures text { IfOk result (λ text. string_bytes text ≡ async_prefix async_ ++ (91 ∷ (noun.now ++ (45 ∷ (word.now ++ (45 ∷ (future_index_text graph.now.types function.now ty ++ (93 ∷ function.now.name)))))))) }
     ensures err { IfErr result (λ e. e ≡ OutOfMemory) }
 {
-    let place = future_index_text(alloc, graph, function, ty)?;
+    let index = future_index_text(alloc, graph, function, ty)?;
     let (lowered, name) = (async_prefix(async_), &function.name);
-    Ok(format!(in alloc; "{lowered}[{noun}-{word}-{place}]{name}")?)
+    Ok(format!(in alloc; "{lowered}[{noun}-{word}-{index}]{name}")?)
 }
 
 /// The module of what may serve an export.

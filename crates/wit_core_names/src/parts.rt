@@ -131,7 +131,7 @@ pub(crate) fn future_index_text(
     };
     let found = find_futures_and_streams(alloc, graph, function)?;
     match future_index(found.as_slice(), ty) {
-        Some(place) => Ok(format!(in alloc; "{place}")?),
+        Some(index) => Ok(format!(in alloc; "{index}")?),
         None => Ok(String::new(alloc)),
     }
 }

@@ -66,18 +66,18 @@ fn getters_of(
     ensures { IfOk result (λ getters. getters ≡ getters_of entries.now.entries) }
 {
     let mut getters = Items::new(alloc);
-    for place in 0..entries.len() {
-        getters.push(later_getter(alloc, entries, place)?)?;
+    for index in 0..entries.len() {
+        getters.push(later_getter(alloc, entries, index)?)?;
     }
     Ok(getters)
 }
 
 /// The entry at an index.
-fn entry_at(entries: &IndexMap<WorldKey, WorldItem>, place: usize) -> (&WorldKey, &WorldItem)
-    requires { place < length entries.now.entries }
-    ensures { slice_get entries.now.entries place ≡ Some (result.0.now, result.1.now) }
+fn entry_at(entries: &IndexMap<WorldKey, WorldItem>, index: usize) -> (&WorldKey, &WorldItem)
+    requires { index < length entries.now.entries }
+    ensures { slice_get entries.now.entries index ≡ Some (result.0.now, result.1.now) }
 {
-    match entries.get_index(place) {
+    match entries.get_index(index) {
         Some(entry) => entry,
         None => unreachable!(),
     }
@@ -100,11 +100,11 @@ fn later_getter(
 }
 
 /// The index that was found, where it is after another.
-fn after(place: usize, found: Option<usize>) -> Option<usize>
-    ensures { result ≡ after place found }
+fn after(index: usize, found: Option<usize>) -> Option<usize>
+    ensures { result ≡ after index found }
 {
     match found {
-        Some(getter) => { if place < getter { Some(getter) } else { None } }
+        Some(getter) => { if index < getter { Some(getter) } else { None } }
         None => None,
     }
 }
@@ -119,9 +119,9 @@ fn order_after_getters(
 {
     let mut rows = waiting_rows(alloc, getters)?;
     let mut order = Items::new(alloc);
-    for (place, getter) in getters.as_slice().iter().enumerate() {
-        push_unless_waiting(&mut order, *getter, place)?;
-        order.append(rows.replace(place, Items::new(alloc)))?;
+    for (index, getter) in getters.as_slice().iter().enumerate() {
+        push_unless_waiting(&mut order, *getter, index)?;
+        order.append(rows.replace(index, Items::new(alloc)))?;
     }
     Ok(order)
 }
@@ -130,13 +130,13 @@ fn order_after_getters(
 fn push_unless_waiting(
     order: &mut Items<usize>,
     getter: Option<usize>,
-    place: usize,
+    index: usize,
 ) -> Result<(), AllocError>
-    ensures { OnOk result (order.new ≡ order.old ++ (if is_some getter then [] else place ∷ [])) }
+    ensures { OnOk result (order.new ≡ order.old ++ (if is_some getter then [] else index ∷ [])) }
 {
     match getter {
         Some(_) => Ok(()),
-        None => order.push(place),
+        None => order.push(index),
     }
 }
 
@@ -149,8 +149,8 @@ fn waiting_rows(
     ensures { IfOk result (λ rows. rows ≡ map (waiters getters.now (length getters.now)) (range_with_len 0 (length getters.now))) }
 {
     let mut rows = empty_rows(alloc, getters.len())?;
-    for (place, getter) in getters.as_slice().iter().enumerate() {
-        add_waiter(alloc, &mut rows, *getter, place)?;
+    for (index, getter) in getters.as_slice().iter().enumerate() {
+        add_waiter(alloc, &mut rows, *getter, index)?;
     }
     Ok(rows)
 }

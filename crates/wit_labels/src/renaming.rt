@@ -98,7 +98,7 @@ impl<'a> Renamings<'a> {
         ensures { option_copied result ≡ find (is_of word.now) self.now }
     {
         match self.firsts.get(word) {
-            Some(place) => Some(self.names.at(*place)),
+            Some(index) => Some(self.names.at(*index)),
             None => None,
         }
     }
@@ -123,10 +123,10 @@ fn first_indices(alloc: Global, names: &Items<IncludeName>) -> Result<Names<usiz
     ensures { IfOk result (λ firsts. AreFirstIndices names.now firsts) }
 {
     let mut firsts = Names::new(alloc);
-    for (place, name) in names.as_slice().iter().enumerate() {
+    for (index, name) in names.as_slice().iter().enumerate() {
         let word = name.name.as_str();
         if !firsts.contains_key(word) {
-            firsts.push(String::from_str(alloc, word)?, place)?;
+            firsts.push(String::from_str(alloc, word)?, index)?;
         }
     }
     Ok(firsts)

@@ -82,12 +82,12 @@ pub fn find_setter_without_getter(
     ensures some { IfOk result (λ found. IfSome found (LacksGetterAt entries.now)) }
     ensures none { IfOk result (λ found. IfNone found (HaveGetters entries.now)) }
 {
-    for place in 0..entries.len() {
-        let (key, item) = entries.entry_at(place);
+    for index in 0..entries.len() {
+        let (key, item) = entries.entry_at(index);
         match wanted_getter(alloc, key, item)? {
             Some(getter) => {
                 if !entries.contains_key(&WorldKey::Name(getter)) {
-                    return Ok(Some(place));
+                    return Ok(Some(index));
                 }
             }
             None => {}

@@ -40,8 +40,8 @@ pub(crate) fn find_foreign(
     let interfaces = nothing(alloc, adding.unresolved.interfaces.len())?;
     let worlds = nothing(alloc, adding.unresolved.worlds.len())?;
     let mut found = Found { interfaces, worlds };
-    for place in 0..adding.unresolved.foreign_deps.len() {
-        find_named(alloc, adding, activity, place, &mut found)?;
+    for index in 0..adding.unresolved.foreign_deps.len() {
+        find_named(alloc, adding, activity, index, &mut found)?;
     }
     Ok(found)
 }
@@ -62,21 +62,21 @@ fn find_named(
     alloc: Global,
     adding: &AdditionRef<'_>,
     activity: &Activity,
-    place: usize,
+    index: usize,
     found: &mut Found,
 ) -> ResolveResult<()>
     requires shaped { IsShaped adding.now.unresolved.now }
     requires activity { activity.now ≡ activity_of (addition_of adding.now) }
-    requires inside { place < length adding.now.unresolved.now.foreign_deps }
-    requires before { found.old ≡ found_among (addition_of adding.now) (named_before adding.now.unresolved.now.foreign_deps place) }
-    requires there { AreThere (addition_of adding.now) (named_before adding.now.unresolved.now.foreign_deps place) }
-    requires packages { ArePackagesThere (addition_of adding.now) place }
-    ensures found { OnOk result (found.new ≡ found_among (addition_of adding.now) (named_before adding.now.unresolved.now.foreign_deps (place + 1))) }
-    ensures there { OnOk result (AreThere (addition_of adding.now) (named_before adding.now.unresolved.now.foreign_deps (place + 1))) }
-    ensures packages { OnOk result (ArePackagesThere (addition_of adding.now) (place + 1)) }
+    requires inside { index < length adding.now.unresolved.now.foreign_deps }
+    requires before { found.old ≡ found_among (addition_of adding.now) (named_before adding.now.unresolved.now.foreign_deps index) }
+    requires there { AreThere (addition_of adding.now) (named_before adding.now.unresolved.now.foreign_deps index) }
+    requires packages { ArePackagesThere (addition_of adding.now) index }
+    ensures found { OnOk result (found.new ≡ found_among (addition_of adding.now) (named_before adding.now.unresolved.now.foreign_deps (index + 1))) }
+    ensures there { OnOk result (AreThere (addition_of adding.now) (named_before adding.now.unresolved.now.foreign_deps (index + 1))) }
+    ensures packages { OnOk result (ArePackagesThere (addition_of adding.now) (index + 1)) }
     ensures cause { IfErr result (λ kind. (kind ≡ OutOfMemory) ⊎ IsCause (addition_of adding.now) kind) }
 {
-    let home = find_home(alloc, adding, place)?;
+    let home = find_home(alloc, adding, index)?;
     for (requested, (item, _)) in home.items.iter() {
         if !find_item(adding.graph, &home, requested, item, found) {
             check_inactive(alloc, adding, activity, &home, requested, item)?;

@@ -27,20 +27,20 @@ pub(crate) struct Home<'a> {
 pub(crate) fn find_home<'a>(
     alloc: Global,
     adding: &AdditionRef<'a>,
-    place: usize,
+    index: usize,
 ) -> ResolveResult<Home<'a>>
     requires shaped { IsShaped adding.now.unresolved.now }
-    requires inside { place < length adding.now.unresolved.now.foreign_deps }
-    ensures home { IfOk result (λ home. IsHome (addition_of adding.now) place home.name.now home.items.now home.id) }
+    requires inside { index < length adding.now.unresolved.now.foreign_deps }
+    ensures home { IfOk result (λ home. IsHome (addition_of adding.now) index home.name.now home.items.now home.id) }
     ensures cause { IfErr result (λ kind. (kind ≡ OutOfMemory) ⊎ IsCause (addition_of adding.now) kind) }
 {
-    let (name, items) = adding.unresolved.foreign_deps.entry_at(place);
+    let (name, items) = adding.unresolved.foreign_deps.entry_at(index);
     let id = match adding.graph.package_names.get(name) {
         _ if adding.unresolved.name == *name => None,
         Some(id) => Some(*id),
         None if items.is_empty() => None,
         None => {
-            let span = *adding.unresolved.foreign_dep_spans.at(place);
+            let span = *adding.unresolved.foreign_dep_spans.at(index);
             return Err(package_not_found(alloc, adding, span, name)?);
         }
     };

@@ -83,15 +83,15 @@ fn join_at(
     other: bool,
     span: Span,
     entries: &mut IndexMap<WorldKey, WorldItem>,
-    place: usize,
+    index: usize,
     item: WorldItem,
 ) -> ResolveResult<()>
-    requires { place < length entries.old.entries }
-    ensures ok { OnOk result ((k : WorldKey) (into : WorldItem) → slice_get entries.old.entries place ≡ Some (k, into) → entries.new.entries ≡ set_value_at entries.old.entries place (joined_item other item into)) }
-    ensures fine { OnOk result ((k : WorldKey) (into : WorldItem) → slice_get entries.old.entries place ≡ Some (k, into) → ItemsAgree other item into) }
-    ensures cause { IfErr result (λ kind. (k : WorldKey) (into : WorldItem) → slice_get entries.old.entries place ≡ Some (k, into) → IsItemError other span item into kind) }
+    requires { index < length entries.old.entries }
+    ensures ok { OnOk result ((k : WorldKey) (into : WorldItem) → slice_get entries.old.entries index ≡ Some (k, into) → entries.new.entries ≡ set_value_at entries.old.entries index (joined_item other item into)) }
+    ensures fine { OnOk result ((k : WorldKey) (into : WorldItem) → slice_get entries.old.entries index ≡ Some (k, into) → ItemsAgree other item into) }
+    ensures cause { IfErr result (λ kind. (k : WorldKey) (into : WorldItem) → slice_get entries.old.entries index ≡ Some (k, into) → IsItemError other span item into kind) }
 {
-    let (_, into) = entries.pair_mut(place);
+    let (_, into) = entries.pair_mut(index);
     join_item(other, span, item, into)
 }
 

@@ -33,8 +33,8 @@ fn check_list(
     if let Some(clash) = find_clash(alloc, entries)? {
         return Err(not_strongly_unique(alloc, word, clash, world)?);
     }
-    if let Some(place) = find_setter_without_getter(alloc, entries)? {
-        return Err(no_getter(alloc, word, entries, place, world)?);
+    if let Some(index) = find_setter_without_getter(alloc, entries)? {
+        return Err(no_getter(alloc, word, entries, index, world)?);
     }
     Ok(())
 }
@@ -65,13 +65,13 @@ fn no_getter(
     alloc: Global,
     word: &str,
     entries: &Table<WorldKey, WorldItem>,
-    place: usize,
+    index: usize,
     world: &Text,
 ) -> Result<ResolveError, AllocError>
-    requires { LacksGetterAt entries.now place }
+    requires { LacksGetterAt entries.now index }
     ensures { IfOk result (IsListError world.now word.now entries.now) }
 {
-    match entries.entry_at(place) {
+    match entries.entry_at(index) {
         (WorldKey::Name(label), WorldItem::Function(function)) => {
             let getter = getter_label(alloc, label.as_str())?;
             let message = format!(in alloc;

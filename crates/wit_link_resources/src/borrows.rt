@@ -99,23 +99,23 @@ fn is_borrow_there(
     adding: &AdditionRef<'_>,
     new_ids: &NewIds,
     free: &mut IndexSet<usize>,
-    place: usize,
+    index: usize,
 ) -> Result<bool, AllocError>
     requires shaped { IsShaped adding.now.unresolved.now }
     requires valid { IsValid adding.now.graph.now }
     requires new_ids { new_ids.now ≡ new_ids_of (addition_of adding.now) }
-    requires there { place < length adding.now.unresolved.now.types }
+    requires there { index < length adding.now.unresolved.now.types }
     requires free { AreFreeTypes adding.now.graph.now.types free.old.keys }
-    ensures holds { IfOk result (λ holds. IsTrue holds ↔ IsBorrowThere (addition_of adding.now) place) }
+    ensures holds { IfOk result (λ holds. IsTrue holds ↔ IsBorrowThere (addition_of adding.now) index) }
     ensures free { IfOk result (λ holds. holds ≡ false → AreFreeTypes adding.now.graph.now.types free.new.keys) }
 {
-    if place < adding.unresolved.unknown_type_spans.len() {
-        match *new_ids.types.at(place) {
+    if index < adding.unresolved.unknown_type_spans.len() {
+        match *new_ids.types.at(index) {
             Some(found) => holds_borrow(alloc, adding.graph.types.as_slice(), free, found),
             None => Ok(false),
         }
     } else {
-        Ok(is_borrow(&adding.unresolved.types.at(place).kind))
+        Ok(is_borrow(&adding.unresolved.types.at(index).kind))
     }
 }
 

@@ -33,8 +33,8 @@ fn push_interfaces<'a>(
     requires { activity.now ≡ activity_of (addition_of adding.now) }
     ensures { OnOk result (seen functions.new.items ≡ seen functions.old.items ++ flat_map (interface_functions (addition_of adding.now)) (range_with_len 0 (length adding.now.unresolved.now.interfaces))) }
 {
-    for (place, interface) in adding.unresolved.interfaces.as_slice().iter().enumerate() {
-        if *activity.interfaces.at(place) {
+    for (index, interface) in adding.unresolved.interfaces.as_slice().iter().enumerate() {
+        if *activity.interfaces.at(index) {
             push_named(functions, adding.features, &interface.functions)?;
         }
     }
@@ -50,8 +50,8 @@ fn push_worlds<'a>(
     requires { activity.now ≡ activity_of (addition_of adding.now) }
     ensures { OnOk result (seen functions.new.items ≡ seen functions.old.items ++ flat_map (world_functions (addition_of adding.now)) (range_with_len 0 (length adding.now.unresolved.now.worlds))) }
 {
-    for (place, world) in adding.unresolved.worlds.as_slice().iter().enumerate() {
-        if *activity.worlds.at(place) {
+    for (index, world) in adding.unresolved.worlds.as_slice().iter().enumerate() {
+        if *activity.worlds.at(index) {
             push_entries(functions, adding.features, &world.imports)?;
             push_entries(functions, adding.features, &world.exports)?;
         }

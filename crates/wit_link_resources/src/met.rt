@@ -71,13 +71,13 @@ fn note_way(
 }
 
 /// The next type on the way: the one that a type names as an alias, if it wasn't met.
-fn next(types: &[TypeDef], met: &Table<TypeId, bool>, place: usize) -> Option<TypeId>
-    requires { place < length types.now }
-    ensures some { (target : ℕ) → result ≡ Some target → LeadsOn types.now met.now place target }
-    ensures none { result ≡ None → lookup (nat_eq place) met.now ≡ None → EndsAt types.now place }
+fn next(types: &[TypeDef], met: &Table<TypeId, bool>, index: usize) -> Option<TypeId>
+    requires { index < length types.now }
+    ensures some { (target : ℕ) → result ≡ Some target → LeadsOn types.now met.now index target }
+    ensures none { result ≡ None → lookup (nat_eq index) met.now ≡ None → EndsAt types.now index }
 {
-    if met.contains_key(&TypeId::from_index(place)) {
+    if met.contains_key(&TypeId::from_index(index)) {
         return None;
     }
-    alias_target(&types[place].kind)
+    alias_target(&types[index].kind)
 }

@@ -87,15 +87,15 @@ fn join_all<S, T: Part>(
 fn join_one<T: Part>(
     uniting: &UnionPlan<'_>,
     others: &Items<T>,
-    place: Option<usize>,
+    index: Option<usize>,
     into: &T,
 ) -> Result<T, AllocError>
     requires ready { CanUnite uniting.now }
-    requires can { (x : ℕ) (from : T) → place ≡ Some x → slice_get others.now x ≡ Some from → T.can_join (merging_of uniting.now) from into.now }
-    ensures { IfOk result (λ made. made ≡ option_map_or (λ (p : ℕ × T). T.union (merging_of uniting.now) p into.now) (placed_at others.now place) into.now) }
+    requires can { (x : ℕ) (from : T) → index ≡ Some x → slice_get others.now x ≡ Some from → T.can_join (merging_of uniting.now) from into.now }
+    ensures { IfOk result (λ made. made ≡ option_map_or (λ (p : ℕ × T). T.union (merging_of uniting.now) p into.now) (placed_at others.now index) into.now) }
 {
-    match place {
-        Some(place) => match others.get(place) {
+    match index {
+        Some(index) => match others.get(index) {
             Some(from) => into.joined(uniting, from),
             None => into.try_clone(),
         },

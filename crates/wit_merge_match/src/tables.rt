@@ -25,10 +25,10 @@ pub(crate) fn package_matches(
 }
 
 /// What is found at an index; None past the end.
-pub(crate) fn match_at<T: Copy>(found: &Items<Option<T>>, place: usize) -> Option<T>
-    ensures { result ≡ get_or found.now place None }
+pub(crate) fn match_at<T: Copy>(found: &Items<Option<T>>, index: usize) -> Option<T>
+    ensures { result ≡ get_or found.now index None }
 {
-    match found.get(place) {
+    match found.get(index) {
         Some(id) => *id,
         None => None,
     }

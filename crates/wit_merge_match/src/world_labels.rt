@@ -28,10 +28,10 @@ impl<'a> LabelNotes<'a> {
         requires unnamed { (i : ℕ) → is_unnamed self.now.other.now.interfaces i ≡ true → get_or found.old i None ≡ None }
         ensures { AreLabelled self.now.graph.now self.now.other.now found.old (world_labels self.now.other.now.worlds) found.new }
     {
-        for place in (0..self.other.worlds.len()).rev() {
-            let world = self.other.worlds.at(place);
-            self.note_side(place, true, &world.exports, found);
-            self.note_side(place, false, &world.imports, found);
+        for index in (0..self.other.worlds.len()).rev() {
+            let world = self.other.worlds.at(index);
+            self.note_side(index, true, &world.exports, found);
+            self.note_side(index, false, &world.imports, found);
         }
     }
 
@@ -47,8 +47,8 @@ impl<'a> LabelNotes<'a> {
         ensures { (named : List (Option ℕ)) → (later : List (ℕ × WorldLabel)) → AreLabelled self.now.graph.now self.now.other.now named later found.old
             → AreLabelled self.now.graph.now self.now.other.now named (flat_map (λ (e : Entry). interface_at_label world exported e.0 e.1) entries.now ++ later) found.new }
     {
-        for place in (0..entries.len()).rev() {
-            let (key, item) = entries.entry_at(place);
+        for index in (0..entries.len()).rev() {
+            let (key, item) = entries.entry_at(index);
             self.note(world, exported, key, item, found);
         }
     }

@@ -20,8 +20,8 @@ impl<'a> UpgradePlan<'a> {
         ensures agree { OnOk result ((message : List ℕ) → Disagrees (upgrade_of self.now) message → ⊥) }
         ensures cause { IfErr result (λ e. (e ≡ OutOfMemory) ⊎ ((message : List ℕ) × Disagrees (upgrade_of self.now) message × (e ≡ Semantic None message cause.UpgradeMismatch))) }
     {
-        for place in 0..self.replaced.len() {
-            self.check_interface(alloc, InterfaceId::from_index(place))?;
+        for index in 0..self.replaced.len() {
+            self.check_interface(alloc, InterfaceId::from_index(index))?;
         }
         Ok(())
     }

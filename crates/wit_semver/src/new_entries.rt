@@ -50,8 +50,8 @@ fn retargeted_types(
     ensures { IfOk result (λ made. made ≡ with_targets types.now targets.now) }
 {
     let mut made = Items::new(alloc);
-    for place in 0..types.len() {
-        made.push(retargeted(types.at(place), *targets.at(place))?)?;
+    for index in 0..types.len() {
+        made.push(retargeted(types.at(index), *targets.at(index))?)?;
     }
     Ok(made)
 }

@@ -2,16 +2,16 @@ use Rattle.std.proofs.Common.{◌≡◌, ℕ, List, Option, None, Some, ap, arit
 use Rattle.wit_labels.proofs.PlacingSteps.{got_at, rows-all, rows-next, rows-none}
 use Rattle.wit_labels.proofs.placing.waiting_rows.Goals as goal
 
-pub loop-place-init : goal.loop-place-init
-loop-place-init c = rw (c.in_ok-rows.ensures, c.len.ensures) (rows-none c.args.getters.now)
+pub loop-index-init : goal.loop-index-init
+loop-index-init c = rw (c.in_ok-rows.ensures, c.len.ensures) (rows-none c.args.getters.now)
 
-pub loop-place-preserved : goal.loop-place-preserved
-loop-place-preserved c =
+pub loop-index-preserved : goal.loop-index-preserved
+loop-index-preserved c =
     let getters = c.as_slice-getter-items.result.now in
-    let getter : Option ℕ = get_or getters c.loop-place.place None in
-    let at : slice_get c.args.getters.now c.loop-place.place ≡ Some getter =
-    subst (λ (gs : List (Option ℕ)). slice_get gs c.loop-place.place ≡ Some getter) c.as_slice-getter-items.ensures (got_at getters c.loop-place.place None (omega arith)) in
-    rows-next c.args.getters.now c.loop-place.place c.loop-place.rows c.add_waiter.new.rows getter c.loop-place.invariant at c.requires c.in_ok-add_waiter.ensures.waits c.in_ok-add_waiter.ensures.none
+    let getter : Option ℕ = get_or getters c.loop-index.index None in
+    let at : slice_get c.args.getters.now c.loop-index.index ≡ Some getter =
+    subst (λ (gs : List (Option ℕ)). slice_get gs c.loop-index.index ≡ Some getter) c.as_slice-getter-items.ensures (got_at getters c.loop-index.index None (omega arith)) in
+    rows-next c.args.getters.now c.loop-index.index c.loop-index.rows c.add_waiter.new.rows getter c.loop-index.invariant at c.requires c.in_ok-add_waiter.ensures.waits c.in_ok-add_waiter.ensures.none
 
 pub returns : goal.returns
-returns c = rows-all c.args.getters.now c.loop-place.place c.loop-place.rows c.loop-place.invariant (omega (arith, c.loop-place-test.false, ap length c.as_slice-getter-items.ensures))
+returns c = rows-all c.args.getters.now c.loop-index.index c.loop-index.rows c.loop-index.invariant (omega (arith, c.loop-index-test.false, ap length c.as_slice-getter-items.ensures))

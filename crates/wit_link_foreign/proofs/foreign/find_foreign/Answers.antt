@@ -7,8 +7,8 @@ use Rattle.wit_link_foreign.proofs.NamedItems.{before-all}
 use Rattle.wit_link_foreign.proofs.Steps.{found_from}
 use Rattle.wit_link_foreign.proofs.foreign.find_foreign.Goals as goal
 
-pub loop-place-init : goal.loop-place-init
-loop-place-init c =
+pub loop-index-init : goal.loop-index-init
+loop-index-init c =
     let a = addition_of c.args.adding.now in
     record {
       found = found_from a [] (record { interfaces = c.in_ok-interfaces.interfaces; worlds = c.in_ok-worlds.worlds })
@@ -20,11 +20,11 @@ loop-place-init c =
 
 pub returns-clause-found : goal.returns-clause-found
 returns-clause-found c =
-    c.loop-place.invariant.found ∙ ap (found_among (addition_of c.args.adding.now)) (before-all c.args.adding.now.unresolved.now.foreign_deps c.loop-place.place (omega (arith, c.loop-place-test.false, c.len-place-end.ensures.len)))
+    c.loop-index.invariant.found ∙ ap (found_among (addition_of c.args.adding.now)) (before-all c.args.adding.now.unresolved.now.foreign_deps c.loop-index.index (omega (arith, c.loop-index-test.false, c.len-index-end.ensures.len)))
 
 pub returns-clause-there : goal.returns-clause-there
 returns-clause-there c =
-    subst (AreThere (addition_of c.args.adding.now)) (before-all c.args.adding.now.unresolved.now.foreign_deps c.loop-place.place (omega (arith, c.loop-place-test.false, c.len-place-end.ensures.len))) c.loop-place.invariant.there
+    subst (AreThere (addition_of c.args.adding.now)) (before-all c.args.adding.now.unresolved.now.foreign_deps c.loop-index.index (omega (arith, c.loop-index-test.false, c.len-index-end.ensures.len))) c.loop-index.invariant.there
 
 pub returns-clause-packages : goal.returns-clause-packages
-returns-clause-packages c = λ span requested known lacks below. c.loop-place.invariant.packages span requested known lacks (omega (arith, below, c.loop-place-test.false, c.len-place-end.ensures.len))
+returns-clause-packages c = λ span requested known lacks below. c.loop-index.invariant.packages span requested known lacks (omega (arith, below, c.loop-index-test.false, c.len-index-end.ensures.len))

@@ -4,9 +4,9 @@ use Rattle.wit_link_foreign.specs.steps.ForeignItems.{ArePackagesThere, AreThere
 use Rattle.wit_link_foreign.proofs.foreign.find_foreign.Given as goal
 
 -- what the packages so far tell
-abbrev pub invariant-loop-place : goal.invariant-loop-place
-invariant-loop-place l = record {
-  found : l.found ≡ found_among (addition_of l.adding) (named_before l.adding.unresolved.now.foreign_deps l.place);
-  there : AreThere (addition_of l.adding) (named_before l.adding.unresolved.now.foreign_deps l.place);
-  packages : ArePackagesThere (addition_of l.adding) l.place;
+abbrev pub invariant-loop-index : goal.invariant-loop-index
+invariant-loop-index l = record {
+  found : l.found ≡ found_among (addition_of l.adding) (named_before l.adding.unresolved.now.foreign_deps l.index);
+  there : AreThere (addition_of l.adding) (named_before l.adding.unresolved.now.foreign_deps l.index);
+  packages : ArePackagesThere (addition_of l.adding) l.index;
 }

@@ -11,26 +11,26 @@ use Rattle.wit_link_resources.proofs.functions.push_interfaces.Goals as goal
 
 pub at-requires : goal.at-requires
 at-requires c =
-    interface-inside (addition_of c.args.adding.now) c.args.activity.now c.requires c.loop-place.place (lent_below c.args.adding.now.unresolved.now.interfaces c.as_slice-interface-items.result.now c.loop-place.place c.as_slice-interface-items.ensures c.loop-place-test.true)
+    interface-inside (addition_of c.args.adding.now) c.args.activity.now c.requires c.loop-index.index (lent_below c.args.adding.now.unresolved.now.interfaces c.as_slice-interface-items.result.now c.loop-index.index c.as_slice-interface-items.ensures c.loop-index-test.true)
 
-pub loop-place-preserved : goal.loop-place-preserved
-loop-place-preserved c =
+pub loop-index-preserved : goal.loop-index-preserved
+loop-index-preserved c =
     let a : Addition = addition_of c.args.adding.now in
-    let at = lent_at c.args.adding.now.unresolved.now.interfaces c.as_slice-interface-items.result.now c.loop-place.place c.as_slice-interface-items.ensures c.loop-place-test.true c.interface-item.result c.interface-item.is in
-    let flag = sym (interface-flag a c.args.activity.now c.requires c.loop-place.place c.at.result.now c.at.ensures) in
+    let at = lent_at c.args.adding.now.unresolved.now.interfaces c.as_slice-interface-items.result.now c.loop-index.index c.as_slice-interface-items.ensures c.loop-index-test.true c.interface-item.result c.interface-item.is in
+    let flag = sym (interface-flag a c.args.activity.now c.requires c.loop-index.index c.at.result.now c.at.ensures) in
     elim c.if-at.branch [
       | then-at+in_ok-push_named w ↦
-          ranged-next (interface_functions a) c.loop-place.place (seen c.args.functions.now.items) (seen c.loop-place.functions.items) (seen c.if-at.functions.items)
-          (active_named a.features c.interface-item.result.functions) c.loop-place.invariant (ap (λ fs. seen fs.items) w.functions-is ∙ w.in_ok-push_named.ensures)
-          (sym (interface_on a c.loop-place.place c.interface-item.result at (flag ∙ w.if-at.true)))
+          ranged-next (interface_functions a) c.loop-index.index (seen c.args.functions.now.items) (seen c.loop-index.functions.items) (seen c.if-at.functions.items)
+          (active_named a.features c.interface-item.result.functions) c.loop-index.invariant (ap (λ fs. seen fs.items) w.functions-is ∙ w.in_ok-push_named.ensures)
+          (sym (interface_on a c.loop-index.index c.interface-item.result at (flag ∙ w.if-at.true)))
       | else-at w ↦
-          ranged-same (interface_functions a) c.loop-place.place (seen c.args.functions.now.items) (seen c.loop-place.functions.items) (seen c.if-at.functions.items)
-          c.loop-place.invariant (ap (λ fs. seen fs.items) w.functions-is) (interface_off a c.loop-place.place (flag ∙ w.if-at.false))
+          ranged-same (interface_functions a) c.loop-index.index (seen c.args.functions.now.items) (seen c.loop-index.functions.items) (seen c.if-at.functions.items)
+          c.loop-index.invariant (ap (λ fs. seen fs.items) w.functions-is) (interface_off a c.loop-index.index (flag ∙ w.if-at.false))
     ]
 
 pub returns : goal.returns
 returns c =
     let a : Addition = addition_of c.args.adding.now in
-    let last : c.loop-place.place ≡ length a.unresolved.interfaces =
-    let past = c.loop-place-test.false in let within = c.loop-place.auto.place-end in let long = ap length c.as_slice-interface-items.ensures in omega arith in
-    c.loop-place.invariant ∙ ap (λ (m : ℕ). seen c.args.functions.now.items ++ flat_map (interface_functions a) (range_with_len 0 m)) last
+    let last : c.loop-index.index ≡ length a.unresolved.interfaces =
+    let past = c.loop-index-test.false in let within = c.loop-index.auto.index-end in let long = ap length c.as_slice-interface-items.ensures in omega arith in
+    c.loop-index.invariant ∙ ap (λ (m : ℕ). seen c.args.functions.now.items ++ flat_map (interface_functions a) (range_with_len 0 m)) last

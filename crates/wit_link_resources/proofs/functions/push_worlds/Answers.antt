@@ -12,29 +12,29 @@ use Rattle.wit_link_resources.proofs.functions.push_worlds.Goals as goal
 
 pub at-requires : goal.at-requires
 at-requires c =
-    world-inside (addition_of c.args.adding.now) c.args.activity.now c.requires c.loop-place.place (lent_below c.args.adding.now.unresolved.now.worlds c.as_slice-world-items.result.now c.loop-place.place c.as_slice-world-items.ensures c.loop-place-test.true)
+    world-inside (addition_of c.args.adding.now) c.args.activity.now c.requires c.loop-index.index (lent_below c.args.adding.now.unresolved.now.worlds c.as_slice-world-items.result.now c.loop-index.index c.as_slice-world-items.ensures c.loop-index-test.true)
 
-pub loop-place-preserved : goal.loop-place-preserved
-loop-place-preserved c =
+pub loop-index-preserved : goal.loop-index-preserved
+loop-index-preserved c =
     let a : Addition = addition_of c.args.adding.now in
-    let at = lent_at c.args.adding.now.unresolved.now.worlds c.as_slice-world-items.result.now c.loop-place.place c.as_slice-world-items.ensures c.loop-place-test.true c.world-item.result c.world-item.is in
-    let flag = sym (world-flag a c.args.activity.now c.requires c.loop-place.place c.at.result.now c.at.ensures) in
+    let at = lent_at c.args.adding.now.unresolved.now.worlds c.as_slice-world-items.result.now c.loop-index.index c.as_slice-world-items.ensures c.loop-index-test.true c.world-item.result c.world-item.is in
+    let flag = sym (world-flag a c.args.activity.now c.requires c.loop-index.index c.at.result.now c.at.ensures) in
     elim c.if-at.branch [
       | then-at+in_ok-push_entries+in_ok-push_entries-2 w ↦
           let imports : List Function = active_entries a.features c.world-item.result.imports in
           let exports : List Function = active_entries a.features c.world-item.result.exports in
-          ranged-next (world_functions a) c.loop-place.place (seen c.args.functions.now.items) (seen c.loop-place.functions.items) (seen c.if-at.functions.items)
-          (imports ++ exports) c.loop-place.invariant
-          (ap (λ fs. seen fs.items) w.functions-is ∙ (w.in_ok-push_entries-2.ensures ∙ (ap (λ (fs : List Function). fs ++ exports) w.in_ok-push_entries.ensures ∙ append_assoc (seen c.loop-place.functions.items) imports exports)))
-          (sym (world_on a c.loop-place.place c.world-item.result at (flag ∙ w.if-at.true)))
+          ranged-next (world_functions a) c.loop-index.index (seen c.args.functions.now.items) (seen c.loop-index.functions.items) (seen c.if-at.functions.items)
+          (imports ++ exports) c.loop-index.invariant
+          (ap (λ fs. seen fs.items) w.functions-is ∙ (w.in_ok-push_entries-2.ensures ∙ (ap (λ (fs : List Function). fs ++ exports) w.in_ok-push_entries.ensures ∙ append_assoc (seen c.loop-index.functions.items) imports exports)))
+          (sym (world_on a c.loop-index.index c.world-item.result at (flag ∙ w.if-at.true)))
       | else-at w ↦
-          ranged-same (world_functions a) c.loop-place.place (seen c.args.functions.now.items) (seen c.loop-place.functions.items) (seen c.if-at.functions.items)
-          c.loop-place.invariant (ap (λ fs. seen fs.items) w.functions-is) (world_off a c.loop-place.place (flag ∙ w.if-at.false))
+          ranged-same (world_functions a) c.loop-index.index (seen c.args.functions.now.items) (seen c.loop-index.functions.items) (seen c.if-at.functions.items)
+          c.loop-index.invariant (ap (λ fs. seen fs.items) w.functions-is) (world_off a c.loop-index.index (flag ∙ w.if-at.false))
     ]
 
 pub returns : goal.returns
 returns c =
     let a : Addition = addition_of c.args.adding.now in
-    let last : c.loop-place.place ≡ length a.unresolved.worlds =
-    let past = c.loop-place-test.false in let within = c.loop-place.auto.place-end in let long = ap length c.as_slice-world-items.ensures in omega arith in
-    c.loop-place.invariant ∙ ap (λ (m : ℕ). seen c.args.functions.now.items ++ flat_map (world_functions a) (range_with_len 0 m)) last
+    let last : c.loop-index.index ≡ length a.unresolved.worlds =
+    let past = c.loop-index-test.false in let within = c.loop-index.auto.index-end in let long = ap length c.as_slice-world-items.ensures in omega arith in
+    c.loop-index.invariant ∙ ap (λ (m : ℕ). seen c.args.functions.now.items ++ flat_map (world_functions a) (range_with_len 0 m)) last

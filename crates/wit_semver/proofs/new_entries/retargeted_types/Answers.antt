@@ -8,23 +8,23 @@ use Rattle.wit_graph_theory.specs.facts.PackagesAcyclic.{length-numbered, number
 use Rattle.wit_semver_spec.specs.Rewritten.{retargeted}
 use Rattle.wit_semver.proofs.new_entries.retargeted_types.Goals as goal
 
-pub loop-place-preserved : goal.loop-place-preserved
-loop-place-preserved c =
+pub loop-index-preserved : goal.loop-index-preserved
+loop-index-preserved c =
     let types = c.args.types.now in
     let targets = c.args.targets.now in
-    let place = c.loop-place.place in
+    let index = c.loop-index.index in
     let def = c.at.result.now in
     let f = λ (e : ℕ × TypeDef). retargeted e.1 (get_or targets e.0 None) in
-    let zero_more : 0 + place ≡ place = omega arith in
-    let item : c.in_ok-retargeted.field-0 ≡ f (0 + place, def) =
-    c.in_ok-retargeted.ensures ∙ ap (retargeted def) (sym (get_or_from_slice_get targets place c.at-in-loop-place.result.now None c.at-in-loop-place.ensures))
+    let zero_more : 0 + index ≡ index = omega arith in
+    let item : c.in_ok-retargeted.field-0 ≡ f (0 + index, def) =
+    c.in_ok-retargeted.ensures ∙ ap (retargeted def) (sym (get_or_from_slice_get targets index c.at-in-loop-index.result.now None c.at-in-loop-index.ensures))
     ∙ ap (λ (i : ℕ). retargeted def (get_or targets i None)) (sym zero_more) in
-    c.in_ok-push.ensures.ok ∙ ap (λ (x : TypeDef). c.loop-place.made ++ x ∷ []) item ∙ ap (λ (xs : List TypeDef). xs ++ f (0 + place, def) ∷ []) c.loop-place.invariant
-    ∙ sym (map-next f (enumerate_from 0 types) place (0 + place, def) (numbered_into 0 types place def c.at.ensures))
+    c.in_ok-push.ensures.ok ∙ ap (λ (x : TypeDef). c.loop-index.made ++ x ∷ []) item ∙ ap (λ (xs : List TypeDef). xs ++ f (0 + index, def) ∷ []) c.loop-index.invariant
+    ∙ sym (map-next f (enumerate_from 0 types) index (0 + index, def) (numbered_into 0 types index def c.at.ensures))
 
 pub returns : goal.returns
 returns c =
     let types = c.args.types.now in
     let long = length-numbered 0 types in
-    let past : length (enumerate_from 0 types) ≤ c.loop-place.place = omega (arith, long, c.loop-place-test.false, c.len-place-end.ensures) in
-    c.loop-place.invariant ∙ ap (map (λ (e : ℕ × TypeDef). retargeted e.1 (get_or c.args.targets.now e.0 None))) (take_all c.loop-place.place (enumerate_from 0 types) past)
+    let past : length (enumerate_from 0 types) ≤ c.loop-index.index = omega (arith, long, c.loop-index-test.false, c.len-index-end.ensures) in
+    c.loop-index.invariant ∙ ap (map (λ (e : ℕ × TypeDef). retargeted e.1 (get_or c.args.targets.now e.0 None))) (take_all c.loop-index.index (enumerate_from 0 types) past)

@@ -4,5 +4,5 @@ use Rattle.wit_data.specs.declared.types.TypeDef.{TypeDef}
 use Rattle.wit_semver_spec.specs.Rewritten.{retargeted}
 use Rattle.wit_semver.proofs.new_entries.retargeted_types.Given as goal
 
-abbrev pub invariant-loop-place : goal.invariant-loop-place
-invariant-loop-place l = l.made ≡ map (λ (e : ℕ × TypeDef). retargeted e.1 (get_or l.targets e.0 None)) (take l.place (enumerate_from 0 l.types))
+abbrev pub invariant-loop-index : goal.invariant-loop-index
+invariant-loop-index l = l.made ≡ map (λ (e : ℕ × TypeDef). retargeted e.1 (get_or l.targets e.0 None)) (take l.index (enumerate_from 0 l.types))

@@ -6,5 +6,5 @@ use Rattle.wit_merge_spec.specs.Matches.{labels_of_world}
 use Rattle.wit_merge_match.proofs.world_labels.LabelNotes.add_unnamed.Given as goal
 
 -- what stands in the worlds behind is noted
-abbrev pub invariant-loop-place : goal.invariant-loop-place
-invariant-loop-place l = AreLabelled l.self.graph.now l.self.other.now l.fn.found (flat_map (λ (e : ℕ × World). labels_of_world e.0 e.1) (drop l.place (enumerate_from 0 l.self.other.now.worlds))) l.found
+abbrev pub invariant-loop-index : goal.invariant-loop-index
+invariant-loop-index l = AreLabelled l.self.graph.now l.self.other.now l.fn.found (flat_map (λ (e : ℕ × World). labels_of_world e.0 e.1) (drop l.index (enumerate_from 0 l.self.other.now.worlds))) l.found

@@ -6,6 +6,6 @@ use Rattle.wit_merge_spec.specs.Matches.{WorldLabel, interface_at_label}
 use Rattle.wit_merge_match.proofs.world_labels.LabelNotes.note_side.Given as goal
 
 -- those behind are noted
-abbrev pub invariant-loop-place : goal.invariant-loop-place
-invariant-loop-place l = (named : List (Option ℕ)) → (later : List (ℕ × WorldLabel)) → AreLabelled l.self.graph.now l.self.other.now named later l.fn.found
-    → AreLabelled l.self.graph.now l.self.other.now named (flat_map (λ (e : Entry). interface_at_label l.world l.exported e.0 e.1) (drop l.place l.entries) ++ later) l.found
+abbrev pub invariant-loop-index : goal.invariant-loop-index
+invariant-loop-index l = (named : List (Option ℕ)) → (later : List (ℕ × WorldLabel)) → AreLabelled l.self.graph.now l.self.other.now named later l.fn.found
+    → AreLabelled l.self.graph.now l.self.other.now named (flat_map (λ (e : Entry). interface_at_label l.world l.exported e.0 e.1) (drop l.index l.entries) ++ later) l.found
