@@ -114,7 +114,7 @@ pub(crate) fn resource_name(graph: &Graph, resource: TypeId) -> &str
     }
 }
 
-/// The first place of a type among the futures and streams of a function, as a text, and `unit`
+/// The first index of a type among the futures and streams of a function, as a text, and `unit`
 /// without a type.
 pub(crate) fn future_index_text(
     alloc: Global,
@@ -136,7 +136,7 @@ pub(crate) fn future_index_text(
     }
 }
 
-/// The first place of a type.
+/// The first index of a type.
 fn future_index(found: &[TypeId], ty: TypeId) -> Option<usize>
     ensures { result ≡ position (nat_eq ty) found.now }
 {

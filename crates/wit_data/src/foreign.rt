@@ -9,7 +9,7 @@ use std::alloc::{AllocError, Global};
 use wit_names::PackageName;
 use wit_values::{Items, Names, Table};
 
-/// The interfaces that are named of other packages, by their places in the package's list, in the
+/// The interfaces that are named of other packages, by their indices in the package's list, in the
 /// order in which they are named. The only error is want of memory.
 pub fn foreign_interfaces(
     alloc: Global,
@@ -45,7 +45,7 @@ fn push_interface(ids: &mut Items<usize>, item: AstItem) -> Result<(), AllocErro
     }
 }
 
-/// The worlds that are named of other packages, by their places in the package's list, in the order
+/// The worlds that are named of other packages, by their indices in the package's list, in the order
 /// in which they are named. The only error is want of memory.
 pub fn foreign_worlds(
     alloc: Global,

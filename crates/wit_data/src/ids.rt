@@ -1,11 +1,11 @@
-//! The places of things in a graph or in an unresolved package.
+//! The ids of things in a graph or in an unresolved package.
 ghost use Rattle.std.specs.Prelude.{◌≡◌};
 
 use std::alloc::AllocError;
 use std::marker::{Model, PhantomData};
 use wit_values::TryClone;
 
-/// The place of a thing in the list of its sort.
+/// The index of a thing in the list of its sort.
 #[derive_where(Clone, Copy, Debug, PartialEq, Eq, PartialOrd, Ord, Hash)]
 pub struct Id<S> {
     index: usize,
@@ -24,7 +24,7 @@ impl<S> Model for Id<S> {
 }
 
 impl<S> Id<S> {
-    /// The id of the thing at this place, from 0.
+    /// The id of the thing at this index, from 0.
     pub fn from_index(index: usize) -> Id<S>
         ensures { result ≡ index }
     {
@@ -34,7 +34,7 @@ impl<S> Id<S> {
         }
     }
 
-    /// The place, from 0.
+    /// The index, from 0.
     pub fn index(self) -> usize
         ensures { result ≡ self }
     {
@@ -60,14 +60,14 @@ pub enum WorldSort {}
 /// The sort of packages.
 pub enum PackageSort {}
 
-/// The place of a type in the list of types of its graph, or of its unresolved package.
+/// The index of a type in the list of types of its graph, or of its unresolved package.
 pub type TypeId = Id<TypeSort>;
 
-/// The place of an interface in the list of interfaces of its graph, or of its unresolved package.
+/// The index of an interface in the list of interfaces of its graph, or of its unresolved package.
 pub type InterfaceId = Id<InterfaceSort>;
 
-/// The place of a world in the list of worlds of its graph, or of its unresolved package.
+/// The index of a world in the list of worlds of its graph, or of its unresolved package.
 pub type WorldId = Id<WorldSort>;
 
-/// The place of a package in the list of packages of its graph, or of its unresolved package.
+/// The index of a package in the list of packages of its graph, or of its unresolved package.
 pub type PackageId = Id<PackageSort>;

@@ -35,7 +35,7 @@ pub fn function_references(alloc: Global, function: &Function) -> Result<Items<T
     Ok(ids)
 }
 
-/// Which type refers to which, as adjacency lists: list i has the places of the types that type i refers to,
+/// Which type refers to which, as adjacency lists: list i has the indices of the types that type i refers to,
 /// both from 0. The only error is want of memory.
 pub fn type_references(alloc: Global, types: &[TypeDef]) -> Result<Items<Items<usize>>, AllocError>
     ensures { IfOk result (λ rows. rows ≡ type_references types.now) }
@@ -48,7 +48,7 @@ pub fn type_references(alloc: Global, types: &[TypeDef]) -> Result<Items<Items<u
     Ok(rows)
 }
 
-/// The places of types in their list, from 0, by their ids. The only error is want of memory.
+/// The indices of types in their list, from 0, by their ids. The only error is want of memory.
 pub fn places(alloc: Global, ids: &[TypeId]) -> Result<Items<usize>, AllocError>
     ensures { IfOk result (λ places. places ≡ ids.now) }
 {

@@ -26,7 +26,7 @@ impl TryClone for AstItem {
     }
 }
 
-/// A package before its foreign names are looked up. Its ids are places in its own lists.
+/// A package before its foreign names are looked up. Its ids are indices in its own lists.
 ///
 /// Source: `UnresolvedPackage` of wit-parser 0.263.0.
 pub struct UnresolvedPackage {

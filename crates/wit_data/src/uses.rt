@@ -19,7 +19,7 @@ pub fn alias_target(kind: &TypeDefKind) -> Option<TypeId>
 }
 
 /// Of an alias of a type that an interface owns, which isn't the alias's own owner, that interface;
-/// else None, also where the type isn't there. All ids are places of the same lists.
+/// else None, also where the type isn't there. All ids are indices in the same lists.
 ///
 /// Source: `type_interface_dep` of wit-parser 0.263.0.
 pub fn type_interface_dep(types: &[TypeDef], id: TypeId) -> Option<InterfaceId>

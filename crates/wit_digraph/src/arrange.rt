@@ -5,8 +5,8 @@ ghost use Rattle.std.specs.List.{AllZip, IsDistinct};
 use std::alloc::{AllocError, Global};
 use wit_values::Items;
 
-/// The items that stand at these places, in this order. Each is moved, and an item whose place
-/// isn't among them is let go. The places count from 0, differ, and are below the number of items.
+/// The items that stand at these indices, in this order. Each is moved, and an item whose index
+/// isn't among them is let go. The indices count from 0, differ, and are below the number of items.
 /// The only error is want of memory.
 pub fn in_order<T: Drop>(
     alloc: Global,

@@ -1,6 +1,6 @@
 //! A node on the way of a search along uses.
 
-/// A node on the way, and the place of its next use.
+/// A node on the way, and the index of its next use.
 #[derive(Clone, Copy)]
 pub(crate) struct Frame {
     pub(crate) node: usize,

@@ -91,7 +91,7 @@ fn all_nodes(alloc: Global, nodes: usize) -> Result<Items<usize>, AllocError>
     Ok(all)
 }
 
-/// A place for the row of each of so many nodes.
+/// An empty row for each of so many nodes.
 fn empty_rows(alloc: Global, nodes: usize) -> Result<Items<Items<u64>>, AllocError>
     ensures { IfOk result (λ rows. length rows ≡ nodes) }
 {

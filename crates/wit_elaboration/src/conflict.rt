@@ -154,7 +154,7 @@ fn list_outside(
     Ok(())
 }
 
-/// The place of the first export of an interface that leads to a conflict: one of its uses does, and
+/// The index of the first export of an interface that leads to a conflict: one of its uses does, and
 /// so is marked.
 fn first_conflict(
     uses: &[Items<usize>],
@@ -177,7 +177,7 @@ fn first_conflict(
     None
 }
 
-/// The place of the first export of an interface that is in conflict, None where there is none.
+/// The index of the first export of an interface that is in conflict, None where there is none.
 fn find_conflict(
     alloc: Global,
     uses: &[Items<usize>],
@@ -242,7 +242,7 @@ fn may_conflict(
     }
 }
 
-/// The place of the first export of an interface that is in conflict, None where there is none. It
+/// The index of the first export of an interface that is in conflict, None where there is none. It
 /// lists the exported keys too. Where there are rows of a closure, they are asked first.
 pub(crate) fn find_refused(
     alloc: Global,

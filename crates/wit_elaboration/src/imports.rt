@@ -58,7 +58,7 @@ fn list_uses(
     Ok(())
 }
 
-/// What was walked from a place of the order on.
+/// What was walked from an index of the order on.
 pub(crate) fn order_from(walked: &Listing, start: usize) -> &[usize]
     requires { start ≤ length walked.now.order }
     ensures order { result.now ≡ drop start walked.now.order }

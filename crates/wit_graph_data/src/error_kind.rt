@@ -200,7 +200,7 @@ impl<'a> fmt::Display for KnownPackages<'a> {
     }
 }
 
-/// The text that tells what went wrong, without the place.
+/// The text that tells what went wrong, without the span.
 impl fmt::Display for ResolveErrorKind {
     ghost output = { λ k. Some (kind_text k) };
 

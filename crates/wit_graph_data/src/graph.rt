@@ -54,7 +54,7 @@ impl TryClone for Package {
     }
 }
 
-/// Packages with their interfaces, types and worlds, each named by its place in its list.
+/// Packages with their interfaces, types and worlds, each named by its index in its list.
 pub struct Graph {
     pub types: Items<TypeDef>,
     pub interfaces: Items<Interface>,

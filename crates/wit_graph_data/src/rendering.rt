@@ -1,4 +1,4 @@
-//! Errors as they are told with their places.
+//! Errors as they are told with their spans.
 ghost use Rattle.std.specs.Prelude.{◌≡◌, IfErr, IfOk, string_bytes};
 ghost use Rattle.wit_graph_data.specs.ErrorText.{rendered_text, text_at};
 ghost use Rattle.wit_graph_data.specs.declared.error_kind.ResolveErrorKind.TheVariants.{OutOfMemory};
@@ -9,8 +9,8 @@ use std::alloc::{AllocError, Global};
 use wit_data::{SourceMap, Span};
 
 impl ResolveError {
-    /// The text of the error with the line in which it is, the text alone where its place is unknown or in no file; of
-    /// a package that is defined twice the text with both places. The only refusal is want of memory (28).
+    /// The text of the error with the line in which it is, the text alone where its span is unknown or in no file; of
+    /// a package that is defined twice the text with both spans. The only refusal is want of memory (28).
     ///
     /// Source: `render` of `ResolveError` of wit-parser 0.263.0.
     pub fn render(&self, alloc: Global, source_map: &SourceMap) -> ResolveResult<String>

@@ -1,6 +1,6 @@
 //! Types on the way of a comparison.
 
-/// Two types of which the parts are compared, and the place of the next part.
+/// Two types of which the parts are compared, and the index of the next part.
 #[derive(Clone, Copy)]
 pub(crate) struct Frame {
     pub(crate) from: usize,

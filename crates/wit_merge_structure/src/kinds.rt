@@ -6,7 +6,7 @@ ghost use Rattle.wit_merge_structure.specs.steps.Kinds.{name_at, step_at, steps_
 use std::alloc::{AllocError, Global};
 use wit_data::{TypeDefKind, Variant, part_count, part_name, plain_step, variant_of};
 
-/// Whether a part of one kind and that of another at the same place have the same name, or both none.
+/// Whether a part of one kind and that of another at the same index have the same name, or both none.
 fn have_same_name(from: &TypeDefKind, into: &TypeDefKind, index: usize) -> bool
     ensures { IsTrue result ↔ (name_at from.now index ≡ name_at into.now index) }
 {

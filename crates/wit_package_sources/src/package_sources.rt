@@ -48,7 +48,7 @@ impl PackageSources {
         Ok(single_source(alloc, package, source)?)
     }
 
-    /// The sources of these maps, and for each listed package the place of its map, from 0, which
+    /// The sources of these maps, and for each listed package the index of its map, from 0, which
     /// is that of one of the maps. The only refusal is want of memory (28).
     ///
     /// Source: `from_source_maps` of wit-parser 0.263.0.

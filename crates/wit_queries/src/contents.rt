@@ -6,7 +6,7 @@ use std::alloc::{AllocError, Global};
 use wit_data::{PartRole, TypeDef, TypeDefKind, part_role, places, referred};
 use wit_values::Items;
 
-/// What the values of a kind hold, as places.
+/// What the values of a kind hold, as ids.
 fn content_types(alloc: Global, kind: &TypeDefKind) -> Result<Items<usize>, AllocError>
     ensures { IfOk result (λ held. held ≡ content_types kind.now) }
 {

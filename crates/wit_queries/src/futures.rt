@@ -68,7 +68,7 @@ pub fn holds_future_or_stream(
     Ok(is_among(order.as_slice(), ty.index()))
 }
 
-/// Whether a place is one of some.
+/// Whether an id is one of some.
 fn is_among(places: &[usize], place: usize) -> bool
     ensures { result ≡ list_any (nat_eq place) places.now }
 {
@@ -109,7 +109,7 @@ fn push_place(places: &mut Items<usize>, count: usize, ty: Type_) -> Result<(), 
     }
 }
 
-/// Whether the type at a place is a future or a stream.
+/// Whether the type of an id is a future or a stream.
 fn is_future(types: &[TypeDef], place: usize) -> bool
     ensures { result ≡ is_future types.now place }
 {

@@ -28,7 +28,7 @@ impl<'a> Model for InterfaceDirectDeps<'a> {
 }
 
 impl<'a> InterfaceDirectDeps<'a> {
-    /// Those of the interface at a place, where there is one.
+    /// Those of the interface of an id, where there is one.
     pub(crate) fn of(graph: &'a Graph, id: InterfaceId) -> Option<InterfaceDirectDeps<'a>>
         ensures { result ≡ option_map (interface_uses graph.now.types) (slice_get graph.now.interfaces id) }
     {

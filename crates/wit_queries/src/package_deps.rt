@@ -184,7 +184,7 @@ fn numbers_below(alloc: Global, count: usize) -> Result<Items<usize>, AllocError
     Ok(numbers)
 }
 
-/// The ids of the packages at these places.
+/// The ids of the packages at these indices.
 fn package_ids(alloc: Global, places: &[usize]) -> Result<Vec<PackageId>, AllocError>
     ensures { IfOk result (λ ids. ids.items ≡ places.now) }
 {

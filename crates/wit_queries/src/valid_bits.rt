@@ -27,7 +27,7 @@ fn is_number(ty: Type_) -> bool
     }
 }
 
-/// By flags that tell of which types all bits are valid, one for each type by its place, whether any bits are a value
+/// By flags that tell of which types all bits are valid, one for each type by its id, whether any bits are a value
 /// of this one: of a number, or of a type whose flag is there and on. It takes no memory.
 ///
 /// Source: `all_bits_valid` of wit-parser 0.263.0.
@@ -65,7 +65,7 @@ pub fn add_valid_bits(
     Ok(())
 }
 
-/// Takes back each flag, from a place on, with which the parts of its type don't agree. Whether there was none.
+/// Takes back each flag, from an id on, with which the parts of its type don't agree. Whether there was none.
 fn settle(flags: &mut Items<bool>, types: &[TypeDef], first: usize) -> bool
     requires each { length flags.old ≡ length types.now }
     requires off { AreRightOff types.now flags.old }
@@ -86,7 +86,7 @@ fn settle(flags: &mut Items<bool>, types: &[TypeDef], first: usize) -> bool
     settled
 }
 
-/// Whether a kind has its parts at fixed places, and by the flags all bits of those that its values hold are valid.
+/// Whether a kind has its parts at fixed offsets, and by the flags all bits of those that its values hold are valid.
 fn has_valid_parts(flags: &[bool], kind: &TypeDefKind) -> bool
     ensures { result ≡ has_valid_parts flags.now kind.now }
 {

@@ -28,7 +28,7 @@ impl<'a> Model for WorldInterfaces<'a> {
 }
 
 impl<'a> WorldInterfaces<'a> {
-    /// Those of the world at a place, where there is one.
+    /// Those of the world of an id, where there is one.
     pub(crate) fn of(graph: &'a Graph, id: WorldId) -> Option<WorldInterfaces<'a>>
         ensures { result ≡ option_map (world_interfaces graph.now.types) (slice_get graph.now.worlds id) }
     {

@@ -147,7 +147,7 @@ fn only_version(
     }
 }
 
-/// The first place, from a place on, of a package that a name without a version may mean.
+/// The first index, from an index on, of a package that a name without a version may mean.
 fn version_from(
     names: &Table<PackageName, PackageId>,
     name: &PackageName,
@@ -206,7 +206,7 @@ impl<'a> fmt::Display for VersionPart<'a> {
     }
 }
 
-/// The world of a name in the package at a place.
+/// The world of a name in the package of an id.
 fn world_in(alloc: Global, graph: &Graph, id: PackageId, name: &str) -> ResolveResult<WorldId>
     ensures { IsSelectionResult (in_package graph.now id (named_world name.now)) result }
 {
@@ -228,7 +228,7 @@ fn world_named(alloc: Global, package: &Package, name: &str) -> ResolveResult<Wo
     }
 }
 
-/// The only world of the package at a place.
+/// The only world of the package of an id.
 fn only_world(alloc: Global, graph: &Graph, id: PackageId) -> ResolveResult<WorldId>
     ensures { IsSelectionResult (in_package graph.now id (λ home. only_world graph.now id home home.worlds)) result }
 {

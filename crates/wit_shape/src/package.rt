@@ -17,7 +17,7 @@ use wit_digraph::is_acyclic;
 
 /// Whether the package has its shape, which is what the calls that resolve it ask of it.
 ///
-/// Ids are places of its own lists. What it knows of other packages comes first in each list:
+/// Ids are indices in its own lists. What it knows of other packages comes first in each list:
 /// interfaces and worlds by name alone, and types of kind `Unknown`, which alone may have to be
 /// resources; there is a span for each other package and each such type. Names are kebab names, and
 /// those of its own interfaces differ, as do those of its own worlds. Owners list their types under

@@ -47,7 +47,7 @@ fn are_unknown_below(unknown: usize, types: &[TypeDef]) -> bool
     true
 }
 
-/// Whether a type is of kind `Unknown` exactly if its place is below a bound.
+/// Whether a type is of kind `Unknown` exactly if its index is below a bound.
 fn is_unknown_below(unknown: usize, index: usize, def: &TypeDef) -> bool
     ensures { IsTrue result ↔ ((def.now.kind ≡ kind.Unknown) ↔ (index < unknown)) }
 {

@@ -136,7 +136,7 @@ fn includes_earlier(index: usize, world: &World) -> bool
         .all(|include| include.id.index() < index)
 }
 
-/// Whether no interface without a name stands in two places of all worlds. The only error is want
+/// Whether no interface without a name stands in two entries of all worlds. The only error is want
 /// of memory.
 pub fn stand_once(
     alloc: Global,
@@ -167,7 +167,7 @@ fn unnamed_among(
     Ok(unnamed)
 }
 
-/// The interfaces in all places of all worlds.
+/// The interfaces in all entries of all worlds.
 fn interfaces_in_worlds(alloc: Global, worlds: &[World]) -> Result<Items<usize>, AllocError>
     ensures { IfOk result (λ ids. ids ≡ interfaces_in_worlds worlds.now) }
 {

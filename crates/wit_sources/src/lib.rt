@@ -1,4 +1,4 @@
-//! Places in source texts: spans, and the files of a source map in one row of positions.
+//! Spans in source texts, and the files of a source map in one row of positions.
 #![tactic(auto)]
 
 mod lines;

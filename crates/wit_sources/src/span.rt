@@ -1,4 +1,4 @@
-//! Spans, the places of pieces of text in a source map.
+//! Spans: where pieces of text stand in a source map.
 ghost use Rattle.std.specs.Prelude.{◌≡◌, ◌≤◌, ◌<◌, ◌+◌, ◌^◌, ◌↔◌, Some, None, IsTrue, IsSome};
 ghost use Rattle.std.specs.Option.{SomeIff};
 ghost use Rattle.wit_sources.specs.Span.{start_of, end_of, moved_by};

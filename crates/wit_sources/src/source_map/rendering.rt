@@ -1,4 +1,4 @@
-//! Places of a source map as they are told, and the text that shows one.
+//! Spans of a source map as they are told, and the text that shows one.
 ghost use Rattle.std.specs.Prelude.{◌≡◌, Some, IfOk, IfSome, replicate, string_bytes};
 ghost use Rattle.std.specs.Option.{option_copied, option_map};
 ghost use Rattle.wit_sources.specs.Lines.{column, line_number};
@@ -32,8 +32,8 @@ impl SourceMap {
     }
 
     /// A text with the line in which a span begins, the span underlined in it. None where the span is unknown or in no
-    /// file. A line of more than 500 bytes isn't shown: then the place stands before the text. The only error is want
-    /// of memory.
+    /// file. A line of more than 500 bytes isn't shown: then the position stands before the text. The only error is
+    /// want of memory.
     ///
     /// Source: `highlight_span` of `SourceMap` of wit-parser 0.263.0.
     pub fn highlight_span(
@@ -111,7 +111,7 @@ impl SourceFile {
     }
 }
 
-/// A place in a file.
+/// A position in a file.
 #[derive(Drop)]
 struct Location<'a> {
     path: &'a str,
