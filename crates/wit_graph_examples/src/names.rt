@@ -1,4 +1,4 @@
-//! What things are called: tracks of versions, canonical names, external ids, and errors with two places.
+//! What things are called: tracks of versions, canonical names, external ids, and errors with two spans.
 ghost use Rattle.wit_graph_examples.specs.CanonicalNames.{ExamplesOfCanonicalNames, ExamplesOfSuffixes};
 ghost use Rattle.wit_graph_examples.specs.ExternalIds.{ExamplesOfExternalIds};
 ghost use Rattle.wit_graph_examples.specs.TwoPlaces.{ExamplesOfTwoPlaces};
@@ -29,7 +29,7 @@ pub fn examples_of_external_ids()
     ensures { ExamplesOfExternalIds }
 {}
 
-/// A package that is defined twice is told with both places.
+/// A package that is defined twice is told with both spans.
 pub fn examples_of_two_places()
     ensures { ExamplesOfTwoPlaces }
 {}

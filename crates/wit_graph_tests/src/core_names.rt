@@ -24,7 +24,7 @@ const CALLBACK: ManglingAndAbi = ManglingAndAbi::Legacy(LiftLowerAbi::AsyncCallb
 
 const STACKFUL: ManglingAndAbi = ManglingAndAbi::Legacy(LiftLowerAbi::AsyncStackful);
 
-/// The places of interface `x` and of the one without a name.
+/// The ids of interface `x` and of the one without a name.
 const X: Option<usize> = Some(0);
 
 const UNNAMED: Option<usize> = Some(1);

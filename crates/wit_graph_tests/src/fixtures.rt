@@ -79,12 +79,12 @@ pub fn package_name(rt: &impl Abort, alloc: Global, namespace: &str, name: &str)
     PackageName::new(namespace, text(rt, alloc, name), None)
 }
 
-/// The type at a place.
+/// The type at an index.
 pub fn type_at(index: usize) -> Type_ {
     Type_::Id(TypeId::from_index(index))
 }
 
-/// The owner that is the interface at a place.
+/// The owner that is the interface at an index.
 pub fn interface_owner(index: usize) -> TypeOwner {
     TypeOwner::Interface(InterfaceId::from_index(index))
 }

@@ -8,7 +8,7 @@ use wit_graph_data::Graph;
 use wit_merge_match::{Matches, MergeRemap, find_matches, find_remap};
 use wit_validity::is_valid;
 
-/// Of each package, world, interface and type of the graph with this change the place of that of the valid graph with
+/// Of each package, world, interface and type of the graph with this change the id of that of the valid graph with
 /// which it is matched, `-` where there is none; and then where each goes.
 fn matches_of(rt: &impl Abort, alloc: Global, breach: Breach) -> String {
     let ours = graph(rt, alloc, Breach::Nothing);

@@ -1,4 +1,4 @@
-//! Errors as they are told in a file and without a place, and tracks of versions.
+//! Errors as they are told in a file and without a span, and tracks of versions.
 use crate::fixtures::{assert_text, string};
 use std::alloc::Global;
 use std::process::Abort;

@@ -346,7 +346,7 @@ fn either<T: Copy>(is_changed: bool, changed: T, kept: T) -> T {
     }
 }
 
-/// Another name of the type at a place.
+/// Another name of the type at an index.
 fn alias(rt: &impl Abort, alloc: Global, name: &str, of: usize, owner: TypeOwner) -> TypeDef {
     type_def(rt, alloc, name, TypeDefKind::Type_(type_at(of)), owner)
 }

@@ -94,7 +94,7 @@ const BREACHES: [Breach; 35] = [
     Breach::ExportsInConflict,
 ];
 
-/// The places of packages `foo:bar` and `foo:baz`.
+/// The ids of packages `foo:bar` and `foo:baz`.
 const BAR: usize = 0;
 
 const BAZ: usize = 1;
@@ -290,7 +290,7 @@ fn add_type_m(rt: &impl Abort, alloc: Global, types: &mut Items<TypeDef>, breach
     add_type(rt, alloc, types, name, kind, interface_owner(3));
 }
 
-/// The types that only some graphs have, from place 6 on.
+/// The types that only some graphs have, from id 6 on.
 fn add_more_types(rt: &impl Abort, alloc: Global, types: &mut Items<TypeDef>, breach: Breach) {
     let (target, other) = match breach {
         Breach::NameWithoutOwner => {
@@ -353,7 +353,7 @@ fn types_of_d(breach: Breach) -> &'static [(&'static str, usize)] {
     }
 }
 
-/// The interface that only some graphs have, at place 4.
+/// The interface that only some graphs have, with id 4.
 fn add_more_interfaces(
     rt: &impl Abort,
     alloc: Global,

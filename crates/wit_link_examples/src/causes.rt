@@ -6,7 +6,7 @@ pub fn examples_of_names()
     ensures { ExamplesOfNames }
 {}
 
-/// Gates, results and places for which packages can't be added.
+/// Gates, results and spans for which packages can't be added.
 pub fn examples_of_causes()
     ensures { ExamplesOfCauses }
 {}

@@ -25,7 +25,7 @@ impl<'a> Checker<'a> {
         is_active(self.adding.features, note)
     }
 
-    /// Where a place of the package is in the graph. The caller has seen that no span passes the last position,
+    /// Where a span of the package is in the graph. The caller has seen that no span passes the last position,
     /// so an error says that memory is wanting.
     fn moved(&self, span: Span) -> Result<Span, AllocError>
         ensures { IfOk result (λ x. x ≡ moved_by self.now.adding.offset span) }
@@ -33,7 +33,7 @@ impl<'a> Checker<'a> {
         span.moved(self.adding.offset).ok_or(AllocError)
     }
 
-    /// An error at a place of the package.
+    /// An error at a span of the package.
     pub(crate) fn semantic(
         &self,
         span: Span,

@@ -28,7 +28,7 @@ use wit_link_spec::{Activity, AdditionRef, excluded_message, excluded_owner_mess
 /// Refuses what is active and needs what is left out: something refers to it (11), or it owns a
 /// type (12). The package has its shape, and what is active of it is told by `activity`.
 ///
-/// Else it is refused for want of memory (28) alone. That is told too where a place that would be
+/// Else it is refused for want of memory (28) alone. That is told too where a span that would be
 /// told ends past 4294967295, so the caller looks at the spans first.
 ///
 /// Source: `append` of wit-parser 0.263.0.

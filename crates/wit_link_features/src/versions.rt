@@ -34,7 +34,7 @@ use wit_link_spec::{Activity, AdditionRef};
 /// Refuses a `@since` that is asked and that the package doesn't meet: it has no version (9), or one that is below
 /// (10). The package has its shape, and what is active of it is told by `activity`.
 ///
-/// Else it is refused for want of memory (28) alone. That is told too where a place that would be told ends past
+/// Else it is refused for want of memory (28) alone. That is told too where a span that would be told ends past
 /// 4294967295, so the caller looks at the spans first.
 ///
 /// Source: `include_stability` of wit-parser 0.263.0; WIT.md of the component model.

@@ -16,7 +16,7 @@ use std::alloc::{AllocError, Global};
 use wit_data::{Handle, Items, PartRole, TypeDef, TypeDefKind, TypeId, part_role, referred};
 use wit_link_spec::{AdditionRef, NewIds};
 
-/// Types that are known to hold no borrow, as places: of the package, and of the graph.
+/// Types that are known to hold no borrow, as ids: of the package, and of the graph.
 #[derive(Drop)]
 pub(crate) struct Free {
     pub(crate) unresolved: IndexSet<usize>,
@@ -62,7 +62,7 @@ fn push_places(stack: &mut Items<usize>, ids: &[TypeId]) -> Result<(), AllocErro
 }
 
 /// Whether the values of a type of a graph hold a borrow. The type is there, types refer to types that are there, and
-/// none to itself, through whatever others, as in a valid graph. `free` has types, by their places, that are known to
+/// none to itself, through whatever others, as in a valid graph. `free` has types, by their ids, that are known to
 /// hold none, with all that these hold; they aren't entered. Where the answer is no, more are known. After another
 /// answer, and after want of memory, which is the only error, the set isn't to be used again.
 ///

@@ -22,7 +22,7 @@ use wit_link::{append_all_with, sort_groups};
 use wit_remap::Mark;
 
 /// Puts the files of groups at the end of a source map, in order, and answers their packages, the nested
-/// ones of a group before its main one, each with the place where its group's files begin.
+/// ones of a group before its main one, each with the position where its group's files begin.
 ///
 /// Refused where the end would pass 4294967295 (27), and for memory (28); the map is as before then.
 pub(crate) fn place_groups(

@@ -95,7 +95,7 @@ impl Resolve {
         is_valid(alloc, self.graph())
     }
 
-    /// The types, each at the place that is its id.
+    /// The types, each at the index that is its id.
     ///
     /// Source: `Resolve::types` of wit-parser 0.263.0.
     pub fn types(&self) -> &[TypeDef]
@@ -104,7 +104,7 @@ impl Resolve {
         self.graph.types.as_slice()
     }
 
-    /// The interfaces, each at the place that is its id.
+    /// The interfaces, each at the index that is its id.
     ///
     /// Source: `Resolve::interfaces` of wit-parser 0.263.0.
     pub fn interfaces(&self) -> &[Interface]
@@ -113,7 +113,7 @@ impl Resolve {
         self.graph.interfaces.as_slice()
     }
 
-    /// The worlds, each at the place that is its id.
+    /// The worlds, each at the index that is its id.
     ///
     /// Source: `Resolve::worlds` of wit-parser 0.263.0.
     pub fn worlds(&self) -> &[World]
@@ -122,7 +122,7 @@ impl Resolve {
         self.graph.worlds.as_slice()
     }
 
-    /// The packages, each at the place that is its id.
+    /// The packages, each at the index that is its id.
     ///
     /// Source: `Resolve::packages` of wit-parser 0.263.0.
     pub fn packages(&self) -> &[Package]
@@ -281,7 +281,7 @@ impl Resolve {
     /// the id of the main group's main package.
     ///
     /// Refused where two packages have one name (5), where they depend on each other or one on itself (6), where the
-    /// files or a place that would be told end past 4294967295 (27), as `push` where one of them is, and for memory
+    /// files or a span that would be told end past 4294967295 (27), as `push` where one of them is, and for memory
     /// (28). The packages are as before then. The files are at the end of the source map after a refusal, but after
     /// 27 nowhere, and after 28 there or not.
     ///

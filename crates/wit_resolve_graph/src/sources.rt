@@ -1,4 +1,4 @@
-//! What goes wrong with sources, and how places in them and faults are told.
+//! What goes wrong with sources, and how spans in them and faults are told.
 ghost use Rattle.std.specs.Prelude.{◌≡◌, IfErr, IfOk, string_bytes};
 ghost use Rattle.wit_graph_data.specs.declared.error_kind.ResolveErrorKind.TheVariants.{OutOfMemory};
 ghost use Rattle.wit_resolve_graph.specs.Sources.{fault_rendered};

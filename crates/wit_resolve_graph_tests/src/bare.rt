@@ -10,7 +10,7 @@ use wit_link::{append, append_all};
 use wit_resolve_graph::Shape;
 use wit_validity::is_valid;
 
-/// The place of a package that is added to an empty graph, those of two that follow, and how many there are then.
+/// The id of a package that is added to an empty graph, those of two that follow, and how many there are then.
 fn places(rt: &impl Abort, alloc: Global) -> String {
     let (mut graph, features) = (Graph::new(alloc), Features::new(alloc));
     assert!(rt; is_valid(alloc, &graph).expect(rt, "memory"));

@@ -1,4 +1,4 @@
-//! Calls that nothing else makes, each once with ample memory: what came in is asked for by its place, and what
+//! Calls that nothing else makes, each once with ample memory: what came in is asked for by its id, and what
 //! an error is, is written.
 use crate::parts::{assert_text, list, package, string, text, world};
 use std::alloc::Global;
@@ -38,7 +38,7 @@ fn a_package_is_pushed_once(rt: HostRuntime) {
     assert_eq!(rt; refusals(&rt, rt.alloc()), [27, 0, 5]);
 }
 
-/// Lists of two things each, of which the first is at place 5 and the second left out; and of a package at place 7.
+/// Lists of two things each, of which the first has id 5 and the second is left out; and of a package with id 7.
 fn remap(rt: &impl Abort, alloc: Global) -> Remap {
     let types = list(rt, alloc, [Some(TypeId::from_index(5)), None]);
     let interfaces = list(rt, alloc, [Some(InterfaceId::from_index(5)), None]);
@@ -47,7 +47,7 @@ fn remap(rt: &impl Abort, alloc: Global) -> Remap {
     Remap::from_lists(types, interfaces, worlds, packages)
 }
 
-/// Writes the number and the place of the refusal that is told of a thing that is left out.
+/// Writes the number and the span of the refusal that is told of a thing that is left out.
 fn write_told(rt: &impl Abort, out: &mut String, refusal: Option<ResolveError>) {
     let refusal = refusal.expect(rt, "a refusal");
     let (number, span) = (refusal.number(), refusal.kind().span());

@@ -87,7 +87,7 @@ fn case(rt: &impl Abort, alloc: Global, name: &str, ty: Type_) -> Case {
     }
 }
 
-/// A variant that holds what is left out: told at the variant's place, and not at that of the case.
+/// A variant that holds what is left out: told at the variant's span, and not at that of the case.
 fn excluded(rt: &impl Abort, alloc: Global) -> String {
     let contents =
         "package foo:main;\n\ninterface i {\n  @unstable(feature = f)\n  type gone = u32;\n  variant held { some(gone) }\n}\n";

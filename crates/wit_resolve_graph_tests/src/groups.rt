@@ -62,7 +62,7 @@ pub fn push_two(
     resolve.push_groups(alloc, main, deps)
 }
 
-/// The place that is answered, or the number of the refusal, then how many packages and positions there are.
+/// The id that is answered, or the number of the refusal, then how many packages and positions there are.
 fn outcome(
     rt: &impl Abort,
     alloc: Global,

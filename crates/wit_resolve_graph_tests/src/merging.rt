@@ -26,7 +26,7 @@ fn with_resource(rt: &impl Abort, alloc: Global) -> UnresolvedPackage {
     made
 }
 
-/// A record at 3 to 4 with a field of the type at a place.
+/// A record at 3 to 4 with a field of the type at an index.
 fn record(rt: &impl Abort, alloc: Global, name: &str, place: usize) -> TypeDef {
     let field = Field {
         name: text(rt, alloc, "a"),

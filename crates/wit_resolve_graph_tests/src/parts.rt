@@ -1,4 +1,4 @@
-//! Parts of packages built by hand, as tests need them: without docs, gates, places and external ids, which a test
+//! Parts of packages built by hand, as tests need them: without docs, gates, spans and external ids, which a test
 //! then sets.
 use crate::shown::shown;
 use indexmap::IndexMap;
@@ -61,7 +61,7 @@ pub fn world_list<const N: usize>(
     list(rt, alloc, worlds)
 }
 
-/// The place of the first such words in a text.
+/// The span of the first such words in a text.
 pub fn place(rt: &impl Abort, contents: &str, words: &str) -> Span {
     let start = contents.find(words).expect(rt, "the words");
     let start = u32::try_from(start).expect(rt, "a position");
@@ -104,7 +104,7 @@ fn version_or_none(rt: &impl Abort, alloc: Global, text: &str) -> Option<Version
 
 // ---- types and functions
 
-/// The type at a place.
+/// The type at an index.
 pub fn type_at(index: usize) -> Type_ {
     Type_::Id(TypeId::from_index(index))
 }
@@ -257,7 +257,7 @@ pub fn package(rt: &impl Abort, alloc: Global, name: &str, version: &str) -> Unr
     }
 }
 
-/// Says that the package names one thing of package `foo:HOME`, at a place, whatever the features.
+/// Says that the package names one thing of package `foo:HOME`, at a span, whatever the features.
 pub fn name_foreign(
     rt: &impl Abort,
     alloc: Global,

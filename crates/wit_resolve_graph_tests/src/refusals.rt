@@ -1,4 +1,4 @@
-//! Refused pushes of packages built by hand: what they use of other packages, what they include, and a place that
+//! Refused pushes of packages built by hand: what they use of other packages, what they include, and a span that
 //! passes the end. Each package is what its file says, as far as the refusal needs it.
 use crate::parts::{
     assert_text, entries, function, function_entry, group, interface, interface_list, list,
@@ -311,7 +311,7 @@ fn a_renaming_of_nothing_is_told(rt: HostRuntime) {
     );
 }
 
-// ---- 27: a place that passes the end
+// ---- 27: a span that passes the end
 
 /// A package with a span that its file doesn't have, after files that end at 4294967259.
 fn passing(rt: &impl Abort, alloc: Global) -> String {

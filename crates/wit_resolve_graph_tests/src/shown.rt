@@ -401,7 +401,7 @@ fn write_home(out: &mut String, package: Option<PackageId>) -> Result<(), AllocE
     }
 }
 
-/// The place, the gate and the docs of a thing; nothing of what is unknown.
+/// The span, the gate and the docs of a thing; nothing of what is unknown.
 fn write_gate(
     out: &mut String,
     span: Span,

@@ -11,7 +11,7 @@ use wit_data::{
 use wit_graph_data::{ResolveError, ResolveErrorKind, ResolveResult};
 use wit_resolve_graph::{Resolve, SourceFault};
 
-/// The number of a refusal, its place and its fields.
+/// The number of a refusal, its span and its fields.
 pub fn write_refusal(out: &mut String, refusal: &ResolveError) -> Result<(), AllocError> {
     let number = refusal.number();
     let (start, end) = (refusal.kind().span().start(), refusal.kind().span().end());

@@ -71,7 +71,7 @@ enum WorldLists {
     Exportize(&'static [usize]),
 }
 
-/// The place of the interface that a key names, and one; 0 for a label.
+/// The id of the interface that a key names, and one; 0 for a label.
 fn digit(key: &WorldKey) -> usize {
     match key {
         WorldKey::Interface(id) => id.index().wrapping_add(1),
@@ -120,7 +120,7 @@ fn said(rt: &impl Abort, alloc: Global, place: usize, asked: WorldLists, out: &s
     format!(in alloc; "{text}, {kept}").expect(rt, "memory")
 }
 
-/// The places of the worlds.
+/// The ids of the worlds.
 const W: usize = 0;
 
 const V: usize = 1;

@@ -88,7 +88,7 @@ impl Draft {
         }
     }
 
-    /// Gives back memory that nothing takes in the interface at a place.
+    /// Gives back memory that nothing takes in the interface at an index.
     fn shrink_interface(&mut self, at: usize)
         requires { at < length self.old.interfaces }
         ensures { self.new ≡ self.old }
@@ -98,7 +98,7 @@ impl Draft {
         interface.functions.shrink();
     }
 
-    /// Gives back memory that nothing takes in the world at a place.
+    /// Gives back memory that nothing takes in the world at an index.
     fn shrink_world(&mut self, at: usize)
         requires { at < length self.old.worlds }
         ensures { self.new ≡ self.old }
@@ -132,7 +132,7 @@ impl Draft {
         Ok(())
     }
 
-    /// The type at the end of the aliases of a type of this kind, which stands at this place.
+    /// The type at the end of the aliases of a type of this kind, which has this id.
     fn root_of(&self, id: TypeId, kind: &TypeDefKind) -> TypeId
         ensures { result ≡ root_of self.now id kind.now }
     {
@@ -156,7 +156,7 @@ impl Draft {
         self.roots.push(root)
     }
 
-    /// Gives the next type a name in the interface at a place, where it has no type of that name.
+    /// Gives the next type a name in the interface at an index, where it has no type of that name.
     fn add_type_name(&mut self, alloc: Global, name: &Text, at: usize) -> Result<(), LineFault>
         requires { at < length self.old.interfaces }
         ensures { DraftResult (with_type_name self.old name.now at) result self.new }
@@ -171,7 +171,7 @@ impl Draft {
         Ok(())
     }
 
-    /// Adds a type to the interface at a place.
+    /// Adds a type to the interface at an index.
     fn add_interface_type(
         &mut self,
         alloc: Global,
@@ -190,7 +190,7 @@ impl Draft {
         Ok(())
     }
 
-    /// Adds a type to the world at a place: an import of it under its name.
+    /// Adds a type to the world at an index: an import of it under its name.
     fn add_world_type(
         &mut self,
         name: Text,
@@ -242,7 +242,7 @@ impl Draft {
         }
     }
 
-    /// Adds an import to the world at a place, where it imports nothing under that key yet.
+    /// Adds an import to the world at an index, where it imports nothing under that key yet.
     fn add_import_at(&mut self, key: WorldKey, item: WorldItem, at: usize) -> Result<(), LineFault>
         requires { at < length self.old.worlds }
         ensures { DraftResult (with_import_at self.old key item at) result self.new }
@@ -267,7 +267,7 @@ impl Draft {
         }
     }
 
-    /// Adds an export to the world at a place, where it exports nothing under that key yet.
+    /// Adds an export to the world at an index, where it exports nothing under that key yet.
     fn add_export_at(&mut self, key: WorldKey, item: WorldItem, at: usize) -> Result<(), LineFault>
         requires { at < length self.old.worlds }
         ensures { DraftResult (with_export_at self.old key item at) result self.new }
@@ -292,7 +292,7 @@ impl Draft {
         }
     }
 
-    /// Adds a function to the interface at a place, where it has no function of that name.
+    /// Adds a function to the interface at an index, where it has no function of that name.
     fn add_function_at(
         &mut self,
         alloc: Global,
@@ -323,7 +323,7 @@ impl Draft {
         }
     }
 
-    /// Adds an include to the world at a place.
+    /// Adds an include to the world at an index.
     fn add_include_at(&mut self, include: WorldInclude, at: usize) -> Result<(), LineFault>
         requires { at < length self.old.worlds }
         ensures { DraftResult (with_include_at self.old include at) result self.new }

@@ -42,7 +42,7 @@ fn function_with(
 }
 
 impl Draft {
-    /// Has the type at a place, which is no alias, be a resource, where that can be.
+    /// Has the type of an id, which is no alias, be a resource, where that can be.
     fn require_root(&mut self, span: Span, root: TypeId) -> Result<(), LineFault>
         ensures { DraftResult (with_root_at self.old span root) result self.new }
     {

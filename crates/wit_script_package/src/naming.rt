@@ -32,7 +32,7 @@ fn world_of(item: AstItem) -> Option<WorldId>
 }
 
 impl Draft {
-    /// The place of the interface into which lines go, from 0, or None where they go into none.
+    /// The index of the interface into which lines go, from 0, or None where they go into none.
     pub fn open_interface(&self) -> Option<usize>
         ensures place { result ≡ open_interface self.now }
         ensures within { IfSome result (λ at. at < length self.now.interfaces) }
@@ -43,7 +43,7 @@ impl Draft {
         }
     }
 
-    /// The place of the world into which lines go, from 0, or None where they go into none.
+    /// The index of the world into which lines go, from 0, or None where they go into none.
     pub fn open_world(&self) -> Option<usize>
         ensures place { result ≡ open_world self.now }
         ensures within { IfSome result (λ at. at < length self.now.worlds) }
@@ -54,7 +54,7 @@ impl Draft {
         }
     }
 
-    /// The type of this name in the interface at a place.
+    /// The type of this name in the interface at an index.
     fn type_at(&self, name: &str, at: usize) -> Option<TypeId>
         ensures { result ≡ type_at self.now name.now at }
     {
@@ -71,7 +71,7 @@ impl Draft {
         self.type_at(name, at)
     }
 
-    /// The type of this name among the imports of the world at a place.
+    /// The type of this name among the imports of the world at an index.
     fn world_type_at(
         &self,
         alloc: Global,

@@ -9,7 +9,7 @@ use wit_data::{Items, Table, Type_, TypeDef, TypeDefKind, TypeId, WorldId, World
 use wit_graph_data::Graph;
 use wit_values::{TryClone, try_clone_three};
 
-/// A copy of a graph whose types name what they are told to, and whose world at a place has these
+/// A copy of a graph whose types name what they are told to, and whose world of an id has these
 /// imports.
 pub(crate) fn with_new_entries(
     alloc: Global,

@@ -1,4 +1,4 @@
-//! Examples of places in source texts, and that each is in one file.
+//! Examples of positions in source texts, and that each is in one file.
 ghost use Rattle.wit_shape_examples.specs.OneFile.{HaveNoneInCommon};
 ghost use Rattle.wit_shape_examples.specs.Places.{ExamplesOfHighlights, ExamplesOfLocations};
 

@@ -35,7 +35,7 @@ pub fn list<T: Drop, const N: usize>(rt: &impl Abort, alloc: Global, items: [T; 
     Items::from_vec(Vec::from_array(alloc, items).expect(rt, "memory"))
 }
 
-/// Writes a place, and `-` where there is none.
+/// Writes an id, and `-` where there is none.
 pub fn write_place(rt: &impl Abort, out: &mut String, place: Option<usize>) {
     match place {
         Some(place) => write!(out, "{place} "),

@@ -132,7 +132,7 @@ fn names_are_told(rt: HostRuntime) {
     );
 }
 
-/// The places of the futures and streams of function `f`.
+/// The ids of the futures and streams of function `f`.
 fn futures(rt: &impl Abort, alloc: Global) -> String {
     let graph = graph(rt, alloc, SCRIPT);
     assert!(rt; is_valid(alloc, &graph).expect(rt, "memory"));

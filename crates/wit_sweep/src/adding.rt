@@ -180,7 +180,7 @@ fn push_source_unread(
     state(rt, &copy)
 }
 
-/// What a pushed source answers: a text that can't be read is told with its place.
+/// What a pushed source answers: a text that can't be read is told with its span.
 fn tell_source(rt: &impl Print, answer: Result<PackageId, SourceFault>) -> Option<()> {
     match &answer {
         Ok(id) => println!(rt; "answer {id:?}").ok(),

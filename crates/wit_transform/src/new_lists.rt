@@ -14,7 +14,7 @@ use wit_elaboration::Lists;
 use wit_graph_data::{Cause, Package, ResolveError, ResolveErrorKind, ResolveResult};
 use wit_values::try_clone_two;
 
-/// An error without a place.
+/// An error without a span.
 fn semantic(message: String, cause: Cause) -> ResolveError
     ensures { result ≡ Semantic None (string_bytes message) cause }
 {

@@ -7,7 +7,7 @@ ghost use Rattle.wit_unite_common.specs.steps.Agreeing.{ParamAgrees, ParamMismat
 use std::alloc::{AllocError, Global};
 use wit_data::{Function, FunctionKind, Param, Type_, TypeId};
 
-/// The same kind with the resource at the first place, where it has one: which one it is makes no
+/// The same kind with the first id as its resource, where it has one: which one it is makes no
 /// difference.
 fn kind_at_one_place(kind: &FunctionKind) -> FunctionKind
     ensures { result ≡ function_kind_image one_place kind.now }
@@ -37,7 +37,7 @@ fn are_of_one_kind(from: &FunctionKind, into: &FunctionKind) -> bool
     kind_at_one_place(from) == kind_at_one_place(into)
 }
 
-/// The same type with its id the first place, where it has one: which one it is makes no difference.
+/// The same type with the first id as its own, where it has one: which one it is makes no difference.
 fn type_at_one_place(ty: &Type_) -> Type_
     ensures { result ≡ value_image one_place ty.now }
 {
@@ -54,7 +54,7 @@ fn are_of_one_sort(from: &Type_, into: &Type_) -> bool
     type_at_one_place(from) == type_at_one_place(into)
 }
 
-/// What a parameter disagrees in with the one in its place: its name, or else its type. None where they
+/// What a parameter disagrees in with the one at the same index: its name, or else its type. None where they
 /// agree.
 fn param_mismatch(alloc: Global, from: &Param, into: &Param) -> Result<Option<String>, AllocError>
     ensures some { IfOk result (λ found. IfSome found (λ text. ParamMismatch from.now into.now (string_bytes text))) }
@@ -75,7 +75,7 @@ fn param_mismatch(alloc: Global, from: &Param, into: &Param) -> Result<Option<St
     Ok(None)
 }
 
-/// What the first parameter of a function that disagrees with the one in its place disagrees in, where
+/// What the first parameter of a function that disagrees with the one at its index disagrees in, where
 /// there are as many. None where all agree.
 fn params_mismatch(
     alloc: Global,

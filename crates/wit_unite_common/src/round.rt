@@ -9,7 +9,7 @@ use std::alloc::{AllocError, Global};
 use wit_digraph::{CycleUse, direct_uses};
 use wit_values::Items;
 
-/// A node on the way of a search, and the place of its next use.
+/// A node on the way of a search, and the index of its next use.
 #[derive(Clone, Copy)]
 struct Frame {
     node: usize,

@@ -49,9 +49,9 @@ pub extern "C" fn witgraph_execute(
 }
 
 /// Runs a script on an empty graph, and writes its refusals to the front of the output, each with the line at which it
-/// is: `refused N TEXT`, and below it the place, the line and a mark, where the refusal has a place. A place is the name
-/// of a package, a line counted from the first of that package, and a column. Nothing is written of a script without a
-/// refusal; of one that isn't understood, the line that `witgraph_execute` writes.
+/// is: `refused N TEXT`, and below it the position, the line and a mark, where the refusal has a span. A position is
+/// the name of a package, a line counted from the first of that package, and a column. Nothing is written of a script
+/// without a refusal; of one that isn't understood, the line that `witgraph_execute` writes.
 ///
 /// All else is as there.
 #[unsafe(no_mangle)]

@@ -134,7 +134,7 @@ fn rendered_reply(alloc: Global, resolve: &Resolve, reply: &Reply) -> ResolveRes
     }
 }
 
-/// `refused N TEXT`, N being the number of the refusal, with its line and a mark where it has a place.
+/// `refused N TEXT`, N being the number of the refusal, with its line and a mark where it has a span.
 fn rendered_refusal(
     alloc: Global,
     resolve: &Resolve,

@@ -8,7 +8,7 @@ use wit_resolve_graph::{
     WasmExportKind, WasmImport,
 };
 
-/// Type `t`, at place 0, is no future; the types of `import-func` are a future at 1, a future of it at 2,
+/// Type `t`, at index 0, is no future; the types of `import-func` are a future at 1, a future of it at 2,
 /// and a stream at 3.
 const SCRIPT: &str = "package foo:x@0.2.1\n\
     interface x\n\

@@ -7,7 +7,7 @@ use wit_data::{
     Docs, InterfaceId, PackageId, Span, Stability, Text, Type_, TypeId, WorldItem, WorldKey,
 };
 
-/// Types `t`, at place 0, and `p`, at 1; the types of `stages`, from 2 on; and `t` of `y`, at 5.
+/// Types `t`, at index 0, and `p`, at 1; the types of `stages`, from 2 on; and `t` of `y`, at 5.
 const SCRIPT: &str = "package foo:x@0.2.1\n\
     interface x\n\
     type t u32\n\

@@ -5,7 +5,7 @@ use std::alloc::Global;
 use std::process::Abort;
 use wit_data::PackageId;
 
-/// The place of the world that is chosen among these main packages, or what is said where none is.
+/// The id of the world that is chosen among these main packages, or what is said where none is.
 fn selected(
     rt: &impl Abort,
     alloc: Global,
@@ -62,7 +62,7 @@ const OF_TWO_VERSIONS: &str =
 const OF_TWO_PACKAGES: &str =
     "There are multiple main packages; a world must be explicitly chosen:\n  e:o/foo\n  e:f/bar";
 
-/// A script, its main packages and a text; the place of a world, or what is said.
+/// A script, its main packages and a text; the id of a world, or what is said.
 type Choice = (
     &'static str,
     &'static [usize],

@@ -85,7 +85,7 @@ fn faults_stand_in_the_files_that_follow(rt: HostRuntime) {
     );
 }
 
-/// The function of the interface, at its place in the file.
+/// The function of the interface, with its span in the file.
 fn functions(rt: &impl Abort, alloc: Global) -> Names<Function> {
     let name = text(rt, alloc, "second-func");
     let mut function = Function::new(name, FunctionKind::Freestanding, Items::new(alloc), None);
@@ -96,7 +96,7 @@ fn functions(rt: &impl Abort, alloc: Global) -> Names<Function> {
     functions
 }
 
-/// An interface, at its place in the file.
+/// An interface, with its span in the file.
 fn interface(rt: &impl Abort, alloc: Global) -> Interface {
     let mut interface = Interface::new(alloc, Some(text(rt, alloc, "second-iface")));
     interface.functions = functions(rt, alloc);
@@ -216,7 +216,7 @@ fn files(rt: &impl Abort, alloc: Global, paths: [&str; 2]) -> SourceMap {
     map
 }
 
-/// The first place for package 0, and the second for package 1.
+/// The first index for package 0, and the second for package 1.
 fn two_places(alloc: Global) -> Result<BTreeMap<PackageId, usize>, AllocError>
     ensures { IfOk result (λ places. ArePlaced places.entries 2) }
 {

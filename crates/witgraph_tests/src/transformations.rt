@@ -29,7 +29,7 @@ fn world(rt: &impl Abort, resolve: &Resolve) -> WorldId
     WorldId::from_index(0)
 }
 
-/// The place of the interface that a key names, and one; 0 for a label.
+/// The id of the interface that a key names, and one; 0 for a label.
 fn digit(key: &WorldKey) -> usize {
     match key {
         WorldKey::Interface(id) => id.index().wrapping_add(1),
