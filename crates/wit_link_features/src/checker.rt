@@ -33,7 +33,7 @@ impl<'a> Checker<'a> {
         span.moved(self.adding.offset).ok_or(AllocError)
     }
 
-    /// An error at a span of the package.
+    /// An error with a span of the package.
     pub(crate) fn semantic(
         &self,
         span: Span,
