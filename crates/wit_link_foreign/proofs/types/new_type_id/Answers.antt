@@ -15,8 +15,8 @@ at-active-requires c = type-inside (addition_of c.args.adding.now) c.args.activi
 pub foreign_type-requires-clause-active : goal.foreign_type-requires-clause-active
 foreign_type-requires-clause-active c = sym (type-flag (addition_of c.args.adding.now) c.args.activity.now c.requires.activity c.args.t c.at-active.result.now c.at-active.ensures) ∙ c.if-active.true
 
-pub returns-then-t-len-clause-place : goal.returns-then-t-len-clause-place
-returns-then-t-len-clause-place c =
+pub returns-then-t-len-clause-id : goal.returns-then-t-len-clause-id
+returns-then-t-len-clause-id c =
     let a = addition_of c.args.adding.now in
     subst (λ (x : Option ℕ). IfOk c.foreign_type.result (λ id. id ≡ x))
     (foreign_type_remapped a c.args.t (sym (type-flag a c.args.activity.now c.requires.activity c.args.t c.at-active.result.now c.at-active.ensures) ∙ c.if-active.true)

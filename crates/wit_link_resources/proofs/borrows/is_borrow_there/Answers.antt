@@ -4,7 +4,7 @@ use Rattle.std.proofs.lemmas.Result.{IfOk-weaker}
 use Rattle.wit_data.specs.declared.types.TypeDef.{TypeDef}
 use Rattle.wit_link_spec.specs.steps.AdditionRefs.{addition_of}
 use Rattle.wit_link_spec.specs.Addition.{Addition, active_type_id}
-use Rattle.wit_link_spec.specs.facts.FlagFacts.{index-inside, index-is}
+use Rattle.wit_link_spec.specs.facts.FlagFacts.{place-inside, place-is}
 use Rattle.wit_link_spec.specs.Lookup.{is_foreign_type}
 use Rattle.wit_link_spec.specs.Reasons.{HoldsBorrow}
 use Rattle.wit_link_resources.specs.steps.Borrows.{IsBorrowThere}
@@ -14,12 +14,12 @@ use Rattle.wit_link_resources.proofs.Where.{foreign_back}
 use Rattle.wit_link_resources.proofs.borrows.is_borrow_there.Goals as goal
 
 pub at-requires : goal.at-requires
-at-requires c = index-inside (addition_of c.args.adding.now) c.args.new_ids.now c.requires.new_ids c.args.index c.requires.there
+at-requires c = place-inside (addition_of c.args.adding.now) c.args.new_ids.now c.requires.new_ids c.args.index c.requires.there
 
 pub holds_borrow-requires-clause-there : goal.holds_borrow-requires-clause-there
 holds_borrow-requires-clause-there c =
     let a : Addition = addition_of c.args.adding.now in
-    let taken : active_type_id a c.args.index ≡ Some c.in-Some.found = sym (index-is a c.args.new_ids.now c.requires.new_ids c.args.index c.at.result.now c.at.ensures) ∙ c.in-Some.is in
+    let taken : active_type_id a c.args.index ≡ Some c.in-Some.found = sym (place-is a c.args.new_ids.now c.requires.new_ids c.args.index c.at.result.now c.at.ensures) ∙ c.in-Some.is in
     let below : c.args.index < length a.unresolved.unknown_type_spans = let first = c.if-index-len.true in let len = c.len.ensures in omega arith in
     let back = foreign_back a c.requires.shaped c.args.index c.in-Some.found (lt-ltb c.args.index (length a.unresolved.unknown_type_spans) below) taken in
     subst (λ (types : List TypeDef). c.in-Some.found < length types) (sym c.as_slice.ensures) (foreign_type_id-below a c.requires.valid c.args.index c.in-Some.found back.1)
@@ -27,7 +27,7 @@ holds_borrow-requires-clause-there c =
 pub returns-in-Some-clause-holds : goal.returns-in-Some-clause-holds
 returns-in-Some-clause-holds c =
     let a : Addition = addition_of c.args.adding.now in
-    let taken : active_type_id a c.args.index ≡ Some c.in-Some.found = sym (index-is a c.args.new_ids.now c.requires.new_ids c.args.index c.at.result.now c.at.ensures) ∙ c.in-Some.is in
+    let taken : active_type_id a c.args.index ≡ Some c.in-Some.found = sym (place-is a c.args.new_ids.now c.requires.new_ids c.args.index c.at.result.now c.at.ensures) ∙ c.in-Some.is in
     let below : c.args.index < length a.unresolved.unknown_type_spans = let first = c.if-index-len.true in let len = c.len.ensures in omega arith in
     let foreign : is_foreign_type a.unresolved c.args.index ≡ true = lt-ltb c.args.index (length a.unresolved.unknown_type_spans) below in
     IfOk-weaker c.holds_borrow.result (λ (b : Bool). (IsTrue b → HoldsBorrow c.as_slice.result.now c.in-Some.found) × (HoldsBorrow c.as_slice.result.now c.in-Some.found → IsTrue b))
@@ -40,7 +40,7 @@ returns-in-Some-clause-holds c =
 pub returns-in-None-clause-holds : goal.returns-in-None-clause-holds
 returns-in-None-clause-holds c =
     let a : Addition = addition_of c.args.adding.now in
-    let taken : active_type_id a c.args.index ≡ None = sym (index-is a c.args.new_ids.now c.requires.new_ids c.args.index c.at.result.now c.at.ensures) ∙ c.in-None.is in
+    let taken : active_type_id a c.args.index ≡ None = sym (place-is a c.args.new_ids.now c.requires.new_ids c.args.index c.at.result.now c.at.ensures) ∙ c.in-None.is in
     let below : c.args.index < length a.unresolved.unknown_type_spans = let first = c.if-index-len.true in let len = c.len.ensures in omega arith in
     let foreign : is_foreign_type a.unresolved c.args.index ≡ true = lt-ltb c.args.index (length a.unresolved.unknown_type_spans) below in
     (λ h. absurd (false≢true h), λ is. absurd (nowhere_none a c.requires.shaped c.args.index foreign taken is))

@@ -33,7 +33,7 @@ loop-index-preserved c =
     let rest = into_iter_items c.next.new.self in
     let e : ℕ × World = (c.in-Some.index, c.in-Some.world) in
     record {
-      all = rw c.in_ok-push.ensures.ok (mapped-next f c.loop-index.updated left rest (map f c.args.worlds) e c.in_ok-updated_world.field-0 (c.in_ok-updated_world.ensures ∙ ap (λ (w : ℕ). f (w, e.1)) c.from_index-index.ensures) c.loop-index.invariant.all c.in-Some.ensures.steps.0);
+      all = rw c.in_ok-push.ensures.ok (mapped-next f c.loop-index.updated left rest (map f c.args.worlds) e c.in_ok-updated_world.field-0 (c.in_ok-updated_world.ensures ∙ ap (λ (w : ℕ). f (w, e.1)) c.from_index-id.ensures) c.loop-index.invariant.all c.in-Some.ensures.steps.0);
       fits = others_of (λ (e : ℕ × World). WorldFits (Fits c.args.mover.now.offset) e.1) left rest e c.loop-index.invariant.fits c.in-Some.ensures.steps.0;
       keys = others_of (λ (e : ℕ × World). HasKeysApart (maps_of c.args.mover.now) (kept_of c.args.part.now) e.1) left rest e c.loop-index.invariant.keys c.in-Some.ensures.steps.0;
     }
