@@ -23,22 +23,22 @@ returns-in_err-check_interface-clause-cause c =
     residual_error c.from_residual.result c.from_residual.ensures.1
     (λ e is. let same : e ≡ c.in_err-check_interface.field-0.0 = is in subst (CauseOf u) (sym same) (widened u c.from_index.result c.in_err-check_interface.field-0.0 c.in_err-check_interface.ensures.cause))
 
-pub loop-place-preserved : goal.loop-place-preserved
-loop-place-preserved c f below message differ = elim (cases_order f c.loop-place.place) [
+pub loop-index-preserved : goal.loop-index-preserved
+loop-index-preserved c f below message differ = elim (cases_order f c.loop-index.index) [
   | inl same ↦ c.in_ok-check_interface.ensures.agree message (subst (λ (i : ℕ). DisagreesAt (upgrade_of c.args.self.now) i message) (same ∙ sym c.from_index.ensures) differ)
   | inr order ↦ elim order [
-    | inl less ↦ c.loop-place.invariant f less message differ
-    | inr more ↦ absurd (apart f c.loop-place.place below more)
+    | inl less ↦ c.loop-index.invariant f less message differ
+    | inr more ↦ absurd (apart f c.loop-index.index below more)
   ]
 ]
   where
-    apart : (f place : ℕ) → f < place + 1 → place < f → ⊥
-    apart f place below more = omega (arith, below, more)
+    apart : (f index : ℕ) → f < index + 1 → index < f → ⊥
+    apart f index below more = omega (arith, below, more)
 
 pub returns-clause-agree : goal.returns-clause-agree
 returns-clause-agree c message differ =
     let interfaces = c.args.self.now.graph.now.interfaces in
     let within = slice_get_within interfaces differ.f differ.old differ.old_is in
     let long = c.requires.ready.0 in
-    let less : differ.f < c.loop-place.place = omega (arith, within, long, c.loop-place-test.false, c.len-place-end.ensures) in
-    c.loop-place.invariant differ.f less message (disagrees_into (upgrade_of c.args.self.now) message differ)
+    let less : differ.f < c.loop-index.index = omega (arith, within, long, c.loop-index-test.false, c.len-index-end.ensures) in
+    c.loop-index.invariant differ.f less message (disagrees_into (upgrade_of c.args.self.now) message differ)

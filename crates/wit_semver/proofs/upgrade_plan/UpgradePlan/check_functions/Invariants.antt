@@ -3,5 +3,5 @@ use Rattle.wit_semver.specs.steps.Replacing.{DisagreesAt, upgrade_of}
 use Rattle.wit_semver.proofs.upgrade_plan.UpgradePlan.check_functions.Given as goal
 
 -- the first ones agree
-abbrev pub invariant-loop-place : goal.invariant-loop-place
-invariant-loop-place l = (f : ℕ) → f < l.place → (message : List ℕ) → DisagreesAt (upgrade_of l.self) f message → ⊥
+abbrev pub invariant-loop-index : goal.invariant-loop-index
+invariant-loop-index l = (f : ℕ) → f < l.index → (message : List ℕ) → DisagreesAt (upgrade_of l.self) f message → ⊥
