@@ -44,7 +44,7 @@ abbrev second_gate : AtWorld two_gates 1
 second_gate = record { id = 1; world = _; is = refl }
 
 abbrev includes_both : AtWorld two_gates 2
-includes_both = record { place = 2; world = _; is = refl }
+includes_both = record { id = 2; world = _; is = refl }
 
 abbrev first_include : AtInclude two_gates 2 0
 first_include = record { at = includes_both; include = include_of 0; is = refl; before = _; before_is = refl; old = _; old_is = refl }
@@ -87,7 +87,7 @@ mismatch = record {
 -- world w as it is written, with the labels that are not strongly unique
 written_alike : (a : Addition) (k place : ℕ) → slice_get (own_worlds a) k ≡ Some (place, w_of_alike) → IsCauseAtWorld a k w_is_alike
 written_alike a k place is = written_not_strongly_unique_17 _ (record {
-  at = record { place = place; world = w_of_alike; is = is };
+  at = record { id = place; world = w_of_alike; is = is };
   no_includes = refl;
   word = codes "import";
   n = codes "AB";
