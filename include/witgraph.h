@@ -59,9 +59,9 @@ uint32_t witgraph_execute(const uint8_t *input, size_t length, uint8_t *output, 
  *         4 | import i
  *           | ^-------
  *
- * The position is the name of a package, a line counted from the first of that package, and a column. A refusal that has no
- * position, as of `select`, is its text alone. Nothing is written, and *needed is 0, where no command is refused; where the
- * script isn't understood, the line that witgraph_execute writes.
+ * The position is the name of a package, a line counted from the first of that package, and a column. A refusal that has
+ * no position, as of `select`, is its text alone. Nothing is written, and *needed is 0, where no command is refused;
+ * where the script isn't understood, the line that witgraph_execute writes.
  *
  * The arguments and the status are as there. */
 uint32_t witgraph_explain(const uint8_t *input, size_t length, uint8_t *output, size_t capacity, size_t *needed);

@@ -122,8 +122,8 @@ pub fn execute_into(script: impl AsRef<[u8]>, output: &mut [u8]) -> Result<Writt
 /// Runs a script on an empty graph, and gives its refusals alone, each with the line at which it is: the text is empty
 /// where no command is refused.
 ///
-/// A position is the name of a package, a line counted from the first of that package, and a column. Some refusals have no
-/// position, as those of `select` and `merge`, and are their texts alone.
+/// A position is the name of a package, a line counted from the first of that package, and a column. Some refusals have
+/// no position, as those of `select` and `merge`, and are their texts alone.
 ///
 /// ```
 /// let script = "

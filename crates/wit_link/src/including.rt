@@ -7,8 +7,8 @@ use wit_data::{Items, WorldInclude};
 use wit_link_spec::NewIds;
 use wit_remap::UpdatedWorld;
 
-/// Worlds of which the includes have new ids and spans. A span that can't be moved is answered as want of memory: all spans were
-/// seen to fit.
+/// Worlds of which the includes have new ids and spans. A span that can't be moved is answered as want of memory: all
+/// spans were seen to fit.
 pub(crate) fn update_includes(
     alloc: Global,
     worlds: Items<UpdatedWorld>,
