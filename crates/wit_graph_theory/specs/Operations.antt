@@ -19,7 +19,7 @@ merge_sources g other m zero = graph_source g
 merge_sources g other m (suc k) = mapped_source other m
 
 -- finishing a world of a package: the graph so far, of which what belongs to finished worlds is selected; the
--- package, of which this world does; and each of its includes, the graph so far under the maps of the copies,
--- of which the included world is selected with all that it names
+-- package, of which this world is selected; and for each of its includes the graph so far under the maps of the
+-- copies, of which the included world is selected with all that it names
 abbrev pub include_source : KeptIds → Graph → Maps → Source
 include_source kept g m = cut_source kept g.types g.interfaces g.worlds m

@@ -32,24 +32,24 @@ pub(crate) struct Checked {
 #[tactic(auto, using(crate::proofs::Checks::passed_image))]
 pub(crate) fn check(
     alloc: Global,
-    adding: &AdditionRef<'_>,
+    addition: &AdditionRef<'_>,
     met: &mut Table<TypeId, bool>,
 ) -> ResolveResult<Checked>
-    requires shaped { IsShaped adding.now.unresolved.now }
-    requires valid { IsValid adding.now.graph.now }
-    requires fits { AdditionOverflows (addition_of adding.now) → ⊥ }
-    requires met { AreRight adding.now.graph.now.types met.old }
-    ensures met { AreRight adding.now.graph.now.types met.new }
+    requires shaped { IsShaped addition.now.unresolved.now }
+    requires valid { IsValid addition.now.graph.now }
+    requires fits { AdditionOverflows (addition_of addition.now) → ⊥ }
+    requires met { AreRight addition.now.graph.now.types met.old }
+    ensures met { AreRight addition.now.graph.now.types met.new }
     ensures met_before { Begins met.old met.new }
-    ensures checked { OnOk result (IsChecked (addition_of adding.now)) }
-    ensures activity { IfOk result (λ checked. checked.activity ≡ activity_of (addition_of adding.now)) }
-    ensures new_ids { IfOk result (λ checked. checked.new_ids ≡ new_ids_of (addition_of adding.now)) }
-    ensures values { IfOk result (λ checked. checked.values ≡ values_of (addition_of adding.now)) }
-    ensures cause { IfErr result (λ kind. (kind ≡ OutOfMemory) ⊎ IsCause (addition_of adding.now) kind) }
+    ensures checked { OnOk result (IsChecked (addition_of addition.now)) }
+    ensures activity { IfOk result (λ checked. checked.activity ≡ activity_of (addition_of addition.now)) }
+    ensures new_ids { IfOk result (λ checked. checked.new_ids ≡ new_ids_of (addition_of addition.now)) }
+    ensures values { IfOk result (λ checked. checked.values ≡ values_of (addition_of addition.now)) }
+    ensures cause { IfErr result (λ kind. (kind ≡ OutOfMemory) ⊎ IsCause (addition_of addition.now) kind) }
 {
-    let activity = checked_activity(alloc, adding)?;
-    let new_ids = checked_ids(alloc, adding, &activity, met)?;
-    let values = values(alloc, adding, &activity, &new_ids, met)?;
+    let activity = checked_activity(alloc, addition)?;
+    let new_ids = checked_ids(alloc, addition, &activity, met)?;
+    let values = values(alloc, addition, &activity, &new_ids, met)?;
     Ok(Checked {
         activity,
         new_ids,
@@ -59,16 +59,16 @@ pub(crate) fn check(
 
 /// Refuses a package whose gates can't be met or that needs what is left out (9 to 12), else answers what is active
 /// of it.
-fn checked_activity(alloc: Global, adding: &AdditionRef<'_>) -> ResolveResult<Activity>
-    requires { IsShaped adding.now.unresolved.now }
-    ensures activity { IfOk result (λ activity. activity ≡ activity_of (addition_of adding.now)) }
-    ensures met { OnOk result (GatesAreMet (addition_of adding.now)) }
-    ensures needs { OnOk result (NeedsNothingExcluded (addition_of adding.now)) }
-    ensures cause { IfErr result (λ kind. (kind ≡ OutOfMemory) ⊎ IsCause (addition_of adding.now) kind) }
+fn checked_activity(alloc: Global, addition: &AdditionRef<'_>) -> ResolveResult<Activity>
+    requires { IsShaped addition.now.unresolved.now }
+    ensures activity { IfOk result (λ activity. activity ≡ activity_of (addition_of addition.now)) }
+    ensures met { OnOk result (GatesAreMet (addition_of addition.now)) }
+    ensures needs { OnOk result (NeedsNothingExcluded (addition_of addition.now)) }
+    ensures cause { IfErr result (λ kind. (kind ≡ OutOfMemory) ⊎ IsCause (addition_of addition.now) kind) }
 {
-    let activity = activity(alloc, adding)?;
-    check_versions(alloc, adding, &activity)?;
-    check_references(alloc, adding, &activity)?;
+    let activity = activity(alloc, addition)?;
+    check_versions(alloc, addition, &activity)?;
+    check_references(alloc, addition, &activity)?;
     Ok(activity)
 }
 
@@ -77,26 +77,26 @@ fn checked_activity(alloc: Global, adding: &AdditionRef<'_>) -> ResolveResult<Ac
 #[tactic(auto, using(crate::proofs::Checks::passed_image))]
 fn checked_ids(
     alloc: Global,
-    adding: &AdditionRef<'_>,
+    addition: &AdditionRef<'_>,
     activity: &Activity,
     met: &mut Table<TypeId, bool>,
 ) -> ResolveResult<NewIds>
-    requires shaped { IsShaped adding.now.unresolved.now }
-    requires valid { IsValid adding.now.graph.now }
-    requires activity { activity.now ≡ activity_of (addition_of adding.now) }
-    requires gates { GatesAreMet (addition_of adding.now) }
-    requires needs { NeedsNothingExcluded (addition_of adding.now) }
-    requires met { AreRight adding.now.graph.now.types met.old }
-    ensures met { AreRight adding.now.graph.now.types met.new }
+    requires shaped { IsShaped addition.now.unresolved.now }
+    requires valid { IsValid addition.now.graph.now }
+    requires activity { activity.now ≡ activity_of (addition_of addition.now) }
+    requires gates { GatesAreMet (addition_of addition.now) }
+    requires needs { NeedsNothingExcluded (addition_of addition.now) }
+    requires met { AreRight addition.now.graph.now.types met.old }
+    ensures met { AreRight addition.now.graph.now.types met.new }
     ensures met_before { Begins met.old met.new }
-    ensures new_ids { IfOk result (λ new_ids. new_ids ≡ new_ids_of (addition_of adding.now)) }
-    ensures found { OnOk result (IsAllFound (addition_of adding.now)) }
-    ensures resources { OnOk result (HasResources (addition_of adding.now)) }
-    ensures no_borrow { OnOk result (ReturnsNoBorrow (addition_of adding.now)) }
-    ensures cause { IfErr result (λ kind. (kind ≡ OutOfMemory) ⊎ IsCause (addition_of adding.now) kind) }
+    ensures new_ids { IfOk result (λ new_ids. new_ids ≡ new_ids_of (addition_of addition.now)) }
+    ensures found { OnOk result (IsAllFound (addition_of addition.now)) }
+    ensures resources { OnOk result (HasResources (addition_of addition.now)) }
+    ensures no_borrow { OnOk result (ReturnsNoBorrow (addition_of addition.now)) }
+    ensures cause { IfErr result (λ kind. (kind ≡ OutOfMemory) ⊎ IsCause (addition_of addition.now) kind) }
 {
-    let new_ids = new_ids_of(alloc, adding, activity)?;
-    check_resources(alloc, adding, &new_ids, met)?;
-    check_results(alloc, adding, activity, &new_ids)?;
+    let new_ids = new_ids_of(alloc, addition, activity)?;
+    check_resources(alloc, addition, &new_ids, met)?;
+    check_results(alloc, addition, activity, &new_ids)?;
     Ok(new_ids)
 }

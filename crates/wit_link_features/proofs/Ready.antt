@@ -24,29 +24,29 @@ past-last {X} stability features things foreign i n there past =
     ∙ ap (λ (o : Option X). some_active features (option_map_or (λ (x : X). stability x ∷ []) o [])) (slice_get_past things i past)
 
 pub type-flag : (checker : Checker) → IsCheckerReady checker → (t : ℕ)
-    → unwrap_or (slice_get checker.activity.now.types t) false ≡ type_is_active checker.adding.features.now checker.adding.unresolved.now.types t
+    → unwrap_or (slice_get checker.activity.now.types t) false ≡ type_is_active checker.addition.features.now checker.addition.unresolved.now.types t
 type-flag checker ready t =
-    let features = checker.adding.features.now in
-    let types = checker.adding.unresolved.now.types in
+    let features = checker.addition.features.now in
+    let types = checker.addition.unresolved.now.types in
     ap (λ (a : Activity). unwrap_or (slice_get a.types t) false) ready.activity
     ∙ flag_is (type_is_active features types) (length types) t
     (λ past. ap (λ (o : Option TypeDef). option_map_or (λ (def : TypeDef). is_active features def.stability) o false) (slice_get_past types t past))
 
 pub interface-flag : (checker : Checker) → IsCheckerReady checker → (i : ℕ)
-    → unwrap_or (slice_get checker.activity.now.interfaces i) false ≡ interface_is_active checker.adding.features.now checker.adding.unresolved.now i
+    → unwrap_or (slice_get checker.activity.now.interfaces i) false ≡ interface_is_active checker.addition.features.now checker.addition.unresolved.now i
 interface-flag checker ready i =
-    let features = checker.adding.features.now in
-    let u = checker.adding.unresolved.now in
+    let features = checker.addition.features.now in
+    let u = checker.addition.unresolved.now in
     ap (λ (a : Activity). unwrap_or (slice_get a.interfaces i) false) ready.activity
     ∙ flag_is (interface_is_active features u) (length u.interfaces) i
     (λ past. past-last (λ (x : Interface). x.stability) features u.interfaces (foreign_gates interface_id u.foreign_deps i) i (length (foreign_interfaces u.foreign_deps))
     ready.shaped.foreign.interfaces.there past)
 
 pub world-flag : (checker : Checker) → IsCheckerReady checker → (w : ℕ)
-    → unwrap_or (slice_get checker.activity.now.worlds w) false ≡ world_is_active checker.adding.features.now checker.adding.unresolved.now w
+    → unwrap_or (slice_get checker.activity.now.worlds w) false ≡ world_is_active checker.addition.features.now checker.addition.unresolved.now w
 world-flag checker ready w =
-    let features = checker.adding.features.now in
-    let u = checker.adding.unresolved.now in
+    let features = checker.addition.features.now in
+    let u = checker.addition.unresolved.now in
     ap (λ (a : Activity). unwrap_or (slice_get a.worlds w) false) ready.activity
     ∙ flag_is (world_is_active features u) (length u.worlds) w
     (λ past. past-last (λ (x : World). x.stability) features u.worlds (foreign_gates world_id u.foreign_deps w) w (length (foreign_worlds u.foreign_deps))

@@ -37,9 +37,9 @@ left-out a (AWorld w) none = none
 -- ---- refusals
 
 pub told-excluded : (checker : Checker) (thing : Thing) (place : OptionalSpan) (error : ResolveErrorKind) → IsReferred checker thing place → thing_is_active (seen checker) thing ≡ false
-    → error ≡ Semantic (moved_by checker.adding.offset place) (excluded_text (word_of thing)) cause.Excluded → MayRefuse checker error
+    → error ≡ Semantic (moved_by checker.addition.offset place) (excluded_text (word_of thing)) cause.Excluded → MayRefuse checker error
 told-excluded checker thing place error refers none is =
-    inr (subst (IsCause (seen checker)) (sym is) (excluded_11 (moved_by checker.adding.offset place) (excluded_text (word_of thing)) (record {
+    inr (subst (IsCause (seen checker)) (sym is) (excluded_11 (moved_by checker.addition.offset place) (excluded_text (word_of thing)) (record {
       thing = thing;
       place = place;
       refers = refers;
@@ -50,9 +50,9 @@ told-excluded checker thing place error refers none is =
 
 pub told-owner : (checker : Checker) (def : TypeDef) (thing : Thing) (error : ResolveErrorKind) → IsActiveType checker def → def.kind ≢ kind.Unknown → owner_thing def.owner ≡ thing ∷ []
     → thing_is_active (seen checker) thing ≡ false
-    → error ≡ Semantic (moved_by checker.adding.offset def.span) (excluded_owner_text (word_of thing)) cause.ExcludedOwner → MayRefuse checker error
+    → error ≡ Semantic (moved_by checker.addition.offset def.span) (excluded_owner_text (word_of thing)) cause.ExcludedOwner → MayRefuse checker error
 told-owner checker def thing error taken own owner none is =
-    inr (subst (IsCause (seen checker)) (sym is) (excluded_owner_12 (moved_by checker.adding.offset def.span) (excluded_owner_text (word_of thing)) (record {
+    inr (subst (IsCause (seen checker)) (sym is) (excluded_owner_12 (moved_by checker.addition.offset def.span) (excluded_owner_text (word_of thing)) (record {
       t = taken.t;
       def = def;
       thing = thing;
@@ -104,8 +104,8 @@ ids-stay checker def ids other are stay t place has =
 -- ---- worlds
 
 -- an entry of a world that is active
-pub refers-entry : (checker : Checker) (w : ℕ) (world : World) (k : WorldKey) (i : WorldItem) → slice_get checker.adding.unresolved.now.worlds w ≡ Some world
-    → world_is_active checker.adding.features.now checker.adding.unresolved.now w ≡ true → HasEntry world (k, i) → RefersByItem checker i
+pub refers-entry : (checker : Checker) (w : ℕ) (world : World) (k : WorldKey) (i : WorldItem) → slice_get checker.addition.unresolved.now.worlds w ≡ Some world
+    → world_is_active checker.addition.features.now checker.addition.unresolved.now w ≡ true → HasEntry world (k, i) → RefersByItem checker i
 refers-entry checker w world k (item.Interface id stability docs span external_id) at active has = λ on. of_entry w world k id stability docs span external_id at active has on
 refers-entry checker w world k (item.Function f) at active has = λ on. of_world w world k f at active has on
 refers-entry checker w world k (item.Type_ id span) at active has = tt
@@ -114,15 +114,15 @@ refers-entry checker w world k (item.Type_ id span) at active has = tt
 
 -- what the steps have seen
 pub record AllStay (checker : Checker) : Type 0 where
-  pub types : EachAt (TypesStay checker) checker.adding.unresolved.now.types
-  pub functions : EachAt (FunctionsStay checker) checker.adding.unresolved.now.interfaces
-  pub parts : EachAt (PartsStay checker) checker.adding.unresolved.now.worlds
+  pub types : EachAt (TypesStay checker) checker.addition.unresolved.now.types
+  pub functions : EachAt (FunctionsStay checker) checker.addition.unresolved.now.interfaces
+  pub parts : EachAt (PartsStay checker) checker.addition.unresolved.now.worlds
 
 entry-stays : (checker : Checker) (entries : List Entry) (e : Entry) → Each (λ (d : Entry). ItemStays checker d.1) entries → Contains entries e → ItemStays checker e.1
 entry-stays checker entries e each has = let there = place_of entries e has in each there.0 e there.1
 
-held-stays : (checker : Checker) → AllStay checker → (w : ℕ) (world : World) (e : Entry) → slice_get checker.adding.unresolved.now.worlds w ≡ Some world
-    → world_is_active checker.adding.features.now checker.adding.unresolved.now w ≡ true → HasEntry world e → ItemStays checker e.1
+held-stays : (checker : Checker) → AllStay checker → (w : ℕ) (world : World) (e : Entry) → slice_get checker.addition.unresolved.now.worlds w ≡ Some world
+    → world_is_active checker.addition.features.now checker.addition.unresolved.now w ≡ true → HasEntry world e → ItemStays checker e.1
 held-stays checker all w world e at active has =
     let parts = all.parts w world at active in
     elim has [ inl imports ↦ entry-stays checker world.imports e parts.imports imports | inr exports ↦ entry-stays checker world.exports e parts.exports exports ]

@@ -45,10 +45,10 @@ less-from Greater is = cc
 
 -- the package has no version
 pub told-lacking : (checker : Checker) (since : Parts) (deprecated : Option Parts) (place : OptionalSpan) (kind : ResolveErrorKind) → Asks checker (Stable since deprecated) place
-    → checker.adding.unresolved.now.name.version ≡ None
-    → kind ≡ Semantic (moved_by checker.adding.offset place) (gate_without_version_text checker.adding.unresolved.now.name) cause.GateWithoutVersion → MayRefuse checker kind
+    → checker.addition.unresolved.now.name.version ≡ None
+    → kind ≡ Semantic (moved_by checker.addition.offset place) (gate_without_version_text checker.addition.unresolved.now.name) cause.GateWithoutVersion → MayRefuse checker kind
 told-lacking checker since deprecated place kind asked none is =
-    inr (subst (IsCause (seen checker)) (sym is) (gate_without_version_9 (moved_by checker.adding.offset place) (gate_without_version_text checker.adding.unresolved.now.name) (record {
+    inr (subst (IsCause (seen checker)) (sym is) (gate_without_version_9 (moved_by checker.addition.offset place) (gate_without_version_text checker.addition.unresolved.now.name) (record {
       note = Stable since deprecated;
       place = place;
       asked = asked;
@@ -60,10 +60,10 @@ told-lacking checker since deprecated place kind asked none is =
 
 -- its version is below another
 pub told-unreleased : (checker : Checker) (since : Parts) (deprecated : Option Parts) (version : Parts) (place : OptionalSpan) (kind : ResolveErrorKind) → Asks checker (Stable since deprecated) place
-    → checker.adding.unresolved.now.name.version ≡ Some version → is_lt (version_cmp version since) ≡ true
-    → kind ≡ Semantic (moved_by checker.adding.offset place) (gate_unreleased_text since checker.adding.unresolved.now.name version) cause.GateUnreleased → MayRefuse checker kind
+    → checker.addition.unresolved.now.name.version ≡ Some version → is_lt (version_cmp version since) ≡ true
+    → kind ≡ Semantic (moved_by checker.addition.offset place) (gate_unreleased_text since checker.addition.unresolved.now.name version) cause.GateUnreleased → MayRefuse checker kind
 told-unreleased checker since deprecated version place kind asked some below is =
-    inr (subst (IsCause (seen checker)) (sym is) (gate_unreleased_10 (moved_by checker.adding.offset place) (gate_unreleased_text since checker.adding.unresolved.now.name version) (record {
+    inr (subst (IsCause (seen checker)) (sym is) (gate_unreleased_10 (moved_by checker.addition.offset place) (gate_unreleased_text since checker.addition.unresolved.now.name version) (record {
       since = since;
       deprecated = deprecated;
       version = version;
@@ -92,11 +92,11 @@ notes_named id deps count item i own are_first among names =
 
 -- those that are asked of an item are asked, there
 asks-item : (checker : Checker) → IsCheckerReady checker → (name : List ℕ) (item : AstItem) (notes : List Stability) (place : OptionalSpan)
-    → Contains (foreign_items checker.adding.unresolved.now.foreign_deps) (name, (item, notes)) → IsAt checker item place
-    → Each (λ note. Asks checker note place) (asked_gates checker.adding.features.now notes)
+    → Contains (foreign_items checker.addition.unresolved.now.foreign_deps) (name, (item, notes)) → IsAt checker item place
+    → Each (λ note. Asks checker note place) (asked_gates checker.addition.features.now notes)
 asks-item checker ready name (named.Interface id) notes place among is_at k note at =
-    let features = checker.adding.features.now in
-    let u = checker.adding.unresolved.now in
+    let features = checker.addition.features.now in
+    let u = checker.addition.unresolved.now in
     let found = found_at (λ (x : Interface). place ≡ x.span) u.interfaces id is_at in
     let whole : interface_gates u id ≡ notes =
     notes_named interface_id u.foreign_deps (length u.interfaces) (name, (named.Interface id, notes)) id (option_map_or (λ (x : Interface). x.stability ∷ []) (slice_get u.interfaces id) [])
@@ -104,8 +104,8 @@ asks-item checker ready name (named.Interface id) notes place among is_at k note
     subst (IsAsked features u note) (sym found.2)
     (of_interface id found.0 note found.1 (subst (λ (l : List Stability). Contains (asked_gates features l) note) (sym whole) (contained_at (asked_gates features notes) k note at)))
 asks-item checker ready name (named.World id) notes place among is_at k note at =
-    let features = checker.adding.features.now in
-    let u = checker.adding.unresolved.now in
+    let features = checker.addition.features.now in
+    let u = checker.addition.unresolved.now in
     let found = found_at (λ (x : World). place ≡ x.span) u.worlds id is_at in
     let whole : world_gates u id ≡ notes =
     notes_named world_id u.foreign_deps (length u.worlds) (name, (named.World id, notes)) id (option_map_or (λ (x : World). x.stability ∷ []) (slice_get u.worlds id) [])
@@ -113,22 +113,22 @@ asks-item checker ready name (named.World id) notes place among is_at k note at 
     subst (IsAsked features u note) (sym found.2)
     (of_world id found.0 note found.1 (subst (λ (l : List Stability). Contains (asked_gates features l) note) (sym whole) (contained_at (asked_gates features notes) k note at)))
 
-pub asks-foreign : (checker : Checker) → IsCheckerReady checker → (item : ForeignItem) (place : OptionalSpan) → Contains (foreign_items checker.adding.unresolved.now.foreign_deps) item
-    → IsAt checker item.1.0 place → Each (λ note. Asks checker note place) (asked_gates checker.adding.features.now item.1.1)
+pub asks-foreign : (checker : Checker) → IsCheckerReady checker → (item : ForeignItem) (place : OptionalSpan) → Contains (foreign_items checker.addition.unresolved.now.foreign_deps) item
+    → IsAt checker item.1.0 place → Each (λ note. Asks checker note place) (asked_gates checker.addition.features.now item.1.1)
 asks-foreign checker ready item place among is_at = asks-item checker ready item.0 item.1.0 item.1.1 place among is_at
 
 -- a foreign item is there
-is-there : (checker : Checker) (name : List ℕ) (item : AstItem) → IsNameOnly checker.adding.unresolved.now.interfaces checker.adding.unresolved.now.worlds name item → IsThere checker item
+is-there : (checker : Checker) (name : List ℕ) (item : AstItem) → IsNameOnly checker.addition.unresolved.now.interfaces checker.addition.unresolved.now.worlds name item → IsThere checker item
 is-there checker name (named.Interface id) bare =
-    let found = found_at (IsNameOnlyInterface name) checker.adding.unresolved.now.interfaces id bare in
-    slice_get_within checker.adding.unresolved.now.interfaces id found.0 found.1
+    let found = found_at (IsNameOnlyInterface name) checker.addition.unresolved.now.interfaces id bare in
+    slice_get_within checker.addition.unresolved.now.interfaces id found.0 found.1
 is-there checker name (named.World id) bare =
-    let found = found_at (IsNameOnlyWorld name) checker.adding.unresolved.now.worlds id bare in
-    slice_get_within checker.adding.unresolved.now.worlds id found.0 found.1
+    let found = found_at (IsNameOnlyWorld name) checker.addition.unresolved.now.worlds id bare in
+    slice_get_within checker.addition.unresolved.now.worlds id found.0 found.1
 
-pub foreign-there : (checker : Checker) → IsCheckerReady checker → (item : ForeignItem) → Contains (foreign_items checker.adding.unresolved.now.foreign_deps) item → IsThere checker item.1.0
+pub foreign-there : (checker : Checker) → IsCheckerReady checker → (item : ForeignItem) → Contains (foreign_items checker.addition.unresolved.now.foreign_deps) item → IsThere checker item.1.0
 foreign-there checker ready item among =
-    let deps = checker.adding.unresolved.now.foreign_deps in
+    let deps = checker.addition.unresolved.now.foreign_deps in
     let from = Contains-flat_map_cases (λ (e : PackageName × List ForeignItem). e.1) deps item among in
     let outer = place_of deps from.0 from.1.0 in
     let inner = place_of from.0.1 item from.1.1 in
@@ -180,28 +180,28 @@ own-asked {X} features stability id deps things i x at own =
     ∙ ap (λ (o : Option X). option_map_or (λ (y : X). stability y ∷ []) o []) at in
     subst (λ (l : List Stability). Contains (asked_gates features l) (stability x)) (sym notes) (Contains-here (stability x) (take (position_or_len (is_active features) (stability x ∷ [])) []))
 
-pub own-interface-asked : (checker : Checker) (i : ℕ) (interface : Interface) → slice_get checker.adding.unresolved.now.interfaces i ≡ Some interface
-    → length (foreign_interfaces checker.adding.unresolved.now.foreign_deps) ≤ i → Asks checker interface.stability interface.span
+pub own-interface-asked : (checker : Checker) (i : ℕ) (interface : Interface) → slice_get checker.addition.unresolved.now.interfaces i ≡ Some interface
+    → length (foreign_interfaces checker.addition.unresolved.now.foreign_deps) ≤ i → Asks checker interface.stability interface.span
 own-interface-asked checker i interface at own =
-    let u = checker.adding.unresolved.now in
-    of_interface i interface interface.stability at (own-asked checker.adding.features.now (λ (x : Interface). x.stability) interface_id u.foreign_deps u.interfaces i interface at own)
+    let u = checker.addition.unresolved.now in
+    of_interface i interface interface.stability at (own-asked checker.addition.features.now (λ (x : Interface). x.stability) interface_id u.foreign_deps u.interfaces i interface at own)
 
-pub own-world-asked : (checker : Checker) (w : ℕ) (world : World) → slice_get checker.adding.unresolved.now.worlds w ≡ Some world
-    → length (foreign_worlds checker.adding.unresolved.now.foreign_deps) ≤ w → Asks checker world.stability world.span
+pub own-world-asked : (checker : Checker) (w : ℕ) (world : World) → slice_get checker.addition.unresolved.now.worlds w ≡ Some world
+    → length (foreign_worlds checker.addition.unresolved.now.foreign_deps) ≤ w → Asks checker world.stability world.span
 own-world-asked checker w world at own =
-    let u = checker.adding.unresolved.now in
-    of_world w world world.stability at (own-asked checker.adding.features.now (λ (x : World). x.stability) world_id u.foreign_deps u.worlds w world at own)
+    let u = checker.addition.unresolved.now in
+    of_world w world world.stability at (own-asked checker.addition.features.now (λ (x : World). x.stability) world_id u.foreign_deps u.worlds w world at own)
 
 -- ---- all gates of a package
 
 -- what the steps have seen
 pub record AreMet (checker : Checker) : Type 0 where
-  pub types : Each (λ (def : TypeDef). IsMet checker def.stability) checker.adding.unresolved.now.types
-  pub foreign : Each (MeetsForeign checker) (foreign_items checker.adding.unresolved.now.foreign_deps)
-  pub interfaces : EachAt (λ i (interface : Interface). length (foreign_interfaces checker.adding.unresolved.now.foreign_deps) ≤ i → IsMet checker interface.stability) checker.adding.unresolved.now.interfaces
-  pub worlds : EachAt (λ w (world : World). length (foreign_worlds checker.adding.unresolved.now.foreign_deps) ≤ w → IsMet checker world.stability) checker.adding.unresolved.now.worlds
-  pub functions : EachAt (MeetsFunctions checker) checker.adding.unresolved.now.interfaces
-  pub parts : EachAt (MeetsParts checker) checker.adding.unresolved.now.worlds
+  pub types : Each (λ (def : TypeDef). IsMet checker def.stability) checker.addition.unresolved.now.types
+  pub foreign : Each (MeetsForeign checker) (foreign_items checker.addition.unresolved.now.foreign_deps)
+  pub interfaces : EachAt (λ i (interface : Interface). length (foreign_interfaces checker.addition.unresolved.now.foreign_deps) ≤ i → IsMet checker interface.stability) checker.addition.unresolved.now.interfaces
+  pub worlds : EachAt (λ w (world : World). length (foreign_worlds checker.addition.unresolved.now.foreign_deps) ≤ w → IsMet checker world.stability) checker.addition.unresolved.now.worlds
+  pub functions : EachAt (MeetsFunctions checker) checker.addition.unresolved.now.interfaces
+  pub parts : EachAt (MeetsParts checker) checker.addition.unresolved.now.worlds
 
 entry-met : (checker : Checker) (entries : List Entry) (e : Entry) → Each (λ (d : Entry). MeetsItem checker d.1) entries → Contains entries e → MeetsItem checker e.1
 entry-met checker entries e each has = let place = place_of entries e has in each place.0 e place.1
@@ -209,12 +209,12 @@ entry-met checker entries e each has = let place = place_of entries e has in eac
 all-met : (checker : Checker) → IsCheckerReady checker → AreMet checker → (note : Stability) (place : OptionalSpan) → Asks checker note place → IsMet checker note
 all-met checker ready met note place (of_type t def at) = met.types t def at
 all-met checker ready met note place (of_interface i interface note' at has) =
-    let u = checker.adding.unresolved.now in
-    asked-notes (IsMet checker) checker.adding.features.now (λ (x : Interface). x.stability) interface_id u.foreign_deps u.interfaces i interface note' ready.shaped.foreign.interfaces.once met.foreign
+    let u = checker.addition.unresolved.now in
+    asked-notes (IsMet checker) checker.addition.features.now (λ (x : Interface). x.stability) interface_id u.foreign_deps u.interfaces i interface note' ready.shaped.foreign.interfaces.once met.foreign
     (met.interfaces i interface at) at has
 all-met checker ready met note place (of_world w world note' at has) =
-    let u = checker.adding.unresolved.now in
-    asked-notes (IsMet checker) checker.adding.features.now (λ (x : World). x.stability) world_id u.foreign_deps u.worlds w world note' ready.shaped.foreign.worlds.once met.foreign
+    let u = checker.addition.unresolved.now in
+    asked-notes (IsMet checker) checker.addition.features.now (λ (x : World). x.stability) world_id u.foreign_deps u.worlds w world note' ready.shaped.foreign.worlds.once met.foreign
     (met.worlds w world at) at has
 all-met checker ready met note place (of_function i interface name f at active has) =
     let there = place_of interface.functions (name, f) has in
@@ -231,7 +231,7 @@ all-met checker ready met note place (of_include w world i at active has) =
     parts.includes there.0 i there.1
 
 -- no version to meet it, and it is a `@since`
-unmet : (checker : Checker) (note : Stability) → IsStable note → checker.adding.unresolved.now.name.version ≡ None → IsMet checker note → ⊥
+unmet : (checker : Checker) (note : Stability) → IsStable note → checker.addition.unresolved.now.name.version ≡ None → IsMet checker note → ⊥
 unmet checker Unknown stable none met = stable
 unmet checker (Stable since deprecated) stable none met = subst (λ (v : Option Parts). HasReached v since) none met
 unmet checker (Unstable feature deprecated) stable none met = stable
@@ -240,6 +240,6 @@ pub gates-met : (checker : Checker) → IsCheckerReady checker → AreMet checke
 gates-met checker ready met = record {
   version = λ span message lacks. unmet checker lacks.note lacks.stable lacks.no_version (all-met checker ready met lacks.note lacks.place lacks.asked);
   released = λ span message below.
-      let reached : HasReached checker.adding.unresolved.now.name.version below.since = all-met checker ready met (Stable below.since below.deprecated) below.place below.asked in
+      let reached : HasReached checker.addition.unresolved.now.name.version below.since = all-met checker ready met (Stable below.since below.deprecated) below.place below.asked in
       subst (λ (v : Option Parts). HasReached v below.since) below.has_version reached below.below;
 }

@@ -22,14 +22,14 @@ use wit_link_spec::{Activity, AdditionRef, is_active};
 /// error is want of memory.
 ///
 /// Source: `include_stability` of wit-parser 0.263.0; WIT.md of the component model.
-pub fn activity(alloc: Global, adding: &AdditionRef<'_>) -> Result<Activity, AllocError>
-    requires { IsShaped adding.now.unresolved.now }
-    ensures { IfOk result (λ activity. activity ≡ activity_of (addition_of adding.now)) }
+pub fn activity(alloc: Global, addition: &AdditionRef<'_>) -> Result<Activity, AllocError>
+    requires { IsShaped addition.now.unresolved.now }
+    ensures { IfOk result (λ activity. activity ≡ activity_of (addition_of addition.now)) }
 {
-    let mut activity = own_activity(alloc, adding.features, adding.unresolved)?;
+    let mut activity = own_activity(alloc, addition.features, addition.unresolved)?;
     mark_packages(
-        adding.features,
-        &adding.unresolved.foreign_deps,
+        addition.features,
+        &addition.unresolved.foreign_deps,
         &mut activity,
     );
     Ok(activity)
@@ -42,7 +42,7 @@ fn some_active(features: &Features, notes: &Items<Stability>) -> bool
     notes.iter().any(|note| is_active(features, note))
 }
 
-/// What is active where nothing that is named of other packages does.
+/// What is active where nothing that is named of other packages is.
 fn own_activity(
     alloc: Global,
     features: &Features,

@@ -13,24 +13,24 @@ use wit_link_spec::{Activity, AdditionRef, is_active};
 #[derive(Drop)]
 pub(crate) struct Checker<'a> {
     pub(crate) alloc: Global,
-    pub(crate) adding: AdditionRef<'a>,
+    pub(crate) addition: AdditionRef<'a>,
     pub(crate) activity: &'a Activity,
 }
 
 impl<'a> Checker<'a> {
     /// Whether a gate lets its item be active.
     pub(crate) fn is_active(&self, note: &Stability) -> bool
-        ensures { result ≡ is_active self.now.adding.features.now note.now }
+        ensures { result ≡ is_active self.now.addition.features.now note.now }
     {
-        is_active(self.adding.features, note)
+        is_active(self.addition.features, note)
     }
 
     /// Where a span of the package is in the graph. The caller has seen that no span passes the last position,
     /// so an error says that memory is wanting.
     fn moved(&self, span: Span) -> Result<Span, AllocError>
-        ensures { IfOk result (λ x. x ≡ moved_by self.now.adding.offset span) }
+        ensures { IfOk result (λ x. x ≡ moved_by self.now.addition.offset span) }
     {
-        span.moved(self.adding.offset).ok_or(AllocError)
+        span.moved(self.addition.offset).ok_or(AllocError)
     }
 
     /// An error with a span of the package.
@@ -40,7 +40,7 @@ impl<'a> Checker<'a> {
         message: String,
         cause: Cause,
     ) -> Result<ResolveError, AllocError>
-        ensures { IfOk result (λ e. e ≡ Semantic (moved_by self.now.adding.offset span) (string_bytes message) cause) }
+        ensures { IfOk result (λ e. e ≡ Semantic (moved_by self.now.addition.offset span) (string_bytes message) cause) }
     {
         let span = self.moved(span)?;
         Ok(ResolveErrorKind::Semantic {

@@ -1,5 +1,4 @@
-//! Feature gates: what is active of a package that is added, and whether anything that does needs what is left
-//! out.
+//! Feature gates: what is active of a package that is added, and whether anything active needs what is left out.
 #![tactic(auto)]
 
 mod active_parts;

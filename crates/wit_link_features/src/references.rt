@@ -34,17 +34,17 @@ use wit_link_spec::{Activity, AdditionRef, excluded_message, excluded_owner_mess
 /// Source: `append` of wit-parser 0.263.0.
 pub fn check_references(
     alloc: Global,
-    adding: &AdditionRef<'_>,
+    addition: &AdditionRef<'_>,
     activity: &Activity,
 ) -> ResolveResult<()>
-    requires shaped { IsShaped adding.now.unresolved.now }
-    requires activity { activity.now ≡ activity_of (addition_of adding.now) }
-    ensures met { OnOk result (NeedsNothingExcluded (addition_of adding.now)) }
-    ensures cause { IfErr result (λ kind. (kind ≡ OutOfMemory) ⊎ IsCause (addition_of adding.now) kind) }
+    requires shaped { IsShaped addition.now.unresolved.now }
+    requires activity { activity.now ≡ activity_of (addition_of addition.now) }
+    ensures met { OnOk result (NeedsNothingExcluded (addition_of addition.now)) }
+    ensures cause { IfErr result (λ kind. (kind ≡ OutOfMemory) ⊎ IsCause (addition_of addition.now) kind) }
 {
     let checker = Checker {
         alloc,
-        adding: *adding,
+        addition: *addition,
         activity,
     };
     checker.look_at_types()?;
@@ -67,7 +67,7 @@ impl<'a> Checker<'a> {
 
     /// Something refers to what is left out.
     fn excluded(&self, needed: Needed, span: Span) -> Result<ResolveError, AllocError>
-        ensures { IfOk result (λ e. e ≡ Semantic (moved_by self.now.adding.offset span) (excluded_text (word_of (thing_of needed))) cause.Excluded) }
+        ensures { IfOk result (λ e. e ≡ Semantic (moved_by self.now.addition.offset span) (excluded_text (word_of (thing_of needed))) cause.Excluded) }
     {
         let message = excluded_message(self.alloc, needed.word())?;
         self.semantic(span, message, Cause::Excluded)
@@ -75,7 +75,7 @@ impl<'a> Checker<'a> {
 
     /// The owner of a type is left out.
     fn excluded_owner(&self, needed: Needed, span: Span) -> Result<ResolveError, AllocError>
-        ensures { IfOk result (λ e. e ≡ Semantic (moved_by self.now.adding.offset span) (excluded_owner_text (word_of (thing_of needed))) cause.ExcludedOwner) }
+        ensures { IfOk result (λ e. e ≡ Semantic (moved_by self.now.addition.offset span) (excluded_owner_text (word_of (thing_of needed))) cause.ExcludedOwner) }
     {
         let message = excluded_owner_message(self.alloc, needed.word())?;
         self.semantic(span, message, Cause::ExcludedOwner)
@@ -110,10 +110,10 @@ impl<'a> Checker<'a> {
     /// What types need.
     fn look_at_types(&self) -> ResolveResult<()>
         requires { IsCheckerReady self.now }
-        ensures stay { OnOk result (EachAt (TypesStay self.now) self.now.adding.unresolved.now.types) }
+        ensures stay { OnOk result (EachAt (TypesStay self.now) self.now.addition.unresolved.now.types) }
         ensures cause { IfErr result (MayRefuse self.now) }
     {
-        let types = self.adding.unresolved.types.as_slice();
+        let types = self.addition.unresolved.types.as_slice();
         for (index, def) in types.iter().enumerate() {
             if !flag_at(&self.activity.types, index) {
                 continue;
@@ -213,10 +213,10 @@ impl<'a> Checker<'a> {
     /// What interfaces that are active need.
     fn look_at_interfaces(&self) -> ResolveResult<()>
         requires { IsCheckerReady self.now }
-        ensures stay { OnOk result (EachAt (FunctionsStay self.now) self.now.adding.unresolved.now.interfaces) }
+        ensures stay { OnOk result (EachAt (FunctionsStay self.now) self.now.addition.unresolved.now.interfaces) }
         ensures cause { IfErr result (MayRefuse self.now) }
     {
-        let interfaces = self.adding.unresolved.interfaces.as_slice();
+        let interfaces = self.addition.unresolved.interfaces.as_slice();
         for (index, interface) in interfaces.iter().enumerate() {
             if !flag_at(&self.activity.interfaces, index) {
                 continue;
@@ -255,10 +255,10 @@ impl<'a> Checker<'a> {
     /// What worlds that are active need.
     fn look_at_worlds(&self) -> ResolveResult<()>
         requires { IsCheckerReady self.now }
-        ensures stay { OnOk result (EachAt (PartsStay self.now) self.now.adding.unresolved.now.worlds) }
+        ensures stay { OnOk result (EachAt (PartsStay self.now) self.now.addition.unresolved.now.worlds) }
         ensures cause { IfErr result (MayRefuse self.now) }
     {
-        let worlds = self.adding.unresolved.worlds.as_slice();
+        let worlds = self.addition.unresolved.worlds.as_slice();
         for (index, world) in worlds.iter().enumerate() {
             if !flag_at(&self.activity.worlds, index) {
                 continue;

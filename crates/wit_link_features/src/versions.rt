@@ -40,17 +40,17 @@ use wit_link_spec::{Activity, AdditionRef};
 /// Source: `include_stability` of wit-parser 0.263.0; WIT.md of the component model.
 pub fn check_versions(
     alloc: Global,
-    adding: &AdditionRef<'_>,
+    addition: &AdditionRef<'_>,
     activity: &Activity,
 ) -> ResolveResult<()>
-    requires shaped { IsShaped adding.now.unresolved.now }
-    requires activity { activity.now ≡ activity_of (addition_of adding.now) }
-    ensures met { OnOk result (GatesAreMet (addition_of adding.now)) }
-    ensures cause { IfErr result (λ kind. (kind ≡ OutOfMemory) ⊎ IsCause (addition_of adding.now) kind) }
+    requires shaped { IsShaped addition.now.unresolved.now }
+    requires activity { activity.now ≡ activity_of (addition_of addition.now) }
+    ensures met { OnOk result (GatesAreMet (addition_of addition.now)) }
+    ensures cause { IfErr result (λ kind. (kind ≡ OutOfMemory) ⊎ IsCause (addition_of addition.now) kind) }
 {
     let checker = Checker {
         alloc,
-        adding: *adding,
+        addition: *addition,
         activity,
     };
     checker.check_types()?;
@@ -64,9 +64,9 @@ pub fn check_versions(
 impl<'a> Checker<'a> {
     /// The package has no version.
     fn without_version(&self, span: Span) -> Result<ResolveError, AllocError>
-        ensures { IfOk result (λ e. e ≡ Semantic (moved_by self.now.adding.offset span) (gate_without_version_text self.now.adding.unresolved.now.name) cause.GateWithoutVersion) }
+        ensures { IfOk result (λ e. e ≡ Semantic (moved_by self.now.addition.offset span) (gate_without_version_text self.now.addition.unresolved.now.name) cause.GateWithoutVersion) }
     {
-        let name = &self.adding.unresolved.name;
+        let name = &self.addition.unresolved.name;
         let message = format!(in self.alloc;
             "package [{name}] contains a feature gate with a version specifier, so it must have a version"
         )?;
@@ -80,9 +80,9 @@ impl<'a> Checker<'a> {
         version: &Version,
         span: Span,
     ) -> Result<ResolveError, AllocError>
-        ensures { IfOk result (λ e. e ≡ Semantic (moved_by self.now.adding.offset span) (gate_unreleased_text since.now self.now.adding.unresolved.now.name version.now) cause.GateUnreleased) }
+        ensures { IfOk result (λ e. e ≡ Semantic (moved_by self.now.addition.offset span) (gate_unreleased_text since.now self.now.addition.unresolved.now.name version.now) cause.GateUnreleased) }
     {
-        let name = &self.adding.unresolved.name;
+        let name = &self.addition.unresolved.name;
         let message = format!(in self.alloc;
             "feature gate cannot reference unreleased version {since} of package [{name}] (current version {version})"
         )?;
@@ -105,10 +105,10 @@ impl<'a> Checker<'a> {
     /// A version with which an item came.
     fn check_since(&self, since: &Version, span: Span) -> ResolveResult<()>
         requires { (deprecated : Option Parts) × Asks self.now (Stable since.now deprecated) span }
-        ensures met { OnOk result (HasReached self.now.adding.unresolved.now.name.version since.now) }
+        ensures met { OnOk result (HasReached self.now.addition.unresolved.now.name.version since.now) }
         ensures cause { IfErr result (MayRefuse self.now) }
     {
-        match &self.adding.unresolved.name.version {
+        match &self.addition.unresolved.name.version {
             None => Err(self.without_version(span)?),
             Some(version) => {
                 if version < since {
@@ -121,8 +121,8 @@ impl<'a> Checker<'a> {
 
     /// Several notes of one item there, up to the first that lets it be active.
     fn check_gates(&self, notes: &Items<Stability>, span: Span) -> ResolveResult<()>
-        requires { Each (λ note. Asks self.now note span) (asked_gates self.now.adding.features.now notes.now) }
-        ensures met { OnOk result (Each (IsMet self.now) (asked_gates self.now.adding.features.now notes.now)) }
+        requires { Each (λ note. Asks self.now note span) (asked_gates self.now.addition.features.now notes.now) }
+        ensures met { OnOk result (Each (IsMet self.now) (asked_gates self.now.addition.features.now notes.now)) }
         ensures cause { IfErr result (MayRefuse self.now) }
     {
         for note in notes.as_slice() {
@@ -136,10 +136,10 @@ impl<'a> Checker<'a> {
 
     /// The gates of types, whoever owns them.
     fn check_types(&self) -> ResolveResult<()>
-        ensures met { OnOk result (Each (λ (def : TypeDef). IsMet self.now def.stability) self.now.adding.unresolved.now.types) }
+        ensures met { OnOk result (Each (λ (def : TypeDef). IsMet self.now def.stability) self.now.addition.unresolved.now.types) }
         ensures cause { IfErr result (MayRefuse self.now) }
     {
-        for def in self.adding.unresolved.types.as_slice() {
+        for def in self.addition.unresolved.types.as_slice() {
             self.check_gate(&def.stability, def.span)?;
         }
         Ok(())
@@ -148,10 +148,10 @@ impl<'a> Checker<'a> {
     /// The gates of what is named of other packages.
     fn check_packages(&self) -> ResolveResult<()>
         requires { IsCheckerReady self.now }
-        ensures met { OnOk result (Each (MeetsForeign self.now) (foreign_items self.now.adding.unresolved.now.foreign_deps)) }
+        ensures met { OnOk result (Each (MeetsForeign self.now) (foreign_items self.now.addition.unresolved.now.foreign_deps)) }
         ensures cause { IfErr result (MayRefuse self.now) }
     {
-        for (_, items) in self.adding.unresolved.foreign_deps.iter() {
+        for (_, items) in self.addition.unresolved.foreign_deps.iter() {
             self.check_items(items)?;
         }
         Ok(())
@@ -160,7 +160,7 @@ impl<'a> Checker<'a> {
     /// Those of one other package.
     fn check_items(&self, items: &Names<(AstItem, Items<Stability>)>) -> ResolveResult<()>
         requires ready { IsCheckerReady self.now }
-        requires named { Each (Contains (foreign_items self.now.adding.unresolved.now.foreign_deps)) items.now }
+        requires named { Each (Contains (foreign_items self.now.addition.unresolved.now.foreign_deps)) items.now }
         ensures met { OnOk result (Each (MeetsForeign self.now) items.now) }
         ensures cause { IfErr result (MayRefuse self.now) }
     {
@@ -175,7 +175,7 @@ impl<'a> Checker<'a> {
         requires { IsThere self.now item }
         ensures { IsAt self.now item result }
     {
-        let unresolved = self.adding.unresolved;
+        let unresolved = self.addition.unresolved;
         match item {
             AstItem::Interface(id) => unresolved.interfaces.at(id.index()).span,
             AstItem::World(id) => unresolved.worlds.at(id.index()).span,
@@ -184,10 +184,10 @@ impl<'a> Checker<'a> {
 
     /// The gates of the package's own interfaces.
     fn check_interfaces(&self) -> ResolveResult<()>
-        ensures met { OnOk result (EachAt (λ i (interface : Interface). length (foreign_interfaces self.now.adding.unresolved.now.foreign_deps) ≤ i → IsMet self.now interface.stability) self.now.adding.unresolved.now.interfaces) }
+        ensures met { OnOk result (EachAt (λ i (interface : Interface). length (foreign_interfaces self.now.addition.unresolved.now.foreign_deps) ≤ i → IsMet self.now interface.stability) self.now.addition.unresolved.now.interfaces) }
         ensures cause { IfErr result (MayRefuse self.now) }
     {
-        let unresolved = self.adding.unresolved;
+        let unresolved = self.addition.unresolved;
         let foreign = foreign_interfaces(self.alloc, &unresolved.foreign_deps)?.len();
         for index in foreign..unresolved.interfaces.len() {
             let interface = unresolved.interfaces.at(index);
@@ -198,10 +198,10 @@ impl<'a> Checker<'a> {
 
     /// The gates of the package's own worlds.
     fn check_worlds(&self) -> ResolveResult<()>
-        ensures met { OnOk result (EachAt (λ w (world : World). length (foreign_worlds self.now.adding.unresolved.now.foreign_deps) ≤ w → IsMet self.now world.stability) self.now.adding.unresolved.now.worlds) }
+        ensures met { OnOk result (EachAt (λ w (world : World). length (foreign_worlds self.now.addition.unresolved.now.foreign_deps) ≤ w → IsMet self.now world.stability) self.now.addition.unresolved.now.worlds) }
         ensures cause { IfErr result (MayRefuse self.now) }
     {
-        let unresolved = self.adding.unresolved;
+        let unresolved = self.addition.unresolved;
         let foreign = foreign_worlds(self.alloc, &unresolved.foreign_deps)?.len();
         for index in foreign..unresolved.worlds.len() {
             let world = unresolved.worlds.at(index);
@@ -213,10 +213,10 @@ impl<'a> Checker<'a> {
     /// The gates of the functions of interfaces that are active.
     fn check_functions_of_interfaces(&self) -> ResolveResult<()>
         requires { IsCheckerReady self.now }
-        ensures met { OnOk result (EachAt (MeetsFunctions self.now) self.now.adding.unresolved.now.interfaces) }
+        ensures met { OnOk result (EachAt (MeetsFunctions self.now) self.now.addition.unresolved.now.interfaces) }
         ensures cause { IfErr result (MayRefuse self.now) }
     {
-        let interfaces = self.adding.unresolved.interfaces.as_slice();
+        let interfaces = self.addition.unresolved.interfaces.as_slice();
         for (index, interface) in interfaces.iter().enumerate() {
             if !flag_at(&self.activity.interfaces, index) {
                 continue;
@@ -241,10 +241,10 @@ impl<'a> Checker<'a> {
     /// The gates of the entries and the includes of worlds that are active.
     fn check_parts_of_worlds(&self) -> ResolveResult<()>
         requires { IsCheckerReady self.now }
-        ensures met { OnOk result (EachAt (MeetsParts self.now) self.now.adding.unresolved.now.worlds) }
+        ensures met { OnOk result (EachAt (MeetsParts self.now) self.now.addition.unresolved.now.worlds) }
         ensures cause { IfErr result (MayRefuse self.now) }
     {
-        let worlds = self.adding.unresolved.worlds.as_slice();
+        let worlds = self.addition.unresolved.worlds.as_slice();
         for (index, world) in worlds.iter().enumerate() {
             if !flag_at(&self.activity.worlds, index) {
                 continue;

@@ -27,21 +27,21 @@ pub(crate) struct Found {
 /// interface (3) that is active.
 pub(crate) fn find_foreign(
     alloc: Global,
-    adding: &AdditionRef<'_>,
+    addition: &AdditionRef<'_>,
     activity: &Activity,
 ) -> ResolveResult<Found>
-    requires shaped { IsShaped adding.now.unresolved.now }
-    requires activity { activity.now ≡ activity_of (addition_of adding.now) }
-    ensures found { IfOk result (λ found. found ≡ found_among (addition_of adding.now) (named_items adding.now.unresolved.now.foreign_deps)) }
-    ensures there { OnOk result (AreThere (addition_of adding.now) (named_items adding.now.unresolved.now.foreign_deps)) }
-    ensures packages { OnOk result (ArePackagesThere (addition_of adding.now) (length adding.now.unresolved.now.foreign_deps)) }
-    ensures cause { IfErr result (λ kind. (kind ≡ OutOfMemory) ⊎ IsCause (addition_of adding.now) kind) }
+    requires shaped { IsShaped addition.now.unresolved.now }
+    requires activity { activity.now ≡ activity_of (addition_of addition.now) }
+    ensures found { IfOk result (λ found. found ≡ found_among (addition_of addition.now) (named_items addition.now.unresolved.now.foreign_deps)) }
+    ensures there { OnOk result (AreThere (addition_of addition.now) (named_items addition.now.unresolved.now.foreign_deps)) }
+    ensures packages { OnOk result (ArePackagesThere (addition_of addition.now) (length addition.now.unresolved.now.foreign_deps)) }
+    ensures cause { IfErr result (λ kind. (kind ≡ OutOfMemory) ⊎ IsCause (addition_of addition.now) kind) }
 {
-    let interfaces = nothing(alloc, adding.unresolved.interfaces.len())?;
-    let worlds = nothing(alloc, adding.unresolved.worlds.len())?;
+    let interfaces = nothing(alloc, addition.unresolved.interfaces.len())?;
+    let worlds = nothing(alloc, addition.unresolved.worlds.len())?;
     let mut found = Found { interfaces, worlds };
-    for index in 0..adding.unresolved.foreign_deps.len() {
-        find_named(alloc, adding, activity, index, &mut found)?;
+    for index in 0..addition.unresolved.foreign_deps.len() {
+        find_named(alloc, addition, activity, index, &mut found)?;
     }
     Ok(found)
 }
@@ -60,26 +60,26 @@ fn nothing<T: Copy>(alloc: Global, count: usize) -> Result<Items<Option<T>>, All
 /// Finds what is named of the package at an index.
 fn find_named(
     alloc: Global,
-    adding: &AdditionRef<'_>,
+    addition: &AdditionRef<'_>,
     activity: &Activity,
     index: usize,
     found: &mut Found,
 ) -> ResolveResult<()>
-    requires shaped { IsShaped adding.now.unresolved.now }
-    requires activity { activity.now ≡ activity_of (addition_of adding.now) }
-    requires inside { index < length adding.now.unresolved.now.foreign_deps }
-    requires before { found.old ≡ found_among (addition_of adding.now) (named_before adding.now.unresolved.now.foreign_deps index) }
-    requires there { AreThere (addition_of adding.now) (named_before adding.now.unresolved.now.foreign_deps index) }
-    requires packages { ArePackagesThere (addition_of adding.now) index }
-    ensures found { OnOk result (found.new ≡ found_among (addition_of adding.now) (named_before adding.now.unresolved.now.foreign_deps (index + 1))) }
-    ensures there { OnOk result (AreThere (addition_of adding.now) (named_before adding.now.unresolved.now.foreign_deps (index + 1))) }
-    ensures packages { OnOk result (ArePackagesThere (addition_of adding.now) (index + 1)) }
-    ensures cause { IfErr result (λ kind. (kind ≡ OutOfMemory) ⊎ IsCause (addition_of adding.now) kind) }
+    requires shaped { IsShaped addition.now.unresolved.now }
+    requires activity { activity.now ≡ activity_of (addition_of addition.now) }
+    requires inside { index < length addition.now.unresolved.now.foreign_deps }
+    requires before { found.old ≡ found_among (addition_of addition.now) (named_before addition.now.unresolved.now.foreign_deps index) }
+    requires there { AreThere (addition_of addition.now) (named_before addition.now.unresolved.now.foreign_deps index) }
+    requires packages { ArePackagesThere (addition_of addition.now) index }
+    ensures found { OnOk result (found.new ≡ found_among (addition_of addition.now) (named_before addition.now.unresolved.now.foreign_deps (index + 1))) }
+    ensures there { OnOk result (AreThere (addition_of addition.now) (named_before addition.now.unresolved.now.foreign_deps (index + 1))) }
+    ensures packages { OnOk result (ArePackagesThere (addition_of addition.now) (index + 1)) }
+    ensures cause { IfErr result (λ kind. (kind ≡ OutOfMemory) ⊎ IsCause (addition_of addition.now) kind) }
 {
-    let home = find_home(alloc, adding, index)?;
+    let home = find_home(alloc, addition, index)?;
     for (requested, (item, _)) in home.items.iter() {
-        if !find_item(adding.graph, &home, requested, item, found) {
-            check_inactive(alloc, adding, activity, &home, requested, item)?;
+        if !find_item(addition.graph, &home, requested, item, found) {
+            check_inactive(alloc, addition, activity, &home, requested, item)?;
         }
     }
     Ok(())
@@ -116,18 +116,18 @@ fn find_item(
 /// Refuses an item that isn't there, if it is active.
 fn check_inactive(
     alloc: Global,
-    adding: &AdditionRef<'_>,
+    addition: &AdditionRef<'_>,
     activity: &Activity,
     home: &Home<'_>,
     requested: &str,
     item: &AstItem,
 ) -> ResolveResult<()>
-    requires shaped { IsShaped adding.now.unresolved.now }
-    requires activity { activity.now ≡ activity_of (addition_of adding.now) }
-    requires named { NamesItem (addition_of adding.now) home.now.name.now home.now.id requested.now item.now }
-    requires absent { item_in adding.now.graph.now home.now.id requested.now item.now ≡ None }
-    ensures inactive { OnOk result (named_is_active (addition_of adding.now) item.now ≡ false) }
-    ensures cause { IfErr result (λ kind. (kind ≡ OutOfMemory) ⊎ IsCause (addition_of adding.now) kind) }
+    requires shaped { IsShaped addition.now.unresolved.now }
+    requires activity { activity.now ≡ activity_of (addition_of addition.now) }
+    requires named { NamesItem (addition_of addition.now) home.now.name.now home.now.id requested.now item.now }
+    requires absent { item_in addition.now.graph.now home.now.id requested.now item.now ≡ None }
+    ensures inactive { OnOk result (named_is_active (addition_of addition.now) item.now ≡ false) }
+    ensures cause { IfErr result (λ kind. (kind ≡ OutOfMemory) ⊎ IsCause (addition_of addition.now) kind) }
 {
     let active = match *item {
         AstItem::Interface(id) => *activity.interfaces.at(id.index()),
@@ -137,10 +137,10 @@ fn check_inactive(
         return Ok(());
     }
     let span = match *item {
-        AstItem::Interface(id) => adding.unresolved.interfaces.at(id.index()).span,
-        AstItem::World(id) => adding.unresolved.worlds.at(id.index()).span,
+        AstItem::Interface(id) => addition.unresolved.interfaces.at(id.index()).span,
+        AstItem::World(id) => addition.unresolved.worlds.at(id.index()).span,
     };
-    Err(item_not_found(alloc, adding, item, span, requested, home.name)?)
+    Err(item_not_found(alloc, addition, item, span, requested, home.name)?)
 }
 
 /// The interface of this name in a package, if there is one.

@@ -24,28 +24,28 @@ use wit_link_spec::{Activity, AdditionRef, NewIds};
 /// Source: `process_foreign_deps` of wit-parser 0.263.0.
 pub fn new_ids_of(
     alloc: Global,
-    adding: &AdditionRef<'_>,
+    addition: &AdditionRef<'_>,
     activity: &Activity,
 ) -> ResolveResult<NewIds>
-    requires shaped { IsShaped adding.now.unresolved.now }
-    requires activity { activity.now ≡ activity_of (addition_of adding.now) }
-    ensures new_ids { IfOk result (λ new_ids. new_ids ≡ new_ids_of (addition_of adding.now)) }
-    ensures found { OnOk result (IsAllFound (addition_of adding.now)) }
-    ensures cause { IfErr result (λ kind. (kind ≡ OutOfMemory) ⊎ IsCause (addition_of adding.now) kind) }
+    requires shaped { IsShaped addition.now.unresolved.now }
+    requires activity { activity.now ≡ activity_of (addition_of addition.now) }
+    ensures new_ids { IfOk result (λ new_ids. new_ids ≡ new_ids_of (addition_of addition.now)) }
+    ensures found { OnOk result (IsAllFound (addition_of addition.now)) }
+    ensures cause { IfErr result (λ kind. (kind ≡ OutOfMemory) ⊎ IsCause (addition_of addition.now) kind) }
 {
-    let found = find_foreign(alloc, adding, activity)?;
-    let types = type_ids(alloc, adding, activity, &found)?;
+    let found = find_foreign(alloc, addition, activity)?;
+    let types = type_ids(alloc, addition, activity, &found)?;
     let interfaces = assign_ids(
         alloc,
         &activity.interfaces,
         &found.interfaces,
-        adding.graph.interfaces.len(),
+        addition.graph.interfaces.len(),
     )?;
     let worlds = assign_ids(
         alloc,
         &activity.worlds,
         &found.worlds,
-        adding.graph.worlds.len(),
+        addition.graph.worlds.len(),
     )?;
     Ok(NewIds {
         types,

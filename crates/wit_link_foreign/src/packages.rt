@@ -26,22 +26,22 @@ pub(crate) struct Home<'a> {
 /// of it is named.
 pub(crate) fn find_home<'a>(
     alloc: Global,
-    adding: &AdditionRef<'a>,
+    addition: &AdditionRef<'a>,
     index: usize,
 ) -> ResolveResult<Home<'a>>
-    requires shaped { IsShaped adding.now.unresolved.now }
-    requires inside { index < length adding.now.unresolved.now.foreign_deps }
-    ensures home { IfOk result (λ home. IsHome (addition_of adding.now) index home.name.now home.items.now home.id) }
-    ensures cause { IfErr result (λ kind. (kind ≡ OutOfMemory) ⊎ IsCause (addition_of adding.now) kind) }
+    requires shaped { IsShaped addition.now.unresolved.now }
+    requires inside { index < length addition.now.unresolved.now.foreign_deps }
+    ensures home { IfOk result (λ home. IsHome (addition_of addition.now) index home.name.now home.items.now home.id) }
+    ensures cause { IfErr result (λ kind. (kind ≡ OutOfMemory) ⊎ IsCause (addition_of addition.now) kind) }
 {
-    let (name, items) = adding.unresolved.foreign_deps.entry_at(index);
-    let id = match adding.graph.package_names.get(name) {
-        _ if adding.unresolved.name == *name => None,
+    let (name, items) = addition.unresolved.foreign_deps.entry_at(index);
+    let id = match addition.graph.package_names.get(name) {
+        _ if addition.unresolved.name == *name => None,
         Some(id) => Some(*id),
         None if items.is_empty() => None,
         None => {
-            let span = *adding.unresolved.foreign_dep_spans.at(index);
-            return Err(package_not_found(alloc, adding, span, name)?);
+            let span = *addition.unresolved.foreign_dep_spans.at(index);
+            return Err(package_not_found(alloc, addition, span, name)?);
         }
     };
     Ok(Home { name, items, id })

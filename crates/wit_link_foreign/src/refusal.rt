@@ -17,14 +17,14 @@ use wit_link_spec::AdditionRef;
 /// 1: a package of which something is named isn't there.
 pub(crate) fn package_not_found(
     alloc: Global,
-    adding: &AdditionRef<'_>,
+    addition: &AdditionRef<'_>,
     span: Span,
     requested: &PackageName,
 ) -> Result<ResolveError, AllocError>
-    ensures { IfOk result (λ e. e ≡ PackageNotFound (moved_by adding.now.offset span) requested.now (known_packages (addition_of adding.now))) }
+    ensures { IfOk result (λ e. e ≡ PackageNotFound (moved_by addition.now.offset span) requested.now (known_packages (addition_of addition.now))) }
 {
-    let span = moved(span, adding.offset)?;
-    let known = known(alloc, adding)?;
+    let span = moved(span, addition.offset)?;
+    let known = known(alloc, addition)?;
     let requested = requested.try_clone()?;
     Ok(ResolveErrorKind::PackageNotFound {
         span,
@@ -37,15 +37,15 @@ pub(crate) fn package_not_found(
 /// 2 and 3: a world or an interface isn't in its package.
 pub(crate) fn item_not_found(
     alloc: Global,
-    adding: &AdditionRef<'_>,
+    addition: &AdditionRef<'_>,
     item: &AstItem,
     span: Span,
     requested: &str,
     home: &PackageName,
 ) -> Result<ResolveError, AllocError>
-    ensures { IfOk result (λ e. e ≡ not_found item.now (moved_by adding.now.offset span) requested.now home.now) }
+    ensures { IfOk result (λ e. e ≡ not_found item.now (moved_by addition.now.offset span) requested.now home.now) }
 {
-    let span = moved(span, adding.offset)?;
+    let span = moved(span, addition.offset)?;
     let requested = Text::try_from_str(alloc, requested)?;
     let package = home.try_clone()?;
     let kind = match *item {
@@ -66,13 +66,13 @@ pub(crate) fn item_not_found(
 /// 13: a type isn't in its interface.
 pub(crate) fn type_not_defined(
     alloc: Global,
-    adding: &AdditionRef<'_>,
+    addition: &AdditionRef<'_>,
     span: Span,
     name: &Text,
 ) -> Result<ResolveError, AllocError>
-    ensures { IfOk result (λ e. e ≡ Semantic (moved_by adding.now.offset span) (type_not_defined_text name.now) TypeNotDefined) }
+    ensures { IfOk result (λ e. e ≡ Semantic (moved_by addition.now.offset span) (type_not_defined_text name.now) TypeNotDefined) }
 {
-    let span = moved(span, adding.offset)?;
+    let span = moved(span, addition.offset)?;
     let message = format!(in alloc; "type `{name}` not defined in interface")?;
     Ok(ResolveErrorKind::Semantic {
         span,
@@ -92,23 +92,23 @@ fn moved(span: Span, offset: u32) -> Result<Span, AllocError>
 
 /// The packages that are known: those of the graph in order, and the one that is added where the graph has none
 /// of its name.
-fn known(alloc: Global, adding: &AdditionRef<'_>) -> Result<Items<PackageName>, AllocError>
-    ensures { IfOk result (λ known. known ≡ known_packages (addition_of adding.now)) }
+fn known(alloc: Global, addition: &AdditionRef<'_>) -> Result<Items<PackageName>, AllocError>
+    ensures { IfOk result (λ known. known ≡ known_packages (addition_of addition.now)) }
 {
-    let own = &adding.unresolved.name;
-    let mut known = names(alloc, adding)?;
-    if !adding.graph.package_names.contains_key(own) {
+    let own = &addition.unresolved.name;
+    let mut known = names(alloc, addition)?;
+    if !addition.graph.package_names.contains_key(own) {
         known.push(own.try_clone()?)?;
     }
     Ok(known)
 }
 
 /// The names of the packages of the graph, in order.
-fn names(alloc: Global, adding: &AdditionRef<'_>) -> Result<Items<PackageName>, AllocError>
-    ensures { IfOk result (λ names. names ≡ keys_of adding.now.graph.now.package_names) }
+fn names(alloc: Global, addition: &AdditionRef<'_>) -> Result<Items<PackageName>, AllocError>
+    ensures { IfOk result (λ names. names ≡ keys_of addition.now.graph.now.package_names) }
 {
     let mut names = Items::new(alloc);
-    for (name, _) in adding.graph.package_names.iter() {
+    for (name, _) in addition.graph.package_names.iter() {
         names.push(name.try_clone()?)?;
     }
     Ok(names)

@@ -23,21 +23,21 @@ use wit_link_spec::{Activity, AdditionRef};
 /// (13).
 pub(crate) fn type_ids(
     alloc: Global,
-    adding: &AdditionRef<'_>,
+    addition: &AdditionRef<'_>,
     activity: &Activity,
     found: &Found,
 ) -> ResolveResult<Items<Option<TypeId>>>
-    requires shaped { IsShaped adding.now.unresolved.now }
-    requires activity { activity.now ≡ activity_of (addition_of adding.now) }
-    requires found { found.now ≡ found_among (addition_of adding.now) (named_items adding.now.unresolved.now.foreign_deps) }
-    ensures new_ids { IfOk result (λ new_ids. new_ids ≡ map (active_type_id (addition_of adding.now)) (range_with_len 0 (length adding.now.unresolved.now.types))) }
-    ensures there { OnOk result (AreTypesThere (addition_of adding.now) (length adding.now.unresolved.now.types)) }
-    ensures cause { IfErr result (λ kind. (kind ≡ OutOfMemory) ⊎ IsCause (addition_of adding.now) kind) }
+    requires shaped { IsShaped addition.now.unresolved.now }
+    requires activity { activity.now ≡ activity_of (addition_of addition.now) }
+    requires found { found.now ≡ found_among (addition_of addition.now) (named_items addition.now.unresolved.now.foreign_deps) }
+    ensures new_ids { IfOk result (λ new_ids. new_ids ≡ map (active_type_id (addition_of addition.now)) (range_with_len 0 (length addition.now.unresolved.now.types))) }
+    ensures there { OnOk result (AreTypesThere (addition_of addition.now) (length addition.now.unresolved.now.types)) }
+    ensures cause { IfErr result (λ kind. (kind ≡ OutOfMemory) ⊎ IsCause (addition_of addition.now) kind) }
 {
     let mut new_ids = Items::new(alloc);
-    let mut next = adding.graph.types.len();
-    for t in 0..adding.unresolved.types.len() {
-        new_ids.push(new_type_id(alloc, adding, activity, found, t, &mut next)?)?;
+    let mut next = addition.graph.types.len();
+    for t in 0..addition.unresolved.types.len() {
+        new_ids.push(new_type_id(alloc, addition, activity, found, t, &mut next)?)?;
     }
     Ok(new_ids)
 }
@@ -45,25 +45,25 @@ pub(crate) fn type_ids(
 /// Where one type goes, and the next id behind it.
 fn new_type_id(
     alloc: Global,
-    adding: &AdditionRef<'_>,
+    addition: &AdditionRef<'_>,
     activity: &Activity,
     found: &Found,
     t: usize,
     next: &mut usize,
 ) -> ResolveResult<Option<TypeId>>
-    requires shaped { IsShaped adding.now.unresolved.now }
-    requires activity { activity.now ≡ activity_of (addition_of adding.now) }
-    requires found { found.now ≡ found_among (addition_of adding.now) (named_items adding.now.unresolved.now.foreign_deps) }
-    requires inside { t < length adding.now.unresolved.now.types }
-    requires next { next.old ≡ length adding.now.graph.now.types + rank (own_type (addition_of adding.now)) t }
-    ensures id { IfOk result (λ id. id ≡ active_type_id (addition_of adding.now) t) }
-    ensures next { OnOk result (next.new ≡ length adding.now.graph.now.types + rank (own_type (addition_of adding.now)) (t + 1)) }
-    ensures there { OnOk result (IsTypeThere (addition_of adding.now) t) }
-    ensures cause { IfErr result (λ kind. (kind ≡ OutOfMemory) ⊎ IsCause (addition_of adding.now) kind) }
+    requires shaped { IsShaped addition.now.unresolved.now }
+    requires activity { activity.now ≡ activity_of (addition_of addition.now) }
+    requires found { found.now ≡ found_among (addition_of addition.now) (named_items addition.now.unresolved.now.foreign_deps) }
+    requires inside { t < length addition.now.unresolved.now.types }
+    requires next { next.old ≡ length addition.now.graph.now.types + rank (own_type (addition_of addition.now)) t }
+    ensures id { IfOk result (λ id. id ≡ active_type_id (addition_of addition.now) t) }
+    ensures next { OnOk result (next.new ≡ length addition.now.graph.now.types + rank (own_type (addition_of addition.now)) (t + 1)) }
+    ensures there { OnOk result (IsTypeThere (addition_of addition.now) t) }
+    ensures cause { IfErr result (λ kind. (kind ≡ OutOfMemory) ⊎ IsCause (addition_of addition.now) kind) }
 {
     let active = *activity.types.at(t);
-    if active && t < adding.unresolved.unknown_type_spans.len() {
-        return foreign_type(alloc, adding, activity, found, t);
+    if active && t < addition.unresolved.unknown_type_spans.len() {
+        return foreign_type(alloc, addition, activity, found, t);
     }
     Ok(assign_id(active, None, next)?)
 }
@@ -71,22 +71,22 @@ fn new_type_id(
 /// Where the graph has a type of another package that is active.
 fn foreign_type(
     alloc: Global,
-    adding: &AdditionRef<'_>,
+    addition: &AdditionRef<'_>,
     activity: &Activity,
     found: &Found,
     t: usize,
 ) -> ResolveResult<Option<TypeId>>
-    requires shaped { IsShaped adding.now.unresolved.now }
-    requires activity { activity.now ≡ activity_of (addition_of adding.now) }
-    requires found { found.now ≡ found_among (addition_of adding.now) (named_items adding.now.unresolved.now.foreign_deps) }
-    requires inside { t < length adding.now.unresolved.now.types }
-    requires foreign { t < length adding.now.unresolved.now.unknown_type_spans }
-    requires active { type_is_active adding.now.features.now adding.now.unresolved.now.types t ≡ true }
-    ensures id { IfOk result (λ id. id ≡ foreign_type_id adding.now.graph.now adding.now.unresolved.now t) }
-    ensures there { OnOk result (IsTypeThere (addition_of adding.now) t) }
-    ensures cause { IfErr result (λ kind. (kind ≡ OutOfMemory) ⊎ IsCause (addition_of adding.now) kind) }
+    requires shaped { IsShaped addition.now.unresolved.now }
+    requires activity { activity.now ≡ activity_of (addition_of addition.now) }
+    requires found { found.now ≡ found_among (addition_of addition.now) (named_items addition.now.unresolved.now.foreign_deps) }
+    requires inside { t < length addition.now.unresolved.now.types }
+    requires foreign { t < length addition.now.unresolved.now.unknown_type_spans }
+    requires active { type_is_active addition.now.features.now addition.now.unresolved.now.types t ≡ true }
+    ensures id { IfOk result (λ id. id ≡ foreign_type_id addition.now.graph.now addition.now.unresolved.now t) }
+    ensures there { OnOk result (IsTypeThere (addition_of addition.now) t) }
+    ensures cause { IfErr result (λ kind. (kind ≡ OutOfMemory) ⊎ IsCause (addition_of addition.now) kind) }
 {
-    let def = adding.unresolved.types.at(t);
+    let def = addition.unresolved.types.at(t);
     let Some(name) = &def.name else {
         return Ok(None);
     };
@@ -96,10 +96,10 @@ fn foreign_type(
     let Some(home) = *found.interfaces.at(owner.index()) else {
         return Ok(None);
     };
-    let there = type_of(adding.graph, home, name);
+    let there = type_of(addition.graph, home, name);
     if there.is_none() && *activity.interfaces.at(owner.index()) {
-        let span = *adding.unresolved.unknown_type_spans.at(t);
-        return Err(type_not_defined(alloc, adding, span, name)?);
+        let span = *addition.unresolved.unknown_type_spans.at(t);
+        return Err(type_not_defined(alloc, addition, span, name)?);
     }
     Ok(there)
 }

@@ -329,11 +329,11 @@ brought_is m m' from from' entries entries' new maps froms same is =
 -- what the calls of an include answer, from the number of the world that includes on: the maps and the origin of the copies, the
 -- world as it is there again, and its entries under the maps
 module _ (g : Graph) (include : WorldInclude) (home into : ℕ) (old again : World) (g' : Graph) (m : Maps) (from : ℕ) (imports exports : List Entry) (other : Bool) where
-  pub entries_by_answer : slice_get g.worlds include.id ≡ Some old → IsGoodWorld g.types g.interfaces include.id old → into ≡ length g.worlds
+  pub step_is : slice_get g.worlds include.id ≡ Some old → IsGoodWorld g.types g.interfaces include.id old → into ≡ length g.worlds
       → g' ≡ with_copies g include.id old (go g include.id old include.names into home) → m ≡ go g include.id old include.names into home → from ≡ include.id
       → slice_get g'.worlds include.id ≡ Some again → imports ≡ map (entry_image m from) again.imports → exports ≡ map (entry_image m from) again.exports → other ≡ is_other_package again.package home
       → IsStep g include home g' imports exports other
-  entries_by_answer at good into_is copied maps froms there imports_are exports_are other_is =
+  step_is at good into_is copied maps froms there imports_are exports_are other_is =
       let maps_now : Maps = go g include.id old include.names (length g.worlds) home in
       let graph_is : g' ≡ with_copies g include.id old maps_now = copied ∙ ap (λ (n : ℕ). with_copies g include.id old (go g include.id old include.names n home)) into_is in
       let maps_are : m ≡ maps_now = maps ∙ ap (λ (n : ℕ). go g include.id old include.names n home) into_is in

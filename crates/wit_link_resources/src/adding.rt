@@ -26,25 +26,25 @@ use wit_values::Table;
 /// Source: `update_ty` of wit-parser 0.263.0.
 pub fn values(
     alloc: Global,
-    adding: &AdditionRef<'_>,
+    addition: &AdditionRef<'_>,
     activity: &Activity,
     new_ids: &NewIds,
     met: &mut Table<TypeId, bool>,
 ) -> Result<Values, AllocError>
-    requires shaped { IsShaped adding.now.unresolved.now }
-    requires valid { IsValid adding.now.graph.now }
-    requires activity { activity.now ≡ activity_of (addition_of adding.now) }
-    requires new_ids { new_ids.now ≡ new_ids_of (addition_of adding.now) }
-    requires image { IsResolved (addition_of adding.now) }
-    requires met { AreRight adding.now.graph.now.types met.old }
-    ensures values { IfOk result (λ values. values ≡ values_of (addition_of adding.now)) }
-    ensures met { AreRight adding.now.graph.now.types met.new }
+    requires shaped { IsShaped addition.now.unresolved.now }
+    requires valid { IsValid addition.now.graph.now }
+    requires activity { activity.now ≡ activity_of (addition_of addition.now) }
+    requires new_ids { new_ids.now ≡ new_ids_of (addition_of addition.now) }
+    requires image { IsResolved (addition_of addition.now) }
+    requires met { AreRight addition.now.graph.now.types met.old }
+    ensures values { IfOk result (λ values. values ≡ values_of (addition_of addition.now)) }
+    ensures met { AreRight addition.now.graph.now.types met.new }
     ensures begins { take (length met.old) met.new ≡ met.old }
 {
-    let functions = active_functions(alloc, adding, activity)?;
+    let functions = active_functions(alloc, addition, activity)?;
     let incoming = Incoming {
-        graph_types: &adding.graph.types,
-        types: &adding.unresolved.types,
+        graph_types: &addition.graph.types,
+        types: &addition.unresolved.types,
         ids: &new_ids.types,
     };
     remapped_values(alloc, &incoming, functions.as_slice(), met)

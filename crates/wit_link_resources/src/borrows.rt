@@ -96,26 +96,26 @@ pub fn holds_borrow(
 /// Whether a type of the package is a borrow, or goes to a type of the graph that holds one.
 fn is_borrow_there(
     alloc: Global,
-    adding: &AdditionRef<'_>,
+    addition: &AdditionRef<'_>,
     new_ids: &NewIds,
     free: &mut IndexSet<usize>,
     index: usize,
 ) -> Result<bool, AllocError>
-    requires shaped { IsShaped adding.now.unresolved.now }
-    requires valid { IsValid adding.now.graph.now }
-    requires new_ids { new_ids.now ≡ new_ids_of (addition_of adding.now) }
-    requires there { index < length adding.now.unresolved.now.types }
-    requires free { AreFreeTypes adding.now.graph.now.types free.old.keys }
-    ensures holds { IfOk result (λ holds. IsTrue holds ↔ IsBorrowThere (addition_of adding.now) index) }
-    ensures free { IfOk result (λ holds. holds ≡ false → AreFreeTypes adding.now.graph.now.types free.new.keys) }
+    requires shaped { IsShaped addition.now.unresolved.now }
+    requires valid { IsValid addition.now.graph.now }
+    requires new_ids { new_ids.now ≡ new_ids_of (addition_of addition.now) }
+    requires there { index < length addition.now.unresolved.now.types }
+    requires free { AreFreeTypes addition.now.graph.now.types free.old.keys }
+    ensures holds { IfOk result (λ holds. IsTrue holds ↔ IsBorrowThere (addition_of addition.now) index) }
+    ensures free { IfOk result (λ holds. holds ≡ false → AreFreeTypes addition.now.graph.now.types free.new.keys) }
 {
-    if index < adding.unresolved.unknown_type_spans.len() {
+    if index < addition.unresolved.unknown_type_spans.len() {
         match *new_ids.types.at(index) {
-            Some(found) => holds_borrow(alloc, adding.graph.types.as_slice(), free, found),
+            Some(found) => holds_borrow(alloc, addition.graph.types.as_slice(), free, found),
             None => Ok(false),
         }
     } else {
-        Ok(is_borrow(&adding.unresolved.types.at(index).kind))
+        Ok(is_borrow(&addition.unresolved.types.at(index).kind))
     }
 }
 
@@ -124,29 +124,29 @@ fn is_borrow_there(
 /// none: so all calls together take a step for each type that they meet and for each that one holds.
 pub(crate) fn may_hold_borrow(
     alloc: Global,
-    adding: &AdditionRef<'_>,
+    addition: &AdditionRef<'_>,
     new_ids: &NewIds,
     free: &mut Free,
     id: TypeId,
 ) -> Result<bool, AllocError>
-    requires shaped { IsShaped adding.now.unresolved.now }
-    requires valid { IsValid adding.now.graph.now }
-    requires new_ids { new_ids.now ≡ new_ids_of (addition_of adding.now) }
-    requires there { id < length adding.now.unresolved.now.types }
-    requires unresolved { AreFreeOfUnresolved (addition_of adding.now) free.old.unresolved.keys }
-    requires graph { AreFreeTypes adding.now.graph.now.types free.old.graph.keys }
-    ensures holds { IfOk result (λ holds. IsTrue holds ↔ MayHoldBorrow (addition_of adding.now) id) }
-    ensures unresolved { IfOk result (λ holds. holds ≡ false → AreFreeOfUnresolved (addition_of adding.now) free.new.unresolved.keys) }
-    ensures graph { IfOk result (λ holds. holds ≡ false → AreFreeTypes adding.now.graph.now.types free.new.graph.keys) }
+    requires shaped { IsShaped addition.now.unresolved.now }
+    requires valid { IsValid addition.now.graph.now }
+    requires new_ids { new_ids.now ≡ new_ids_of (addition_of addition.now) }
+    requires there { id < length addition.now.unresolved.now.types }
+    requires unresolved { AreFreeOfUnresolved (addition_of addition.now) free.old.unresolved.keys }
+    requires graph { AreFreeTypes addition.now.graph.now.types free.old.graph.keys }
+    ensures holds { IfOk result (λ holds. IsTrue holds ↔ MayHoldBorrow (addition_of addition.now) id) }
+    ensures unresolved { IfOk result (λ holds. holds ≡ false → AreFreeOfUnresolved (addition_of addition.now) free.new.unresolved.keys) }
+    ensures graph { IfOk result (λ holds. holds ≡ false → AreFreeTypes addition.now.graph.now.types free.new.graph.keys) }
 {
     let mut stack = Items::new(alloc);
     stack.push(id.index())?;
     while let Some(place) = stack.pop() {
         if free.unresolved.insert(place)? {
-            if is_borrow_there(alloc, adding, new_ids, &mut free.graph, place)? {
+            if is_borrow_there(alloc, addition, new_ids, &mut free.graph, place)? {
                 return Ok(true);
             }
-            push_held(alloc, &mut stack, &adding.unresolved.types.at(place).kind)?;
+            push_held(alloc, &mut stack, &addition.unresolved.types.at(place).kind)?;
         }
     }
     Ok(false)

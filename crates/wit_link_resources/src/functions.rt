@@ -12,30 +12,30 @@ use wit_link_spec::{Activity, AdditionRef, is_active};
 /// The functions that are active: those of the interfaces, then those of the worlds.
 pub(crate) fn active_functions<'a>(
     alloc: Global,
-    adding: &AdditionRef<'a>,
+    addition: &AdditionRef<'a>,
     activity: &Activity,
 ) -> Result<Vec<&'a Function>, AllocError>
-    requires { activity.now ≡ activity_of (addition_of adding.now) }
-    ensures { IfOk result (λ functions. seen functions.items ≡ active_functions (addition_of adding.now)) }
+    requires { activity.now ≡ activity_of (addition_of addition.now) }
+    ensures { IfOk result (λ functions. seen functions.items ≡ active_functions (addition_of addition.now)) }
 {
     let mut functions = Vec::new(alloc);
-    push_interfaces(&mut functions, adding, activity)?;
-    push_worlds(&mut functions, adding, activity)?;
+    push_interfaces(&mut functions, addition, activity)?;
+    push_worlds(&mut functions, addition, activity)?;
     Ok(functions)
 }
 
 /// Adds those of the interfaces.
 fn push_interfaces<'a>(
     functions: &mut Vec<&'a Function>,
-    adding: &AdditionRef<'a>,
+    addition: &AdditionRef<'a>,
     activity: &Activity,
 ) -> Result<(), AllocError>
-    requires { activity.now ≡ activity_of (addition_of adding.now) }
-    ensures { OnOk result (seen functions.new.items ≡ seen functions.old.items ++ flat_map (interface_functions (addition_of adding.now)) (range_with_len 0 (length adding.now.unresolved.now.interfaces))) }
+    requires { activity.now ≡ activity_of (addition_of addition.now) }
+    ensures { OnOk result (seen functions.new.items ≡ seen functions.old.items ++ flat_map (interface_functions (addition_of addition.now)) (range_with_len 0 (length addition.now.unresolved.now.interfaces))) }
 {
-    for (index, interface) in adding.unresolved.interfaces.as_slice().iter().enumerate() {
+    for (index, interface) in addition.unresolved.interfaces.as_slice().iter().enumerate() {
         if *activity.interfaces.at(index) {
-            push_named(functions, adding.features, &interface.functions)?;
+            push_named(functions, addition.features, &interface.functions)?;
         }
     }
     Ok(())
@@ -44,16 +44,16 @@ fn push_interfaces<'a>(
 /// Adds those of the worlds.
 fn push_worlds<'a>(
     functions: &mut Vec<&'a Function>,
-    adding: &AdditionRef<'a>,
+    addition: &AdditionRef<'a>,
     activity: &Activity,
 ) -> Result<(), AllocError>
-    requires { activity.now ≡ activity_of (addition_of adding.now) }
-    ensures { OnOk result (seen functions.new.items ≡ seen functions.old.items ++ flat_map (world_functions (addition_of adding.now)) (range_with_len 0 (length adding.now.unresolved.now.worlds))) }
+    requires { activity.now ≡ activity_of (addition_of addition.now) }
+    ensures { OnOk result (seen functions.new.items ≡ seen functions.old.items ++ flat_map (world_functions (addition_of addition.now)) (range_with_len 0 (length addition.now.unresolved.now.worlds))) }
 {
-    for (index, world) in adding.unresolved.worlds.as_slice().iter().enumerate() {
+    for (index, world) in addition.unresolved.worlds.as_slice().iter().enumerate() {
         if *activity.worlds.at(index) {
-            push_entries(functions, adding.features, &world.imports)?;
-            push_entries(functions, adding.features, &world.exports)?;
+            push_entries(functions, addition.features, &world.imports)?;
+            push_entries(functions, addition.features, &world.exports)?;
         }
     }
     Ok(())

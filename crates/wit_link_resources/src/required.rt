@@ -27,21 +27,21 @@ use wit_values::Table;
 #[tactic(auto, using(crate::specs::facts::MetTypes::begins_same, crate::specs::facts::MetTypes::begins_then))]
 pub fn check_resources(
     alloc: Global,
-    adding: &AdditionRef<'_>,
+    addition: &AdditionRef<'_>,
     new_ids: &NewIds,
     met: &mut Table<TypeId, bool>,
 ) -> ResolveResult<()>
-    requires shaped { IsShaped adding.now.unresolved.now }
-    requires valid { IsValid adding.now.graph.now }
-    requires new_ids { new_ids.now ≡ new_ids_of (addition_of adding.now) }
-    requires met { AreRight adding.now.graph.now.types met.old }
-    ensures met { AreRight adding.now.graph.now.types met.new }
+    requires shaped { IsShaped addition.now.unresolved.now }
+    requires valid { IsValid addition.now.graph.now }
+    requires new_ids { new_ids.now ≡ new_ids_of (addition_of addition.now) }
+    requires met { AreRight addition.now.graph.now.types met.old }
+    ensures met { AreRight addition.now.graph.now.types met.new }
     ensures begins { take (length met.old) met.new ≡ met.old }
-    ensures resources { OnOk result (HasResources (addition_of adding.now)) }
-    ensures cause { IfErr result (λ kind. (kind ≡ OutOfMemory) ⊎ IsCause (addition_of adding.now) kind) }
+    ensures resources { OnOk result (HasResources (addition_of addition.now)) }
+    ensures cause { IfErr result (λ kind. (kind ≡ OutOfMemory) ⊎ IsCause (addition_of addition.now) kind) }
 {
-    for &(id, span) in adding.unresolved.required_resource_types.as_slice() {
-        check_required(alloc, adding, new_ids, met, id, span)?;
+    for &(id, span) in addition.unresolved.required_resource_types.as_slice() {
+        check_required(alloc, addition, new_ids, met, id, span)?;
     }
     Ok(())
 }
@@ -50,28 +50,28 @@ pub fn check_resources(
 #[tactic(auto, using(crate::specs::facts::MetTypes::begins_same, crate::specs::facts::MetTypes::begins_then))]
 fn check_required(
     alloc: Global,
-    adding: &AdditionRef<'_>,
+    addition: &AdditionRef<'_>,
     new_ids: &NewIds,
     met: &mut Table<TypeId, bool>,
     id: TypeId,
     span: Span,
 ) -> ResolveResult<()>
-    requires shaped { IsShaped adding.now.unresolved.now }
-    requires valid { IsValid adding.now.graph.now }
-    requires new_ids { new_ids.now ≡ new_ids_of (addition_of adding.now) }
-    requires met { AreRight adding.now.graph.now.types met.old }
-    requires required { Contains adding.now.unresolved.now.required_resource_types (id, span) }
-    ensures ok { OnOk result (LeadsWhereFound (addition_of adding.now) id) }
-    ensures cause { IfErr result (λ kind. (kind ≡ OutOfMemory) ⊎ IsCause (addition_of adding.now) kind) }
-    ensures met { AreRight adding.now.graph.now.types met.new }
+    requires shaped { IsShaped addition.now.unresolved.now }
+    requires valid { IsValid addition.now.graph.now }
+    requires new_ids { new_ids.now ≡ new_ids_of (addition_of addition.now) }
+    requires met { AreRight addition.now.graph.now.types met.old }
+    requires required { Contains addition.now.unresolved.now.required_resource_types (id, span) }
+    ensures ok { OnOk result (LeadsWhereFound (addition_of addition.now) id) }
+    ensures cause { IfErr result (λ kind. (kind ≡ OutOfMemory) ⊎ IsCause (addition_of addition.now) kind) }
+    ensures met { AreRight addition.now.graph.now.types met.new }
     ensures begins { take (length met.old) met.new ≡ met.old }
 {
     let Some(found) = *new_ids.types.at(id.index()) else {
         return Ok(());
     };
-    let leads = leads_to_resource(adding.graph.types.as_slice(), met, found)?;
+    let leads = leads_to_resource(addition.graph.types.as_slice(), met, found)?;
     if leads {
         return Ok(());
     }
-    Err(not_a_resource(alloc, span, adding.offset)?)
+    Err(not_a_resource(alloc, span, addition.offset)?)
 }

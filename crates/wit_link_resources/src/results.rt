@@ -30,22 +30,22 @@ use wit_link_spec::{Activity, AdditionRef, NewIds};
 /// Source: `update_function` of wit-parser 0.263.0.
 pub fn check_results(
     alloc: Global,
-    adding: &AdditionRef<'_>,
+    addition: &AdditionRef<'_>,
     activity: &Activity,
     new_ids: &NewIds,
 ) -> ResolveResult<()>
-    requires shaped { IsShaped adding.now.unresolved.now }
-    requires valid { IsValid adding.now.graph.now }
-    requires activity { activity.now ≡ activity_of (addition_of adding.now) }
-    requires new_ids { new_ids.now ≡ new_ids_of (addition_of adding.now) }
-    requires image { IsResolved (addition_of adding.now) }
-    ensures no_borrow { OnOk result (ReturnsNoBorrow (addition_of adding.now)) }
-    ensures cause { IfErr result (λ kind. (kind ≡ OutOfMemory) ⊎ IsCause (addition_of adding.now) kind) }
+    requires shaped { IsShaped addition.now.unresolved.now }
+    requires valid { IsValid addition.now.graph.now }
+    requires activity { activity.now ≡ activity_of (addition_of addition.now) }
+    requires new_ids { new_ids.now ≡ new_ids_of (addition_of addition.now) }
+    requires image { IsResolved (addition_of addition.now) }
+    ensures no_borrow { OnOk result (ReturnsNoBorrow (addition_of addition.now)) }
+    ensures cause { IfErr result (λ kind. (kind ≡ OutOfMemory) ⊎ IsCause (addition_of addition.now) kind) }
 {
-    let functions = active_functions(alloc, adding, activity)?;
+    let functions = active_functions(alloc, addition, activity)?;
     let mut free = Free::new(alloc);
     for function in &functions {
-        check_result(alloc, adding, new_ids, &mut free, function)?;
+        check_result(alloc, addition, new_ids, &mut free, function)?;
     }
     Ok(())
 }
@@ -53,28 +53,28 @@ pub fn check_results(
 /// Refuses one function that is active, where its result holds a borrow.
 fn check_result(
     alloc: Global,
-    adding: &AdditionRef<'_>,
+    addition: &AdditionRef<'_>,
     new_ids: &NewIds,
     free: &mut Free,
     function: &Function,
 ) -> ResolveResult<()>
-    requires shaped { IsShaped adding.now.unresolved.now }
-    requires valid { IsValid adding.now.graph.now }
-    requires new_ids { new_ids.now ≡ new_ids_of (addition_of adding.now) }
-    requires image { IsResolved (addition_of adding.now) }
-    requires active { IsActiveFunction (addition_of adding.now) function.now }
-    requires unresolved { AreFreeOfUnresolved (addition_of adding.now) free.old.unresolved.keys }
-    requires graph { AreFreeTypes adding.now.graph.now.types free.old.graph.keys }
-    ensures none { OnOk result (ReturnsNone (addition_of adding.now) function.now) }
-    ensures unresolved { OnOk result (AreFreeOfUnresolved (addition_of adding.now) free.new.unresolved.keys) }
-    ensures graph { OnOk result (AreFreeTypes adding.now.graph.now.types free.new.graph.keys) }
-    ensures cause { IfErr result (λ kind. (kind ≡ OutOfMemory) ⊎ IsCause (addition_of adding.now) kind) }
+    requires shaped { IsShaped addition.now.unresolved.now }
+    requires valid { IsValid addition.now.graph.now }
+    requires new_ids { new_ids.now ≡ new_ids_of (addition_of addition.now) }
+    requires image { IsResolved (addition_of addition.now) }
+    requires active { IsActiveFunction (addition_of addition.now) function.now }
+    requires unresolved { AreFreeOfUnresolved (addition_of addition.now) free.old.unresolved.keys }
+    requires graph { AreFreeTypes addition.now.graph.now.types free.old.graph.keys }
+    ensures none { OnOk result (ReturnsNone (addition_of addition.now) function.now) }
+    ensures unresolved { OnOk result (AreFreeOfUnresolved (addition_of addition.now) free.new.unresolved.keys) }
+    ensures graph { OnOk result (AreFreeTypes addition.now.graph.now.types free.new.graph.keys) }
+    ensures cause { IfErr result (λ kind. (kind ≡ OutOfMemory) ⊎ IsCause (addition_of addition.now) kind) }
 {
     let Some(id) = result_type(function) else {
         return Ok(());
     };
-    if may_hold_borrow(alloc, adding, new_ids, free, id)? {
-        return Err(borrow_in_result(alloc, function, adding.offset)?);
+    if may_hold_borrow(alloc, addition, new_ids, free, id)? {
+        return Err(borrow_in_result(alloc, function, addition.offset)?);
     }
     Ok(())
 }

@@ -82,25 +82,25 @@ world_gates u w =
 abbrev pub type_is_active : Features → List TypeDef → ℕ → Bool
 type_is_active features types t = option_map_or (λ (def : TypeDef). is_active features def.stability) (slice_get types t) false
 
--- does interface i are active?
+-- is interface i active?
 abbrev pub interface_is_active : Features → UnresolvedPackage → ℕ → Bool
 interface_is_active features u i = some_active features (interface_gates u i)
 
--- does world w are active?
+-- is world w active?
 abbrev pub world_is_active : Features → UnresolvedPackage → ℕ → Bool
 world_is_active features u w = some_active features (world_gates u w)
 
--- a function of an interface, or of a world, that is active does so where its gate is active
+-- a function of an active interface or world is active where its gate is
 abbrev pub function_is_active : Features → Function → Bool
 function_is_active features f = is_active features f.stability
 
--- an entry of a world that is active does so where its gate is active; an entry that is a type has the note of the type
+-- an entry of an active world is active where its gate is; an entry that is a type has the gate of the type
 abbrev pub item_is_active : Features → List TypeDef → WorldItem → Bool
 item_is_active features types (item.Interface id stability docs span external_id) = is_active features stability
 item_is_active features types (item.Function function) = function_is_active features function
 item_is_active features types (item.Type_ id span) = type_is_active features types id
 
--- an include of a world that is active does so where its gate is active
+-- an include of an active world is active where its gate is
 abbrev pub include_is_active : Features → WorldInclude → Bool
 include_is_active features i = is_active features i.stability
 

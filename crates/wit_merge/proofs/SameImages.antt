@@ -124,8 +124,8 @@ module _ (a b : Maps) (types interfaces worlds : ℕ) (agree : Agree a b types i
       let values = right_within types own (params ++ named_option f.result_) within in
       let kinds = function_kind_same f.kind (left_within types own (params ++ named_option f.result_) within) in
       let given = mapped_same types (param_image a) (param_image b) (λ (p : Param). named_type p.ty) param_same f.params (left_within types params (named_option f.result_) values) in
-      let entries_by_answer = option_same f.result_ (right_within types params (named_option f.result_) values) in
-      λ j. record f { kind = kinds j; params = given j; result_ = entries_by_answer j; span = span_same f.span j }
+      let answered = option_same f.result_ (right_within types params (named_option f.result_) values) in
+      λ j. record f { kind = kinds j; params = given j; result_ = answered j; span = span_same f.span j }
 
   pub interface_same : (interface : Interface) → a.home interface.package ≡ b.home interface.package → ((e : List ℕ × ℕ) → Contains interface.types e → e.1 < types)
       → ((e : List ℕ × Function) → Contains interface.functions e → Within types (function_references e.1)) → interface_image a interface ≡ interface_image b interface

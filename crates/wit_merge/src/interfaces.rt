@@ -27,23 +27,23 @@ impl Part for Interface {
 
     ghost union = { λ m p into. with_interface m p.1 into };
 
-    fn moved(&self, uniting: &UnionPlan<'_>) -> Result<Interface, AllocError> {
+    fn moved(&self, plan: &UnionPlan<'_>) -> Result<Interface, AllocError> {
         let mut moved = self.try_clone()?;
-        moved.update(&uniting.mover(self.package));
+        moved.update(&plan.mover(self.package));
         Ok(moved)
     }
 
-    fn joined(&self, uniting: &UnionPlan<'_>, from: &Interface) -> Result<Interface, AllocError> {
+    fn joined(&self, plan: &UnionPlan<'_>, from: &Interface) -> Result<Interface, AllocError> {
         let mut joined = self.try_clone()?;
-        let found = &uniting.matches.types;
+        let found = &plan.matches.types;
         push_moved(
             &mut joined.types,
             &from.types,
             found,
-            &uniting.merge_remap.new_ids.types,
+            &plan.merge_remap.new_ids.types,
         )?;
         push_functions(
-            uniting,
+            plan,
             &mut joined.functions,
             &self.functions,
             &from.functions,
@@ -55,20 +55,20 @@ impl Part for Interface {
 
 /// Adds those functions of another interface whose names aren't among the known ones, with new ids and spans.
 fn push_functions(
-    uniting: &UnionPlan<'_>,
+    plan: &UnionPlan<'_>,
     into: &mut Names<Function>,
     known: &Names<Function>,
     from: &Names<Function>,
 ) -> Result<(), AllocError>
-    requires ready { CanUnite uniting.now }
-    requires functions { FunctionsMove (merging_of uniting.now) from.now }
-    requires apart { HasDistinctKeys (into.old ++ functions_image (merging_of uniting.now) (brought_matched known.now from.now)) }
-    ensures { OnOk result (into.new ≡ into.old ++ functions_image (merging_of uniting.now) (brought_matched known.now from.now)) }
+    requires ready { CanUnite plan.now }
+    requires functions { FunctionsMove (merging_of plan.now) from.now }
+    requires apart { HasDistinctKeys (into.old ++ functions_image (merging_of plan.now) (brought_matched known.now from.now)) }
+    ensures { OnOk result (into.new ≡ into.old ++ functions_image (merging_of plan.now) (brought_matched known.now from.now)) }
 {
     let alloc = into.allocator();
     for (name, function) in from.iter() {
         if !known.contains_key(name) {
-            let moved = moved_function(uniting, function)?;
+            let moved = moved_function(plan, function)?;
             into.push(String::from_str(alloc, name)?, moved)?;
         }
     }
@@ -76,25 +76,25 @@ fn push_functions(
 }
 
 /// A function with new ids and spans.
-fn moved_function(uniting: &UnionPlan<'_>, function: &Function) -> Result<Function, AllocError>
-    requires ready { CanUnite uniting.now }
-    requires moves { FunctionMoves (merging_of uniting.now) function.now }
-    ensures { IfOk result (λ moved. moved ≡ function_image (merge_maps (merging_of uniting.now)) function.now) }
+fn moved_function(plan: &UnionPlan<'_>, function: &Function) -> Result<Function, AllocError>
+    requires ready { CanUnite plan.now }
+    requires moves { FunctionMoves (merging_of plan.now) function.now }
+    ensures { IfOk result (λ moved. moved ≡ function_image (merge_maps (merging_of plan.now)) function.now) }
 {
     let mut moved = function.try_clone()?;
-    moved.update(&uniting.mover(None));
+    moved.update(&plan.mover(None));
     Ok(moved)
 }
 
 /// The interfaces of the two as one.
 pub(crate) fn joined_interfaces(
     alloc: Global,
-    uniting: &UnionPlan<'_>,
+    plan: &UnionPlan<'_>,
 ) -> Result<Items<Interface>, AllocError>
-    requires { CanUnite uniting.now }
-    ensures { IfOk result (λ interfaces. interfaces ≡ (joined_graph (merging_of uniting.now)).interfaces) }
+    requires { CanUnite plan.now }
+    ensures { IfOk result (λ interfaces. interfaces ≡ (joined_graph (merging_of plan.now)).interfaces) }
 {
-    let found = &uniting.matches.interfaces;
-    let others = &uniting.other.interfaces;
-    joined_list(alloc, uniting, found, others, &uniting.graph.interfaces)
+    let found = &plan.matches.interfaces;
+    let others = &plan.other.interfaces;
+    joined_list(alloc, plan, found, others, &plan.graph.interfaces)
 }

@@ -16,22 +16,22 @@ use wit_graph_data::Graph;
 /// The two graphs as one, with the lists of worlds as they were listed.
 pub(crate) fn joined_graph(
     alloc: Global,
-    uniting: &UnionPlan<'_>,
+    plan: &UnionPlan<'_>,
     owns: Items<TypeDef>,
 ) -> Result<Graph, AllocError>
-    requires ready { CanUnite uniting.now }
-    requires owns { owns ≡ owns_of (remap_of_merge (merging_of uniting.now)) }
-    ensures { IfOk result (λ joined. joined ≡ joined_graph (merging_of uniting.now)) }
+    requires ready { CanUnite plan.now }
+    requires owns { owns ≡ owns_of (remap_of_merge (merging_of plan.now)) }
+    ensures { IfOk result (λ joined. joined ≡ joined_graph (merging_of plan.now)) }
 {
-    let types = joined_types(alloc, uniting, owns)?;
-    let interfaces = joined_interfaces(alloc, uniting)?;
-    let worlds = joined_worlds(alloc, uniting)?;
-    let packages = joined_packages(alloc, uniting)?;
+    let types = joined_types(alloc, plan, owns)?;
+    let interfaces = joined_interfaces(alloc, plan)?;
+    let worlds = joined_worlds(alloc, plan)?;
+    let packages = joined_packages(alloc, plan)?;
     Ok(Graph {
         types,
         interfaces,
         worlds,
         packages,
-        package_names: joined_names(uniting)?,
+        package_names: joined_names(plan)?,
     })
 }

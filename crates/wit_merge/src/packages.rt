@@ -24,7 +24,7 @@ impl Part for Package {
 
     ghost union = { λ m p into. with_package m p.1 into };
 
-    fn moved(&self, uniting: &UnionPlan<'_>) -> Result<Package, AllocError> {
+    fn moved(&self, plan: &UnionPlan<'_>) -> Result<Package, AllocError> {
         let alloc = self.interfaces.allocator();
         let mut moved = Package {
             name: self.name.try_clone()?,
@@ -32,31 +32,27 @@ impl Part for Package {
             interfaces: Names::new(alloc),
             worlds: Names::new(alloc),
         };
-        push_tables(uniting, &mut moved, self)?;
+        push_tables(plan, &mut moved, self)?;
         Ok(moved)
     }
 
-    fn joined(&self, uniting: &UnionPlan<'_>, from: &Package) -> Result<Package, AllocError> {
+    fn joined(&self, plan: &UnionPlan<'_>, from: &Package) -> Result<Package, AllocError> {
         let mut joined = self.try_clone()?;
-        push_tables(uniting, &mut joined, from)?;
+        push_tables(plan, &mut joined, from)?;
         Ok(joined)
     }
 }
 
 /// Adds the interfaces and worlds of a package of the other graph that move.
-fn push_tables(
-    uniting: &UnionPlan<'_>,
-    into: &mut Package,
-    from: &Package,
-) -> Result<(), AllocError>
-    requires interfaces { HasDistinctKeys (into.old.interfaces ++ moved_names uniting.now.matches.now.interfaces uniting.now.merge_remap.now.new_ids.interfaces from.now.interfaces) }
-    requires worlds { HasDistinctKeys (into.old.worlds ++ moved_names uniting.now.matches.now.worlds uniting.now.merge_remap.now.new_ids.worlds from.now.worlds) }
+fn push_tables(plan: &UnionPlan<'_>, into: &mut Package, from: &Package) -> Result<(), AllocError>
+    requires interfaces { HasDistinctKeys (into.old.interfaces ++ moved_names plan.now.matches.now.interfaces plan.now.merge_remap.now.new_ids.interfaces from.now.interfaces) }
+    requires worlds { HasDistinctKeys (into.old.worlds ++ moved_names plan.now.matches.now.worlds plan.now.merge_remap.now.new_ids.worlds from.now.worlds) }
     ensures { OnOk result (into.new ≡ record into.old {
-      interfaces = into.old.interfaces ++ moved_names uniting.now.matches.now.interfaces uniting.now.merge_remap.now.new_ids.interfaces from.now.interfaces;
-      worlds = into.old.worlds ++ moved_names uniting.now.matches.now.worlds uniting.now.merge_remap.now.new_ids.worlds from.now.worlds;
+      interfaces = into.old.interfaces ++ moved_names plan.now.matches.now.interfaces plan.now.merge_remap.now.new_ids.interfaces from.now.interfaces;
+      worlds = into.old.worlds ++ moved_names plan.now.matches.now.worlds plan.now.merge_remap.now.new_ids.worlds from.now.worlds;
     }) }
 {
-    let (matches, new_ids) = (uniting.matches, &uniting.merge_remap.new_ids);
+    let (matches, new_ids) = (plan.matches, &plan.merge_remap.new_ids);
     push_moved(
         &mut into.interfaces,
         &from.interfaces,
@@ -74,27 +70,27 @@ fn push_tables(
 /// The packages of the two as one.
 pub(crate) fn joined_packages(
     alloc: Global,
-    uniting: &UnionPlan<'_>,
+    plan: &UnionPlan<'_>,
 ) -> Result<Items<Package>, AllocError>
-    requires { CanUnite uniting.now }
-    ensures { IfOk result (λ packages. packages ≡ (joined_graph (merging_of uniting.now)).packages) }
+    requires { CanUnite plan.now }
+    ensures { IfOk result (λ packages. packages ≡ (joined_graph (merging_of plan.now)).packages) }
 {
-    let found = &uniting.matches.packages;
-    let others = &uniting.other.packages;
-    joined_list(alloc, uniting, found, others, &uniting.graph.packages)
+    let found = &plan.matches.packages;
+    let others = &plan.other.packages;
+    joined_list(alloc, plan, found, others, &plan.graph.packages)
 }
 
 /// The names of the packages of the two as one.
 pub(crate) fn joined_names(
-    uniting: &UnionPlan<'_>,
+    plan: &UnionPlan<'_>,
 ) -> Result<Table<PackageName, PackageId>, AllocError>
-    requires { CanUnite uniting.now }
-    ensures { IfOk result (λ names. names ≡ (joined_graph (merging_of uniting.now)).package_names) }
+    requires { CanUnite plan.now }
+    ensures { IfOk result (λ names. names ≡ (joined_graph (merging_of plan.now)).package_names) }
 {
-    let mut names = uniting.graph.package_names.try_clone()?;
-    for (name, id) in uniting.other.package_names.iter() {
-        if moves(&uniting.matches.packages, id.index()) {
-            names.push(name.try_clone()?, uniting.merged_package(*id))?;
+    let mut names = plan.graph.package_names.try_clone()?;
+    for (name, id) in plan.other.package_names.iter() {
+        if moves(&plan.matches.packages, id.index()) {
+            names.push(name.try_clone()?, plan.merged_package(*id))?;
         }
     }
     Ok(names)

@@ -28,75 +28,75 @@ pub(crate) trait Part: TryClone + Drop {
     ghost union: { GraphMerge → ℕ × Self → Self → Self };
 
     /// A copy as it comes to be where it goes, at whatever index of the other graph it stands.
-    fn moved(&self, uniting: &UnionPlan<'_>) -> Result<Self, AllocError>
-        requires ready { CanUnite uniting.now }
-        requires can { can_move (merging_of uniting.now) self.now }
-        ensures { IfOk result (λ made. (index : ℕ) → made ≡ image (merging_of uniting.now) (index, self.now)) };
+    fn moved(&self, plan: &UnionPlan<'_>) -> Result<Self, AllocError>
+        requires ready { CanUnite plan.now }
+        requires can { can_move (merging_of plan.now) self.now }
+        ensures { IfOk result (λ made. (index : ℕ) → made ≡ image (merging_of plan.now) (index, self.now)) };
 
     /// A copy with another joined to it, at whatever index of the other graph that stands.
-    fn joined(&self, uniting: &UnionPlan<'_>, from: &Self) -> Result<Self, AllocError>
-        requires ready { CanUnite uniting.now }
-        requires can { can_join (merging_of uniting.now) from.now self.now }
-        ensures { IfOk result (λ made. (index : ℕ) → made ≡ union (merging_of uniting.now) (index, from.now) self.now) };
+    fn joined(&self, plan: &UnionPlan<'_>, from: &Self) -> Result<Self, AllocError>
+        requires ready { CanUnite plan.now }
+        requires can { can_join (merging_of plan.now) from.now self.now }
+        ensures { IfOk result (λ made. (index : ℕ) → made ≡ union (merging_of plan.now) (index, from.now) self.now) };
 }
 
 /// Copies of the things of a graph, each with the one joined to it that is matched with it, if one is; and behind them
 /// those of the other graph that move.
 pub(crate) fn joined_list<S, T: Part>(
     alloc: Global,
-    uniting: &UnionPlan<'_>,
+    plan: &UnionPlan<'_>,
     found: &Items<Option<Id<S>>>,
     others: &Items<T>,
     ours: &Items<T>,
 ) -> Result<Items<T>, AllocError>
-    requires ready { CanUnite uniting.now }
+    requires ready { CanUnite plan.now }
     requires long { length found.now ≡ length others.now }
-    requires joining { (x x' : ℕ) (from into : T) → slice_get others.now x ≡ Some from → get_or found.now x None ≡ Some x' → slice_get ours.now x' ≡ Some into → T.can_join (merging_of uniting.now) from into }
-    requires moving { (x : ℕ) (from : T) → slice_get others.now x ≡ Some from → moves found.now x ≡ true → T.can_move (merging_of uniting.now) from }
-    ensures { IfOk result (λ made. made ≡ map (λ (e : ℕ × T). option_map_or (λ (p : ℕ × T). T.union (merging_of uniting.now) p e.1) (counterpart_of (λ x. get_or found.now x None) others.now e.0) e.1) (enumerate_from 0 ours.now) ++ map (T.image (merging_of uniting.now)) (selected_with_index (moves found.now) others.now)) }
+    requires joining { (x x' : ℕ) (from into : T) → slice_get others.now x ≡ Some from → get_or found.now x None ≡ Some x' → slice_get ours.now x' ≡ Some into → T.can_join (merging_of plan.now) from into }
+    requires moving { (x : ℕ) (from : T) → slice_get others.now x ≡ Some from → moves found.now x ≡ true → T.can_move (merging_of plan.now) from }
+    ensures { IfOk result (λ made. made ≡ map (λ (e : ℕ × T). option_map_or (λ (p : ℕ × T). T.union (merging_of plan.now) p e.1) (counterpart_of (λ x. get_or found.now x None) others.now e.0) e.1) (enumerate_from 0 ours.now) ++ map (T.image (merging_of plan.now)) (selected_with_index (moves found.now) others.now)) }
 {
-    let mut made = join_all(alloc, uniting, found, others, ours)?;
-    made.append(move_all(alloc, uniting, found, others)?)?;
+    let mut made = join_all(alloc, plan, found, others, ours)?;
+    made.append(move_all(alloc, plan, found, others)?)?;
     Ok(made)
 }
 
 /// Those of the graph.
 fn join_all<S, T: Part>(
     alloc: Global,
-    uniting: &UnionPlan<'_>,
+    plan: &UnionPlan<'_>,
     found: &Items<Option<Id<S>>>,
     others: &Items<T>,
     ours: &Items<T>,
 ) -> Result<Items<T>, AllocError>
-    requires ready { CanUnite uniting.now }
+    requires ready { CanUnite plan.now }
     requires long { length found.now ≡ length others.now }
-    requires can { (x x' : ℕ) (from into : T) → slice_get others.now x ≡ Some from → get_or found.now x None ≡ Some x' → slice_get ours.now x' ≡ Some into → T.can_join (merging_of uniting.now) from into }
-    ensures { IfOk result (λ made. made ≡ map (λ (e : ℕ × T). option_map_or (λ (p : ℕ × T). T.union (merging_of uniting.now) p e.1) (counterpart_of (λ x. get_or found.now x None) others.now e.0) e.1) (enumerate_from 0 ours.now)) }
+    requires can { (x x' : ℕ) (from into : T) → slice_get others.now x ≡ Some from → get_or found.now x None ≡ Some x' → slice_get ours.now x' ≡ Some into → T.can_join (merging_of plan.now) from into }
+    ensures { IfOk result (λ made. made ≡ map (λ (e : ℕ × T). option_map_or (λ (p : ℕ × T). T.union (merging_of plan.now) p e.1) (counterpart_of (λ x. get_or found.now x None) others.now e.0) e.1) (enumerate_from 0 ours.now)) }
 {
     let counterparts = counterparts(alloc, found, ours.len())?;
     let mut made = Items::new(alloc);
     for index in 0..ours.len() {
         let into = ours.at(index);
         let place = *counterparts.at(index);
-        made.push(join_one(uniting, others, place, into)?)?;
+        made.push(join_one(plan, others, place, into)?)?;
     }
     Ok(made)
 }
 
 /// A copy of a thing, with the one at an index joined to it, if there is one.
 fn join_one<T: Part>(
-    uniting: &UnionPlan<'_>,
+    plan: &UnionPlan<'_>,
     others: &Items<T>,
     index: Option<usize>,
     into: &T,
 ) -> Result<T, AllocError>
-    requires ready { CanUnite uniting.now }
-    requires can { (x : ℕ) (from : T) → index ≡ Some x → slice_get others.now x ≡ Some from → T.can_join (merging_of uniting.now) from into.now }
-    ensures { IfOk result (λ made. made ≡ option_map_or (λ (p : ℕ × T). T.union (merging_of uniting.now) p into.now) (placed_at others.now index) into.now) }
+    requires ready { CanUnite plan.now }
+    requires can { (x : ℕ) (from : T) → index ≡ Some x → slice_get others.now x ≡ Some from → T.can_join (merging_of plan.now) from into.now }
+    ensures { IfOk result (λ made. made ≡ option_map_or (λ (p : ℕ × T). T.union (merging_of plan.now) p into.now) (placed_at others.now index) into.now) }
 {
     match index {
         Some(index) => match others.get(index) {
-            Some(from) => into.joined(uniting, from),
+            Some(from) => into.joined(plan, from),
             None => into.try_clone(),
         },
         None => into.try_clone(),
@@ -106,18 +106,18 @@ fn join_one<T: Part>(
 /// Those that move.
 fn move_all<S, T: Part>(
     alloc: Global,
-    uniting: &UnionPlan<'_>,
+    plan: &UnionPlan<'_>,
     found: &Items<Option<Id<S>>>,
     others: &Items<T>,
 ) -> Result<Items<T>, AllocError>
-    requires ready { CanUnite uniting.now }
-    requires can { (x : ℕ) (from : T) → slice_get others.now x ≡ Some from → moves found.now x ≡ true → T.can_move (merging_of uniting.now) from }
-    ensures { IfOk result (λ made. made ≡ map (T.image (merging_of uniting.now)) (selected_with_index (moves found.now) others.now)) }
+    requires ready { CanUnite plan.now }
+    requires can { (x : ℕ) (from : T) → slice_get others.now x ≡ Some from → moves found.now x ≡ true → T.can_move (merging_of plan.now) from }
+    ensures { IfOk result (λ made. made ≡ map (T.image (merging_of plan.now)) (selected_with_index (moves found.now) others.now)) }
 {
     let mut made = Items::new(alloc);
     for (index, other) in others.as_slice().iter().enumerate() {
         if moves(found, index) {
-            made.push(other.moved(uniting)?)?;
+            made.push(other.moved(plan)?)?;
         }
     }
     Ok(made)

@@ -21,18 +21,18 @@ use wit_link_resources::{holds_borrow, result_type};
 /// It takes a step for each function that moves, and for each type that their results hold, once for all functions.
 pub(crate) fn check_results(
     alloc: Global,
-    uniting: &UnionPlan<'_>,
+    plan: &UnionPlan<'_>,
     types: &[TypeDef],
 ) -> ResolveResult<()>
-    requires ready { CanUnite uniting.now }
-    requires types { types.now ≡ (joined_graph (merging_of uniting.now)).types }
-    ensures none { OnOk result ((message : List ℕ) → MergeReturnsBorrow (merging_of uniting.now) message → ⊥) }
-    ensures cause { IfErr result (λ kind. (kind ≡ OutOfMemory) ⊎ IsBorrowError (merging_of uniting.now) kind) }
+    requires ready { CanUnite plan.now }
+    requires types { types.now ≡ (joined_graph (merging_of plan.now)).types }
+    ensures none { OnOk result ((message : List ℕ) → MergeReturnsBorrow (merging_of plan.now) message → ⊥) }
+    ensures cause { IfErr result (λ kind. (kind ≡ OutOfMemory) ⊎ IsBorrowError (merging_of plan.now) kind) }
 {
-    let functions = moved_functions(alloc, uniting.graph, uniting.other, uniting.matches)?;
+    let functions = moved_functions(alloc, plan.graph, plan.other, plan.matches)?;
     let mut free = IndexSet::new(alloc);
     for function in &functions {
-        check_result(alloc, uniting, types, &mut free, function)?;
+        check_result(alloc, plan, types, &mut free, function)?;
     }
     Ok(())
 }
@@ -40,23 +40,23 @@ pub(crate) fn check_results(
 /// Refuses one function that moves, where its result holds a borrow.
 fn check_result(
     alloc: Global,
-    uniting: &UnionPlan<'_>,
+    plan: &UnionPlan<'_>,
     types: &[TypeDef],
     free: &mut IndexSet<usize>,
     function: &Function,
 ) -> ResolveResult<()>
-    requires ready { CanUnite uniting.now }
-    requires types { types.now ≡ (joined_graph (merging_of uniting.now)).types }
-    requires moved { Contains (moved_functions (merging_of uniting.now)) function.now }
+    requires ready { CanUnite plan.now }
+    requires types { types.now ≡ (joined_graph (merging_of plan.now)).types }
+    requires moved { Contains (moved_functions (merging_of plan.now)) function.now }
     requires free { AreFreeTypes types.now free.old.keys }
-    ensures none { OnOk result (ReturnsFree (merging_of uniting.now) function.now) }
+    ensures none { OnOk result (ReturnsFree (merging_of plan.now) function.now) }
     ensures free { OnOk result (AreFreeTypes types.now free.new.keys) }
-    ensures cause { IfErr result (λ kind. (kind ≡ OutOfMemory) ⊎ IsBorrowError (merging_of uniting.now) kind) }
+    ensures cause { IfErr result (λ kind. (kind ≡ OutOfMemory) ⊎ IsBorrowError (merging_of plan.now) kind) }
 {
     let Some(id) = result_type(function) else {
         return Ok(());
     };
-    let place = *uniting.values.at(id.index());
+    let place = *plan.values.at(id.index());
     if holds_borrow(alloc, types, free, place)? {
         return Err(borrow_in_result(alloc, &function.name)?);
     }

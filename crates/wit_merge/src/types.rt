@@ -25,9 +25,9 @@ impl Part for TypeDef {
 
     ghost union = { λ m p into. with_type p.1 into };
 
-    fn moved(&self, uniting: &UnionPlan<'_>) -> Result<TypeDef, AllocError> {
+    fn moved(&self, plan: &UnionPlan<'_>) -> Result<TypeDef, AllocError> {
         let mut moved = self.try_clone()?;
-        moved.update(&uniting.mover(None));
+        moved.update(&plan.mover(None));
         Ok(moved)
     }
 
@@ -42,16 +42,16 @@ impl Part for TypeDef {
 /// the `own`s that values ask for.
 pub(crate) fn joined_types(
     alloc: Global,
-    uniting: &UnionPlan<'_>,
+    plan: &UnionPlan<'_>,
     owns: Items<TypeDef>,
 ) -> Result<Items<TypeDef>, AllocError>
-    requires ready { CanUnite uniting.now }
-    requires owns { owns ≡ owns_of (remap_of_merge (merging_of uniting.now)) }
-    ensures { IfOk result (λ types. types ≡ (joined_graph (merging_of uniting.now)).types) }
+    requires ready { CanUnite plan.now }
+    requires owns { owns ≡ owns_of (remap_of_merge (merging_of plan.now)) }
+    ensures { IfOk result (λ types. types ≡ (joined_graph (merging_of plan.now)).types) }
 {
-    let found = &uniting.matches.types;
-    let others = &uniting.other.types;
-    let mut types = joined_list(alloc, uniting, found, others, &uniting.graph.types)?;
+    let found = &plan.matches.types;
+    let others = &plan.other.types;
+    let mut types = joined_list(alloc, plan, found, others, &plan.graph.types)?;
     types.append(owns)?;
     Ok(types)
 }

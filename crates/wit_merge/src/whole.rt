@@ -122,7 +122,7 @@ fn as_listed(
         owns,
     } = values(alloc, graph, other, matches, merge_remap)?;
     let counterparts = counterparts(alloc, &matches.interfaces, graph.interfaces.len())?;
-    let uniting = UnionPlan {
+    let plan = UnionPlan {
         graph,
         other,
         matches,
@@ -131,7 +131,7 @@ fn as_listed(
         counterparts: &counterparts,
         offset,
     };
-    let joined = joined_graph(alloc, &uniting, owns)?;
-    check_results(alloc, &uniting, joined.types.as_slice())?;
+    let joined = joined_graph(alloc, &plan, owns)?;
+    check_results(alloc, &plan, joined.types.as_slice())?;
     Ok(joined)
 }

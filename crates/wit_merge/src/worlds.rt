@@ -28,8 +28,8 @@ impl Part for World {
 
     ghost union = { with_world };
 
-    fn moved(&self, uniting: &UnionPlan<'_>) -> Result<World, AllocError> {
-        let mover = uniting.mover(self.package);
+    fn moved(&self, plan: &UnionPlan<'_>) -> Result<World, AllocError> {
+        let mover = plan.mover(self.package);
         let alloc = self.imports.allocator();
         let mut moved = self.try_clone()?;
         let imports = mem::replace(&mut moved.imports, Table::new(alloc));
@@ -43,9 +43,9 @@ impl Part for World {
         Ok(moved)
     }
 
-    fn joined(&self, uniting: &UnionPlan<'_>, from: &World) -> Result<World, AllocError> {
-        let imports = joined_entries(uniting, &from.imports, &self.imports)?;
-        let exports = joined_entries(uniting, &from.exports, &self.exports)?;
+    fn joined(&self, plan: &UnionPlan<'_>, from: &World) -> Result<World, AllocError> {
+        let imports = joined_entries(plan, &from.imports, &self.imports)?;
+        let exports = joined_entries(plan, &from.exports, &self.exports)?;
         let mut joined = self.try_clone()?;
         joined.imports = imports;
         joined.exports = exports;
@@ -57,16 +57,16 @@ impl Part for World {
 /// Copies of entries of a world, each with the stability joined to it of what stands under its key in the world that is
 /// matched.
 fn joined_entries(
-    uniting: &UnionPlan<'_>,
+    plan: &UnionPlan<'_>,
     from: &Table<WorldKey, WorldItem>,
     into: &Table<WorldKey, WorldItem>,
 ) -> Result<Table<WorldKey, WorldItem>, AllocError>
     requires { HasDistinctKeys into.now }
-    ensures { IfOk result (λ joined. joined ≡ map (entry_joined uniting.now.counterparts.now from.now) into.now) }
+    ensures { IfOk result (λ joined. joined ≡ map (entry_joined plan.now.counterparts.now from.now) into.now) }
 {
     let mut joined = Table::new(into.allocator());
     for (key, item) in into.iter() {
-        let item = joined_item(item, stability_under(uniting.counterparts, from, key))?;
+        let item = joined_item(item, stability_under(plan.counterparts, from, key))?;
         joined.push(key.try_clone()?, item)?;
     }
     Ok(joined)
@@ -125,14 +125,11 @@ fn stability_of(item: &WorldItem) -> Option<&Stability>
 }
 
 /// The worlds of the two as one.
-pub(crate) fn joined_worlds(
-    alloc: Global,
-    uniting: &UnionPlan<'_>,
-) -> Result<Items<World>, AllocError>
-    requires { CanUnite uniting.now }
-    ensures { IfOk result (λ worlds. worlds ≡ (joined_graph (merging_of uniting.now)).worlds) }
+pub(crate) fn joined_worlds(alloc: Global, plan: &UnionPlan<'_>) -> Result<Items<World>, AllocError>
+    requires { CanUnite plan.now }
+    ensures { IfOk result (λ worlds. worlds ≡ (joined_graph (merging_of plan.now)).worlds) }
 {
-    let found = &uniting.matches.worlds;
-    let others = &uniting.other.worlds;
-    joined_list(alloc, uniting, found, others, &uniting.graph.worlds)
+    let found = &plan.matches.worlds;
+    let others = &plan.other.worlds;
+    joined_list(alloc, plan, found, others, &plan.graph.worlds)
 }

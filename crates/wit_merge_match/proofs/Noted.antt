@@ -25,7 +25,7 @@ side_from w exported es k n e later next at =
 abbrev labels_from : List World → ℕ → List (ℕ × WorldLabel)
 labels_from worlds k = flat_map (λ (e : ℕ × World). labels_of_world e.0 e.1) (drop k (enumerate_from 0 worlds))
 
--- the labels of worlds of worlds, with those behind
+-- the labels of a world, with those of the worlds behind it
 pub worlds_from : (worlds : List World) (k n : ℕ) (world : World) → n ≡ suc k → slice_get worlds k ≡ Some world
     → labels_from worlds k ≡ flat_map (λ (d : Entry). interface_at_label k false d.0 d.1) world.imports ++ (flat_map (λ (d : Entry). interface_at_label k true d.0 d.1) world.exports ++ labels_from worlds n)
 worlds_from worlds k n world next at =

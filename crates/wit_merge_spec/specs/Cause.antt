@@ -1,6 +1,6 @@
 -- Why a merge is refused: a record for each cause that reads the two graphs, with what the error tells, and the table of
 -- causes, in the order of their numbers. Causes that read worlds and uses as one are those of any graph that is to be
--- elaborated (`wit_graph_theory/AllElaborated`). A merge with a cause is refused, and one that is refused, but for want
+-- elaborated (`wit_elaboration/AllElaborated`). A merge with a cause is refused, and one that is refused, but for want
 -- of memory, has the cause that it tells. Where several hold any may be told.
 --
 -- A mismatch (24) spoils the two graphs as one, so 4, 6, 15 and 22 don't hold beside it; a stability that can't be

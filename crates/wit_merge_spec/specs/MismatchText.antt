@@ -1,6 +1,6 @@
 -- What the messages of mismatches say (24). Such a message is a chain of links: in which package, in which interface or
 -- world of it, in which entry or type, and then what differs there; what is told of functions is in
--- `wit_graph_theory/FunctionMismatch`.
+-- `wit_remap_spec/FunctionMismatch`.
 -- Source: wit-parser 0.263.0.
 use Rattle.std.specs.Prelude.{ℕ, Bool, false, true, List, [], ◌∷◌, ◌++◌, codes}
 use Rattle.wit_names.specs.PackageName.{package_name_text}

@@ -41,7 +41,7 @@ impl<'a> Part<'a> {
         }
     }
 
-    /// Whether an entry of a world that is active does.
+    /// Whether an entry of an active world is active.
     fn has_item(&self, item: &WorldItem) -> bool
         ensures { result ≡ (kept_of self.now).items item.now }
     {

@@ -36,12 +36,12 @@ pub(crate) fn unite_kept(
     ensures refuses { (kind : ResolveErrorKind) → IsMergeCause (merge_of_graphs_by graph.old other.now offset) kind → OnOk result ⊥ }
 {
     let made = union_of(alloc, graph, other, offset)?;
-    let rows = Kept::of(alloc, &made.graph)?;
+    let new_kept = Kept::of(alloc, &made.graph)?;
     let United {
         graph: union_graph,
         remap,
     } = made;
     *graph = union_graph;
-    *kept = rows;
+    *kept = new_kept;
     Ok(remap)
 }

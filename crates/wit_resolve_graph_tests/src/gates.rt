@@ -56,7 +56,7 @@ fn interfaces(rt: &impl Abort, alloc: Global) -> Items<Interface> {
     )
 }
 
-/// Interface `i`, with a function that isn't active and one that does.
+/// Interface `i`, with a function that isn't active and one that is.
 fn first_interface(rt: &impl Abort, alloc: Global) -> Interface {
     let left = gated(rt, alloc, "left", asking(rt, alloc));
     let stays = gated(rt, alloc, "stays", kept(rt, alloc));

@@ -14,25 +14,25 @@ module _ {E : Type 0} (line : Graph → Reply → List ℕ) (stage : Stage) (com
   -- on the second graph
   pub works-second : (second new : State) → stage.second ≡ Some second → IfOk told (λ text. AnswersCommand Run line second command (string_bytes text) new)
       → IfOk told (λ text. AnswersByRun Run line stage command (string_bytes text) (record stage { second = Some new }))
-  works-second second new open_graph entries_by_answer = at told entries_by_answer where
+  works-second second new open_graph answered = at told answered where
     at : (r : Result (String Global) E) → IfOk r (λ text. AnswersCommand Run line second command (string_bytes text) new)
         → IfOk r (λ text. AnswersByRun Run line stage command (string_bytes text) (record stage { second = Some new }))
-    at (Ok text) entries_by_answer = (
+    at (Ok text) answered = (
       new,
-      subst (λ (s : State). AnswersCommand Run line s command (string_bytes text) new) (sym (ap (working_state_of stage.first) open_graph)) entries_by_answer,
+      subst (λ (s : State). AnswersCommand Run line s command (string_bytes text) new) (sym (ap (working_state_of stage.first) open_graph)) answered,
       sym (ap (λ (o : Option State). with_working_state_of stage.first o new) open_graph),
     )
-    at (Err e) entries_by_answer = tt
+    at (Err e) answered = tt
 
   -- on the only graph
   pub works-first : (new : State) → stage.second ≡ None → IfOk told (λ text. AnswersCommand Run line stage.first command (string_bytes text) new)
       → IfOk told (λ text. AnswersByRun Run line stage command (string_bytes text) (record stage { first = new }))
-  works-first new closed entries_by_answer = at told entries_by_answer where
+  works-first new closed answered = at told answered where
     at : (r : Result (String Global) E) → IfOk r (λ text. AnswersCommand Run line stage.first command (string_bytes text) new)
         → IfOk r (λ text. AnswersByRun Run line stage command (string_bytes text) (record stage { first = new }))
-    at (Ok text) entries_by_answer = (
+    at (Ok text) answered = (
       new,
-      subst (λ (s : State). AnswersCommand Run line s command (string_bytes text) new) (sym (ap (working_state_of stage.first) closed)) entries_by_answer,
+      subst (λ (s : State). AnswersCommand Run line s command (string_bytes text) new) (sym (ap (working_state_of stage.first) closed)) answered,
       ap (λ (o : Option State). let made : Stage = record { first = new; second = o } in made) closed ∙ sym (ap (λ (o : Option State). with_working_state_of stage.first o new) closed),
     )
-    at (Err e) entries_by_answer = tt
+    at (Err e) answered = tt

@@ -17,7 +17,7 @@ pub record PrintsAnswers (runs : Runs) (chooses : Chooses) (input text : List â„
   pub commands : List ScriptCommand
   pub understood : IsUnderstood input commands
   pub after : Stage
-  pub entries_by_answer : AnswersAll runs chooses (only_first new_state) commands text after
+  pub answered : AnswersAll runs chooses (only_first new_state) commands text after
 
 -- what a script prints that isn't understood: the one line
 pub record PrintsLine (input text : List â„•) : Type 0 where

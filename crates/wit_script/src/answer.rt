@@ -145,14 +145,14 @@ impl Stage {
         &mut self,
         alloc: Global,
         command: Command,
-        telling: ReplyStyle,
+        style: ReplyStyle,
     ) -> Result<String, AllocError>
         requires { IsCommandShaped command }
-        ensures { IfOk result (λ text. AnswersByRun Run (line_of telling) self.old command (string_bytes text) self.new) }
+        ensures { IfOk result (λ text. AnswersByRun Run (line_of style) self.old command (string_bytes text) self.new) }
     {
         match &mut self.second {
-            Some(second) => entries_by_answer(alloc, second, command, telling),
-            None => entries_by_answer(alloc, &mut self.first, command, telling),
+            Some(second) => reply_to(alloc, second, command, style),
+            None => reply_to(alloc, &mut self.first, command, style),
         }
     }
 
@@ -172,7 +172,7 @@ impl Stage {
         match self.second.take() {
             Some(second) => {
                 let command = Command::Merge(second);
-                entries_by_answer(alloc, &mut self.first, command, ReplyStyle::Aloud)
+                reply_to(alloc, &mut self.first, command, ReplyStyle::Aloud)
             }
             None => unreachable!(),
         }
@@ -226,18 +226,18 @@ fn act(alloc: Global, stage: &mut Stage, action: Action) -> Result<String, Alloc
 }
 
 /// The reply to a command, or the refusal of the run itself.
-fn entries_by_answer(
+fn reply_to(
     alloc: Global,
     resolve: &mut Resolve,
     command: Command,
-    telling: ReplyStyle,
+    style: ReplyStyle,
 ) -> Result<String, AllocError>
     requires { IsCommandShaped command }
-    ensures { IfOk result (λ text. AnswersCommand Run (line_of telling) resolve.old command (string_bytes text) resolve.new) }
+    ensures { IfOk result (λ text. AnswersCommand Run (line_of style) resolve.old command (string_bytes text) resolve.new) }
 {
     let commands = vec![in alloc; command]?;
     match run(alloc, resolve, commands) {
-        Ok(replies) => replies_text(alloc, resolve, &replies, telling),
+        Ok(replies) => replies_text(alloc, resolve, &replies, style),
         Err(refusal) => refused(alloc, &refusal),
     }
 }
@@ -247,13 +247,13 @@ fn replies_text(
     alloc: Global,
     resolve: &Resolve,
     replies: &[Reply],
-    telling: ReplyStyle,
+    style: ReplyStyle,
 ) -> Result<String, AllocError>
-    ensures { IfOk result (λ text. string_bytes text ≡ flat_map (line_of telling resolve.now.graph) replies.now) }
+    ensures { IfOk result (λ text. string_bytes text ≡ flat_map (line_of style resolve.now.graph) replies.now) }
 {
     let mut text = String::new(alloc);
     for reply in replies {
-        let line = match telling {
+        let line = match style {
             ReplyStyle::Aloud => reply_text(alloc, resolve, reply)?,
             ReplyStyle::Quietly => line_unless_done(alloc, resolve, reply)?,
         };

@@ -59,7 +59,7 @@ importize_of _ = None
 abbrev pub new_name_of : List ℕ → Option (List ℕ)
 new_name_of token = if bytes_eq token (codes "-") then None else Some token
 
--- the keys of `exportize`; without any, all imports are transformed
+-- the keys of `exportize`; without any, all imports become exports
 abbrev pub keys_of : List (List ℕ) → Option (List (List ℕ))
 keys_of [] = None
 keys_of (key ∷ keys) = Some (key ∷ keys)

@@ -247,7 +247,7 @@ fn new_name(alloc: Global, token: &str) -> Result<Option<Text>, AllocError>
     Ok(Some(Text::try_from_str(alloc, token)?))
 }
 
-/// The keys of imports that are transformed; without any, all are.
+/// The keys of the imports that become exports; without any, all do.
 fn read_keys(alloc: Global, tokens: &[&str]) -> Result<Option<Items<Text>>, AllocError>
     ensures { IfOk result (λ keys. keys ≡ keys_of (map (λ t. t.now) tokens.now)) }
 {

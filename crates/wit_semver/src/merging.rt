@@ -30,11 +30,11 @@ fn world_with_new_entries(
     ensures cause { IfErr result (λ e. (e ≡ OutOfMemory) ⊎ IsTrackCause rule graph.now world e) }
 {
     let current = graph.worlds.at(world.index());
-    let upgrading = UpgradePlan::new(alloc, graph, current, rule)?;
-    upgrading.check_functions(alloc)?;
-    let imports = upgrading.kept_imports(alloc)?;
+    let plan = UpgradePlan::new(alloc, graph, current, rule)?;
+    plan.check_functions(alloc)?;
+    let imports = plan.kept_imports(alloc)?;
     let rewritable_types = types_of_entries(alloc, graph, &imports, &current.exports)?;
-    let targets = upgrading.new_targets(alloc, &rewritable_types)?;
+    let targets = plan.new_targets(alloc, &rewritable_types)?;
     Ok(with_new_entries(alloc, graph, world, imports, &targets)?)
 }
 

@@ -29,8 +29,8 @@ impl<'a> UpgradePlan<'a> {
     ) -> Result<UpgradePlan<'a>, AllocError>
         requires valid { IsValid graph.now }
         requires in_range { (i : ℕ) → Contains (keyed_interfaces world.now.imports) i → i < length graph.now.interfaces }
-        ensures ready { IfOk result (λ upgrading. IsUpgradeReady upgrading) }
-        ensures of { IfOk result (λ upgrading. upgrade_of upgrading ≡ upgrade rule graph.now world.now) }
+        ensures ready { IfOk result (λ plan. IsUpgradeReady plan) }
+        ensures of { IfOk result (λ plan. upgrade_of plan ≡ upgrade rule graph.now world.now) }
     {
         let replaced = replacements(alloc, graph, world, rule)?;
         Ok(UpgradePlan {

@@ -12,25 +12,25 @@ module _ {E : Type 0} (stage : Stage) (command : Command) (told : Result (String
   -- on the second graph
   pub works-second : (second new : State) → stage.second ≡ Some second → IfOk told (λ text. ExplainsRun second command (string_bytes text) new)
       → IfOk told (λ text. ExplainsWork stage command (string_bytes text) (record stage { second = Some new }))
-  works-second second new open_graph entries_by_answer = at told entries_by_answer where
+  works-second second new open_graph answered = at told answered where
     at : (r : Result (String Global) E) → IfOk r (λ text. ExplainsRun second command (string_bytes text) new)
         → IfOk r (λ text. ExplainsWork stage command (string_bytes text) (record stage { second = Some new }))
-    at (Ok text) entries_by_answer = (
+    at (Ok text) answered = (
       new,
-      subst (λ (s : State). ExplainsRun s command (string_bytes text) new) (sym (ap (working_state_of stage.first) open_graph)) entries_by_answer,
+      subst (λ (s : State). ExplainsRun s command (string_bytes text) new) (sym (ap (working_state_of stage.first) open_graph)) answered,
       sym (ap (λ (o : Option State). with_working_state_of stage.first o new) open_graph),
     )
-    at (Err e) entries_by_answer = tt
+    at (Err e) answered = tt
 
   -- on the only graph
   pub works-first : (new : State) → stage.second ≡ None → IfOk told (λ text. ExplainsRun stage.first command (string_bytes text) new)
       → IfOk told (λ text. ExplainsWork stage command (string_bytes text) (record stage { first = new }))
-  works-first new closed entries_by_answer = at told entries_by_answer where
+  works-first new closed answered = at told answered where
     at : (r : Result (String Global) E) → IfOk r (λ text. ExplainsRun stage.first command (string_bytes text) new)
         → IfOk r (λ text. ExplainsWork stage command (string_bytes text) (record stage { first = new }))
-    at (Ok text) entries_by_answer = (
+    at (Ok text) answered = (
       new,
-      subst (λ (s : State). ExplainsRun s command (string_bytes text) new) (sym (ap (working_state_of stage.first) closed)) entries_by_answer,
+      subst (λ (s : State). ExplainsRun s command (string_bytes text) new) (sym (ap (working_state_of stage.first) closed)) answered,
       ap (λ (o : Option State). let made : Stage = record { first = new; second = o } in made) closed ∙ sym (ap (λ (o : Option State). with_working_state_of stage.first o new) closed),
     )
-    at (Err e) entries_by_answer = tt
+    at (Err e) answered = tt

@@ -50,7 +50,7 @@ abbrev pub own_world_flag : Features → UnresolvedPackage → ℕ → Bool
 own_world_flag features u w =
     not (is_foreign_world u w) && option_map_or (λ (world : World). is_active features world.stability) (slice_get u.worlds w) false
 
--- what is active where nothing that is named of other packages does
+-- what is active where nothing that is named of other packages is
 abbrev pub own_activity : Features → UnresolvedPackage → Activity
 own_activity features u = record {
   types = map (type_is_active features u.types) (range_with_len 0 (length u.types));
@@ -87,11 +87,11 @@ pub record IsMarked (features : Features) (items : List ForeignItem) (old new : 
 
 -- the addition that is looked at
 abbrev pub seen : Checker → Addition
-seen checker = addition_of checker.adding
+seen checker = addition_of checker.addition
 
--- the package has its shape, and that is active of it which is said to
+-- the package has its shape, and the activity is that of the addition
 pub record IsCheckerReady (checker : Checker) : Type 0 where
-  pub shaped : IsShaped checker.adding.unresolved.now
+  pub shaped : IsShaped checker.addition.unresolved.now
   pub activity : checker.activity.now ≡ activity_of (seen checker)
 
 -- a refusal tells a reason, or that memory is wanting
@@ -102,7 +102,7 @@ MayRefuse checker kind = (kind ≡ OutOfMemory) ⊎ IsCause (seen checker) kind
 
 -- the gate is asked, there
 abbrev pub Asks : Checker → Stability → OptionalSpan → Type 0
-Asks checker note place = IsAsked checker.adding.features.now checker.adding.unresolved.now note place
+Asks checker note place = IsAsked checker.addition.features.now checker.addition.unresolved.now note place
 
 -- a package of this version, or of none, has what came with another one
 abbrev pub HasReached : Option Parts → Parts → Type 0
@@ -112,7 +112,7 @@ HasReached (Some version) since = version_cmp version since ≢ Less
 -- the package meets the gate
 abbrev pub IsMet : Checker → Stability → Type 0
 IsMet checker Unknown = Unit {0}
-IsMet checker (Stable since deprecated) = HasReached checker.adding.unresolved.now.name.version since
+IsMet checker (Stable since deprecated) = HasReached checker.addition.unresolved.now.name.version since
 IsMet checker (Unstable feature deprecated) = Unit {0}
 
 -- the gate of an entry, where it has one of its own, is asked
@@ -125,22 +125,22 @@ MeetsItem checker item = (note : Stability) (place : OptionalSpan) → HasOwnGat
 
 -- the item is there
 abbrev pub IsThere : Checker → AstItem → Type 0
-IsThere checker (named.Interface id) = id < length checker.adding.unresolved.now.interfaces
-IsThere checker (named.World id) = id < length checker.adding.unresolved.now.worlds
+IsThere checker (named.Interface id) = id < length checker.addition.unresolved.now.interfaces
+IsThere checker (named.World id) = id < length checker.addition.unresolved.now.worlds
 
 -- the item is at that place
 abbrev pub IsAt : Checker → AstItem → OptionalSpan → Type 0
-IsAt checker (named.Interface id) place = SomeAt checker.adding.unresolved.now.interfaces id (λ (interface : Interface). place ≡ interface.span)
-IsAt checker (named.World id) place = SomeAt checker.adding.unresolved.now.worlds id (λ (world : World). place ≡ world.span)
+IsAt checker (named.Interface id) place = SomeAt checker.addition.unresolved.now.interfaces id (λ (interface : Interface). place ≡ interface.span)
+IsAt checker (named.World id) place = SomeAt checker.addition.unresolved.now.worlds id (λ (world : World). place ≡ world.span)
 
 -- the package meets those gates of a foreign item that are asked
 abbrev pub MeetsForeign : Checker → ForeignItem → Type 0
-MeetsForeign checker item = Each (IsMet checker) (asked_gates checker.adding.features.now item.1.1)
+MeetsForeign checker item = Each (IsMet checker) (asked_gates checker.addition.features.now item.1.1)
 
 -- the package meets the gates of the functions of an interface that is active
 abbrev pub MeetsFunctions : Checker → ℕ → Interface → Type 0
 MeetsFunctions checker i interface =
-    interface_is_active checker.adding.features.now checker.adding.unresolved.now i ≡ true → Each (λ (e : List ℕ × Function). IsMet checker e.1.stability) interface.functions
+    interface_is_active checker.addition.features.now checker.addition.unresolved.now i ≡ true → Each (λ (e : List ℕ × Function). IsMet checker e.1.stability) interface.functions
 
 -- the package meets the gates of the parts of a world that is active
 pub record PartsAreMet (checker : Checker) (world : World) : Type 0 where
@@ -149,7 +149,7 @@ pub record PartsAreMet (checker : Checker) (world : World) : Type 0 where
   pub includes : Each (λ (i : WorldInclude). IsMet checker i.stability) world.includes
 
 abbrev pub MeetsParts : Checker → ℕ → World → Type 0
-MeetsParts checker w world = world_is_active checker.adding.features.now checker.adding.unresolved.now w ≡ true → PartsAreMet checker world
+MeetsParts checker w world = world_is_active checker.addition.features.now checker.addition.unresolved.now w ≡ true → PartsAreMet checker world
 
 -- a thing that is needed, as reasons speak of it
 abbrev pub thing_of : Needed → Thing
@@ -176,8 +176,8 @@ IsReferred checker thing place = RefersTo (seen checker) thing place
 -- the type is active
 pub record IsActiveType (checker : Checker) (def : TypeDef) : Type 0 where
   pub t : ℕ
-  pub at : slice_get checker.adding.unresolved.now.types t ≡ Some def
-  pub active : type_is_active checker.adding.features.now checker.adding.unresolved.now.types t ≡ true
+  pub at : slice_get checker.addition.unresolved.now.types t ≡ Some def
+  pub active : type_is_active checker.addition.features.now checker.addition.unresolved.now.types t ≡ true
 
 -- what its kind names is referred to
 abbrev pub KindRefers : Checker → TypeDef → Type 0
@@ -202,7 +202,7 @@ pub record TypeStays (checker : Checker) (def : TypeDef) : Type 0 where
   pub own : def.kind ≢ kind.Unknown → OwnerStays checker def
 
 abbrev pub TypesStay : Checker → ℕ → TypeDef → Type 0
-TypesStay checker t def = type_is_active checker.adding.features.now checker.adding.unresolved.now.types t ≡ true → TypeStays checker def
+TypesStay checker t def = type_is_active checker.addition.features.now checker.addition.unresolved.now.types t ≡ true → TypeStays checker def
 
 -- what a field names is referred to
 abbrev pub RefersInField : Checker → Field → Type 0
@@ -216,41 +216,41 @@ FieldStays checker field = (t : ℕ) → Contains (named_type field.ty) t → St
 
 -- the function is active where its gate lets it
 abbrev pub MayBeActive : Checker → Function → Type 0
-MayBeActive checker f = function_is_active checker.adding.features.now f ≡ true → IsActiveFunction (seen checker) f
+MayBeActive checker f = function_is_active checker.addition.features.now f ≡ true → IsActiveFunction (seen checker) f
 
 -- what it needs is not left out where it is active
 abbrev pub FunctionStays : Checker → Function → Type 0
 FunctionStays checker f =
-    function_is_active checker.adding.features.now f ≡ true → Each (λ t. Stays checker (AType t)) (function_references f)
+    function_is_active checker.addition.features.now f ≡ true → Each (λ t. Stays checker (AType t)) (function_references f)
 
 -- an entry refers to what it holds where its gate lets it
 abbrev pub RefersByItem : Checker → WorldItem → Type 0
 RefersByItem checker (item.Interface id stability docs span external_id) =
-    is_active checker.adding.features.now stability ≡ true → IsReferred checker (AnInterface id) span
+    is_active checker.addition.features.now stability ≡ true → IsReferred checker (AnInterface id) span
 RefersByItem checker (item.Function f) = MayBeActive checker f
 RefersByItem checker (item.Type_ id span) = Unit {0}
 
 -- and that is not left out
 abbrev pub ItemStays : Checker → WorldItem → Type 0
 ItemStays checker (item.Interface id stability docs span external_id) =
-    is_active checker.adding.features.now stability ≡ true → Stays checker (AnInterface id)
+    is_active checker.addition.features.now stability ≡ true → Stays checker (AnInterface id)
 ItemStays checker (item.Function f) = FunctionStays checker f
 ItemStays checker (item.Type_ id span) = Unit {0}
 
 -- an include refers to its world where its gate lets it
 abbrev pub RefersByInclude : Checker → WorldInclude → Type 0
-RefersByInclude checker i = include_is_active checker.adding.features.now i ≡ true → IsReferred checker (AWorld i.id) i.span
+RefersByInclude checker i = include_is_active checker.addition.features.now i ≡ true → IsReferred checker (AWorld i.id) i.span
 
 -- and that is not left out
 abbrev pub IncludeStays : Checker → WorldInclude → Type 0
-IncludeStays checker i = include_is_active checker.adding.features.now i ≡ true → Stays checker (AWorld i.id)
+IncludeStays checker i = include_is_active checker.addition.features.now i ≡ true → Stays checker (AWorld i.id)
 
 -- ---- interfaces and worlds
 
 -- what the functions of an interface that is active need is not left out
 abbrev pub FunctionsStay : Checker → ℕ → Interface → Type 0
 FunctionsStay checker i interface =
-    interface_is_active checker.adding.features.now checker.adding.unresolved.now i ≡ true → Each (λ (e : List ℕ × Function). FunctionStays checker e.1) interface.functions
+    interface_is_active checker.addition.features.now checker.addition.unresolved.now i ≡ true → Each (λ (e : List ℕ × Function). FunctionStays checker e.1) interface.functions
 
 -- what the parts of a world need is not left out
 pub record PartsAreAccepted (checker : Checker) (world : World) : Type 0 where
@@ -259,4 +259,4 @@ pub record PartsAreAccepted (checker : Checker) (world : World) : Type 0 where
   pub includes : Each (IncludeStays checker) world.includes
 
 abbrev pub PartsStay : Checker → ℕ → World → Type 0
-PartsStay checker w world = world_is_active checker.adding.features.now checker.adding.unresolved.now w ≡ true → PartsAreAccepted checker world
+PartsStay checker w world = world_is_active checker.addition.features.now checker.addition.unresolved.now w ≡ true → PartsAreAccepted checker world

@@ -1,4 +1,4 @@
--- What a value position of the package names is active, so that the `own`s that are made are of types that do.
+-- What a value position of the package names is active, so that the `own`s that are made are of active types.
 use Rattle.std.proofs.Common.{◌≡◌, ℕ, ◌&&◌, Bool, true, false, List, [], ◌++◌, inl, inr, map, nat_eq, refl, sym, subst, Contains}
 use Rattle.std.specs.List.{flat_map, list_any}
 use Rattle.std.specs.Option.{option_to_list}

@@ -54,7 +54,7 @@ unnamed_cut g f = by g.interfaces f
     by (x ∷ xs) (suc i) = by xs i
 
 module _ (g : Graph) (valid : IsValid g) where
-  -- a place in what all is selected of
+  -- a place in a source of which all is selected
   abbrev holds_from : (m : Maps) (w : ℕ) (b : Bool) (i f : ℕ) → Holds (mapped_source g m).graph.worlds w b i f → Holds g.worlds w b i f
   holds_from m w b i f h = record { world = h.world; there = world_from g valid m w h.world h.there; entry = h.entry; at = h.at; held = h.held }
 

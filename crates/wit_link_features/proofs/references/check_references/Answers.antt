@@ -5,7 +5,7 @@ use Rattle.wit_link_features.proofs.references.check_references.Goals as goal
 
 pub returns-clause-met : goal.returns-clause-met
 returns-clause-met c =
-    let checker : Checker = record { alloc = c.args.alloc; adding = c.args.adding.now; activity = c.args.activity } in
+    let checker : Checker = record { alloc = c.args.alloc; addition = c.args.addition.now; activity = c.args.activity } in
     on_ok_weaker c.look_at_worlds.result (λ parts. nothing-left-out checker (record {
       types = c.in_ok-look_at_types.ensures.stay;
       functions = c.in_ok-look_at_interfaces.ensures.stay;

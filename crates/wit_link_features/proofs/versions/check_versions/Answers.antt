@@ -5,7 +5,7 @@ use Rattle.wit_link_features.proofs.versions.check_versions.Goals as goal
 
 pub returns-clause-met : goal.returns-clause-met
 returns-clause-met c =
-    let checker : Checker = record { alloc = c.args.alloc; adding = c.args.adding.now; activity = c.args.activity } in
+    let checker : Checker = record { alloc = c.args.alloc; addition = c.args.addition.now; activity = c.args.activity } in
     on_ok_weaker c.check_parts_of_worlds.result (λ parts. gates-met checker (record { shaped = c.requires.shaped; activity = c.requires.activity }) (record {
       types = c.in_ok-check_types.ensures.met;
       foreign = c.in_ok-check_packages.ensures.met;

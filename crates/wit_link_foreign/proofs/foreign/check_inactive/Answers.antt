@@ -14,19 +14,19 @@ use Rattle.wit_link_foreign.proofs.foreign.check_inactive.Goals.{in-Interface, i
 
 pub at-requires : goal.at-requires
 at-requires c =
-    let a = addition_of c.args.adding.now in
+    let a = addition_of c.args.addition.now in
     let inside = named-inside a c.requires.shaped _ _ _ _ c.requires.named in
     rw c.index.ensures (interface-inside a c.args.activity.now c.requires.activity c.in-Interface.id (subst (IsItemOf a.unresolved) c.in-Interface.is inside))
 
 pub at-requires-in-World : goal.at-requires-in-World
 at-requires-in-World c =
-    let a = addition_of c.args.adding.now in
+    let a = addition_of c.args.addition.now in
     let inside = named-inside a c.requires.shaped _ _ _ _ c.requires.named in
     rw c.index-in-World.ensures (world-inside a c.args.activity.now c.requires.activity c.in-World.id (subst (IsItemOf a.unresolved) c.in-World.is inside))
 
 pub returns-then-not-active-clause-inactive : goal.returns-then-not-active-clause-inactive
 returns-then-not-active-clause-inactive c =
-    let a = addition_of c.args.adding.now in
+    let a = addition_of c.args.addition.now in
     elim c.match-item.branch [
       | in-Interface w ↦ interface_flag-is a c.args.activity.now c.requires.activity w.in-Interface.is w.index.ensures w.at.ensures ∙ sym w.active-is ∙ c.if-not-active.true
       | in-World w ↦ world_flag-is a c.args.activity.now c.requires.activity w.in-World.is w.index-in-World.ensures w.at-in-World.ensures ∙ sym w.active-is ∙ c.if-not-active.true
@@ -34,19 +34,19 @@ returns-then-not-active-clause-inactive c =
 
 pub at-requires-in-Interface-item : goal.at-requires-in-Interface-item
 at-requires-in-Interface-item c =
-    let a = addition_of c.args.adding.now in
+    let a = addition_of c.args.addition.now in
     let inside = named-inside a c.requires.shaped _ _ _ _ c.requires.named in
     rw c.index-in-Interface-item.ensures (subst (IsItemOf a.unresolved) c.in-Interface-item.is inside)
 
 pub at-requires-in-World-item : goal.at-requires-in-World-item
 at-requires-in-World-item c =
-    let a = addition_of c.args.adding.now in
+    let a = addition_of c.args.addition.now in
     let inside = named-inside a c.requires.shaped _ _ _ _ c.requires.named in
     rw c.index-in-World-item.ensures (subst (IsItemOf a.unresolved) c.in-World-item.is inside)
 
 pub returns-clause-cause : goal.returns-clause-cause
 returns-clause-cause c =
-    let a = addition_of c.args.adding.now in
+    let a = addition_of c.args.addition.now in
     let active : named_is_active a c.args.item.now ≡ true = elim c.match-item.branch [
       | in-Interface w ↦ interface_flag-is a c.args.activity.now c.requires.activity w.in-Interface.is w.index.ensures w.at.ensures ∙ sym w.active-is ∙ c.if-not-active.false
       | in-World w ↦ world_flag-is a c.args.activity.now c.requires.activity w.in-World.is w.index-in-World.ensures w.at-in-World.ensures ∙ sym w.active-is ∙ c.if-not-active.false

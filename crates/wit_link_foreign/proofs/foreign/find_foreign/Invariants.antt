@@ -6,7 +6,7 @@ use Rattle.wit_link_foreign.proofs.foreign.find_foreign.Given as goal
 -- what the packages so far tell
 abbrev pub invariant-loop-index : goal.invariant-loop-index
 invariant-loop-index l = record {
-  found : l.found ≡ found_among (addition_of l.adding) (named_before l.adding.unresolved.now.foreign_deps l.index);
-  there : AreThere (addition_of l.adding) (named_before l.adding.unresolved.now.foreign_deps l.index);
-  packages : ArePackagesThere (addition_of l.adding) l.index;
+  found : l.found ≡ found_among (addition_of l.addition) (named_before l.addition.unresolved.now.foreign_deps l.index);
+  there : AreThere (addition_of l.addition) (named_before l.addition.unresolved.now.foreign_deps l.index);
+  packages : ArePackagesThere (addition_of l.addition) l.index;
 }

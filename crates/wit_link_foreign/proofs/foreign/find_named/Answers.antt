@@ -16,21 +16,21 @@ pub find_item-requires : goal.find_item-requires
 find_item-requires c =
     let start = c.into_iter-requested-iterator.ensures.into_iter_gives ∙ c.iter-requested-items.ensures.rest in
     let turn = iter_turn deref_named _ c.loop-requested.yielded _ _ _ _ start c.loop-requested.yielded_by _ c.in-Some.is c.next.ensures.steps in
-    entry-inside (addition_of c.args.adding.now) c.requires.shaped c.args.index c.in_ok-home.home.name.now c.in_ok-home.home.items.now c.in_ok-home.home.id c.in_ok-home.ensures.home (length c.loop-requested.yielded) _ _ turn.1
+    entry-inside (addition_of c.args.addition.now) c.requires.shaped c.args.index c.in_ok-home.home.name.now c.in_ok-home.home.items.now c.in_ok-home.home.id c.in_ok-home.ensures.home (length c.loop-requested.yielded) _ _ turn.1
     c.loop-requested.found c.loop-requested.invariant.found
 
 pub check_inactive-requires-clause-named : goal.check_inactive-requires-clause-named
 check_inactive-requires-clause-named c =
     let start = c.into_iter-requested-iterator.ensures.into_iter_gives ∙ c.iter-requested-items.ensures.rest in
     let turn = iter_turn deref_named _ c.loop-requested.yielded _ _ _ _ start c.loop-requested.yielded_by _ c.in-Some.is c.next.ensures.steps in
-    is_named (addition_of c.args.adding.now) c.args.index c.in_ok-home.home.name.now c.in_ok-home.home.items.now c.in_ok-home.home.id (length c.loop-requested.yielded) _ _ c.in_ok-home.ensures.home turn.1
+    is_named (addition_of c.args.addition.now) c.args.index c.in_ok-home.home.name.now c.in_ok-home.home.items.now c.in_ok-home.home.id (length c.loop-requested.yielded) _ _ c.in_ok-home.ensures.home turn.1
 
 pub check_inactive-requires-clause-absent : goal.check_inactive-requires-clause-absent
 check_inactive-requires-clause-absent c = none_from_test _ true (sym c.find_item.ensures.there ∙ c.if-not-find_item.true) refl
 
 pub loop-requested-preserved-in-Continue-branch-2 : goal.loop-requested-preserved-in-Continue-branch-2
 loop-requested-preserved-in-Continue-branch-2 c =
-    let a : Addition = addition_of c.args.adding.now in
+    let a : Addition = addition_of c.args.addition.now in
     let items : List ForeignItem = c.in_ok-home.home.items.now in
     let until = named_until a.unresolved.foreign_deps c.args.index c.in_ok-home.home.name.now items in
     let start = c.into_iter-requested-iterator.ensures.into_iter_gives ∙ c.iter-requested-items.ensures.rest in
@@ -45,7 +45,7 @@ loop-requested-preserved-in-Continue-branch-2 c =
 
 pub loop-requested-preserved : goal.loop-requested-preserved
 loop-requested-preserved c =
-    let a : Addition = addition_of c.args.adding.now in
+    let a : Addition = addition_of c.args.addition.now in
     let items : List ForeignItem = c.in_ok-home.home.items.now in
     let until = named_until a.unresolved.foreign_deps c.args.index c.in_ok-home.home.name.now items in
     let start = c.into_iter-requested-iterator.ensures.into_iter_gives ∙ c.iter-requested-items.ensures.rest in
@@ -63,17 +63,17 @@ returns-clause-found c =
     let start = c.into_iter-requested-iterator.ensures.into_iter_gives ∙ c.iter-requested-items.ensures.rest in
     let end = iter_end deref_named _ c.loop-requested.yielded _ _ _ _ start c.loop-requested.yielded_by c.in-None.is c.next.ensures.steps in
     c.loop-requested.invariant.found
-    ∙ ap (found_among (addition_of c.args.adding.now))
-    (until-all c.args.adding.now.unresolved.now.foreign_deps c.args.index c.in_ok-home.home.name.now c.in_ok-home.home.items.now c.in_ok-home.ensures.home.is (length c.loop-requested.yielded) (omega (arith, end.1)))
+    ∙ ap (found_among (addition_of c.args.addition.now))
+    (until-all c.args.addition.now.unresolved.now.foreign_deps c.args.index c.in_ok-home.home.name.now c.in_ok-home.home.items.now c.in_ok-home.ensures.home.is (length c.loop-requested.yielded) (omega (arith, end.1)))
 
 pub returns-clause-there : goal.returns-clause-there
 returns-clause-there c =
     let start = c.into_iter-requested-iterator.ensures.into_iter_gives ∙ c.iter-requested-items.ensures.rest in
     let end = iter_end deref_named _ c.loop-requested.yielded _ _ _ _ start c.loop-requested.yielded_by c.in-None.is c.next.ensures.steps in
-    subst (AreThere (addition_of c.args.adding.now))
-    (until-all c.args.adding.now.unresolved.now.foreign_deps c.args.index c.in_ok-home.home.name.now c.in_ok-home.home.items.now c.in_ok-home.ensures.home.is (length c.loop-requested.yielded) (omega (arith, end.1)))
+    subst (AreThere (addition_of c.args.addition.now))
+    (until-all c.args.addition.now.unresolved.now.foreign_deps c.args.index c.in_ok-home.home.name.now c.in_ok-home.home.items.now c.in_ok-home.ensures.home.is (length c.loop-requested.yielded) (omega (arith, end.1)))
     c.loop-requested.invariant.there
 
 pub returns-clause-packages : goal.returns-clause-packages
 returns-clause-packages c =
-    packages-next (addition_of c.args.adding.now) c.args.index c.in_ok-home.home.name.now c.in_ok-home.home.items.now c.in_ok-home.home.id c.requires.packages c.in_ok-home.ensures.home
+    packages-next (addition_of c.args.addition.now) c.args.index c.in_ok-home.home.name.now c.in_ok-home.home.items.now c.in_ok-home.home.id c.requires.packages c.in_ok-home.ensures.home

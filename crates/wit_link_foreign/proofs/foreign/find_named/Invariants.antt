@@ -7,6 +7,6 @@ use Rattle.wit_link_foreign.proofs.foreign.find_named.Given as goal
 -- what the items so far tell
 abbrev pub invariant-loop-requested : goal.invariant-loop-requested
 invariant-loop-requested l = record {
-  found : l.found ≡ found_among (addition_of l.adding) (named_until l.adding.unresolved.now.foreign_deps l.index l.home.name.now l.home.items.now (length l.yielded));
-  there : AreThere (addition_of l.adding) (named_until l.adding.unresolved.now.foreign_deps l.index l.home.name.now l.home.items.now (length l.yielded));
+  found : l.found ≡ found_among (addition_of l.addition) (named_until l.addition.unresolved.now.foreign_deps l.index l.home.name.now l.home.items.now (length l.yielded));
+  there : AreThere (addition_of l.addition) (named_until l.addition.unresolved.now.foreign_deps l.index l.home.name.now l.home.items.now (length l.yielded));
 }

@@ -8,7 +8,7 @@ use Rattle.wit_link_foreign.proofs.types.type_ids.Goals as goal
 
 pub loop-t-preserved : goal.loop-t-preserved
 loop-t-preserved c =
-    let a = addition_of c.args.adding.now in
+    let a = addition_of c.args.addition.now in
     record {
       new_ids = c.in_ok-push.ensures.ok ∙ ap (λ (l : List (Option ℕ)). l ++ c.in_ok-new_type_id.field-0 ∷ []) c.loop-t.invariant.new_ids
           ∙ ap (λ (p : Option ℕ). map (active_type_id a) (range_with_len 0 c.loop-t.t) ++ p ∷ []) c.in_ok-new_type_id.ensures.id ∙ sym (range-next (active_type_id a) c.loop-t.t);

@@ -8,7 +8,7 @@ use Rattle.wit_link_foreign.proofs.types.type_ids.Given as goal
 -- the places so far, and the next id
 abbrev pub invariant-loop-t : goal.invariant-loop-t
 invariant-loop-t l = record {
-  new_ids : l.new_ids ≡ map (active_type_id (addition_of l.adding)) (range_with_len 0 l.t);
-  next : l.next ≡ length l.adding.graph.now.types + rank (own_type (addition_of l.adding)) l.t;
-  there : AreTypesThere (addition_of l.adding) l.t;
+  new_ids : l.new_ids ≡ map (active_type_id (addition_of l.addition)) (range_with_len 0 l.t);
+  next : l.next ≡ length l.addition.graph.now.types + rank (own_type (addition_of l.addition)) l.t;
+  there : AreTypesThere (addition_of l.addition) l.t;
 }

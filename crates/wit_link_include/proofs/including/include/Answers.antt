@@ -6,7 +6,7 @@ use Rattle.wit_data.specs.declared.world.World.{World}
 use Rattle.wit_link_spec.specs.Include.{is_other_package}
 use Rattle.wit_link_include.specs.steps.Included.{maps_of, IsCauseOfInclude, before_includes, copied_entries}
 use Rattle.wit_remap.specs.facts.GrownFacts.{Grown-same}
-use Rattle.wit_link_include.proofs.IncludeSteps.{entries_by_answer, names_cause, stay_apart, step_cause, step_exports_once, step_fine, step_graph, step_imports_once, step_world}
+use Rattle.wit_link_include.proofs.IncludeSteps.{step_is, names_cause, stay_apart, step_cause, step_exports_once, step_fine, step_graph, step_imports_once, step_world}
 use Rattle.wit_link_include.proofs.NamesThere.{names_there}
 use Rattle.wit_link_include.proofs.including.include.Goals as goal
 
@@ -54,7 +54,7 @@ join_copies-requires-clause-imports c =
     let again = ap (slice_get c.add_copies.new.graph.worlds) (sym c.index-2.ensures) ∙ c.at-included-2.ensures in
     let made = c.in_ok-copies.ensures in
     let step =
-    entries_by_answer g include c.args.home c.from_index-into.result c.at-included.result.now old c.add_copies.new.graph (maps_of copies) copies.from (copied_entries copies old.imports) (copied_entries copies old.exports) (is_other_package old.package c.args.home)
+    step_is g include c.args.home c.from_index-into.result c.at-included.result.now old c.add_copies.new.graph (maps_of copies) copies.from (copied_entries copies old.imports) (copied_entries copies old.exports) (is_other_package old.package c.args.home)
     at (c.requires.can c.at-included.result.now at).world (c.from_index-into.ensures ∙ c.len.ensures) (made.ok c.at-included.result.now at) (made.maps c.at-included.result.now at) made.from again refl refl refl in
     step_imports_once g include c.args.home c.args.world c.add_copies.new.graph (copied_entries copies old.imports) (copied_entries copies old.exports) (is_other_package old.package c.args.home) step
 
@@ -68,7 +68,7 @@ join_copies-requires-clause-exports c =
     let again = ap (slice_get c.add_copies.new.graph.worlds) (sym c.index-2.ensures) ∙ c.at-included-2.ensures in
     let made = c.in_ok-copies.ensures in
     let step =
-    entries_by_answer g include c.args.home c.from_index-into.result c.at-included.result.now old c.add_copies.new.graph (maps_of copies) copies.from (copied_entries copies old.imports) (copied_entries copies old.exports) (is_other_package old.package c.args.home)
+    step_is g include c.args.home c.from_index-into.result c.at-included.result.now old c.add_copies.new.graph (maps_of copies) copies.from (copied_entries copies old.imports) (copied_entries copies old.exports) (is_other_package old.package c.args.home)
     at (c.requires.can c.at-included.result.now at).world (c.from_index-into.ensures ∙ c.len.ensures) (made.ok c.at-included.result.now at) (made.maps c.at-included.result.now at) made.from again refl refl refl in
     step_exports_once g include c.args.home c.args.world c.add_copies.new.graph (copied_entries copies old.imports) (copied_entries copies old.exports) (is_other_package old.package c.args.home) step
 
@@ -82,7 +82,7 @@ returns-clause-graph c =
     let again = ap (slice_get c.add_copies.new.graph.worlds) (sym c.index-2.ensures) ∙ c.at-included-2.ensures in
     let made = c.in_ok-copies.ensures in
     let step =
-    entries_by_answer g include c.args.home c.from_index-into.result c.at-included.result.now old c.add_copies.new.graph (maps_of copies) copies.from (copied_entries copies old.imports) (copied_entries copies old.exports) (is_other_package old.package c.args.home)
+    step_is g include c.args.home c.from_index-into.result c.at-included.result.now old c.add_copies.new.graph (maps_of copies) copies.from (copied_entries copies old.imports) (copied_entries copies old.exports) (is_other_package old.package c.args.home)
     at (c.requires.can c.at-included.result.now at).world (c.from_index-into.ensures ∙ c.len.ensures) (made.ok c.at-included.result.now at) (made.maps c.at-included.result.now at) made.from again refl refl refl in
     on_ok c.join_copies.result (step_graph g include c.args.home c.args.world c.add_copies.new.graph (copied_entries copies old.imports) (copied_entries copies old.exports) (is_other_package old.package c.args.home) step)
 
@@ -96,7 +96,7 @@ returns-clause-world c =
     let again = ap (slice_get c.add_copies.new.graph.worlds) (sym c.index-2.ensures) ∙ c.at-included-2.ensures in
     let made = c.in_ok-copies.ensures in
     let step =
-    entries_by_answer g include c.args.home c.from_index-into.result c.at-included.result.now old c.add_copies.new.graph (maps_of copies) copies.from (copied_entries copies old.imports) (copied_entries copies old.exports) (is_other_package old.package c.args.home)
+    step_is g include c.args.home c.from_index-into.result c.at-included.result.now old c.add_copies.new.graph (maps_of copies) copies.from (copied_entries copies old.imports) (copied_entries copies old.exports) (is_other_package old.package c.args.home)
     at (c.requires.can c.at-included.result.now at).world (c.from_index-into.ensures ∙ c.len.ensures) (made.ok c.at-included.result.now at) (made.maps c.at-included.result.now at) made.from again refl refl refl in
     if_ok c.join_copies.result c.join_copies.ensures.ok (step_world g include c.args.home c.args.world c.add_copies.new.graph (copied_entries copies old.imports) (copied_entries copies old.exports) (is_other_package old.package c.args.home) step)
 
@@ -110,7 +110,7 @@ returns-clause-fine c =
     let again = ap (slice_get c.add_copies.new.graph.worlds) (sym c.index-2.ensures) ∙ c.at-included-2.ensures in
     let made = c.in_ok-copies.ensures in
     let step =
-    entries_by_answer g include c.args.home c.from_index-into.result c.at-included.result.now old c.add_copies.new.graph (maps_of copies) copies.from (copied_entries copies old.imports) (copied_entries copies old.exports) (is_other_package old.package c.args.home)
+    step_is g include c.args.home c.from_index-into.result c.at-included.result.now old c.add_copies.new.graph (maps_of copies) copies.from (copied_entries copies old.imports) (copied_entries copies old.exports) (is_other_package old.package c.args.home)
     at (c.requires.can c.at-included.result.now at).world (c.from_index-into.ensures ∙ c.len.ensures) (made.ok c.at-included.result.now at) (made.maps c.at-included.result.now at) made.from again refl refl refl in
     on_ok_two c.join_copies.result c.join_copies.ensures.imports c.join_copies.ensures.exports (step_fine g include c.args.home c.args.world c.add_copies.new.graph (copied_entries copies old.imports) (copied_entries copies old.exports) (is_other_package old.package c.args.home) step c.at-included.result.now at c.in_ok-check_names.ensures.fine)
 
@@ -124,7 +124,7 @@ returns-clause-cause c =
     let again = ap (slice_get c.add_copies.new.graph.worlds) (sym c.index-2.ensures) ∙ c.at-included-2.ensures in
     let made = c.in_ok-copies.ensures in
     let step =
-    entries_by_answer g include c.args.home c.from_index-into.result c.at-included.result.now old c.add_copies.new.graph (maps_of copies) copies.from (copied_entries copies old.imports) (copied_entries copies old.exports) (is_other_package old.package c.args.home)
+    step_is g include c.args.home c.from_index-into.result c.at-included.result.now old c.add_copies.new.graph (maps_of copies) copies.from (copied_entries copies old.imports) (copied_entries copies old.exports) (is_other_package old.package c.args.home)
     at (c.requires.can c.at-included.result.now at).world (c.from_index-into.ensures ∙ c.len.ensures) (made.ok c.at-included.result.now at) (made.maps c.at-included.result.now at) made.from again refl refl refl in
     if_err c.join_copies.result c.join_copies.ensures.cause (step_cause g include c.args.home c.args.world c.add_copies.new.graph (copied_entries copies old.imports) (copied_entries copies old.exports) (is_other_package old.package c.args.home) step c.requires.own_keys)
 

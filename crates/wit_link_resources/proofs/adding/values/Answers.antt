@@ -9,17 +9,17 @@ use Rattle.wit_link_resources.proofs.adding.values.Goals as goal
 
 pub remapped_values-requires-clause-can : goal.remapped_values-requires-clause-can
 remapped_values-requires-clause-can c =
-    comes (addition_of c.args.adding.now) c.requires.valid c.requires.shaped c.requires.image c.args.new_ids.now.types (ap (λ (p : NewIds). p.types) c.requires.new_ids) (seen c.as_slice.result.now)
+    comes (addition_of c.args.addition.now) c.requires.valid c.requires.shaped c.requires.image c.args.new_ids.now.types (ap (λ (p : NewIds). p.types) c.requires.new_ids) (seen c.as_slice.result.now)
     (ap seen c.as_slice.ensures.value ∙ c.in_ok-functions.ensures)
 
 pub remapped_values-requires-clause-there : goal.remapped_values-requires-clause-there
 remapped_values-requires-clause-there c =
-    positions_remapped (addition_of c.args.adding.now) c.requires.valid c.requires.shaped c.requires.image c.args.new_ids.now.types (ap (λ (p : NewIds). p.types) c.requires.new_ids) (seen c.as_slice.result.now)
+    positions_remapped (addition_of c.args.addition.now) c.requires.valid c.requires.shaped c.requires.image c.args.new_ids.now.types (ap (λ (p : NewIds). p.types) c.requires.new_ids) (seen c.as_slice.result.now)
     (ap seen c.as_slice.ensures.value ∙ c.in_ok-functions.ensures)
 
 pub returns-clause-values : goal.returns-clause-values
 returns-clause-values c =
     IfOk-weaker c.remapped_values.result _ _
-    (λ values is. is (remap_of_addition (addition_of c.args.adding.now))
-    (is_remap (addition_of c.args.adding.now) c.requires.valid c.requires.shaped c.requires.image c.args.new_ids.now.types (ap (λ (p : NewIds). p.types) c.requires.new_ids) (seen c.as_slice.result.now)
+    (λ values is. is (remap_of_addition (addition_of c.args.addition.now))
+    (is_remap (addition_of c.args.addition.now) c.requires.valid c.requires.shaped c.requires.image c.args.new_ids.now.types (ap (λ (p : NewIds). p.types) c.requires.new_ids) (seen c.as_slice.result.now)
     (ap seen c.as_slice.ensures.value ∙ c.in_ok-functions.ensures))) c.remapped_values.ensures.values

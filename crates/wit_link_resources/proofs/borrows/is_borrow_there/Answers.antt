@@ -14,11 +14,11 @@ use Rattle.wit_link_resources.proofs.Where.{foreign_back}
 use Rattle.wit_link_resources.proofs.borrows.is_borrow_there.Goals as goal
 
 pub at-requires : goal.at-requires
-at-requires c = place-inside (addition_of c.args.adding.now) c.args.new_ids.now c.requires.new_ids c.args.index c.requires.there
+at-requires c = place-inside (addition_of c.args.addition.now) c.args.new_ids.now c.requires.new_ids c.args.index c.requires.there
 
 pub holds_borrow-requires-clause-there : goal.holds_borrow-requires-clause-there
 holds_borrow-requires-clause-there c =
-    let a : Addition = addition_of c.args.adding.now in
+    let a : Addition = addition_of c.args.addition.now in
     let taken : active_type_id a c.args.index ≡ Some c.in-Some.found = sym (place-is a c.args.new_ids.now c.requires.new_ids c.args.index c.at.result.now c.at.ensures) ∙ c.in-Some.is in
     let below : c.args.index < length a.unresolved.unknown_type_spans = let first = c.if-index-len.true in let len = c.len.ensures in omega arith in
     let back = foreign_back a c.requires.shaped c.args.index c.in-Some.found (lt-ltb c.args.index (length a.unresolved.unknown_type_spans) below) taken in
@@ -26,7 +26,7 @@ holds_borrow-requires-clause-there c =
 
 pub returns-in-Some-clause-holds : goal.returns-in-Some-clause-holds
 returns-in-Some-clause-holds c =
-    let a : Addition = addition_of c.args.adding.now in
+    let a : Addition = addition_of c.args.addition.now in
     let taken : active_type_id a c.args.index ≡ Some c.in-Some.found = sym (place-is a c.args.new_ids.now c.requires.new_ids c.args.index c.at.result.now c.at.ensures) ∙ c.in-Some.is in
     let below : c.args.index < length a.unresolved.unknown_type_spans = let first = c.if-index-len.true in let len = c.len.ensures in omega arith in
     let foreign : is_foreign_type a.unresolved c.args.index ≡ true = lt-ltb c.args.index (length a.unresolved.unknown_type_spans) below in
@@ -39,7 +39,7 @@ returns-in-Some-clause-holds c =
 
 pub returns-in-None-clause-holds : goal.returns-in-None-clause-holds
 returns-in-None-clause-holds c =
-    let a : Addition = addition_of c.args.adding.now in
+    let a : Addition = addition_of c.args.addition.now in
     let taken : active_type_id a c.args.index ≡ None = sym (place-is a c.args.new_ids.now c.requires.new_ids c.args.index c.at.result.now c.at.ensures) ∙ c.in-None.is in
     let below : c.args.index < length a.unresolved.unknown_type_spans = let first = c.if-index-len.true in let len = c.len.ensures in omega arith in
     let foreign : is_foreign_type a.unresolved c.args.index ≡ true = lt-ltb c.args.index (length a.unresolved.unknown_type_spans) below in
@@ -47,7 +47,7 @@ returns-in-None-clause-holds c =
 
 pub returns-else-index-len-clause-holds : goal.returns-else-index-len-clause-holds
 returns-else-index-len-clause-holds c =
-    let a : Addition = addition_of c.args.adding.now in
+    let a : Addition = addition_of c.args.addition.now in
     let its : is_foreign_type a.unresolved c.args.index ≡ false = le-ltb c.args.index (length a.unresolved.unknown_type_spans) (let past = c.if-index-len.false in let len = c.len.ensures in omega arith) in
     let def : TypeDef = c.at-else-index-len.result.now in (
       λ h. inl (borrow_here a.unresolved.types c.args.index def c.at-else-index-len.ensures (c.is_borrow.ensures.0 h)),

@@ -30,7 +30,7 @@ below a shaped id place keys rest stack is now =
 
 pub loop-place-init : goal.loop-place-init
 loop-place-init c =
-    let a : Addition = addition_of c.args.adding.now in
+    let a : Addition = addition_of c.args.addition.now in
     let is : c.push.new.self ≡ c.args.id ∷ [] = c.in_ok-push.ensures.ok ∙ (ap (λ (s : List ℕ). s ++ c.index.result ∷ []) c.new-stack.ensures ∙ ap (λ (k : ℕ). k ∷ []) c.index.ensures) in
     record {
       searching = subst (Search a c.args.id c.args.free.now.unresolved.keys) (sym is)
@@ -41,7 +41,7 @@ loop-place-init c =
 
 pub loop-place-preserved : goal.loop-place-preserved
 loop-place-preserved c =
-    let a : Addition = addition_of c.args.adding.now in
+    let a : Addition = addition_of c.args.addition.now in
     let keys : List ℕ = c.loop-place.free.unresolved.keys in
     let now : Search a c.args.id keys (c.pop.new.self ++ c.in-Some.place ∷ []) = subst (Search a c.args.id keys) c.in-Some.ensures.last c.loop-place.invariant.searching in
     let same = insert-same keys c.insert.new.self.keys c.in-Some.place c.in_ok-insert.field-0 c.in_ok-insert.ensures.added c.in_ok-insert.ensures.keys c.if-branch.false in
@@ -54,7 +54,7 @@ loop-place-preserved c =
 
 pub loop-place-smaller : goal.loop-place-smaller
 loop-place-smaller c =
-    let a : Addition = addition_of c.args.adding.now in
+    let a : Addition = addition_of c.args.addition.now in
     let rows : List (List ℕ) = type_contents a.unresolved.types in
     let keys : List ℕ = c.loop-place.free.unresolved.keys in
     let now : Search a c.args.id keys (c.pop.new.self ++ c.in-Some.place ∷ []) = subst (Search a c.args.id keys) c.in-Some.ensures.last c.loop-place.invariant.searching in
@@ -63,15 +63,15 @@ loop-place-smaller c =
 
 pub is_borrow_there-requires-clause-there : goal.is_borrow_there-requires-clause-there
 is_borrow_there-requires-clause-there c =
-    below (addition_of c.args.adding.now) c.requires.shaped c.args.id c.in-Some.place c.loop-place.free.unresolved.keys c.pop.new.self c.loop-place.stack c.in-Some.ensures.last c.loop-place.invariant.searching
+    below (addition_of c.args.addition.now) c.requires.shaped c.args.id c.in-Some.place c.loop-place.free.unresolved.keys c.pop.new.self c.loop-place.stack c.in-Some.ensures.last c.loop-place.invariant.searching
 
 pub at-requires : goal.at-requires
 at-requires c =
-    below (addition_of c.args.adding.now) c.requires.shaped c.args.id c.in-Some.place c.loop-place.free.unresolved.keys c.pop.new.self c.loop-place.stack c.in-Some.ensures.last c.loop-place.invariant.searching
+    below (addition_of c.args.addition.now) c.requires.shaped c.args.id c.in-Some.place c.loop-place.free.unresolved.keys c.pop.new.self c.loop-place.stack c.in-Some.ensures.last c.loop-place.invariant.searching
 
 pub returns-then-branch-2-clause-holds : goal.returns-then-branch-2-clause-holds
 returns-then-branch-2-clause-holds c =
-    let a : Addition = addition_of c.args.adding.now in
+    let a : Addition = addition_of c.args.addition.now in
     let keys : List ℕ = c.loop-place.free.unresolved.keys in
     let now : Search a c.args.id keys (c.pop.new.self ++ c.in-Some.place ∷ []) = subst (Search a c.args.id keys) c.in-Some.ensures.last c.loop-place.invariant.searching in (
       λ h. may_hold a c.args.id (search-bad (type_contents a.unresolved.types) (IsBorrowThere a) (rows_acyclic a c.requires.shaped) c.args.id c.in-Some.place keys c.pop.new.self now
@@ -81,7 +81,7 @@ returns-then-branch-2-clause-holds c =
 
 pub loop-place-smaller-in-Continue-branch-4 : goal.loop-place-smaller-in-Continue-branch-4
 loop-place-smaller-in-Continue-branch-4 c =
-    let a : Addition = addition_of c.args.adding.now in
+    let a : Addition = addition_of c.args.addition.now in
     let rows : List (List ℕ) = type_contents a.unresolved.types in
     let keys : List ℕ = c.loop-place.free.unresolved.keys in
     let now : Search a c.args.id keys (c.pop.new.self ++ c.in-Some.place ∷ []) = subst (Search a c.args.id keys) c.in-Some.ensures.last c.loop-place.invariant.searching in
@@ -93,7 +93,7 @@ loop-place-smaller-in-Continue-branch-4 c =
 
 pub loop-place-preserved-in-Continue-branch-4 : goal.loop-place-preserved-in-Continue-branch-4
 loop-place-preserved-in-Continue-branch-4 c =
-    let a : Addition = addition_of c.args.adding.now in
+    let a : Addition = addition_of c.args.addition.now in
     let rows : List (List ℕ) = type_contents a.unresolved.types in
     let keys : List ℕ = c.loop-place.free.unresolved.keys in
     let now : Search a c.args.id keys (c.pop.new.self ++ c.in-Some.place ∷ []) = subst (Search a c.args.id keys) c.in-Some.ensures.last c.loop-place.invariant.searching in
@@ -110,14 +110,14 @@ loop-place-preserved-in-Continue-branch-4 c =
 
 pub returns-clause-holds : goal.returns-clause-holds
 returns-clause-holds c =
-    let a : Addition = addition_of c.args.adding.now in
+    let a : Addition = addition_of c.args.addition.now in
     let keys : List ℕ = c.loop-place.free.unresolved.keys in
     let done : Search a c.args.id keys [] = subst (Search a c.args.id keys) c.in_default.ensures.empty c.loop-place.invariant.searching in
     (λ h. absurd (false≢true h), λ holds. absurd (search-none (type_contents a.unresolved.types) (IsBorrowThere a) (rows_acyclic a c.requires.shaped) c.args.id keys done (may_hold_back a c.args.id holds)))
 
 pub returns-clause-unresolved : goal.returns-clause-unresolved
 returns-clause-unresolved c = λ h.
-    let a : Addition = addition_of c.args.adding.now in
+    let a : Addition = addition_of c.args.addition.now in
     let keys : List ℕ = c.loop-place.free.unresolved.keys in
     let done : Search a c.args.id keys [] = subst (Search a c.args.id keys) c.in_default.ensures.empty c.loop-place.invariant.searching in
     search-free (type_contents a.unresolved.types) (IsBorrowThere a) (rows_acyclic a c.requires.shaped) c.args.id keys done

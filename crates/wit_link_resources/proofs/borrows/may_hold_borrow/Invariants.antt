@@ -9,9 +9,9 @@ use Rattle.wit_link_resources.proofs.borrows.may_hold_borrow.Given as goal
 
 abbrev pub invariant-loop-place : goal.invariant-loop-place
 invariant-loop-place l = record {
-  searching : IsSearching (type_contents l.adding.unresolved.now.types) (IsBorrowThere (addition_of l.adding)) l.fn.id l.free.unresolved.keys l.stack;
-  graph : AreFreeTypes l.adding.graph.now.types l.free.graph.keys;
+  searching : IsSearching (type_contents l.addition.unresolved.now.types) (IsBorrowThere (addition_of l.addition)) l.fn.id l.free.unresolved.keys l.stack;
+  graph : AreFreeTypes l.addition.graph.now.types l.free.graph.keys;
 }
 
 abbrev pub decreases-loop-place : goal.decreases-loop-place
-decreases-loop-place l = length (flat_map (post_order (type_contents l.adding.unresolved.now.types)) l.stack)
+decreases-loop-place l = length (flat_map (post_order (type_contents l.addition.unresolved.now.types)) l.stack)

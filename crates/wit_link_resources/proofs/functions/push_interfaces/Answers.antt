@@ -11,12 +11,12 @@ use Rattle.wit_link_resources.proofs.functions.push_interfaces.Goals as goal
 
 pub at-requires : goal.at-requires
 at-requires c =
-    interface-inside (addition_of c.args.adding.now) c.args.activity.now c.requires c.loop-index.index (lent_below c.args.adding.now.unresolved.now.interfaces c.as_slice-interface-items.result.now c.loop-index.index c.as_slice-interface-items.ensures c.loop-index-test.true)
+    interface-inside (addition_of c.args.addition.now) c.args.activity.now c.requires c.loop-index.index (lent_below c.args.addition.now.unresolved.now.interfaces c.as_slice-interface-items.result.now c.loop-index.index c.as_slice-interface-items.ensures c.loop-index-test.true)
 
 pub loop-index-preserved : goal.loop-index-preserved
 loop-index-preserved c =
-    let a : Addition = addition_of c.args.adding.now in
-    let at = lent_at c.args.adding.now.unresolved.now.interfaces c.as_slice-interface-items.result.now c.loop-index.index c.as_slice-interface-items.ensures c.loop-index-test.true c.interface-item.result c.interface-item.is in
+    let a : Addition = addition_of c.args.addition.now in
+    let at = lent_at c.args.addition.now.unresolved.now.interfaces c.as_slice-interface-items.result.now c.loop-index.index c.as_slice-interface-items.ensures c.loop-index-test.true c.interface-item.result c.interface-item.is in
     let flag = sym (interface-flag a c.args.activity.now c.requires c.loop-index.index c.at.result.now c.at.ensures) in
     elim c.if-at.branch [
       | then-at+in_ok-push_named w ↦
@@ -30,7 +30,7 @@ loop-index-preserved c =
 
 pub returns : goal.returns
 returns c =
-    let a : Addition = addition_of c.args.adding.now in
+    let a : Addition = addition_of c.args.addition.now in
     let last : c.loop-index.index ≡ length a.unresolved.interfaces =
     let past = c.loop-index-test.false in let within = c.loop-index.auto.index-end in let long = ap length c.as_slice-interface-items.ensures in omega arith in
     c.loop-index.invariant ∙ ap (λ (m : ℕ). seen c.args.functions.now.items ++ flat_map (interface_functions a) (range_with_len 0 m)) last

@@ -12,13 +12,13 @@ use Rattle.wit_link_resources.proofs.required.check_required.Goals as goal
 
 pub at-requires : goal.at-requires
 at-requires c =
-    let a : Addition = addition_of c.args.adding.now in
+    let a : Addition = addition_of c.args.addition.now in
     let there = required_is_foreign a c.requires.shaped c.args.id c.args.span c.requires.required in
     subst (λ (k : ℕ). k < length c.args.new_ids.now.types) (sym c.index.ensures) (place-inside a c.args.new_ids.now c.requires.new_ids c.args.id there.0)
 
 pub returns-in_default-clause-ok : goal.returns-in_default-clause-ok
 returns-in_default-clause-ok c = λ t' active found.
-    let a : Addition = addition_of c.args.adding.now in
+    let a : Addition = addition_of c.args.addition.now in
     let there = required_is_foreign a c.requires.shaped c.args.id c.args.span c.requires.required in
     let taken : active_type_id a c.args.id ≡ None =
     sym (place-is a c.args.new_ids.now c.requires.new_ids c.args.id c.at.result.now (subst (λ (k : ℕ). slice_get c.args.new_ids.now.types k ≡ Some c.at.result.now) c.index.ensures c.at.ensures)) ∙ c.in_default.is in
@@ -27,7 +27,7 @@ returns-in_default-clause-ok c = λ t' active found.
 
 pub leads_to_resource-requires-clause-there : goal.leads_to_resource-requires-clause-there
 leads_to_resource-requires-clause-there c =
-    let a : Addition = addition_of c.args.adding.now in
+    let a : Addition = addition_of c.args.addition.now in
     let there = required_is_foreign a c.requires.shaped c.args.id c.args.span c.requires.required in
     let taken : active_type_id a c.args.id ≡ Some c.in-Some.found =
     sym (place-is a c.args.new_ids.now c.requires.new_ids c.args.id c.at.result.now (subst (λ (k : ℕ). slice_get c.args.new_ids.now.types k ≡ Some c.at.result.now) c.index.ensures c.at.ensures)) ∙ c.in-Some.is in
@@ -36,7 +36,7 @@ leads_to_resource-requires-clause-there c =
 
 pub returns-then-leads-clause-ok : goal.returns-then-leads-clause-ok
 returns-then-leads-clause-ok c = λ t' active found.
-    let a : Addition = addition_of c.args.adding.now in
+    let a : Addition = addition_of c.args.addition.now in
     let there = required_is_foreign a c.requires.shaped c.args.id c.args.span c.requires.required in
     let taken : active_type_id a c.args.id ≡ Some c.in-Some.found =
     sym (place-is a c.args.new_ids.now c.requires.new_ids c.args.id c.at.result.now (subst (λ (k : ℕ). slice_get c.args.new_ids.now.types k ≡ Some c.at.result.now) c.index.ensures c.at.ensures)) ∙ c.in-Some.is in
@@ -47,7 +47,7 @@ returns-then-leads-clause-ok c = λ t' active found.
 
 pub returns-clause-cause : goal.returns-clause-cause
 returns-clause-cause c =
-    let a : Addition = addition_of c.args.adding.now in
+    let a : Addition = addition_of c.args.addition.now in
     let there = required_is_foreign a c.requires.shaped c.args.id c.args.span c.requires.required in
     let taken : active_type_id a c.args.id ≡ Some c.in-Some.found =
     sym (place-is a c.args.new_ids.now c.requires.new_ids c.args.id c.at.result.now (subst (λ (k : ℕ). slice_get c.args.new_ids.now.types k ≡ Some c.at.result.now) c.index.ensures c.at.ensures)) ∙ c.in-Some.is in

@@ -13,17 +13,17 @@ pub loop-id-preserved : goal.loop-id-preserved
 loop-id-preserved c =
     record {
       fine = below_more _ _ c.loop-id.invariant.fine (λ r at.
-          let required = c.args.adding.now.unresolved.now.required_resource_types in
+          let required = c.args.addition.now.unresolved.now.required_resource_types in
           let there = lent_at required c.as_slice-id-items.result.now c.loop-id.id-index c.as_slice-id-items.ensures c.loop-id-test.true c.loop-id-item.result c.loop-id-item.is in
           let same = same_at required c.loop-id.id-index c.loop-id.id-index c.loop-id-item.result r refl there at in
-          subst (λ (x : ℕ × OptionalSpan). LeadsWhereFound (addition_of c.args.adding.now) x.0) same c.in_ok-check_required.ensures.ok);
+          subst (λ (x : ℕ × OptionalSpan). LeadsWhereFound (addition_of c.args.addition.now) x.0) same c.in_ok-check_required.ensures.ok);
       met = c.in_ok-check_required.ensures.met;
       begins = begins_then c.args.met.now c.loop-id.met _ c.loop-id.invariant.begins c.in_ok-check_required.ensures.begins;
     }
 
 pub returns-clause-resources : goal.returns-clause-resources
 returns-clause-resources c = λ span message is.
-    let required = c.args.adding.now.unresolved.now.required_resource_types in
+    let required = c.args.addition.now.unresolved.now.required_resource_types in
     let at = place_of required (is.t, is.place) is.required in
     let within : at.0 < length required = slice_get_within required at.0 (is.t, is.place) at.1 in
     let below : at.0 < c.loop-id.id-index = let past = c.loop-id-test.false in let long = ap length c.as_slice-id-items.ensures in omega arith in
@@ -41,5 +41,5 @@ check_required-requires-clause-met c = c.loop-id.invariant.met
 
 pub check_required-requires-clause-required : goal.check_required-requires-clause-required
 check_required-requires-clause-required c =
-    let required = c.args.adding.now.unresolved.now.required_resource_types in
+    let required = c.args.addition.now.unresolved.now.required_resource_types in
     contained_at required c.loop-id.id-index c.loop-id-item.result (lent_at required c.as_slice-id-items.result.now c.loop-id.id-index c.as_slice-id-items.ensures c.loop-id-test.true c.loop-id-item.result c.loop-id-item.is)

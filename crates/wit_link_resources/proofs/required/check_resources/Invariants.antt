@@ -7,7 +7,7 @@ use Rattle.wit_link_resources.proofs.required.check_resources.Given as goal
 -- the first ones are fine, and what is noted is right
 abbrev pub invariant-loop-id : goal.invariant-loop-id
 invariant-loop-id l = record {
-  fine : (k : ℕ) → k < l.id-index → (r : ℕ × OptionalSpan) → slice_get l.adding.unresolved.now.required_resource_types k ≡ Some r → LeadsWhereFound (addition_of l.adding) r.0;
-  met : AreRight l.adding.graph.now.types l.met;
+  fine : (k : ℕ) → k < l.id-index → (r : ℕ × OptionalSpan) → slice_get l.addition.unresolved.now.required_resource_types k ≡ Some r → LeadsWhereFound (addition_of l.addition) r.0;
+  met : AreRight l.addition.graph.now.types l.met;
   begins : take (length l.fn.met) l.met ≡ l.fn.met;
 }

@@ -34,10 +34,10 @@ returned ids o id is some = sym is ∙ ap (λ (x : Option ℕ). option_to_list x
 pub may_hold_borrow-requires-clause-there : goal.may_hold_borrow-requires-clause-there
 may_hold_borrow-requires-clause-there c =
     let one = returned (named_option c.args.function.now.result_) c.result_type.result c.in-Some.id c.result_type.ensures c.in-Some.is in
-    returned_there (addition_of c.args.adding.now) c.requires.shaped c.requires.image c.args.function.now c.requires.active c.in-Some.id (subst (λ (us : List ℕ). Contains us c.in-Some.id) (sym one) (Contains-here c.in-Some.id []))
+    returned_there (addition_of c.args.addition.now) c.requires.shaped c.requires.image c.args.function.now c.requires.active c.in-Some.id (subst (λ (us : List ℕ). Contains us c.in-Some.id) (sym one) (Contains-here c.in-Some.id []))
 
 pub returns-then-branch-clause-cause : goal.returns-then-branch-clause-cause
 returns-then-branch-clause-cause c =
     let one = returned (named_option c.args.function.now.result_) c.result_type.result c.in-Some.id c.result_type.ensures c.in-Some.is in
-    inr (borrow_cause (addition_of c.args.adding.now) c.args.function.now c.in-Some.id c.in_ok-borrow_in_result.field-0 c.requires.active
+    inr (borrow_cause (addition_of c.args.addition.now) c.args.function.now c.in-Some.id c.in_ok-borrow_in_result.field-0 c.requires.active
     (subst (λ (us : List ℕ). Contains us c.in-Some.id) (sym one) (Contains-here c.in-Some.id [])) (c.in_ok-may_hold_borrow.ensures.holds.0 c.if-branch.true) c.in_ok-borrow_in_result.ensures)

@@ -12,7 +12,7 @@ use Rattle.wit_link_resources.proofs.results.check_results.Goals as goal
 
 pub check_result-requires-clause-active : goal.check_result-requires-clause-active
 check_result-requires-clause-active c =
-    let a : Addition = addition_of c.args.adding.now in
+    let a : Addition = addition_of c.args.addition.now in
     let items : List (Bor Function) = c.deref-function-items.result.now in
     let i : ℕ = c.loop-function.function-index in
     let at : slice_get items i ≡ Some c.function-item.result = slice_get-get_or items i c.function-item.result c.loop-function-test.true ∙ ap Some (sym c.function-item.is) in
@@ -21,7 +21,7 @@ check_result-requires-clause-active c =
 
 pub loop-function-preserved : goal.loop-function-preserved
 loop-function-preserved c =
-    let a : Addition = addition_of c.args.adding.now in
+    let a : Addition = addition_of c.args.addition.now in
     let items : List (Bor Function) = c.deref-function-items.result.now in
     let i : ℕ = c.loop-function.function-index in
     let at : slice_get items i ≡ Some c.function-item.result = slice_get-get_or items i c.function-item.result c.loop-function-test.true ∙ ap Some (sym c.function-item.is) in
@@ -33,7 +33,7 @@ loop-function-preserved c =
 
 pub returns-clause-no_borrow : goal.returns-clause-no_borrow
 returns-clause-no_borrow c = λ span message is.
-    let a : Addition = addition_of c.args.adding.now in
+    let a : Addition = addition_of c.args.addition.now in
     let items : List (Bor Function) = c.deref-function-items.result.now in
     let are : seen items ≡ active_functions a = ap seen c.deref-function-items.ensures.value ∙ c.in_ok-functions.ensures in
     let from = Contains-map_cases (λ (f : Bor Function). f.now) items is.f (subst (λ (fs : List Function). Contains fs is.f) (sym are) (active_in a is.f is.active)) in

@@ -13,14 +13,14 @@ use Rattle.wit_merge.proofs.interfaces.joined_interfaces.Goals as goal
 
 pub joined_list-requires-clause-joining : goal.joined_list-requires-clause-joining
 joined_list-requires-clause-joining c x x' from into at found there =
-    interfaces_join c.args.uniting.now c.requires x x' from into at (sym (c.requires.matches.interfaces.each x) ∙ found) there
+    interfaces_join c.args.plan.now c.requires x x' from into at (sym (c.requires.matches.interfaces.each x) ∙ found) there
 
 pub joined_list-requires-clause-moving : goal.joined_list-requires-clause-moving
-joined_list-requires-clause-moving c x from at moves = interfaces_move c.args.uniting.now c.requires x from at
+joined_list-requires-clause-moving c x from at moves = interfaces_move c.args.plan.now c.requires x from at
 
 pub returns : goal.returns
 returns c =
-    let u = c.args.uniting.now in
+    let u = c.args.plan.now in
     let m = merging_of u in
     let image = λ (e : ℕ × Interface). interface_image (merge_maps m) e.1 in
     let same =

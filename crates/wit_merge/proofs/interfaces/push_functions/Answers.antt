@@ -15,7 +15,7 @@ Named = List ℕ × Function
 
 pub loop-name-init : goal.loop-name-init
 loop-name-init c =
-    let m = merging_of c.args.uniting.now in
+    let m = merging_of c.args.plan.now in
     let whole = c.into_iter-name-iterator.ensures.into_iter_gives ∙ c.iter-name-items.ensures.rest in
     record {
       all = ap (λ (l : List Named). c.args.into.now ++ functions_image m (brought_matched c.args.known.now l)) whole;
@@ -29,7 +29,7 @@ moved_function-requires-clause-moves c =
 
 pub push-requires : goal.push-requires
 push-requires c =
-    let m = merging_of c.args.uniting.now in
+    let m = merging_of c.args.plan.now in
     let known = c.args.known.now in
     let whole = c.args.into.now ++ functions_image m (brought_matched known c.args.from.now) in
     let e : Named = (c.in-Some.name.now, c.in-Some.function.now) in
@@ -42,7 +42,7 @@ push-requires c =
 
 pub loop-name-preserved-in_ok-push : goal.loop-name-preserved-in_ok-push
 loop-name-preserved-in_ok-push c =
-    let m = merging_of c.args.uniting.now in
+    let m = merging_of c.args.plan.now in
     let known = c.args.known.now in
     let whole = c.args.into.now ++ functions_image m (brought_matched known c.args.from.now) in
     let e : Named = (c.in-Some.name.now, c.in-Some.function.now) in
@@ -57,7 +57,7 @@ loop-name-preserved-in_ok-push c =
 
 pub loop-name-preserved : goal.loop-name-preserved
 loop-name-preserved c =
-    let m = merging_of c.args.uniting.now in
+    let m = merging_of c.args.plan.now in
     let known = c.args.known.now in
     let whole = c.args.into.now ++ functions_image m (brought_matched known c.args.from.now) in
     let e : Named = (c.in-Some.name.now, c.in-Some.function.now) in
@@ -71,7 +71,7 @@ loop-name-preserved c =
 
 pub returns : goal.returns
 returns c =
-    let m = merging_of c.args.uniting.now in
+    let m = merging_of c.args.plan.now in
     let known = c.args.known.now in
     let image = λ (d : Named). let r : Named = (d.0, function_image (merge_maps m) d.1) in r in
     none_left image (λ (d : Named). not (is_some (lookup (bytes_eq d.0) known))) c.loop-name.into _ (c.args.into.now ++ functions_image m (brought_matched known c.args.from.now)) c.in-None.ensures.steps.0

@@ -20,8 +20,8 @@ Listed = PackageName × ℕ
 
 pub loop-name-init : goal.loop-name-init
 loop-name-init c =
-    let m = merging_of c.args.uniting.now in
-    let other = c.args.uniting.now.other.now in
+    let m = merging_of c.args.plan.now in
+    let other = c.args.plan.now.other.now in
     let whole = c.into_iter-name-iterator.ensures.into_iter_gives ∙ c.iter-name-items.ensures.rest in
     record {
       all = (λ j. c.in_ok-names.ensures j ++ brought_names m (whole j));
@@ -33,7 +33,7 @@ loop-name-init c =
 
 pub push-requires : goal.push-requires
 push-requires c =
-    let u = c.args.uniting.now in
+    let u = c.args.plan.now in
     let m = merging_of u in
     let whole = u.graph.now.package_names ++ brought_names m u.other.now.package_names in
     let e : Listed = (c.in-Some.name.now, c.in-Some.id.now) in
@@ -45,7 +45,7 @@ push-requires c =
 
 pub loop-name-preserved-in_ok-push : goal.loop-name-preserved-in_ok-push
 loop-name-preserved-in_ok-push c =
-    let u = c.args.uniting.now in
+    let u = c.args.plan.now in
     let m = merging_of u in
     let whole = u.graph.now.package_names ++ brought_names m u.other.now.package_names in
     let e : Listed = (c.in-Some.name.now, c.in-Some.id.now) in
@@ -60,7 +60,7 @@ loop-name-preserved-in_ok-push c =
 
 pub loop-name-preserved : goal.loop-name-preserved
 loop-name-preserved c =
-    let u = c.args.uniting.now in
+    let u = c.args.plan.now in
     let m = merging_of u in
     let whole = u.graph.now.package_names ++ brought_names m u.other.now.package_names in
     let e : Listed = (c.in-Some.name.now, c.in-Some.id.now) in
@@ -73,7 +73,7 @@ loop-name-preserved c =
 
 pub returns : goal.returns
 returns c =
-    let u = c.args.uniting.now in
+    let u = c.args.plan.now in
     let m = merging_of u in
     let image = λ (d : Listed). let r : Listed = (d.0, merged_package m d.1) in r in
     none_left image (λ (d : Listed). moves_package m d.1) c.loop-name.names _ (u.graph.now.package_names ++ brought_names m u.other.now.package_names) c.in-None.ensures.steps.0 c.loop-name.invariant.all

@@ -7,6 +7,6 @@ use Rattle.wit_merge.proofs.packages.joined_names.Given as goal
 -- what has been added, and what those will add that are left, whose packages are there
 abbrev pub invariant-loop-name : goal.invariant-loop-name
 invariant-loop-name l = record {
-  all : l.names ++ brought_names (merging_of l.uniting) l.name-iterator ≡ l.uniting.graph.now.package_names ++ brought_names (merging_of l.uniting) l.uniting.other.now.package_names;
-  there : (e : PackageName × ℕ) → Contains l.name-iterator e → e.1 < length l.uniting.other.now.packages;
+  all : l.names ++ brought_names (merging_of l.plan) l.name-iterator ≡ l.plan.graph.now.package_names ++ brought_names (merging_of l.plan) l.plan.other.now.package_names;
+  there : (e : PackageName × ℕ) → Contains l.name-iterator e → e.1 < length l.plan.other.now.packages;
 }

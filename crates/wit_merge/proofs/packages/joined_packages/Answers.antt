@@ -12,16 +12,16 @@ use Rattle.wit_merge.proofs.packages.joined_packages.Goals as goal
 
 pub joined_list-requires-clause-joining : goal.joined_list-requires-clause-joining
 joined_list-requires-clause-joining c x x' from into at found there =
-    packages_join c.args.uniting.now c.requires x x' from into at (sym (c.requires.matches.packages.each x) ∙ found) there
+    packages_join c.args.plan.now c.requires x x' from into at (sym (c.requires.matches.packages.each x) ∙ found) there
 
 pub joined_list-requires-clause-moving : goal.joined_list-requires-clause-moving
 joined_list-requires-clause-moving c x from at moves =
-    let u = c.args.uniting.now in
+    let u = c.args.plan.now in
     packages_move u c.requires x from at ((λ j. sym (moves_is (counterpart_package (merging_of u)) _ u.matches.now.packages c.requires.matches.packages) j x) ∙ moves)
 
 pub returns : goal.returns
 returns c =
-    let u = c.args.uniting.now in
+    let u = c.args.plan.now in
     let m = merging_of u in
     let same =
     united_is (counterpart_package m) _ u.matches.now.packages c.requires.matches.packages (λ (p : ℕ × Package). with_package m p.1) (λ (e : ℕ × Package). package_image m e.1) u.other.now.packages u.graph.now.packages

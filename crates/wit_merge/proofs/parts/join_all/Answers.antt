@@ -10,7 +10,7 @@ use Rattle.wit_merge.proofs.parts.join_all.Goals as goal
 
 pub loop-index-init : goal.loop-index-init
 loop-index-init g c =
-    let made = λ (e : ℕ × g.row.T.Denot). option_map_or (λ (p : ℕ × g.row.T.Denot). g.T.Part.union (merging_of c.args.uniting.now) p e.1) (counterpart_of (λ x. get_or c.args.found.now x None) c.args.others.now e.0) e.1 in
+    let made = λ (e : ℕ × g.row.T.Denot). option_map_or (λ (p : ℕ × g.row.T.Denot). g.T.Part.union (merging_of c.args.plan.now) p e.1) (counterpart_of (λ x. get_or c.args.found.now x None) c.args.others.now e.0) e.1 in
     ap (λ l. l ++ map made (behind c.args.ours.now 0)) c.new-made.ensures ∙ ap (map made) (all_behind c.args.ours.now)
 
 pub at-place-requires : goal.at-place-requires
@@ -29,7 +29,7 @@ loop-index-preserved g c =
     let others = c.args.others.now in
     let found = c.args.found.now in
     let k : ℕ = c.loop-index.index in
-    let union = λ (into : g.row.T.Denot). λ (p : ℕ × g.row.T.Denot). g.T.Part.union (merging_of c.args.uniting.now) p into in
+    let union = λ (into : g.row.T.Denot). λ (p : ℕ × g.row.T.Denot). g.T.Part.union (merging_of c.args.plan.now) p into in
     let made = λ (e : ℕ × g.row.T.Denot). option_map_or (union e.1) (counterpart_of (λ x. get_or found x None) others e.0) e.1 in
     let told : c.at-place.result.now ≡ first_from 0 found k = range-read (first_from 0 found) c.len.result k c.in_ok-counterparts.counterparts c.at-place.result.now c.in_ok-counterparts.ensures c.at-place.ensures in
     let into = c.at-into.result.now in
@@ -38,6 +38,6 @@ loop-index-preserved g c =
 
 pub returns : goal.returns
 returns g c =
-    let made = λ (e : ℕ × g.row.T.Denot). option_map_or (λ (p : ℕ × g.row.T.Denot). g.T.Part.union (merging_of c.args.uniting.now) p e.1) (counterpart_of (λ x. get_or c.args.found.now x None) c.args.others.now e.0) e.1 in
+    let made = λ (e : ℕ × g.row.T.Denot). option_map_or (λ (p : ℕ × g.row.T.Denot). g.T.Part.union (merging_of c.args.plan.now) p e.1) (counterpart_of (λ x. get_or c.args.found.now x None) c.args.others.now e.0) e.1 in
     let past : length c.args.ours.now ≤ c.loop-index.index = let over = c.loop-index-test.false in let long = c.len-index-end.ensures in omega arith in
     made_all c.args.ours.now made c.loop-index.index c.loop-index.made (map made (enumerate_from 0 c.args.ours.now)) past c.loop-index.invariant

@@ -9,13 +9,13 @@ use Rattle.wit_merge.proofs.parts.move_all.Goals.{then-moves+in_ok-moved+in_ok-p
 
 pub loop-index-init : goal.loop-index-init
 loop-index-init g c =
-    let image = g.T.Part.image (merging_of c.args.uniting.now) in
+    let image = g.T.Part.image (merging_of c.args.plan.now) in
     let kept = moves c.args.found.now in
     ap (λ l. l ++ map image (kept_behind c.args.others.now kept 0)) c.new-made.ensures ∙ ap (λ es. map image (filter (λ e. kept e.0) es)) (all_behind c.args.others.now)
 
 pub loop-index-preserved : goal.loop-index-preserved
 loop-index-preserved g c =
-    let image = g.T.Part.image (merging_of c.args.uniting.now) in
+    let image = g.T.Part.image (merging_of c.args.plan.now) in
     let kept = moves c.args.found.now in
     let others = c.args.others.now in
     let k : ℕ = c.loop-index.index in
@@ -34,6 +34,6 @@ loop-index-preserved g c =
 
 pub returns : goal.returns
 returns g c =
-    let image = g.T.Part.image (merging_of c.args.uniting.now) in
+    let image = g.T.Part.image (merging_of c.args.plan.now) in
     let past : length c.args.others.now ≤ c.loop-index.index = let over = c.loop-index-test.false in let long = ap length c.as_slice-other-items.ensures in omega arith in
     kept_all c.args.others.now image (moves c.args.found.now) c.loop-index.index c.loop-index.made (map image (selected_with_index (moves c.args.found.now) c.args.others.now)) past c.loop-index.invariant

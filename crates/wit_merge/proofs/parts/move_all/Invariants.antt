@@ -7,4 +7,4 @@ use Rattle.wit_merge.proofs.parts.move_all.Given as goal
 
 -- those so far, and those behind that move
 abbrev pub invariant-loop-index : goal.invariant-loop-index
-invariant-loop-index g l = l.made ++ map (g.T.Part.image (merging_of l.uniting)) (kept_behind l.others (moves l.found) l.index) ≡ map (g.T.Part.image (merging_of l.uniting)) (selected_with_index (moves l.found) l.others)
+invariant-loop-index g l = l.made ++ map (g.T.Part.image (merging_of l.plan)) (kept_behind l.others (moves l.found) l.index) ≡ map (g.T.Part.image (merging_of l.plan)) (selected_with_index (moves l.found) l.others)

@@ -11,7 +11,7 @@ use Rattle.wit_merge.proofs.results.check_results.Goals as goal
 
 pub check_result-requires-clause-moved : goal.check_result-requires-clause-moved
 check_result-requires-clause-moved c =
-    let m : GraphMerge = merging_of c.args.uniting.now in
+    let m : GraphMerge = merging_of c.args.plan.now in
     let items : List (Bor Function) = c.deref-function-items.result.now in
     let i : ℕ = c.loop-function.function-index in
     let at : slice_get items i ≡ Some c.function-item.result = slice_get-get_or items i c.function-item.result c.loop-function-test.true ∙ ap Some (sym c.function-item.is) in
@@ -20,7 +20,7 @@ check_result-requires-clause-moved c =
 
 pub loop-function-preserved : goal.loop-function-preserved
 loop-function-preserved c =
-    let m : GraphMerge = merging_of c.args.uniting.now in
+    let m : GraphMerge = merging_of c.args.plan.now in
     let items : List (Bor Function) = c.deref-function-items.result.now in
     let i : ℕ = c.loop-function.function-index in
     let at : slice_get items i ≡ Some c.function-item.result = slice_get-get_or items i c.function-item.result c.loop-function-test.true ∙ ap Some (sym c.function-item.is) in
@@ -31,7 +31,7 @@ loop-function-preserved c =
 
 pub returns-clause-none : goal.returns-clause-none
 returns-clause-none c = λ message is.
-    let m : GraphMerge = merging_of c.args.uniting.now in
+    let m : GraphMerge = merging_of c.args.plan.now in
     let items : List (Bor Function) = c.deref-function-items.result.now in
     let are : seen items ≡ moved_functions m = ap seen c.deref-function-items.ensures.value ∙ c.in_ok-functions.ensures in
     let from = Contains-map_cases (λ (f : Bor Function). f.now) items is.f (subst (λ (fs : List Function). Contains fs is.f) (sym are) is.moved) in

@@ -8,6 +8,6 @@ use Rattle.wit_merge.proofs.results.check_results.Given as goal
 abbrev pub invariant-loop-function : goal.invariant-loop-function
 invariant-loop-function l = record {
   -- the first ones return none
-  none : (k : ℕ) → k < l.function-index → (f : Bor Function) → slice_get l.function-items k ≡ Some f → ReturnsFree (merging_of l.uniting) f.now;
+  none : (k : ℕ) → k < l.function-index → (f : Bor Function) → slice_get l.function-items k ≡ Some f → ReturnsFree (merging_of l.plan) f.now;
   free : AreFreeTypes l.types l.free.keys;
 }

@@ -12,11 +12,11 @@ use Rattle.wit_merge.proofs.UnitedIs.{united_is, without_places}
 use Rattle.wit_merge.proofs.types.joined_types.Goals as goal
 
 pub joined_list-requires-clause-moving : goal.joined_list-requires-clause-moving
-joined_list-requires-clause-moving c x from at moves = types_move c.args.uniting.now c.requires.ready x from at
+joined_list-requires-clause-moving c x from at moves = types_move c.args.plan.now c.requires.ready x from at
 
 pub returns : goal.returns
 returns c =
-    let u = c.args.uniting.now in
+    let u = c.args.plan.now in
     let m = merging_of u in
     let image = λ (e : ℕ × TypeDef). type_image (merge_maps m) e.1 in
     let kept = map (joined_type m) (enumerate_from 0 u.graph.now.types) in

@@ -21,10 +21,10 @@ loop-command-preserved c =
     let longer : string_bytes c.push_str.new.self ≡ string_bytes c.loop-command.answers ++ string_bytes c.in_ok-answer.answer =
     c.in_ok-push_str.ensures.bytes ∙ ap (λ (t : List ℕ). string_bytes c.loop-command.answers ++ t) c.deref.ensures in
     record {
-      entries_by_answer =
+      answered =
           subst (λ (t : List ℕ). AnswersAll Run IsChoice (only_first new_state) (c.loop-command.yielded ++ c.in-Some.command ∷ []) t c.answer_to.new.stage) (sym longer)
           (AnswersAll-more Run IsChoice (only_first new_state) c.loop-command.stage c.answer_to.new.stage c.loop-command.yielded c.in-Some.command
-          (string_bytes c.loop-command.answers) (string_bytes c.in_ok-answer.answer) c.loop-command.invariant.entries_by_answer c.in_ok-answer.ensures);
+          (string_bytes c.loop-command.answers) (string_bytes c.in_ok-answer.answer) c.loop-command.invariant.answered c.in_ok-answer.ensures);
       come =
           others-come Run IsChoice c.loop-command.stage c.answer_to.new.stage c.in-Some.command (into_iter_items c.next.new.self) (string_bytes c.in_ok-answer.answer) c.in_ok-answer.ensures
           (subst (λ (l : List ScriptCommand). CanAllBeAsked l (is_some c.loop-command.stage.second)) left c.loop-command.invariant.come);

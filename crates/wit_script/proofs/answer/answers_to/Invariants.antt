@@ -9,6 +9,6 @@ use Rattle.wit_script.proofs.answer.answers_to.Given as goal
 -- the answers so far, and the commands that are left can be asked
 abbrev pub invariant-loop-command : goal.invariant-loop-command
 invariant-loop-command l = record {
-  entries_by_answer : AnswersAll Run IsChoice (only_first new_state) l.yielded (string_bytes l.answers) l.stage;
+  answered : AnswersAll Run IsChoice (only_first new_state) l.yielded (string_bytes l.answers) l.stage;
   come : CanAllBeAsked (into_iter_items l.command-iterator) (is_some l.stage.second);
 }

@@ -5,4 +5,4 @@ use Rattle.wit_script.proofs.answer.replies_text.Given as goal
 
 -- the lines so far
 abbrev pub invariant-loop-reply : goal.invariant-loop-reply
-invariant-loop-reply l = string_bytes l.text ≡ flat_map (line_of l.telling l.resolve.graph) (take l.reply-index l.replies)
+invariant-loop-reply l = string_bytes l.text ≡ flat_map (line_of l.style l.resolve.graph) (take l.reply-index l.replies)

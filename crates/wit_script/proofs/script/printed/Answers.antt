@@ -17,7 +17,7 @@ returns-in_ok-answers_to-in-Ok-read_script-clause-ok c =
       commands = c.in-Ok-read_script.commands;
       understood = subst (λ (text : List ℕ). IsUnderstood text c.in-Ok-read_script.commands) same c.in-Ok-read_script.ensures.ok;
       after = c.in_ok-answers_to-in-Ok-read_script.ensures.0;
-      entries_by_answer = c.in_ok-answers_to-in-Ok-read_script.ensures.1;
+      answered = c.in_ok-answers_to-in-Ok-read_script.ensures.1;
     }
 
 pub returns-in_ok-format-in-Err-NotUnderstood-clause-ok :

@@ -50,32 +50,32 @@ new-requires-clause-in_range c =
 pub returns-in_err-check_functions-clause-cause : goal.returns-in_err-check_functions-clause-cause
 returns-in_err-check_functions-clause-cause c =
     let there = ap (slice_get c.args.graph.now.worlds) (sym c.index.ensures) ∙ c.at-current.ensures in
-    let v = upgrade_of c.in_ok-upgrading.upgrading in
+    let v = upgrade_of c.in_ok-plan.plan in
     residual_error c.from_residual-in_err-check_functions.result c.from_residual-in_err-check_functions.ensures.1
     (λ e is.
     let same : e ≡ c.in_err-check_functions.field-0.0 = is in
     subst (λ (x : ResolveErrorKind). (x ≡ OutOfMemory) ⊎ IsTrackCause c.args.rule c.args.graph.now c.args.world x) (sym same)
-    (disagreement c.args.rule c.args.graph.now c.args.world c.at-current.result.now there v c.in_ok-upgrading.ensures.of c.in_err-check_functions.field-0.0 c.in_err-check_functions.ensures.cause))
+    (disagreement c.args.rule c.args.graph.now c.args.world c.at-current.result.now there v c.in_ok-plan.ensures.of c.in_err-check_functions.field-0.0 c.in_err-check_functions.ensures.cause))
 
 pub new_targets-requires-clause-in_range : goal.new_targets-requires-clause-in_range
 new_targets-requires-clause-in_range c t has =
     let g = c.args.graph.now in
     let there = ap (slice_get g.worlds) (sym c.index.ensures) ∙ c.at-current.ensures in
-    let v = upgrade_of c.in_ok-upgrading.upgrading in
-    let are = ids_are c.args.rule g c.args.world c.at-current.result.now there v c.in_ok-upgrading.ensures.of c.in_ok-imports.imports c.in_ok-imports.ensures c.in_ok-rewritable_types.rewritable_types c.in_ok-rewritable_types.ensures in
+    let v = upgrade_of c.in_ok-plan.plan in
+    let are = ids_are c.args.rule g c.args.world c.at-current.result.now there v c.in_ok-plan.ensures.of c.in_ok-imports.imports c.in_ok-imports.ensures c.in_ok-rewritable_types.rewritable_types c.in_ok-rewritable_types.ensures in
     let within = following_within g c.requires.valid c.args.world c.at-current.result.now there c.args.rule t (subst (λ (ids : List ℕ). Contains ids t) are has) in
-    subst (λ (x : Upgrade). t < length x.graph.types) (sym c.in_ok-upgrading.ensures.of) within
+    subst (λ (x : Upgrade). t < length x.graph.types) (sym c.in_ok-plan.ensures.of) within
 
 pub returns-in_err-targets-clause-cause : goal.returns-in_err-targets-clause-cause
 returns-in_err-targets-clause-cause c =
     let g = c.args.graph.now in
     let there = ap (slice_get g.worlds) (sym c.index.ensures) ∙ c.at-current.ensures in
-    let v = upgrade_of c.in_ok-upgrading.upgrading in
+    let v = upgrade_of c.in_ok-plan.plan in
     residual_error c.from_residual-in_err-targets.result c.from_residual-in_err-targets.ensures.1
     (λ e is.
     let same : e ≡ c.in_err-targets.field-0.0 = is in
     subst (λ (x : ResolveErrorKind). (x ≡ OutOfMemory) ⊎ IsTrackCause c.args.rule g c.args.world x) (sym same)
-    (missing c.args.rule g c.args.world c.at-current.result.now there v c.in_ok-upgrading.ensures.of c.in_ok-imports.imports c.in_ok-imports.ensures c.in_ok-rewritable_types.rewritable_types c.in_ok-rewritable_types.ensures
+    (missing c.args.rule g c.args.world c.at-current.result.now there v c.in_ok-plan.ensures.of c.in_ok-imports.imports c.in_ok-imports.ensures c.in_ok-rewritable_types.rewritable_types c.in_ok-rewritable_types.ensures
     c.in_err-targets.field-0.0 c.in_err-targets.ensures.cause))
 
 pub returns-clause-ok : goal.returns-clause-ok
@@ -83,8 +83,8 @@ returns-clause-ok c =
     let g = c.args.graph.now in
     let world = c.at-current.result.now in
     let there = ap (slice_get g.worlds) (sym c.index.ensures) ∙ c.at-current.ensures in
-    let v = upgrade_of c.in_ok-upgrading.upgrading in
-    let of = c.in_ok-upgrading.ensures.of in
+    let v = upgrade_of c.in_ok-plan.plan in
+    let of = c.in_ok-plan.ensures.of in
     let imports = c.in_ok-imports.imports in
     let stay = c.in_ok-imports.ensures in
     let ids = c.in_ok-rewritable_types.rewritable_types in

@@ -15,10 +15,10 @@ loop-index-preserved-then-not-flag_at c =
 pub check_functions-requires : goal.check_functions-requires
 check_functions-requires c =
     let active = sym (interface-flag c.args.self.now c.requires c.loop-index.index) ∙ (sym c.flag_at.ensures ∙ c.if-not-flag_at.false) in
-    λ i e at. of_function c.loop-index.index c.index-interfaces-index.result e.0 e.1 (element_at c.args.self.now.adding.unresolved.now.interfaces c.as_slice-interfaces.result.now _ c.loop-index.index c.index-interfaces-index.result c.as_slice-interfaces.ensures refl c.loop-index-test.true c.index-interfaces-index.is) active (contained_at c.index-interfaces-index.result.functions i e at)
+    λ i e at. of_function c.loop-index.index c.index-interfaces-index.result e.0 e.1 (element_at c.args.self.now.addition.unresolved.now.interfaces c.as_slice-interfaces.result.now _ c.loop-index.index c.index-interfaces-index.result c.as_slice-interfaces.ensures refl c.loop-index-test.true c.index-interfaces-index.is) active (contained_at c.index-interfaces-index.result.functions i e at)
 
 pub loop-index-preserved : goal.loop-index-preserved
-loop-index-preserved c = one_more c.loop-index.invariant _ (element_at c.args.self.now.adding.unresolved.now.interfaces c.as_slice-interfaces.result.now _ c.loop-index.index c.index-interfaces-index.result c.as_slice-interfaces.ensures refl c.loop-index-test.true c.index-interfaces-index.is) (λ _. c.in_ok-check_functions.ensures.met)
+loop-index-preserved c = one_more c.loop-index.invariant _ (element_at c.args.self.now.addition.unresolved.now.interfaces c.as_slice-interfaces.result.now _ c.loop-index.index c.index-interfaces-index.result c.as_slice-interfaces.ensures refl c.loop-index-test.true c.index-interfaces-index.is) (λ _. c.in_ok-check_functions.ensures.met)
 
 pub returns-clause-met : goal.returns-clause-met
 returns-clause-met c = all_of c.loop-index.invariant (omega (arith, ap length c.as_slice-interfaces.ensures))

@@ -4,4 +4,4 @@ use Rattle.wit_link_features.proofs.checker.Checker.check_functions_of_interface
 
 -- those of the first ones are met
 abbrev pub invariant-loop-index : goal.invariant-loop-index
-invariant-loop-index l = EachBelow l.index (MeetsFunctions l.self) l.self.adding.unresolved.now.interfaces
+invariant-loop-index l = EachBelow l.index (MeetsFunctions l.self) l.self.addition.unresolved.now.interfaces

@@ -5,4 +5,4 @@ use Rattle.wit_link_features.proofs.checker.Checker.check_gates.Given as goal
 
 -- the first ones let nothing be active, and are met
 abbrev pub invariant-loop-note : goal.invariant-loop-note
-invariant-loop-note l = NoneActive l.self.adding.features.now l.note-index l.notes × EachBelow l.note-index (λ _. IsMet l.self) l.notes
+invariant-loop-note l = NoneActive l.self.addition.features.now l.note-index l.notes × EachBelow l.note-index (λ _. IsMet l.self) l.notes

@@ -6,7 +6,7 @@ use Rattle.wit_link_features.proofs.checker.Checker.check_interfaces.Goals as go
 
 pub check_gate-requires : goal.check_gate-requires
 check_gate-requires c =
-    let count : c.len-foreign.result ≡ length (foreign_interfaces c.args.self.now.adding.unresolved.now.foreign_deps) = c.len-foreign.ensures ∙ ap length c.in_ok-foreign_interfaces.ensures in
+    let count : c.len-foreign.result ≡ length (foreign_interfaces c.args.self.now.addition.unresolved.now.foreign_deps) = c.len-foreign.ensures ∙ ap length c.in_ok-foreign_interfaces.ensures in
     own-interface-asked c.args.self.now c.loop-index.index c.at-interface.result.now c.at-interface.ensures (omega arith)
 
 pub loop-index-preserved : goal.loop-index-preserved

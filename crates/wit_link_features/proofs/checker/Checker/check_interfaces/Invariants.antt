@@ -7,4 +7,4 @@ use Rattle.wit_link_features.proofs.checker.Checker.check_interfaces.Given as go
 
 -- the first ones of the package's own are met
 abbrev pub invariant-loop-index : goal.invariant-loop-index
-invariant-loop-index l = EachBelow l.index (λ i (interface : Interface). length (foreign_interfaces l.self.adding.unresolved.now.foreign_deps) ≤ i → IsMet l.self interface.stability) l.self.adding.unresolved.now.interfaces
+invariant-loop-index l = EachBelow l.index (λ i (interface : Interface). length (foreign_interfaces l.self.addition.unresolved.now.foreign_deps) ≤ i → IsMet l.self interface.stability) l.self.addition.unresolved.now.interfaces

@@ -11,7 +11,7 @@ use Rattle.wit_link_features.proofs.checker.Checker.check_packages.Goals as goal
 
 pub check_items-requires-clause-named : goal.check_items-requires-clause-named
 check_items-requires-clause-named c =
-    let deps = c.args.self.now.adding.unresolved.now.foreign_deps in
+    let deps = c.args.self.now.addition.unresolved.now.foreign_deps in
     let turn = iter_turn deref_pair deps c.loop-items.yielded _ _ _ _ (c.into_iter-items-iterator.ensures.into_iter_gives ∙ c.iter-items-items.ensures.rest) c.loop-items.yielded_by _ c.in-Some.is c.next.ensures.steps in
     items-named deps (length c.loop-items.yielded) _ turn.1
 
@@ -21,5 +21,5 @@ loop-items-preserved c =
 
 pub returns-clause-met : goal.returns-clause-met
 returns-clause-met c =
-    Each-flat_map (MeetsForeign c.args.self.now) (λ (e : PackageName × List ForeignItem). e.1) c.args.self.now.adding.unresolved.now.foreign_deps
+    Each-flat_map (MeetsForeign c.args.self.now) (λ (e : PackageName × List ForeignItem). e.1) c.args.self.now.addition.unresolved.now.foreign_deps
     (all_yielded deref_pair c.loop-items.yielded _ _ (c.into_iter-items-iterator.ensures.into_iter_gives ∙ c.iter-items-items.ensures.rest) c.loop-items.yielded_by c.in-None.is c.next.ensures.steps c.loop-items.invariant)

@@ -8,4 +8,4 @@ use Rattle.wit_link_features.proofs.checker.Checker.check_packages.Given as goal
 
 -- those of the first packages are met
 abbrev pub invariant-loop-items : goal.invariant-loop-items
-invariant-loop-items l = EachBelow (length l.yielded) (λ _ (e : PackageName × List ForeignItem). Each (MeetsForeign l.self) e.1) l.self.adding.unresolved.now.foreign_deps
+invariant-loop-items l = EachBelow (length l.yielded) (λ _ (e : PackageName × List ForeignItem). Each (MeetsForeign l.self) e.1) l.self.addition.unresolved.now.foreign_deps

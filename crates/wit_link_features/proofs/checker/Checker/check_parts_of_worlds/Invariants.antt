@@ -4,4 +4,4 @@ use Rattle.wit_link_features.proofs.checker.Checker.check_parts_of_worlds.Given 
 
 -- those of the first ones are met
 abbrev pub invariant-loop-index : goal.invariant-loop-index
-invariant-loop-index l = EachBelow l.index (MeetsParts l.self) l.self.adding.unresolved.now.worlds
+invariant-loop-index l = EachBelow l.index (MeetsParts l.self) l.self.addition.unresolved.now.worlds

@@ -5,4 +5,4 @@ use Rattle.wit_link_features.proofs.checker.Checker.check_types.Given as goal
 
 -- the first ones are met
 abbrev pub invariant-loop-def : goal.invariant-loop-def
-invariant-loop-def l = EachBelow l.def-index (λ _ (def : TypeDef). IsMet l.self def.stability) l.self.adding.unresolved.now.types
+invariant-loop-def l = EachBelow l.def-index (λ _ (def : TypeDef). IsMet l.self def.stability) l.self.addition.unresolved.now.types

@@ -6,7 +6,7 @@ use Rattle.wit_link_features.proofs.checker.Checker.check_worlds.Goals as goal
 
 pub check_gate-requires : goal.check_gate-requires
 check_gate-requires c =
-    let count : c.len-foreign.result ≡ length (foreign_worlds c.args.self.now.adding.unresolved.now.foreign_deps) = c.len-foreign.ensures ∙ ap length c.in_ok-foreign_worlds.ensures in
+    let count : c.len-foreign.result ≡ length (foreign_worlds c.args.self.now.addition.unresolved.now.foreign_deps) = c.len-foreign.ensures ∙ ap length c.in_ok-foreign_worlds.ensures in
     own-world-asked c.args.self.now c.loop-index.index c.at-world.result.now c.at-world.ensures (omega arith)
 
 pub loop-index-preserved : goal.loop-index-preserved

@@ -7,4 +7,4 @@ use Rattle.wit_link_features.proofs.checker.Checker.check_worlds.Given as goal
 
 -- the first ones of the package's own are met
 abbrev pub invariant-loop-index : goal.invariant-loop-index
-invariant-loop-index l = EachBelow l.index (λ w (world : World). length (foreign_worlds l.self.adding.unresolved.now.foreign_deps) ≤ w → IsMet l.self world.stability) l.self.adding.unresolved.now.worlds
+invariant-loop-index l = EachBelow l.index (λ w (world : World). length (foreign_worlds l.self.addition.unresolved.now.foreign_deps) ≤ w → IsMet l.self world.stability) l.self.addition.unresolved.now.worlds

@@ -4,4 +4,4 @@ use Rattle.wit_link_features.proofs.checker.Checker.look_at_worlds.Given as goal
 
 -- what the first ones need isn't left out
 abbrev pub invariant-loop-index : goal.invariant-loop-index
-invariant-loop-index l = EachBelow l.index (PartsStay l.self) l.self.adding.unresolved.now.worlds
+invariant-loop-index l = EachBelow l.index (PartsStay l.self) l.self.addition.unresolved.now.worlds

@@ -9,7 +9,7 @@ use Rattle.wit_merge.proofs.interfaces.InterfacePart.joined.Goals as goal
 
 pub push_moved-requires : goal.push_moved-requires
 push_moved-requires c =
-    let u = c.args.uniting.now in
+    let u = c.args.plan.now in
     let from = c.args.from.now in
     let types : c.in_ok-joined.joined.types ++ moved_names u.matches.now.types u.merge_remap.now.new_ids.types from.types ≡ (with_interface (merging_of u) from c.args.self.now).types =
     λ j. (c.in_ok-joined.ensures j).types ++ types_moved u c.requires.ready from.types c.requires.can.types j in
@@ -17,7 +17,7 @@ push_moved-requires c =
 
 pub push_functions-requires-clause-apart : goal.push_functions-requires-clause-apart
 push_functions-requires-clause-apart c =
-    let u = c.args.uniting.now in
+    let u = c.args.plan.now in
     let from = c.args.from.now in
     let brought = functions_image (merging_of u) (brought_matched c.args.self.now.functions from.functions) in
     let functions : c.in_ok-joined.joined.functions ++ brought ≡ (with_interface (merging_of u) from c.args.self.now).functions = λ j. (c.in_ok-joined.ensures j).functions ++ brought in
@@ -25,7 +25,7 @@ push_functions-requires-clause-apart c =
 
 pub returns : goal.returns
 returns c = λ index.
-    let u = c.args.uniting.now in
+    let u = c.args.plan.now in
     let m = merging_of u in
     let from = c.args.from.now in
     let self = c.args.self.now in

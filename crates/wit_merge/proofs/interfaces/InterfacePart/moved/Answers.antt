@@ -9,4 +9,4 @@ returns c = λ index.
     let mover = c.mover.result in
     let can = c.requires.can in
     c.update.ensures ∙ ap (interface_image (maps_of mover)) c.in_ok-moved.ensures
-    ∙ interface_is c.args.uniting.now c.requires.ready mover c.mover.ensures.new_ids c.mover.ensures.values c.mover.ensures.offset c.args.self.now can (c.mover.ensures.home can.home can.home_is can.there)
+    ∙ interface_is c.args.plan.now c.requires.ready mover c.mover.ensures.new_ids c.mover.ensures.values c.mover.ensures.offset c.args.self.now can (c.mover.ensures.home can.home can.home_is can.there)

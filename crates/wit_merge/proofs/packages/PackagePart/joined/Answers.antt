@@ -7,7 +7,7 @@ use Rattle.wit_merge.proofs.packages.PackagePart.joined.Goals as goal
 
 pub push_tables-requires-clause-interfaces : goal.push_tables-requires-clause-interfaces
 push_tables-requires-clause-interfaces c =
-    let u = c.args.uniting.now in
+    let u = c.args.plan.now in
     let from = c.args.from.now in
     let names : c.in_ok-joined.joined.interfaces ++ moved_names u.matches.now.interfaces u.merge_remap.now.new_ids.interfaces from.interfaces ≡ (with_package (merging_of u) from c.args.self.now).interfaces =
     λ j. (c.in_ok-joined.ensures j).interfaces ++ interfaces_moved u c.requires.ready from.interfaces c.requires.can.interfaces j in
@@ -15,7 +15,7 @@ push_tables-requires-clause-interfaces c =
 
 pub push_tables-requires-clause-worlds : goal.push_tables-requires-clause-worlds
 push_tables-requires-clause-worlds c =
-    let u = c.args.uniting.now in
+    let u = c.args.plan.now in
     let from = c.args.from.now in
     let names : c.in_ok-joined.joined.worlds ++ moved_names u.matches.now.worlds u.merge_remap.now.new_ids.worlds from.worlds ≡ (with_package (merging_of u) from c.args.self.now).worlds =
     λ j. (c.in_ok-joined.ensures j).worlds ++ worlds_moved u c.requires.ready from.worlds c.requires.can.worlds j in
@@ -23,7 +23,7 @@ push_tables-requires-clause-worlds c =
 
 pub returns : goal.returns
 returns c = λ index.
-    let u = c.args.uniting.now in
+    let u = c.args.plan.now in
     let m = merging_of u in
     let ready = c.requires.ready in
     let from = c.args.from.now in

@@ -8,7 +8,7 @@ use Rattle.wit_merge.proofs.packages.PackagePart.moved.Goals as goal
 
 pub push_tables-requires-clause-interfaces : goal.push_tables-requires-clause-interfaces
 push_tables-requires-clause-interfaces c =
-    let u = c.args.uniting.now in
+    let u = c.args.plan.now in
     let m = merging_of u in
     let self = c.args.self.now in
     let names = interfaces_moved u c.requires.ready self.interfaces (λ e has. (c.requires.can.interfaces e has).0) ∙ ap (map (λ (e : List ℕ × ℕ). (e.0, merged_interface m e.1))) (all_move (moves_interface m) self.interfaces (λ e has. (c.requires.can.interfaces e has).1)) in
@@ -17,7 +17,7 @@ push_tables-requires-clause-interfaces c =
 
 pub push_tables-requires-clause-worlds : goal.push_tables-requires-clause-worlds
 push_tables-requires-clause-worlds c =
-    let u = c.args.uniting.now in
+    let u = c.args.plan.now in
     let m = merging_of u in
     let self = c.args.self.now in
     let names = worlds_moved u c.requires.ready self.worlds (λ e has. (c.requires.can.worlds e has).0) ∙ ap (map (λ (e : List ℕ × ℕ). (e.0, merged_world m e.1))) (all_move (moves_world m) self.worlds (λ e has. (c.requires.can.worlds e has).1)) in
@@ -26,7 +26,7 @@ push_tables-requires-clause-worlds c =
 
 pub returns : goal.returns
 returns c = λ index.
-    let u = c.args.uniting.now in
+    let u = c.args.plan.now in
     let m = merging_of u in
     let self = c.args.self.now in
     let first = interfaces_moved u c.requires.ready self.interfaces (λ e has. (c.requires.can.interfaces e has).0) ∙ ap (map (λ (e : List ℕ × ℕ). (e.0, merged_interface m e.1))) (all_move (moves_interface m) self.interfaces (λ e has. (c.requires.can.interfaces e has).1)) in

@@ -9,4 +9,4 @@ pub returns : goal.returns
 returns c = λ index.
     let mover = c.mover.result in
     c.update.ensures ∙ ap (λ (def : TypeDef). let r : TypeDef = record (type_image (maps_of mover) def) { name = def.name } in r) c.in_ok-moved.ensures
-    ∙ type_is c.args.uniting.now c.requires.ready mover c.mover.ensures.new_ids c.mover.ensures.values c.mover.ensures.offset c.args.self.now c.requires.can
+    ∙ type_is c.args.plan.now c.requires.ready mover c.mover.ensures.new_ids c.mover.ensures.values c.mover.ensures.offset c.args.self.now c.requires.can

@@ -17,11 +17,11 @@ use Rattle.wit_merge.proofs.worlds.WorldPart.moved.Goals as goal
 pub updated_entries-requires-clause-fits : goal.updated_entries-requires-clause-fits
 updated_entries-requires-clause-fits c =
     let whole = c.replace-imports.ensures.value ∙ ap (λ (world : World). world.imports) c.in_ok-moved.ensures in
-    subst (λ (n : ℕ). EntriesFit (Fits n) c.replace-imports.result) (sym c.mover-mover.ensures.offset) (subst (EntriesFit (Fits c.args.uniting.now.offset)) (sym whole) c.requires.can.fits.imports)
+    subst (λ (n : ℕ). EntriesFit (Fits n) c.replace-imports.result) (sym c.mover-mover.ensures.offset) (subst (EntriesFit (Fits c.args.plan.now.offset)) (sym whole) c.requires.can.fits.imports)
 
 pub updated_entries-requires-clause-keys : goal.updated_entries-requires-clause-keys
 updated_entries-requires-clause-keys c =
-    let u = c.args.uniting.now in
+    let u = c.args.plan.now in
     let mover = c.mover-mover.result in
     let whole = c.replace-imports.ensures.value ∙ ap (λ (world : World). world.imports) c.in_ok-moved.ensures in
     let same = ap (map (entry_image (maps_of mover) 0)) whole
@@ -31,11 +31,11 @@ updated_entries-requires-clause-keys c =
 pub updated_entries-requires-2-clause-fits : goal.updated_entries-requires-2-clause-fits
 updated_entries-requires-2-clause-fits c =
     let whole = c.replace-exports.ensures.value ∙ ap (λ (world : World). world.exports) c.in_ok-moved.ensures in
-    subst (λ (n : ℕ). EntriesFit (Fits n) c.replace-exports.result) (sym c.mover-mover.ensures.offset) (subst (EntriesFit (Fits c.args.uniting.now.offset)) (sym whole) c.requires.can.fits.exports)
+    subst (λ (n : ℕ). EntriesFit (Fits n) c.replace-exports.result) (sym c.mover-mover.ensures.offset) (subst (EntriesFit (Fits c.args.plan.now.offset)) (sym whole) c.requires.can.fits.exports)
 
 pub updated_entries-requires-2-clause-keys : goal.updated_entries-requires-2-clause-keys
 updated_entries-requires-2-clause-keys c =
-    let u = c.args.uniting.now in
+    let u = c.args.plan.now in
     let mover = c.mover-mover.result in
     let whole = c.replace-exports.ensures.value ∙ ap (λ (world : World). world.exports) c.in_ok-moved.ensures in
     let same = ap (map (entry_image (maps_of mover) 0)) whole
@@ -44,7 +44,7 @@ updated_entries-requires-2-clause-keys c =
 
 pub returns : goal.returns
 returns c = λ w.
-    let u = c.args.uniting.now in
+    let u = c.args.plan.now in
     let m = merging_of u in
     let mover = c.mover-mover.result in
     let can = c.requires.can in

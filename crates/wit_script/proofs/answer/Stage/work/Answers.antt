@@ -6,9 +6,9 @@ use Rattle.wit_script.proofs.answer.Stage.work.Goals as goal
 pub returns-in-Some : goal.returns-in-Some
 returns-in-Some c =
     let there : c.args.self.now.second ≡ Some c.in-Some.second = search rules in
-    works-second (line_of c.args.telling) c.args.self.now c.args.command c.entries_by_answer.result c.in-Some.second c.entries_by_answer.new.resolve there c.entries_by_answer.ensures
+    works-second (line_of c.args.style) c.args.self.now c.args.command c.reply_to.result c.in-Some.second c.reply_to.new.resolve there c.reply_to.ensures
 
 pub returns-in-None : goal.returns-in-None
 returns-in-None c =
     let closed : c.args.self.now.second ≡ None = search rules in
-    works-first (line_of c.args.telling) c.args.self.now c.args.command c.entries_by_answer-in-None.result c.entries_by_answer-in-None.new.resolve closed c.entries_by_answer-in-None.ensures
+    works-first (line_of c.args.style) c.args.self.now c.args.command c.reply_to-in-None.result c.reply_to-in-None.new.resolve closed c.reply_to-in-None.ensures
