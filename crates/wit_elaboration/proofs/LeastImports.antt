@@ -29,7 +29,7 @@ module _ (types : List TypeDef) (uses : List (List ℕ)) (imports exports : List
     along i (k ∷ path) j has leads = along k path j (holds.closed i k has leads.0) leads.1
 
     has_imported : (j : ℕ) → IsImported types uses imports exports j → Among j
-    has_imported j (inl need) = holds.needed j need
+    has_imported j (inl need) = along need.1 need.5.0 j (holds.from_outside need.0 need.1 need.2 need.3 need.4) need.5.1
     has_imported j (inr root) = along root.0 root.2.0 j (holds.roots root.0 root.1) root.2.1
 
 pub imports_are_least : ImportsAreLeast
@@ -42,7 +42,7 @@ imports_are_least types uses old new acyclic listed is =
     λ j need. subst (λ es. Contains (keyed_interfaces es) j) (sym imports_are) (exact_from types uses acyclic old.imports old.exports order j need) in (
       record {
         roots = λ r has. there r (inr (r, has, ([], refl)));
-        needed = λ j need. there j (inl need);
+        from_outside = λ x d exported among apart. there d (inl (x, d, exported, among, apart, ([], refl)));
         closed = λ i j has among. there j (imported_closed types uses old.imports old.exports i j (imported i has) among);
       },
       λ test holds at d below. has_imported types uses old.imports old.exports (λ i. test i ≡ true) holds _ (imported _ (Contains-get_or (keyed_interfaces new.imports) at d below)),

@@ -69,9 +69,9 @@ pub fn export_keys_stay()
     ensures { ExportKeysStay }
 {}
 
-/// The interfaces that an elaborated world imports under their own keys are the least set that has
-/// those where the listed imports begin and those that the exports need, and with each one all that
-/// it uses.
+/// The interfaces that an elaborated world imports under their own keys are the least set that has those
+/// that the listed imports and type uses name directly and those that the exports name directly from
+/// outside, and with each one all that it uses.
 pub fn imports_are_least()
     ensures { ImportsAreLeast }
 {}

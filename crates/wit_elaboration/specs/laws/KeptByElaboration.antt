@@ -8,8 +8,8 @@ use Rattle.wit_data.specs.declared.world.WorldKey.TheVariants.{Name, Interface}
 use Rattle.wit_digraph.specs.Relation.{direct, IsAcyclic}
 use Rattle.wit_elaboration.specs.Entries.{Entry, TypeUse, role_of, keyed_interfaces, by_class}
 use Rattle.wit_elaboration.specs.Elaborated.{Elaborated, InheritedData, dependency_of, inherited_by_import, without_span}
-use Rattle.wit_elaboration.specs.Imported.{exported_keys}
-use Rattle.wit_elaboration.specs.laws.Imports.{Needed, IsImported, roots_of}
+use Rattle.wit_elaboration.specs.Imported.{exported_interfaces, exported_keys}
+use Rattle.wit_elaboration.specs.laws.Imports.{IsImported, roots_of}
 use Rattle.wit_elaboration.specs.Sound.{HasSoundEntries}
 use Rattle.wit_values.specs.Table.{HasDistinctKeys}
 
@@ -92,10 +92,11 @@ ListedStays = (types : List TypeDef) (uses : List (List ℕ)) (old new : World) 
 
 -- ---- the least imports
 
--- a set of interfaces has those where the imports begin and those that the exports need, and with each one all that it uses
+-- a set of interfaces has those that the listed imports and type uses name directly, those that an exported interface uses
+-- directly and that are no exported keys, and with each one all that it uses
 pub record HoldsImports (types : List TypeDef) (uses : List (List ℕ)) (imports exports : List Entry) (Among : ℕ → Type 0) : Type 0 where
   pub roots : (r : ℕ) → Contains (flat_map (λ (e : Entry). roots_of uses e.0 (role_of types e.1)) imports) r → Among r
-  pub needed : (j : ℕ) → Needed uses exports j → Among j
+  pub from_outside : (x d : ℕ) → Contains (exported_interfaces exports) x → Contains (direct uses x) d → (Contains (exported_keys exports) d → ⊥) → Among d
   pub closed : (i j : ℕ) → Among i → Contains (direct uses i) j → Among j
 
 -- the interfaces that an elaborated world imports are such a set, and each such set that a test tells has them all

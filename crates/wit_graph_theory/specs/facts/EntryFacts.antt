@@ -180,8 +180,8 @@ module _ (least : ImportsAreLeast) (types : List TypeDef) (interfaces : List Int
       by : (b : Bool) → list_any (nat_eq j) (exported_keys world.exports) ≡ b → ListsKey world j
       by true is = inr (contains_from_any j (exported_keys world.exports) is)
       by false is =
-          inl (holds.needed j
-          (i, j, Contains-flat_map (λ (e : Entry). item_interface e.1) world.exports e i has instance, edge, (λ among. let yes = any_from_contains j (exported_keys world.exports) among in cc), ([], refl)))
+          inl (holds.from_outside i j (Contains-flat_map (λ (e : Entry). item_interface e.1) world.exports e i has instance) edge
+          (λ among. let yes = any_from_contains j (exported_keys world.exports) among in cc))
 
   pub canonical_lists_uses : ListsUses interfaces rows world
   canonical_lists_uses = record {

@@ -6,7 +6,7 @@ use Rattle.std.proofs.lemmas.Bool.{and_parts, cases_Bool, not-true, not_from_fal
 use Rattle.std.proofs.lemmas.List.Elements.{Contains-append_left, Contains-append_right}
 use Rattle.wit_digraph.specs.facts.FreshFacts.{any_from_contains, contains_from_any}
 use Rattle.wit_digraph.specs.facts.MemberFacts.{Contains-flat_map, Contains-flat_map_cases, Contains-here, Contains-nil}
-use Rattle.wit_digraph.specs.Relation.{IsPath, direct}
+use Rattle.wit_digraph.specs.Relation.{direct}
 use Rattle.wit_data.specs.Entries.{IsImport}
 use Rattle.wit_data.specs.Function.{resource_of}
 use Rattle.wit_data.specs.Uses.{interface_uses, type_interface_dep, uses_of}
@@ -19,8 +19,8 @@ use Rattle.wit_data.specs.declared.world.WorldItem.TheVariants as item
 use Rattle.wit_data.specs.declared.world.WorldKey.TheVariants as key
 use Rattle.wit_elaboration.specs.facts.Filters.{Contains-filter, Contains-filtered}
 use Rattle.wit_elaboration.specs.Entries.{Entry, key_interface, keyed_interfaces, item_interface, role_of, type_role}
-use Rattle.wit_elaboration.specs.Imported.{exported_keys}
-use Rattle.wit_elaboration.specs.laws.Imports.{Needed, roots_of}
+use Rattle.wit_elaboration.specs.Imported.{exported_interfaces, exported_keys}
+use Rattle.wit_elaboration.specs.laws.Imports.{roots_of}
 use Rattle.wit_elaboration.specs.laws.KeptByElaboration.{HoldsImports, ImportsAreLeast}
 use Rattle.wit_elaboration.specs.Valid.{IsValid}
 use Rattle.wit_graph_theory.specs.facts.DependencyFacts.{filter_map_from, filter_map_into}
@@ -213,25 +213,21 @@ module _ (least : ImportsAreLeast) (u : Upgrade) (valid : IsValid u.graph) (w : 
       let held = held_of_key u.graph.interfaces u.graph.types w entry.0.0 entry.0.1 i entry.2 (import_is entry.0 before.0) in
       import_uses entry.0 i j entry.1 held edge (λ f old_edge. holds.closed i f kept.was old_edge)
 
-  reached_kept : (i : ℕ) (path : List ℕ) (j : ℕ) → IsKept i → IsPath new_rows i path j → IsKept j
-  reached_kept i [] j kept same = subst IsKept same kept
-  reached_kept i (k ∷ path) j kept leads = reached_kept k path j (kept_closed i k kept leads.0) leads.1
-
-  needed_kept : (j : ℕ) → Needed new_rows old.exports j → IsKept j
-  needed_kept j need =
-      let e = Contains-flat_map_cases (λ (e : Entry). item_interface e.1) old.exports need.0 need.2 in
-      let of = edge_of need.0 need.1 need.3 in
-      let follow = follows e.0 need.0 of.interface of.t (Contains-append_right (kept_imports u) old.exports e.0 e.1.0) e.1.1 of.at of.listed in
-      let needs = needs_after u valid complete of.t need.1 of.dep in
-      let first : IsKept need.1 = elim needs.is [
+  -- what the exports name from outside is kept
+  named_kept : (x d : ℕ) → Contains (exported_interfaces old.exports) x → Contains (direct new_rows x) d → (Contains (exported_keys old.exports) d → ⊥) → IsKept d
+  named_kept x d exported edge apart =
+      let e = Contains-flat_map_cases (λ (e : Entry). item_interface e.1) old.exports x exported in
+      let of = edge_of x d edge in
+      let follow = follows e.0 x of.interface of.t (Contains-append_right (kept_imports u) old.exports e.0 e.1.0) e.1.1 of.at of.listed in
+      let needs = needs_after u valid complete of.t d of.dep in
+      elim needs.is [
         | inl same ↦
-            kept_dep of.t need.1 follow of.dep (λ f dep.
+            kept_dep of.t d follow of.dep (λ f dep.
             let one : f ≡ needs.f = some_same f needs.f (sym dep ∙ needs.needed) in
-            let place : f ≡ need.1 = one ∙ sym same.0 in
-            subst (Contains (imported u)) (sym place) (holds.needed need.1 (need.0, need.1, need.2, subst (λ (x : ℕ). Contains (direct rows need.0) x) place (of.before f dep), need.4, ([], refl))))
+            let place : f ≡ d = one ∙ sym same.0 in
+            subst (Contains (imported u)) (sym place) (holds.from_outside x d exported (subst (λ (y : ℕ). Contains (direct rows x) y) place (of.before f dep)) apart))
         | inr transformed ↦ subst IsKept (sym transformed.2) (newest_kept needs.f transformed.0)
-      ] in
-      reached_kept need.1 need.5.0 j first need.5.1
+      ]
 
   -- the test of it
   abbrev pub kept_test : ℕ → Bool
@@ -249,7 +245,7 @@ module _ (least : ImportsAreLeast) (u : Upgrade) (valid : IsValid u.graph) (w : 
   pub kept_holds : HoldsImports (rewritten_types u) new_rows (kept_imports u) old.exports (λ i. kept_test i ≡ true)
   kept_holds = record {
     roots = λ r has. passes r (kept_roots r has);
-    needed = λ j need. passes j (needed_kept j need);
+    from_outside = λ x d exported edge apart. passes d (named_kept x d exported edge apart);
     closed = λ i j on edge. passes j (kept_closed i j (passed i on) edge);
   }
 
@@ -274,5 +270,5 @@ module _ (least : ImportsAreLeast) (u : Upgrade) (valid : IsValid u.graph) (w : 
       exported : (e : Entry) (f j : ℕ) → Contains old.exports e → Contains (item_interface e.1) f → Contains (direct new_rows f) j → (b : Bool) → list_any (nat_eq j) (exported_keys old.exports) ≡ b → ListsKey (listed_world u) j
       exported e f j has holds_f edge true is = inr (contains_from_any j (exported_keys old.exports) is)
       exported e f j has holds_f edge false is =
-          inl (kept_key j (needed_kept j
-          (f, j, Contains-flat_map (λ (e : Entry). item_interface e.1) old.exports e f has holds_f, edge, (λ among. let yes = any_from_contains j (exported_keys old.exports) among in cc), ([], refl))))
+          inl (kept_key j (named_kept f j (Contains-flat_map (λ (e : Entry). item_interface e.1) old.exports e f has holds_f) edge
+          (λ among. let yes = any_from_contains j (exported_keys old.exports) among in cc)))
