@@ -1,7 +1,7 @@
 //! What a command of a script that brings no package says by its tokens alone.
-ghost use Rattle.std.specs.Prelude.{◌≡◌, map, IfOk};
+ghost use Rattle.std.specs.Prelude.{◌≡◌, map, IfOk, Some};
 ghost use Rattle.wit_script_lines.specs.steps.ReadResult.{IsRead};
-ghost use Rattle.wit_script_lines.specs.Request.{alone_of, exportize_of, exportize_to, feature_of, importize_of, importize_to, is_request, keys_of, new_name_of, request_by, select_of, select_with, track_rule_of, tracks_of, world_in, world_of};
+ghost use Rattle.wit_script_lines.specs.Request.{alone_of, exportize_of, exportize_to, feature_of, importize_of, importize_to, is_request, keys_of, new_name_of, request_by, request_text, select_of, select_with, track_rule_of, tracks_of, world_in, world_of};
 
 use crate::fault::LineFault;
 use crate::token::{read_package_name, read_part};
@@ -54,6 +54,8 @@ pub enum Request {
 
 /// The command by its first token, with the package and the world that it works on.
 impl fmt::Display for Request {
+    ghost output = { λ asked. Some (request_text asked) };
+
     fn fmt<W: fmt::Write>(&self, f: &mut fmt::Formatter<W>) -> fmt::Result {
         match self {
             Self::Feature(name) => write!(f, "feature {name}"),

@@ -1,6 +1,6 @@
 -- Turned worlds: a world whose exports become its imports, or whose imports become its exports.
 -- Source: `importize` and `exportize` of wit-parser 0.263.0.
-use Rattle.std.specs.Prelude.{ℕ, ◌≡◌, Bool, true, false, not, List, [], ◌∷◌, ◌++◌, Option, Some, None, codes, filter, filter_map, map, nat_eq, slice_get, slice_set, Contains, if◌then◌else◌, zip, ◌≢◌, ◌<◌, length, IsSomeAnd, option_map}
+use Rattle.std.specs.Prelude.{ℕ, ◌≡◌, Bool, true, false, not, List, [], ◌∷◌, ◌++◌, Option, Some, None, codes, filter, filter_map, map, nat_eq, slice_get, slice_set, take, Contains, if◌then◌else◌, zip, ◌≢◌, ◌<◌, length, IsSomeAnd, option_map}
 use Rattle.std.specs.Map.{keys_of}
 use Rattle.std.specs.Option.{option_map_or}
 use Rattle.wit_data.specs.declared.world.World.{World}
@@ -138,6 +138,14 @@ type_exported_text label = codes "type import `" ++ (label ++ codes "` cannot be
 -- an export has the label of a type among the imports
 abbrev pub HasClash : World → List ℕ → Type 0
 HasClash world label = Contains (keys_of world.exports) (key.Name label) × Contains (keys_of (type_entries world.imports)) (key.Name label)
+
+-- the first label of some exports that other entries have too
+pub record IsFirstCommon (entries exports : List Entry) (label : List ℕ) : Type 0 where
+  pub index : ℕ
+  pub item : WorldItem
+  pub here : slice_get exports index ≡ Some (key.Name label, item)
+  pub common : Contains (keys_of entries) (key.Name label)
+  pub first : (earlier : List ℕ) → Contains (keys_of (take index exports)) (key.Name earlier) → Contains (keys_of entries) (key.Name earlier) → ⊥
 
 -- the package of world w has another world of this name
 abbrev pub NameIsTakenIn : Package → ℕ → List ℕ → Type 0

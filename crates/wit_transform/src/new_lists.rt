@@ -6,7 +6,7 @@ ghost use Rattle.wit_graph_data.specs.declared.cause.Cause.TheVariants as cause;
 ghost use Rattle.wit_graph_data.specs.declared.error_kind.ResolveErrorKind.TheVariants.{OutOfMemory, Semantic};
 ghost use Rattle.wit_data.specs.declared.world.WorldKey.{WorldKey};
 ghost use Rattle.wit_data.specs.declared.world.WorldKey.TheVariants as key;
-ghost use Rattle.wit_transform.specs.Transformed.{HasClash, entry_refusal, export_refusal, label_clash_text, name_taken_text, type_exported_text, type_refusal, AreUnderLabels, entries_by_answer, is_type, type_entries};
+ghost use Rattle.wit_transform.specs.Transformed.{HasClash, IsFirstCommon, entry_refusal, export_refusal, label_clash_text, name_taken_text, type_exported_text, type_refusal, AreUnderLabels, entries_by_answer, is_type, type_entries};
 
 use std::alloc::{AllocError, Global};
 use wit_data::{Items, Span, Table, Text, World, WorldItem, WorldKey};
@@ -100,7 +100,7 @@ fn common_label<'a>(
     entries: &Table<WorldKey, WorldItem>,
     exports: &'a Table<WorldKey, WorldItem>,
 ) -> Option<&'a Text>
-    ensures some { IfSome result (λ label. Contains (keys_of exports.now) (key.Name label.now) × Contains (keys_of entries.now) (key.Name label.now)) }
+    ensures some { IfSome result (λ label. IsFirstCommon entries.now exports.now label.now) }
     ensures none { IfNone result ((label : List ℕ) → Contains (keys_of exports.now) (key.Name label) → Contains (keys_of entries.now) (key.Name label) → ⊥) }
 {
     for (key, _) in exports.iter() {

@@ -1,22 +1,24 @@
-use Rattle.std.proofs.Common.{◌∙◌, ◌≤◌, List, Contains, length, sym, subst, arith}
+use Rattle.std.proofs.Common.{◌≡◌, ◌∙◌, ◌≤◌, List, Some, Contains, length, slice_get, sym, subst, arith}
 use Rattle.std.specs.Map.{keys_of}
 use Rattle.std.proofs.lemmas.List.{length_push}
 use Rattle.std.proofs.lemmas.Map.Iter.{iter_end, iter_turn}
 use Rattle.std.specs.Map.Iter.{deref_pair}
+use Rattle.wit_data.specs.declared.world.WorldKey.{WorldKey}
 use Rattle.wit_data.specs.declared.world.WorldKey.TheVariants as key
 use Rattle.wit_elaboration.specs.Entries.{Entry}
-use Rattle.wit_graph_theory.specs.facts.ListFacts.{contained_at}
-use Rattle.wit_transform.specs.facts.Distinct.{key_of_entry}
 use Rattle.wit_transform.specs.facts.Looked.{key_found, key_not_found, no_label-next, take_whole}
 use Rattle.wit_transform.proofs.new_lists.common_label.Goals as goal
 
 pub returns-then-contains_key-clause-some : goal.returns-then-contains_key-clause-some
 returns-then-contains_key-clause-some c =
     let turn = iter_turn deref_pair c.args.exports.now c.loop-key.yielded _ _ _ _ (c.into_iter-key-iterator.ensures.into_iter_gives ∙ c.iter-key-items.ensures.rest) c.loop-key.yielded_by _ c.in-Some.is c.next.ensures.steps in
-    let here : Contains (keys_of c.args.exports.now) c.in-Some.key.now = key_of_entry c.args.exports.now (c.in-Some.key.now, c.in-Some.field-0-1.now) (contained_at c.args.exports.now (length c.loop-key.yielded) _ turn.1) in (
-      subst (Contains (keys_of c.args.exports.now)) c.in-Name.is here,
-      subst (Contains (keys_of c.args.entries.now)) c.in-Name.is (key_found c.args.entries.now c.in-Some.key.now (sym c.contains_key.ensures ∙ c.if-contains_key.true)),
-    )
+    record {
+      index = length c.loop-key.yielded;
+      item = c.in-Some.field-0-1.now;
+      here = subst (λ (k : WorldKey). slice_get c.args.exports.now (length c.loop-key.yielded) ≡ Some (k, c.in-Some.field-0-1.now)) c.in-Name.is turn.1;
+      common = subst (Contains (keys_of c.args.entries.now)) c.in-Name.is (key_found c.args.entries.now c.in-Some.key.now (sym c.contains_key.ensures ∙ c.if-contains_key.true));
+      first = c.loop-key.invariant;
+    }
 
 pub loop-key-preserved-else-contains_key : goal.loop-key-preserved-else-contains_key
 loop-key-preserved-else-contains_key c =
