@@ -15,6 +15,7 @@ use Rattle.wit_data.specs.Entries.{EntriesUseOwn, ExportsAreAllowed, ImportsAreA
 use Rattle.wit_data.specs.Foreign.{ForeignItem, AreFirst, AreForeignTypes, AreUnknownFirst, IsForeign, ListUnknownAlone, foreign_interfaces, foreign_worlds}
 use Rattle.wit_data.specs.Ownership.{AliasesNamed, FunctionsUseOwn, IsListed, IsPlain, ListsOwn, NamesFunctions, RefersToOwn}
 use Rattle.wit_data.specs.Kind.{referred}
+use Rattle.wit_names.specs.PackageName.{HasValidVersion}
 use Rattle.wit_names.specs.UsePath.{IsKebabName}
 use Rattle.wit_data.specs.Uses.{uses_of}
 use Rattle.wit_data.specs.declared.interface.Interface.{Interface}
@@ -73,6 +74,8 @@ pub record HasNames (p : UnresolvedPackage) : Type 0 where
   pub own : IsKebabName p.name.name
   pub interfaces : Each (λ (interface : Interface). IfSome interface.name IsKebabName) p.interfaces
   pub worlds : Each (λ (world : World). IsKebabName world.name) p.worlds
+  -- a version is one of SemVer 2.0.0
+  pub version : HasValidVersion p.name
   -- the interfaces that aren't foreign have different names, and so have the worlds
   pub interfaces_differ : IsDistinct bytes_eq (interface_names (length (foreign_interfaces p.foreign_deps)) p.interfaces)
   pub worlds_differ : IsDistinct bytes_eq (world_names (length (foreign_worlds p.foreign_deps)) p.worlds)

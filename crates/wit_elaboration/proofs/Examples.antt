@@ -15,7 +15,7 @@ use Rattle.wit_elaboration.specs.Elaborated.{Elaborated, import_steps, import_st
 use Rattle.wit_elaboration.specs.Entries.{keyed_interfaces}
 use Rattle.wit_elaboration.specs.examples.Examples.{ExamplesOfValidity, empty_graph}
 use Rattle.wit_graph_data.specs.examples.Samples.{entry_of, foo_bar, foo_bar_of, interface_of, labelled_entry, sample, sample_interfaces, sample_types, world_of}
-use Rattle.wit_elaboration.specs.Valid.{HasKebabNames, HasOwners, HasReferences, HasTables, HasWorlds, IsValid}
+use Rattle.wit_elaboration.specs.Valid.{HasValidNames, HasOwners, HasReferences, HasTables, HasWorlds, IsValid}
 
 -- ---- relations without cycles
 
@@ -85,7 +85,7 @@ empty = record {
       distinct_exports = EachAt-nil _;
     };
   };
-  names = record { namespaces = EachAt-nil _; package_names = EachAt-nil _; interface_names = EachAt-nil _ };
+  names = record { namespaces = EachAt-nil _; package_names = EachAt-nil _; versions = EachAt-nil _; interface_names = EachAt-nil _ };
   known = EachAt-nil _;
   no_cycles = record { uses = no_rows; types = no_rows; packages = no_rows };
   canonical = EachAt-nil _;
@@ -142,9 +142,9 @@ small_canonical = record {
   world_is = refl;
 }
 
-small_names : HasKebabNames (foo_bar_of ((codes "a", 0) ∷ (codes "b", 1) ∷ []) ((codes "w", 0) ∷ []) ∷ []) sample_interfaces
+small_names : HasValidNames (foo_bar_of ((codes "a", 0) ∷ (codes "b", 1) ∷ []) ((codes "w", 0) ∷ []) ∷ []) sample_interfaces
 unfolding is_kebab_name
-small_names = record { namespaces = EachAt-one _ _ refl; package_names = EachAt-one _ _ refl; interface_names = EachAt-two _ _ _ refl refl }
+small_names = record { namespaces = EachAt-one _ _ refl; package_names = EachAt-one _ _ refl; versions = EachAt-one _ _ tt; interface_names = EachAt-two _ _ _ refl refl }
 
 small : IsValid (sample (entry_of 0 ∷ entry_of 1 ∷ []) [])
 small = record {
@@ -179,7 +179,7 @@ user_first valid =
     let other : 1 ≡ 0 = ap (λ (w : World). slice_index (keyed_interfaces w.imports) 0) (valid.canonical 0 (world_of (codes "w") (entry_of 1 ∷ entry_of 0 ∷ []) []) refl).world_is in
     absurd (omega (arith, other))
 
-capital : HasKebabNames (foo_bar_of [] [] ∷ []) (interface_of (Some (codes "aB")) [] ∷ []) → ⊥
+capital : HasValidNames (foo_bar_of [] [] ∷ []) (interface_of (Some (codes "aB")) [] ∷ []) → ⊥
 unfolding is_kebab_name
 capital names = false≢true (names.interface_names 0 (interface_of (Some (codes "aB")) []) refl)
 

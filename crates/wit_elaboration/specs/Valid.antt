@@ -9,6 +9,7 @@ use Rattle.wit_data.specs.Each.{Each, EachAt, SomeAt}
 use Rattle.wit_data.specs.Entries.{Entry, EntriesUseOwn, ExportsAreAllowed, ImportsAreAllowed, StandOnce}
 use Rattle.wit_data.specs.Ownership.{AliasesNamed, FunctionsUseOwn, IsListed, IsPlain, ListsOwn, NamesFunctions, RefersToOwn}
 use Rattle.wit_data.specs.Kind.{type_references}
+use Rattle.wit_names.specs.PackageName.{HasValidVersion}
 use Rattle.wit_names.specs.UsePath.{IsKebabName}
 use Rattle.wit_data.specs.Uses.{uses_of}
 use Rattle.wit_data.specs.declared.interface.Interface.{Interface}
@@ -59,10 +60,12 @@ pub record HasTables (packages : List Package) (interfaces : List Interface) (wo
   pub distinct_interfaces : Each (λ (home : Package). HasDistinctKeys home.interfaces) packages
   pub distinct_worlds : Each (λ (home : Package). HasDistinctKeys home.worlds) packages
 
--- namespaces and the names of packages and interfaces are kebab names (a transformed world may have any name)
-pub record HasKebabNames (packages : List Package) (interfaces : List Interface) : Type 0 where
+-- namespaces and the names of packages and interfaces are kebab names (a transformed world may have any name), and
+-- versions are those of SemVer 2.0.0
+pub record HasValidNames (packages : List Package) (interfaces : List Interface) : Type 0 where
   pub namespaces : Each (λ (home : Package). IsKebabName home.name.namespace) packages
   pub package_names : Each (λ (home : Package). IsKebabName home.name.name) packages
+  pub versions : Each (λ (home : Package). HasValidVersion home.name) packages
   pub interface_names : Each (λ (interface : Interface). IfSome interface.name IsKebabName) interfaces
 
 -- ---- owners and what they list
@@ -135,7 +138,7 @@ pub record HasNoCycles (g : Graph) : Type 0 where
 -- a valid graph
 pub record IsValid (g : Graph) : Type 0 where
   pub well_formed : IsWellFormed g
-  pub names : HasKebabNames g.packages g.interfaces
+  pub names : HasValidNames g.packages g.interfaces
   -- each type's kind is known
   pub known : Each (λ (def : TypeDef). def.kind ≢ kind.Unknown) g.types
   pub no_cycles : HasNoCycles g

@@ -12,7 +12,7 @@ use Rattle.wit_elaboration.specs.Valid.{IsValid}
 use Rattle.wit_graph_data.specs.IdText.{id_text, id_text_in, interface_id_at, interface_id_text}
 use Rattle.wit_graph_data.specs.declared.graph.Graph.{Graph}
 use Rattle.wit_graph_data.specs.declared.graph.Package.{Package}
-use Rattle.wit_graph_theory.specs.laws.IdTexts.{HasVersions, IdTextsDiffer}
+use Rattle.wit_graph_theory.specs.laws.IdTexts.{IdTextsDiffer}
 use Rattle.wit_graph_theory.specs.facts.ListFacts.{found_at, place_of, same_at}
 use Rattle.wit_graph_theory.specs.facts.OptionFacts.{some_parts}
 
@@ -40,7 +40,7 @@ one_under {K} {V} es distinct k v w first second =
 
 -- ---- what an id text names
 
-module _ (g : Graph) (valid : IsValid g) (versions : HasVersions g.packages) where
+module _ (g : Graph) (valid : IsValid g) where
   -- interface i stands in the table of its package under its name, and the text is the use path of both names
   record Told (i : ℕ) (text : List ℕ) : Type 0 where
     pub name : List ℕ
@@ -71,7 +71,7 @@ module _ (g : Graph) (valid : IsValid g) (versions : HasVersions g.packages) whe
           valid.names.namespaces p home.0 home.1,
           valid.names.package_names p home.0 home.1,
           named interface.name IsKebabName name two.1 (valid.names.interface_names i interface one.1),
-          versions p home.0 home.1,
+          valid.names.versions p home.0 home.1,
           text_is,
         );
       }
@@ -91,4 +91,4 @@ module _ (g : Graph) (valid : IsValid g) (versions : HasVersions g.packages) whe
       (subst (λ (n : List ℕ). Contains b.home.interfaces (n, i)) names (subst (λ (h : Package). Contains h.interfaces (a.name, i)) same a.listed)) b.listed
 
 pub id_texts_differ : IdTextsDiffer
-id_texts_differ g i j text valid versions first second = one_interface g valid versions i j text (told g valid versions i text first) (told g valid versions j text second)
+id_texts_differ g i j text valid first second = one_interface g valid i j text (told g valid i text first) (told g valid j text second)

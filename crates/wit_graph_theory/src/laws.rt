@@ -40,8 +40,7 @@ pub fn laws_of_elaboration()
     elaboration_is_local();
 }
 
-/// No two interfaces of a valid graph have one id text, where the versions of its packages are versions of SemVer, as each
-/// one is that was read from a text: `id_of` tells any two named interfaces apart.
+/// No two interfaces of a valid graph have one id text: `id_of` tells any two named interfaces apart.
 pub fn id_texts_differ()
     ensures { IdTextsDiffer }
 {}

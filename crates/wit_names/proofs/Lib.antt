@@ -3,3 +3,4 @@ pub mod Kebab
 pub mod Tracks
 pub mod UsePathGrammar
 pub mod VersionErrors
+pub mod Versions

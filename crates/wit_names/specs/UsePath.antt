@@ -3,10 +3,9 @@ use Rattle.std.specs.Prelude.{◌≡◌, ℕ, ◌==◌, ◌&&◌, ◌||◌, Bool
 use Rattle.std.specs.Char.{is_ascii_alphabetic, is_ascii_digit, is_ascii_lowercase, is_ascii_uppercase}
 use Rattle.std.specs.List.{list_all, list_any, slice_split, before_first, after_first}
 use Rattle.std.specs.Result.{result_ok}
-use Rattle.semver.specs.Grammar.{IsValid}
 use Rattle.semver.specs.Parse.{version_parts}
 use Rattle.wit_values.specs.Version.{Parts}
-use Rattle.wit_names.specs.PackageName.{version_suffix}
+use Rattle.wit_names.specs.PackageName.{HasValidVersion, version_suffix}
 use Rattle.wit_names.specs.declared.use_path.ParsedUsePath.{ParsedUsePath}
 use Rattle.wit_names.specs.declared.use_path.ParsedUsePath.TheVariants.{Name, Package}
 use Rattle.wit_names.specs.declared.use_path.UsePathFault.{UsePathFault}
@@ -37,7 +36,7 @@ IsKebabName name = IsTrue (is_kebab_name name)
 abbrev pub IsUsePath : List ℕ → ParsedUsePath → Type 0
 IsUsePath text (Name name) = IsKebabName name × (text ≡ name)
 IsUsePath text (Package parent name) =
-    IsKebabName parent.namespace × IsKebabName parent.name × IsKebabName name × IfSome parent.version IsValid
+    IsKebabName parent.namespace × IsKebabName parent.name × IsKebabName name × HasValidVersion parent
     × (text ≡ parent.namespace ++ (58 ∷ (parent.name ++ (47 ∷ (name ++ version_suffix parent.version)))))
 
 -- the version after the `@`, where there is an `@`; no reading where what follows it is no version

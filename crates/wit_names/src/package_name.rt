@@ -1,8 +1,10 @@
 //! Names of packages.
-ghost use Rattle.std.specs.Prelude.{◌≡◌, Some};
-ghost use Rattle.wit_names.specs.PackageName.{package_name_text};
+ghost use Rattle.std.specs.Prelude.{◌≡◌, ◌↔◌, IfOk, IsTrue, Some};
+ghost use Rattle.semver.specs.Grammar.{IsValid};
+ghost use Rattle.wit_names.specs.PackageName.{HasValidVersion, package_name_text};
 
-use std::alloc::AllocError;
+use crate::use_path::{UsePathFault, parse_version};
+use std::alloc::{AllocError, Global};
 use std::fmt;
 use wit_values::{Text, TryClone, Version, try_clone_three};
 
@@ -42,6 +44,31 @@ impl PackageName {
             name,
             version,
         }
+    }
+
+    /// Whether the version, where there is one, is one of SemVer 2.0.0, as each is that was read from a text. The only error
+    /// is want of memory.
+    ///
+    /// Source: SemVer 2.0.0, with numbers of 64 bits as the `semver` crate has them.
+    pub fn has_valid_version(&self, alloc: Global) -> Result<bool, AllocError>
+        ensures { IfOk result (λ valid. IsTrue valid ↔ HasValidVersion self.now) }
+    {
+        match &self.version {
+            Some(version) => is_valid(alloc, version),
+            None => Ok(true),
+        }
+    }
+}
+
+/// Whether a version is what its text reads as.
+fn is_valid(alloc: Global, version: &Version) -> Result<bool, AllocError>
+    ensures { IfOk result (λ valid. IsTrue valid ↔ IsValid version.now) }
+{
+    let text = version.to_string(alloc)?;
+    match parse_version(alloc, &text) {
+        Ok(read) => Ok(read == *version),
+        Err(UsePathFault::Invalid) => Ok(false),
+        Err(UsePathFault::OutOfMemory) => Err(AllocError),
     }
 }
 

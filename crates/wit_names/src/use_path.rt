@@ -201,7 +201,7 @@ fn parse_version_after(alloc: Global, tail: &str) -> Result<Option<Version>, Use
 }
 
 /// The version of a text.
-fn parse_version(alloc: Global, text: &str) -> Result<Version, UsePathFault>
+pub(crate) fn parse_version(alloc: Global, text: &str) -> Result<Version, UsePathFault>
     ensures ok { IfOk result (λ version. version_parts text.now ≡ Ok version) }
     ensures invalid { (result ≡ Err UsePathFault.Invalid) ↔ IsErr (version_parts text.now) }
 {

@@ -54,7 +54,7 @@ empty_is_valid = record {
       distinct_exports = none _;
     };
   };
-  names = record { namespaces = none _; package_names = none _; interface_names = none _ };
+  names = record { namespaces = none _; package_names = none _; versions = none _; interface_names = none _ };
   known = none _;
   no_cycles = record { uses = no_rows; types = no_rows; packages = no_rows };
   canonical = none _;

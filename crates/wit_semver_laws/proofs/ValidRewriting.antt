@@ -116,6 +116,7 @@ module _ (laws : LawsOfElaboration) (u : Upgrade) (valid : IsValid u.graph) (w :
           distinct_worlds = good.distinct_worlds;
           namespace = good.namespace;
           name = good.name;
+          version = good.version;
         };
     interfaces_in_tables = things.interfaces_in_tables;
     worlds_in_tables = λ v world at.

@@ -40,6 +40,9 @@ pub(crate) fn has_names(
     if !are_worlds_kebab(unresolved.worlds.as_slice()) {
         return Ok(false);
     }
+    if !unresolved.name.has_valid_version(alloc)? {
+        return Ok(false);
+    }
     if !interface_names_differ(alloc, unresolved.interfaces.as_slice(), interfaces)? {
         return Ok(false);
     }

@@ -19,8 +19,8 @@ use wit_digraph::is_acyclic;
 ///
 /// Ids are indices in its own lists. What it knows of other packages comes first in each list:
 /// interfaces and worlds by name alone, and types of kind `Unknown`, which alone may have to be
-/// resources; there is a span for each other package and each such type. Names are kebab names, and
-/// those of its own interfaces differ, as do those of its own worlds. Owners list their types under
+/// resources; there is a span for each other package and each such type. Names are kebab names, its
+/// version is one of SemVer, and the names of its own interfaces differ, as do those of its own worlds. Owners list their types under
 /// their names; types refer to earlier ones; an alias names a named type of its owner or of an
 /// interface with a name; a type without a name is no alias and no resource; but for aliases, an
 /// owner's types and functions refer to its own types alone; and interfaces don't use themselves,

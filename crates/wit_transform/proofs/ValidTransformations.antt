@@ -153,6 +153,7 @@ module _ (laws : LawsOfElaboration) (g : Graph) (valid : IsValid g) (w : ℕ) (o
         distinct_worlds = table_distinct good.distinct_worlds;
         namespace = good.namespace;
         name = good.name;
+        version = good.version;
       }
 
   other_is_good : (q : ℕ) (other : Package) → (q ≢ p) → slice_get g.packages q ≡ Some other → IsGoodPackage g.interfaces new.worlds q other
@@ -170,6 +171,7 @@ module _ (laws : LawsOfElaboration) (g : Graph) (valid : IsValid g) (w : ℕ) (o
         distinct_worlds = good.distinct_worlds;
         namespace = good.namespace;
         name = good.name;
+        version = good.version;
       }
 
   -- ---- things

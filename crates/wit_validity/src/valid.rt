@@ -15,8 +15,8 @@ use wit_graph_data::{Graph, ResolveResult};
 use wit_shape::unknown::is_unknown;
 
 /// Whether a graph is valid, as the graph of each `Resolve` is: packages, interfaces and worlds
-/// stand under their names, which are kebab names; types and functions belong to what lists them
-/// and refer to what they may; nothing uses itself, through whatever others; and each world is
+/// stand under their names, which are kebab names, and versions are those of SemVer; types and functions belong to
+/// what lists them and refer to what they may; nothing uses itself, through whatever others; and each world is
 /// canonical, its own elaboration.
 ///
 /// It is told of any graph, also what ids are remapped to nowhere, things use themselves or worlds can't be
@@ -28,7 +28,7 @@ pub fn is_valid(alloc: Global, graph: &Graph) -> ResolveResult<bool>
     ensures holds { IfOk result (λ valid. IsTrue valid ↔ IsValid graph.now) }
     ensures err { IfErr result (λ e. e ≡ OutOfMemory) }
 {
-    if !is_named(graph) {
+    if !is_named(alloc, graph)? {
         return Ok(false);
     }
     if !are_known(graph) {

@@ -14,7 +14,7 @@ use Rattle.wit_data.specs.declared.world.WorldItem.TheVariants as item
 use Rattle.wit_data.specs.declared.world.WorldKey.TheVariants as key
 use Rattle.wit_graph_data.specs.Queries.{HasAllBitsValid, canonical_id_text_in, external_id_value, futures_and_streams, implements_interface, interface_direct_deps, topological_packages, version_suffix_of, package_direct_deps, package_uses}
 use Rattle.wit_graph_data.specs.examples.Samples.{entry_of, foo_bar, foo_bar_of, function_of, instance, interface_of, labelled_entry, no_docs, sample, sample_interfaces, sample_types, type_in, unnamed, world_of}
-use Rattle.wit_elaboration.specs.Valid.{HasKebabNames, HasOwners, HasPackageNames, HasReferences, HasTables, HasWorlds, IsValid}
+use Rattle.wit_elaboration.specs.Valid.{HasValidNames, HasOwners, HasPackageNames, HasReferences, HasTables, HasWorlds, IsValid}
 use Rattle.wit_graph_data.specs.declared.graph.Graph.{Graph}
 use Rattle.wit_graph_data.specs.declared.graph.Package.{Package}
 
@@ -48,7 +48,7 @@ pub record ExamplesOfValidity : Type 0 where
   pub unlisted_type : HasOwners (type_in 0 (codes "t") (kind.Type_ type.U32) ∷ []) (interface_of (Some (codes "a")) [] ∷ []) [] → ⊥
   pub unnamed_alias : HasReferences (unnamed (kind.Type_ type.U32) ∷ []) [] → ⊥
   -- a name that is no kebab name
-  pub capital : HasKebabNames (foo_bar_of [] [] ∷ []) (interface_of (Some (codes "aB")) [] ∷ []) → ⊥
+  pub capital : HasValidNames (foo_bar_of [] [] ∷ []) (interface_of (Some (codes "aB")) [] ∷ []) → ⊥
   -- types that name each other
   pub type_circle : IsAcyclic (type_references circle) → ⊥
   -- one interface without a name in two places

@@ -5,6 +5,7 @@ use Rattle.std.specs.Prelude.{◌≡◌, ◌≢◌, ℕ, List, [], None, IfSome}
 use Rattle.wit_data.specs.Each.{Each, EachAt}
 use Rattle.wit_data.specs.Entries.{Entry, IsExport, IsImport, ItemUsesOwn, StandOnce}
 use Rattle.wit_data.specs.Ownership.{AliasesNamed, FunctionsUseOwn, IsListed, IsPlain, ListsOwn, NamesFunctions, RefersToOwn}
+use Rattle.wit_names.specs.PackageName.{HasValidVersion}
 use Rattle.wit_names.specs.UsePath.{IsKebabName}
 use Rattle.wit_data.specs.Uses.{uses_of}
 use Rattle.wit_data.specs.declared.interface.Interface.{Interface}
@@ -62,6 +63,7 @@ pub record IsGoodPackage (interfaces : List Interface) (worlds : List World) (p 
   pub distinct_worlds : HasDistinctKeys home.worlds
   pub namespace : IsKebabName home.name.namespace
   pub name : IsKebabName home.name.name
+  pub version : HasValidVersion home.name
 
 -- each type, interface and world of the graph is good: so they are also while a package is added, when its tables
 -- name worlds that are not finished

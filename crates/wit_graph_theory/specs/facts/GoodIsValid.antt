@@ -1,5 +1,5 @@
 -- A graph is valid exactly if each of its things is good and what is about the whole holds.
-use Rattle.wit_elaboration.specs.Valid.{HasKebabNames, HasOwners, HasReferences, HasTables, HasWorlds, IsValid, IsWellFormed}
+use Rattle.wit_elaboration.specs.Valid.{HasValidNames, HasOwners, HasReferences, HasTables, HasWorlds, IsValid, IsWellFormed}
 use Rattle.wit_graph_data.specs.declared.graph.Graph.{Graph}
 use Rattle.wit_graph_theory.specs.facts.Good.{HasGoodThings, IsGoodAsAWhole}
 
@@ -45,10 +45,11 @@ module _ (g : Graph) (things : HasGoodThings g) (whole : IsGoodAsAWhole g) where
     distinct_exports = λ w world at. (things.worlds w world at).distinct_exports;
   }
 
-  names : HasKebabNames g.packages g.interfaces
+  names : HasValidNames g.packages g.interfaces
   names = record {
     namespaces = λ p home at. (things.packages p home at).namespace;
     package_names = λ p home at. (things.packages p home at).name;
+    versions = λ p home at. (things.packages p home at).version;
     interface_names = λ f interface at. (things.interfaces f interface at).name;
   }
 
@@ -99,6 +100,7 @@ good_things g valid =
         distinct_worlds = formed.tables.distinct_worlds p home at;
         namespace = valid.names.namespaces p home at;
         name = valid.names.package_names p home at;
+        version = valid.names.versions p home at;
       };
       interfaces_in_tables = formed.tables.interfaces_listed;
       worlds_in_tables = formed.tables.worlds_listed;

@@ -107,6 +107,7 @@ module _ (a : Addition) (valid : IsValid a.graph) (shaped : IsShaped a.unresolve
         distinct_worlds = is.distinct_worlds;
         namespace = is.namespace;
         name = is.name;
+        version = is.version;
       }
 
   new_interfaces_are : Each (λ (e : List ℕ × ℕ). IsInterfaceOf new.interfaces (length a.graph.packages) e.0 e.1) (new_package a).interfaces
@@ -126,6 +127,7 @@ module _ (a : Addition) (valid : IsValid a.graph) (shaped : IsShaped a.unresolve
       distinct_worlds = distinct_worlds;
       namespace = shaped.names.namespace;
       name = shaped.names.own;
+      version = shaped.names.version;
     }
 
     pub good_tables : EachAt (IsWorldInTable new.packages) new.worlds → HasGoodTables new

@@ -189,6 +189,7 @@ module _ (m : GraphMerge) (valid : IsValid m.graph) (valid_other : IsValid m.oth
       distinct_worlds = valid.well_formed.tables.distinct_worlds p' into there;
       namespace = valid.names.namespaces p' into there;
       name = valid.names.package_names p' into there;
+      version = valid.names.versions p' into there;
     }
 
     module _ (p : ℕ) (from : Package) (from_there : slice_get m.other.packages p ≡ Some from) (matched : counterpart_package m p ≡ Some p') where
@@ -255,6 +256,7 @@ module _ (m : GraphMerge) (valid : IsValid m.graph) (valid_other : IsValid m.oth
             (distinct_map (merged_world m) brought_worlds (distinct_kept (λ (x : List ℕ × ℕ). moves_world m x.1) from.worlds (valid_other.well_formed.tables.distinct_worlds p from from_there))) worlds_apart;
         namespace = alone_good.namespace;
         name = alone_good.name;
+        version = alone_good.version;
       }
 
     joined_good : IsGoodPackage (united m).interfaces (united m).worlds p' (joined_package m (p', into))
@@ -298,6 +300,7 @@ module _ (m : GraphMerge) (valid : IsValid m.graph) (valid_other : IsValid m.oth
       distinct_worlds = distinct_map (merged_world m) old.worlds (valid_other.well_formed.tables.distinct_worlds p old there);
       namespace = valid_other.names.namespaces p old there;
       name = valid_other.names.package_names p old there;
+      version = valid_other.names.versions p old there;
     }
 
   pub packages_good : EachAt (IsGoodPackage (united m).interfaces (united m).worlds) (united m).packages

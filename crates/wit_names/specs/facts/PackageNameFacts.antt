@@ -28,7 +28,7 @@ three_parts : (a a' b b' : List ℕ) (c c' : Option Parts) → a ≡ a' → b �
     → a_name a b c ≡ a_name a' b' c'
 three_parts a a' b b' c c' p q r = cc
 
-same_parts : (a b : Parts) → version_eq a b ≡ true → a ≡ b
+pub same_parts : (a b : Parts) → version_eq a b ≡ true → a ≡ b
 same_parts a b h =
     let one = both (nat_eq a.0 b.0) _ h in
     let two = both (nat_eq a.1 b.1) _ one.1 in
