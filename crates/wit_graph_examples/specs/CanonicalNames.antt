@@ -2,6 +2,7 @@
 use Rattle.std.specs.Prelude.{◌≡◌, ◌≢◌, ℕ, List, [], ◌∷◌, ◌++◌, Option, Some, None, codes}
 use Rattle.wit_values.specs.Version.{Parts}
 use Rattle.wit_data.specs.declared.interface.Interface.{Interface}
+use Rattle.wit_names.specs.PackageName.{HasValidVersion}
 use Rattle.wit_names.specs.declared.package_name.PackageName.{PackageName}
 use Rattle.wit_data.specs.declared.world.WorldKey.TheVariants as key
 use Rattle.wit_graph_data.specs.IdText.{id_text_in}
@@ -30,6 +31,13 @@ abbrev pub their_interfaces : List Interface
 their_interfaces =
     interface_of (Some (codes "x")) [] ∷ record (interface_of (Some (codes "a")) []) { «package» = Some 1 } ∷ interface_of None []
     ∷ record (interface_of (Some (codes "n")) []) { «package» = None } ∷ []
+
+-- a pre-release with build metadata, and the same text as a pre-release alone, which SemVer has not
+abbrev pub pre_and_build : Option Parts
+pre_and_build = Some (1, 0, 0, codes "a", codes "b")
+
+abbrev pub pre_with_plus : Option Parts
+pre_with_plus = Some (1, 0, 0, codes "a+b", [])
 
 pub record ExamplesOfCanonicalNames : Type 0 where
   -- in the place of the version stands its track, not the version, nor the track as a version, nor nothing
@@ -65,6 +73,11 @@ pub record ExamplesOfCanonicalNames : Type 0 where
   pub own_key : canonical_key_text two_packages their_interfaces (key.Interface 0) ≡ codes "foo:x/x@0.2"
   pub not_name_alone : canonical_key_text two_packages their_interfaces (key.Interface 0) ≢ codes "x"
   pub not_id_text : canonical_key_text two_packages their_interfaces (key.Interface 0) ≢ codes "foo:x/x@0.2.1"
+  -- two versions would have one text, were one of them not refused
+  pub one_text : id_text_in (foo_x pre_and_build) (codes "x") ≡ id_text_in (foo_x pre_with_plus) (codes "x")
+  pub valid : HasValidVersion (foo_x pre_and_build)
+  pub no_version : HasValidVersion (foo_x None)
+  pub not_valid : HasValidVersion (foo_x pre_with_plus) → ⊥
 
 -- what is left out of the version of the package of an interface
 abbrev pub suffix_of : Option Parts → Option (List ℕ)

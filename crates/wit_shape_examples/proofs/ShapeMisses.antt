@@ -16,6 +16,7 @@ near_misses = record {
   foreign = λ has. (has.bare 0 _ refl 0 _ refl).1 refl;
   unknown = λ has. let below : 0 < 0 = (has.first.1 0 _ refl).0 refl in omega (arith, below);
   names = λ has. false≢true (has.worlds 0 _ refl);
+  version = λ has. false≢true has.version.3;
   owners = λ has. elim (Contains-cons_cases (codes "t", 1) (codes "r", 2) [] (has.listed 2 _ refl)) [ inl same ↦ differ (codes "t") (codes "r") refl (ap (λ (e : List ℕ × ℕ). e.0) same) | inr none ↦ Contains-nil none ];
   references = λ has. let below : 2 < 1 = has.earlier 1 _ refl 0 2 refl in omega (arith, below);
   own = λ has. let same : owner.Interface 0 ≡ owner.Interface 1 = (has.types 2 _ refl refl 0 0 refl).only (owner.Interface 0) (0, ([], refl), (refl, refl)) in cc;

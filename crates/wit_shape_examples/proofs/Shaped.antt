@@ -54,6 +54,7 @@ names = record {
   own = refl;
   interfaces = EachAt-two _ _ _ refl refl;
   worlds = EachAt-one _ _ refl;
+  version = tt;
   interfaces_differ = (tt, tt);
   worlds_differ = (tt, tt);
 }

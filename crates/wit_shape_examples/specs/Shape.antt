@@ -112,6 +112,8 @@ pub record NearMissesOfShape : Type 0 where
   pub unknown : HasUnknown (record shaped_package { unknown_type_spans = [] }) → ⊥
   -- w has a name that isn't kebab
   pub names : HasNames (record shaped_package { worlds = world_of (codes "a_b") [] ∷ [] }) → ⊥
+  -- the pre-release of its version has a `+`
+  pub version : HasNames (record shaped_package { name = record (named (codes "foo") (codes "bar")) { version = Some (1, 0, 0, codes "a+b", []) } }) → ⊥
   -- x doesn't list its r
   pub owners : HasUnresolvedOwners (record shaped_package { interfaces = foreign_i ∷ x_of ((codes "t", 1) ∷ []) ∷ [] }) → ⊥
   -- the t of x is another name of a later type

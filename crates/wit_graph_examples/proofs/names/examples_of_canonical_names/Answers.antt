@@ -1,4 +1,5 @@
-use Rattle.std.proofs.Common.{refl}
+use Rattle.std.proofs.Common.{lit<, refl}
+use Rattle.std.proofs.lemmas.Bool.{false≢true}
 use Rattle.std.specs.Fmt.{digits}
 use Rattle.wit_values.specs.facts.Lists.{differ}
 use Rattle.wit_graph_examples.proofs.Apart.{not_there, some_differ}
@@ -33,4 +34,8 @@ returns c = record {
   own_key = refl;
   not_name_alone = differ _ _ refl;
   not_id_text = differ _ _ refl;
+  one_text = refl;
+  valid = (lit< tt, lit< tt, lit< tt, refl, refl);
+  no_version = tt;
+  not_valid = λ is. false≢true is.3;
 }
