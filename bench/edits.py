@@ -113,6 +113,8 @@ def faults():
             if bool(is_of) != (os.path.basename(os.path.dirname(edit)) == "must-fail"):
                 yield f"{path}: {'a named wrong body lies in must-fail' if is_of else 'one without a name lies in must-fail-in-turn'}"
             there |= is_of
+        if seconds(crate) > 60 * MINUTES:
+            yield f"crates/{crate}: its edits in turn take more than a run has for all, so they would never come"
     yield from (f"no edit in must-fail is called by {it}" for it in named if it not in there)
 
 
