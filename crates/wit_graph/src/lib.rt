@@ -19,6 +19,7 @@
 #![tactic(auto)]
 
 mod graph_queries;
+pub mod laws;
 
 pub use crate::graph_queries::GraphQueries;
 pub use wit_core_names::{
