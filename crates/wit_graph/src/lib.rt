@@ -3,10 +3,10 @@
 //!
 //! [`Graph`] has public fields; its own methods `id_of`, `id_of_name` and `name_world_key` give id texts, `interface_in` and
 //! `world_in` find what a package has under a name, [`queries`] has the other questions as functions, and
-//! [`GraphQueries`] has them as methods. [`elaborate`] makes a world canonical,
-//! [`rows`] has what interfaces reach and makes all worlds canonical, [`is_valid`] tells whether a graph is valid, as the
-//! graph of each `Resolve` is. A [`ResolveError`] has a number and fields of its kind, and renders itself with its line of
-//! the sources.
+//! [`GraphQueries`] has them as methods. [`elaborate`] makes a world canonical, where [`is_elaborable`] is true, [`rows`]
+//! has what interfaces reach and makes all worlds canonical, where [`are_uses_acyclic`] is. [`is_valid`] tells whether a
+//! graph is valid, as the graph of each `Resolve` is; [`laws`] has laws of worlds and graphs. A [`ResolveError`] has a
+//! number and fields of its kind, and renders itself with its line of the sources.
 //!
 //! ```text
 //! use wit_graph::{Graph, GraphQueries, ResolveResult};
@@ -19,6 +19,7 @@
 #![tactic(auto)]
 
 mod graph_queries;
+pub mod laws;
 
 pub use crate::graph_queries::GraphQueries;
 pub use wit_core_names::{
@@ -32,7 +33,7 @@ pub use wit_graph_data::{
 pub use wit_queries as queries;
 pub use wit_queries::canonical::version_suffix_of;
 pub use wit_queries::entries::{external_id_value, implements_interface};
-pub use wit_queries::interface_deps::InterfaceDirectDeps;
+pub use wit_queries::interface_deps::{InterfaceDirectDeps, are_uses_acyclic};
 pub use wit_queries::package_deps::PackageDirectDeps;
 pub use wit_selection::select_world;
 pub use wit_validity::is_valid;

@@ -17,6 +17,7 @@
 //! ```
 #![tactic(auto)]
 
+pub mod laws;
 mod shape;
 
 pub use crate::shape::Shape;

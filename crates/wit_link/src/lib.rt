@@ -25,6 +25,7 @@ mod checking;
 mod fits;
 mod including;
 mod labels;
+pub mod laws;
 mod several;
 
 pub use crate::adding::{append, append_with};

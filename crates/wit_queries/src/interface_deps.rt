@@ -1,13 +1,16 @@
-//! The interfaces that an interface uses.
-ghost use Rattle.std.specs.Prelude.{◌≡◌, ◌<◌, length, slice_get};
+//! The interfaces that an interface uses, and whether one comes to use itself.
+ghost use Rattle.std.specs.Prelude.{◌≡◌, ◌<◌, ◌↔◌, IfOk, IsTrue, length, slice_get};
 ghost use Rattle.std.specs.Iterator.{YieldsFirst, item_count};
 ghost use Rattle.std.specs.Option.{option_map};
 ghost use Rattle.wit_graph_data.specs.Queries.{interface_direct_deps};
-ghost use Rattle.wit_data.specs.Uses.{interface_uses};
+ghost use Rattle.wit_data.specs.Uses.{interface_uses, uses_of};
+ghost use Rattle.wit_digraph.specs.Relation.{IsAcyclic};
 
 use crate::next::next_used;
+use std::alloc::{AllocError, Global};
 use std::marker::Model;
-use wit_data::{InterfaceId, TypeDef, TypeId};
+use wit_data::{InterfaceId, TypeDef, TypeId, uses_of};
+use wit_digraph::is_acyclic;
 use wit_graph_data::Graph;
 use wit_values::NamesIter;
 
@@ -64,4 +67,14 @@ pub fn interface_direct_deps(graph: &Graph, id: InterfaceId) -> InterfaceDirectD
         types: graph.types.as_slice(),
         ids: graph.interfaces.at(id.index()).types.iter(),
     }
+}
+
+/// Whether no interface comes back to itself along its uses, and each use is of an interface that is there: what a
+/// closure over uses, and elaborating all worlds of a graph, ask for. It is told of any graph, also of one without
+/// worlds. The only error is want of memory.
+pub fn are_uses_acyclic(alloc: Global, graph: &Graph) -> Result<bool, AllocError>
+    ensures { IfOk result (λ acyclic. IsTrue acyclic ↔ IsAcyclic (uses_of graph.now.types graph.now.interfaces)) }
+{
+    let uses = uses_of(alloc, graph.types.as_slice(), graph.interfaces.as_slice())?;
+    is_acyclic(alloc, uses.as_slice())
 }

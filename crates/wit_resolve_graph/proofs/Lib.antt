@@ -7,3 +7,4 @@ mod Merged
 mod OneOrder
 mod Runs
 mod RunsKeep
+mod SemverExact

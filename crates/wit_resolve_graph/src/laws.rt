@@ -1,10 +1,12 @@
-//! A law of runs, and examples of the definitions: the contract of each function is what is proved.
+//! Laws of runs and of semver merging, and examples of the definitions: the contract of each function is what is proved.
 ghost use Rattle.wit_resolve_graph.specs.examples.Examples.{ExamplesOfRuns, ExamplesOfSelection};
 ghost use Rattle.wit_resolve_graph.specs.examples.FilesExamples.{ExamplesOfFiles};
 ghost use Rattle.wit_resolve_graph.specs.examples.SourcesExamples.{ExamplesOfSources};
 ghost use Rattle.wit_resolve_graph.specs.laws.RunLaws.{AdditionsKeep, GroupsKeep, MergesKeep, RunsKeep, SemverMergesKeep, SourcesKeep, TransformationsKeep};
+ghost use Rattle.wit_resolve_graph.specs.laws.SemverLaws.{CallIsExact, CommandIsExact};
 
-use wit_semver_laws::laws::rewritten_keep;
+use crate::resolve::Resolve;
+use wit_semver_laws::laws::{keys_are_exact, rewritten_keep};
 
 /// What was there before a run is there after it, with the same ids.
 pub fn runs_keep()
@@ -24,6 +26,18 @@ pub fn calls_keep()
     ensures merges { MergesKeep }
     ensures semver_merges { SemverMergesKeep }
 {
+    rewritten_keep();
+}
+
+/// After semver merging, by the rule of tracks that is in force, a world imports exactly the former interfaces less
+/// the replaced: by the command `Semver`, and by `merge_world_imports_based_on_semver`, whose clauses `ok` and
+/// `refuses` say that it makes this graph where no cause holds.
+pub fn semver_is_exact(resolve: &Resolve)
+    ensures command { CommandIsExact resolve.now }
+    ensures call { CallIsExact resolve.now }
+{
+    resolve.graph();
+    keys_are_exact();
     rewritten_keep();
 }
 

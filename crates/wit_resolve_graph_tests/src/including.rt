@@ -1,4 +1,5 @@
-//! Entries of a world of another package that is included: what was stable there is unknown here.
+//! Worlds that include another: of another package, what was stable there is unknown here; types that the included world
+//! owns are copied, under their names or other ones.
 use crate::parts::assert_text;
 use crate::scripts::pushed;
 use crate::shown::shown;
@@ -20,8 +21,9 @@ const SCRIPT: &str = "package foo:base@1.0.0\n\
     include foo:base/b@1.0.0\n\
     push\n";
 
-fn included(rt: &impl Abort, alloc: Global) -> String {
-    let resolve = pushed(rt, alloc, SCRIPT);
+/// The graph with the packages of a script.
+fn included(rt: &impl Abort, alloc: Global, script: &str) -> String {
+    let resolve = pushed(rt, alloc, script);
     shown(rt, alloc, resolve.graph())
 }
 
@@ -47,5 +49,40 @@ const INCLUDED: &str = "package 0 foo:base@1.0.0\n\
 
 #[test]
 fn what_is_stable_elsewhere_is_unknown_where_it_is_included(rt: HostRuntime) {
-    assert_text(&rt, included(&rt, rt.alloc()), INCLUDED);
+    assert_text(&rt, included(&rt, rt.alloc(), SCRIPT), INCLUDED);
+}
+
+const COPIED_SCRIPT: &str = "package foo:bar\n\
+    world base\n\
+    type t u32\n\
+    import-func f(x:t)\n\
+    world derived\n\
+    include base t=t2\n\
+    world other\n\
+    include base\n\
+    push\n";
+
+/// Worlds `base` and `other` each have a type `t` of their own, `derived` has a `t2`. Spans are those of the lines that
+/// the copies are of.
+const COPIED: &str = "package 0 foo:bar\n\
+    \x20 world base 0\n\
+    \x20 world derived 1\n\
+    \x20 world other 2\n\
+    named foo:bar 0\n\
+    world 0 base of package 0 at 16-26 includes 0\n\
+    \x20 import t: type #0 at 27-37\n\
+    \x20 import f: func f(x: #0 at 38-56;) at 38-56\n\
+    world 1 derived of package 0 at 57-70 includes 0\n\
+    \x20 import t2: type #1 at 27-37\n\
+    \x20 import f: func f(x: #1 at 38-56;) at 38-56\n\
+    world 2 other of package 0 at 89-100 includes 0\n\
+    \x20 import t: type #2 at 27-37\n\
+    \x20 import f: func f(x: #2 at 38-56;) at 38-56\n\
+    type #0 t of world 0: alias u32 at 27-37\n\
+    type #1 t2 of world 1: alias u32 at 27-37\n\
+    type #2 t of world 2: alias u32 at 27-37\n";
+
+#[test]
+fn types_of_one_name_are_those_of_their_worlds(rt: HostRuntime) {
+    assert_text(&rt, included(&rt, rt.alloc(), COPIED_SCRIPT), COPIED);
 }

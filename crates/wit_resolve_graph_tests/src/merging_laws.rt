@@ -1,5 +1,5 @@
-//! Merges of two graphs in all their names: with a copy of itself, in either order, and where a package comes to use a
-//! later one.
+//! Merges of two graphs in all their names: with a copy of itself, with an empty one, in either order, and where a package
+//! comes to use a later one.
 use crate::merging::write_remap;
 use crate::parts::assert_text;
 use crate::scripts::pushed;
@@ -66,6 +66,49 @@ const MERGED_WITH_ITSELF: &str =
 #[test]
 fn a_graph_goes_into_itself(rt: HostRuntime) {
     assert_text(&rt, merged_with_itself(&rt, rt.alloc()), MERGED_WITH_ITSELF);
+}
+
+/// Where the things of a graph go, and its files, once it goes into another one of which one of the two is empty; it ends
+/// the test where the graph isn't, in all its data, what the other one was.
+fn merged_with_nothing(
+    rt: &impl Abort,
+    alloc: Global,
+    whole: &Resolve,
+    into: Resolve,
+    other: Resolve,
+) -> String {
+    let mut resolve = into;
+    let remap = resolve.merge(alloc, other).expect(rt, "a merge");
+    assert!(rt; resolve.assert_valid(alloc).expect(rt, "memory"));
+    let wanted = shown(rt, alloc, whole.graph());
+    assert_text(rt, shown(rt, alloc, resolve.graph()), wanted.as_str());
+    let mut out = String::new(alloc);
+    write_remap(&mut out, &remap).expect(rt, "memory");
+    write_files(&mut out, &resolve).expect(rt, "memory");
+    out
+}
+
+/// All stays at its id, or goes to it.
+const INTO_NOTHING: &str =
+    "type 0 type 1 type 2 type 3 type 4 type 5 type 6 type 7 type 8 type 9 type 10 interface 0 interface 1 interface 2 world 0 world 1 package 0 package 1 \n\
+    \x20foo:a@1.0.0 foo:b to 312";
+
+#[test]
+fn an_empty_graph_goes_into_one_and_takes_one(rt: HostRuntime) {
+    let alloc = rt.alloc();
+    let whole = pushed(&rt, alloc, WHOLE);
+    let copy = whole.try_clone().expect(&rt, "memory");
+    assert_text(
+        &rt,
+        merged_with_nothing(&rt, alloc, &whole, copy, Resolve::new(alloc)),
+        "\n foo:a@1.0.0 foo:b to 312",
+    );
+    let copy = whole.try_clone().expect(&rt, "memory");
+    assert_text(
+        &rt,
+        merged_with_nothing(&rt, alloc, &whole, Resolve::new(alloc), copy),
+        INTO_NOTHING,
+    );
 }
 
 /// A graph after another one went in.

@@ -9,12 +9,12 @@ use wit_graph::queries::futures::holds_future_or_stream;
 use wit_graph::queries::package_deps::package_uses;
 use wit_graph::queries::valid_bits::is_valid_by;
 use wit_graph::{
-    Graph, GraphQueries, ResolveError, elaborate, external_id_value, implements_interface,
-    is_elaborable, is_valid, select_world, version_suffix_of,
+    Graph, GraphQueries, ResolveError, are_uses_acyclic, elaborate, external_id_value,
+    implements_interface, is_elaborable, is_valid, select_world, version_suffix_of,
 };
 use wit_items::{
-    Docs, InterfaceId, Items, PackageId, Span, Stability, Text, Type_, TypeId, WorldId, WorldItem,
-    WorldKey,
+    Docs, InterfaceId, Items, PackageId, Span, Stability, Text, Type_, TypeDefKind, TypeId,
+    WorldId, WorldItem, WorldKey,
 };
 
 /// Package 0 is `foo:dep@0.2.1` with interface 0, which has type 0 and a function that holds a future and a stream;
@@ -204,6 +204,25 @@ fn worlds_are_elaborated(rt: HostRuntime) {
         elaborated(&rt, rt.alloc()),
         "0,1, true;1, false;0,1, true;",
     );
+}
+
+/// Whether the uses of an empty graph are acyclic, of one in which interface 1 uses interface 0, and of it where
+/// interface 0 uses interface 1, too; none of them has a world.
+fn told_of_uses(rt: &impl Abort, alloc: Global) -> String {
+    let script = "package foo:a\ninterface i\ntype t u32\ninterface j\nuse i t\npush\n";
+    let empty = are_uses_acyclic(alloc, &Graph::new(alloc)).expect(rt, "memory");
+    let mut graph = graph(rt, alloc, script);
+    let used = are_uses_acyclic(alloc, &graph).expect(rt, "memory");
+    assert!(rt; graph.types.len() == 2);
+    graph.types.at_mut(0).kind = TypeDefKind::Type_(Type_::Id(TypeId::from_index(1)));
+    let both = are_uses_acyclic(alloc, &graph).expect(rt, "memory");
+    let worlds = graph.worlds.len();
+    format!(in alloc; "{empty} {used} {both} of {worlds}").expect(rt, "memory")
+}
+
+#[test]
+fn uses_are_told_to_be_acyclic(rt: HostRuntime) {
+    assert_text(&rt, told_of_uses(&rt, rt.alloc()), "true true false of 0");
 }
 
 /// The only world of package 1, and what the canonical name of an interface of each package leaves out.

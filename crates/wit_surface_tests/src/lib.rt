@@ -9,6 +9,8 @@ mod graph;
 #[cfg(test)]
 mod items;
 #[cfg(test)]
+mod laws;
+#[cfg(test)]
 mod link;
 #[cfg(test)]
 mod resolve;

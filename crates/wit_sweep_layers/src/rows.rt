@@ -2,11 +2,11 @@
 ghost use Rattle.std.specs.Prelude.{◌<◌, length};
 ghost use Rattle.wit_elaboration.specs.Valid.{IsValid};
 
-use crate::marks::{bare, call, copy_of, done, tell};
+use crate::marks::{bare, call, copy_of, done, tell, tell_made};
 use crate::states::tell_graph;
 use std::alloc::Global;
-use wit_graph::Graph;
 use wit_graph::rows::{Closure, elaborate_all, or_into};
+use wit_graph::{Graph, are_uses_acyclic};
 
 /// Calls on a graph, or on a copy of it.
 pub fn close(rt: &impl Print, alloc: Global, graph: &Graph) -> Option<()>
@@ -28,6 +28,8 @@ fn elaborate_worlds(rt: &impl Print, alloc: Global, graph: &Graph) -> Option<()>
 fn make_closure(rt: &impl Print, alloc: Global, graph: &Graph) -> Option<()>
     requires valid { IsValid graph.now }
 {
+    call(rt, "are_uses_acyclic");
+    tell_made(rt, are_uses_acyclic(alloc, graph))?;
     call(rt, "Closure::of");
     tell(rt, done(Closure::of(alloc, graph)))?;
     let mut closure = Closure::of(alloc, graph).ok()?;

@@ -9,6 +9,8 @@
 //! is as before.
 #![tactic(auto)]
 
+pub mod laws;
+
 pub use wit_merge::unite;
 pub use wit_semver::merge_by_track;
 pub use wit_transform::{exportize, importize};

@@ -7,7 +7,7 @@ use Rattle.wit_resolve_graph.specs.facts.NamedWorlds.{world_within}
 use Rattle.wit_semver_laws.specs.laws.TrackLaws.{KeysAreExact, RewrittenKeep}
 use Rattle.wit_semver_spec.specs.Rewritten.{rewritten}
 use Rattle.wit_semver_spec.specs.laws.Unchanged.{SameButLists}
-use Rattle.wit_resolve_laws.specs.laws.SemverLaws.{CallIsExact, CommandIsExact, ImportsLessReplaced}
+use Rattle.wit_resolve_graph.specs.laws.SemverLaws.{CallIsExact, CommandIsExact, ImportsLessReplaced}
 
 module _ (exact : KeysAreExact) (keep : RewrittenKeep) (old : State) (valid : IsValid old.graph) where
   -- of a world that is there

@@ -1,5 +1,5 @@
-use Rattle.wit_resolve_laws.proofs.Exact.{call_exact, command_exact}
-use Rattle.wit_resolve_laws.proofs.laws.semver_is_exact.Goals as goal
+use Rattle.wit_resolve_graph.proofs.SemverExact.{call_exact, command_exact}
+use Rattle.wit_resolve_graph.proofs.laws.semver_is_exact.Goals as goal
 
 pub returns-clause-command : goal.returns-clause-command
 returns-clause-command c = command_exact c.keys_are_exact.ensures c.rewritten_keep.ensures c.args.resolve.now c.graph.ensures.valid
