@@ -3,6 +3,7 @@ pub mod BorrowsBack
 pub mod BothNames
 pub mod BothOrders
 pub mod Covering
+pub mod ExportsLike
 pub mod FeaturesTold
 pub mod FoundBack
 pub mod FunctionsBack
