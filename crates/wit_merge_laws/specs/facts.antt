@@ -3,6 +3,7 @@ pub mod BorrowsBack
 pub mod BothNames
 pub mod BothOrders
 pub mod Covering
+pub mod EmptyFacts
 pub mod ExportsLike
 pub mod FeaturesTold
 pub mod FoundBack
@@ -29,6 +30,7 @@ pub mod OnceStand
 pub mod OrderFree
 pub mod PackagesStand
 pub mod PairsMatched
+pub mod SelfFacts
 pub mod SharedImports
 pub mod SharedWorlds
 pub mod StructureBack

@@ -1,8 +1,10 @@
 //! Laws of merging: the contract of each function is what is proved.
 ghost use Rattle.wit_merge_laws.specs.laws.BorrowLaws.{MergesMakeNoBorrow};
+ghost use Rattle.wit_merge_laws.specs.laws.CopyLaws.{CopiesGoToThemselves, EmptyBecomesAlike, EmptyKeepsIds};
 ghost use Rattle.wit_merge_laws.specs.laws.MergingLaws.{NothingComes, SharedWorldsKeepImports, UnionsHaveBothNames, UnionsStayValid};
 ghost use Rattle.wit_merge_laws.specs.laws.OrderLaws.{AgreementIsSymmetric, EitherOrderElaborates, MergesAreAlike, MergingIsOrderFree, ResourcesStay};
 
+use wit_elaboration::laws::examples_of_validity;
 use wit_graph_theory::laws::laws_of_elaboration;
 
 /// Where an empty graph goes into a valid one, no cause holds against it, and nothing changes.
@@ -67,4 +69,23 @@ pub fn resources_stay()
 /// functions returns a borrow itself.
 pub fn merges_make_no_borrow()
     ensures { MergesMakeNoBorrow }
+{}
+
+/// An empty graph into which a valid graph goes has its names, labels and keys.
+pub fn empty_becomes_alike()
+    ensures { EmptyBecomesAlike }
+{
+    examples_of_validity();
+    laws_of_elaboration();
+}
+
+/// What goes into an empty graph keeps its ids, its packages and what stands in their tables.
+pub fn empty_keeps_ids()
+    ensures { EmptyKeepsIds }
+{}
+
+/// A copy of a valid graph goes into it thing by thing: what has a name is where its copy goes, and nothing that was there
+/// changes.
+pub fn copies_go_to_themselves()
+    ensures { CopiesGoToThemselves }
 {}
