@@ -3,6 +3,8 @@ pub mod BorrowsBack
 pub mod BothNames
 pub mod BothOrders
 pub mod Covering
+pub mod EmptyFacts
+pub mod ExportsLike
 pub mod FeaturesTold
 pub mod FoundBack
 pub mod FunctionsBack
@@ -28,6 +30,7 @@ pub mod OnceStand
 pub mod OrderFree
 pub mod PackagesStand
 pub mod PairsMatched
+pub mod SelfFacts
 pub mod SharedImports
 pub mod SharedWorlds
 pub mod StructureBack

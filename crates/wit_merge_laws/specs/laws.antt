@@ -1,4 +1,5 @@
 pub mod BorrowLaws
+pub mod CopyLaws
 pub mod MergingLaws
 pub mod Names
 pub mod OrderLaws

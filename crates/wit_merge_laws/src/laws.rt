@@ -1,8 +1,10 @@
 //! Laws of merging: the contract of each function is what is proved.
 ghost use Rattle.wit_merge_laws.specs.laws.BorrowLaws.{MergesMakeNoBorrow};
+ghost use Rattle.wit_merge_laws.specs.laws.CopyLaws.{CopiesGoToThemselves, EmptyBecomesAlike, EmptyKeepsIds};
 ghost use Rattle.wit_merge_laws.specs.laws.MergingLaws.{NothingComes, SharedWorldsKeepImports, UnionsHaveBothNames, UnionsStayValid};
-ghost use Rattle.wit_merge_laws.specs.laws.OrderLaws.{AgreementIsSymmetric, MergingIsOrderFree, ResourcesStay};
+ghost use Rattle.wit_merge_laws.specs.laws.OrderLaws.{AgreementIsSymmetric, EitherOrderElaborates, MergesAreAlike, MergingIsOrderFree, ResourcesStay};
 
+use wit_elaboration::laws::examples_of_validity;
 use wit_graph_theory::laws::laws_of_elaboration;
 
 /// Where an empty graph goes into a valid one, no cause holds against it, and nothing changes.
@@ -37,13 +39,26 @@ pub fn agreement_is_symmetric()
     ensures { AgreementIsSymmetric }
 {}
 
-/// Where two valid graphs agree, and in neither order an interface would use itself or a world is in conflict, merging
-/// them in either order gives the same names, the same sorts under labels, and each world the same labels and keys.
+/// Where two valid graphs can be merged in either order, both orders give the same names, the same sorts under labels,
+/// and each world the same labels and keys.
+pub fn merges_are_alike()
+    ensures { MergesAreAlike }
+{
+    laws_of_elaboration();
+}
+
+/// So they do where two valid graphs agree, and in their union no interface would use itself and no world is in conflict.
 pub fn merging_is_order_free()
     ensures { MergingIsOrderFree }
 {
     laws_of_elaboration();
 }
+
+/// Where two valid graphs agree, their union in the one order has no interface that uses itself and no world in conflict
+/// if that in the other order has none.
+pub fn either_order_elaborates()
+    ensures { EitherOrderElaborates }
+{}
 
 /// A type that leads to a resource in one of two valid graphs that agree leads to one in what is united of them.
 pub fn resources_stay()
@@ -54,4 +69,23 @@ pub fn resources_stay()
 /// functions returns a borrow itself.
 pub fn merges_make_no_borrow()
     ensures { MergesMakeNoBorrow }
+{}
+
+/// An empty graph into which a valid graph goes has its names, labels and keys.
+pub fn empty_becomes_alike()
+    ensures { EmptyBecomesAlike }
+{
+    examples_of_validity();
+    laws_of_elaboration();
+}
+
+/// What goes into an empty graph keeps its ids, its packages and what stands in their tables.
+pub fn empty_keeps_ids()
+    ensures { EmptyKeepsIds }
+{}
+
+/// A copy of a valid graph goes into it thing by thing: what has a name is where its copy goes, and nothing that was there
+/// changes.
+pub fn copies_go_to_themselves()
+    ensures { CopiesGoToThemselves }
 {}

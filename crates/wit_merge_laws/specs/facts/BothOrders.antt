@@ -90,7 +90,7 @@ one_like_back g h offset back both i k j first second =
 -- ---- uses
 
 -- what a valid graph has uses of is there
-user_there : (g : Graph) (i j : ℕ) → Contains (direct (graph_uses g) i) j → i < length g.interfaces
+pub user_there : (g : Graph) (i j : ℕ) → Contains (direct (graph_uses g) i) j → i < length g.interfaces
 user_there g i j has = let from = from_row (interface_uses g.types) g.interfaces i j has in slice_get_within g.interfaces i from.0 from.1
 
 used_there : (g : Graph) → IsValid g → (i j : ℕ) → Contains (direct (graph_uses g) i) j → j < length g.interfaces

@@ -132,11 +132,11 @@ label_found g valid w exported label world held i unnamed there has is =
 
 -- ---- back
 
-unnamed_so : (interfaces : List Interface) (i : ℕ) (interface : Interface) → slice_get interfaces i ≡ Some interface → interface.name ≡ None → is_unnamed interfaces i ≡ true
+pub unnamed_so : (interfaces : List Interface) (i : ℕ) (interface : Interface) → slice_get interfaces i ≡ Some interface → interface.name ≡ None → is_unnamed interfaces i ≡ true
 unnamed_so interfaces i interface at none =
     ap (λ (o : Option Interface). option_map_or (λ (x : Interface). not (is_some x.name)) o false) at ∙ ap (λ (o : Option (List ℕ)). not (is_some o)) none
 
-unnamed_held : (interfaces : List Interface) (held : WorldItem) (i : ℕ) → item_interface held ≡ i ∷ [] → is_unnamed interfaces i ≡ true → unnamed_item interfaces held ≡ Some i
+pub unnamed_held : (interfaces : List Interface) (held : WorldItem) (i : ℕ) → item_interface held ≡ i ∷ [] → is_unnamed interfaces i ≡ true → unnamed_item interfaces held ≡ Some i
 unnamed_held interfaces (item.Interface j stability docs span external_id) i is unnamed = by (is_unnamed interfaces j) (ap (is_unnamed interfaces) same ∙ unnamed)
   where
     same : j ≡ i

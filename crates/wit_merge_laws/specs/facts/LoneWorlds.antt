@@ -66,24 +66,24 @@ module _ (m : Maps) (w : ℕ) where
   abbrev images : List Entry → List Entry
   images es = map (entry_image m w) es
 
-  held_goes : (es : List Entry) (x : ℕ) → Contains (exported_interfaces es) x → Contains (exported_interfaces (images es)) (m.interfaces x)
+  pub held_goes : (es : List Entry) (x : ℕ) → Contains (exported_interfaces es) x → Contains (exported_interfaces (images es)) (m.interfaces x)
   held_goes es x has =
       let e = Contains-flat_map_cases (λ (e : Entry). item_interface e.1) es x has in
       Contains-flat_map (λ (e : Entry). item_interface e.1) (images es) (entry_image m w e.0) (m.interfaces x) (Contains-map (entry_image m w) es e.0 e.1.0) (image_holds e.0.1 x e.1.1)
 
-  held_from : (es : List Entry) (y : ℕ) → Contains (exported_interfaces (images es)) y → (x : ℕ) × Contains (exported_interfaces es) x × (y ≡ m.interfaces x)
+  pub held_from : (es : List Entry) (y : ℕ) → Contains (exported_interfaces (images es)) y → (x : ℕ) × Contains (exported_interfaces es) x × (y ≡ m.interfaces x)
   held_from es y has =
       let e = Contains-flat_map_cases (λ (e : Entry). item_interface e.1) (images es) y has in
       let d = Contains-map_cases (entry_image m w) es e.0 e.1.0 in
       let x = holds_image d.0.1 y (subst (λ (z : Entry). Contains (item_interface z.1) y) (sym d.2) e.1.1) in
       (x.0, Contains-flat_map (λ (e : Entry). item_interface e.1) es d.0 x.0 d.1 x.1, x.2)
 
-  key_remapped : (es : List Entry) (x : ℕ) → Contains (keyed_interfaces es) x → Contains (keyed_interfaces (images es)) (m.interfaces x)
+  pub key_remapped : (es : List Entry) (x : ℕ) → Contains (keyed_interfaces es) x → Contains (keyed_interfaces (images es)) (m.interfaces x)
   key_remapped es x has =
       let e = Contains-flat_map_cases (λ (e : Entry). key_interface e.0) es x has in
       Contains-flat_map (λ (e : Entry). key_interface e.0) (images es) (entry_image m w e.0) (m.interfaces x) (Contains-map (entry_image m w) es e.0 e.1.0) (image_key e.0.0 x e.1.1)
 
-  key_from : (es : List Entry) (y : ℕ) → Contains (keyed_interfaces (images es)) y → (x : ℕ) × Contains (keyed_interfaces es) x × (y ≡ m.interfaces x)
+  pub key_from : (es : List Entry) (y : ℕ) → Contains (keyed_interfaces (images es)) y → (x : ℕ) × Contains (keyed_interfaces es) x × (y ≡ m.interfaces x)
   key_from es y has =
       let e = Contains-flat_map_cases (λ (e : Entry). key_interface e.0) (images es) y has in
       let d = Contains-map_cases (entry_image m w) es e.0 e.1.0 in
@@ -97,7 +97,7 @@ use_root uses (key.Name label) (Some x) r is = let same : x ≡ r = cc in subst 
 use_root uses (key.Interface f) (Some x) r is = let same : x ≡ r = cc in subst (λ (y : ℕ). Contains (y ∷ []) r) (sym same) (Contains-here r [])
 
 -- an item of a world is there
-held_within : (interfaces : List Interface) (k : WorldKey) (held : WorldItem) (i : ℕ) → IsExport interfaces k held → Contains (item_interface held) i → i < length interfaces
+pub held_within : (interfaces : List Interface) (k : WorldKey) (held : WorldItem) (i : ℕ) → IsExport interfaces k held → Contains (item_interface held) i → i < length interfaces
 held_within interfaces (key.Name label) (item.Interface id stability docs span external_id) i is has = subst (λ (x : ℕ). x < length interfaces) (one_of id i has) is
 held_within interfaces (key.Interface f) (item.Interface id stability docs span external_id) i is has = subst (λ (x : ℕ). x < length interfaces) (sym is.0 ∙ one_of id i has) (named_within interfaces f is.1)
 held_within interfaces k (item.Function fn) i is has = absurd (Contains-nil has)

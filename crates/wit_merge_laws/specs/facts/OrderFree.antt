@@ -1,40 +1,30 @@
 -- Merging in either order gives the same: the same names, things of one sort under each label, and each world the same
--- labels and keys by text. What a world imports corresponds where one graph alone has it, and is what both import
+-- labels and keys. What a world imports corresponds where one graph alone has it, and is what both import
 -- where both have it.
 use Rattle.std.specs.Prelude.{◌⊎◌}
-use Rattle.std.proofs.Common.{◌≡◌, ◌∙◌, inl, inr, ℕ, Bool, true, false, List, [], Option, Some, IfSome, IsSome, option_and_then, option_map, unwrap_or, slice_get, refl, sym, ap, subst, Contains}
-use Rattle.std.specs.Option.{option_map_or}
+use Rattle.std.proofs.Common.{◌≡◌, ◌∙◌, inl, inr, ℕ, Bool, true, false, List, Some, slice_get, refl, sym, ap, subst, Contains}
 use Rattle.std.proofs.lemmas.Bool.{cases_Bool}
 use Rattle.wit_data.specs.Each.{SomeAt}
-use Rattle.wit_data.specs.Ownership.{IsNamed}
-use Rattle.wit_data.specs.declared.interface.Interface.{Interface}
 use Rattle.wit_names.specs.declared.package_name.PackageName.{PackageName}
 use Rattle.wit_data.specs.declared.world.World.{World}
 use Rattle.wit_data.specs.declared.world.WorldItem.{WorldItem}
 use Rattle.wit_data.specs.declared.world.WorldKey.{WorldKey}
 use Rattle.wit_data.specs.declared.world.WorldKey.TheVariants as key
-use Rattle.wit_digraph.specs.facts.MemberFacts.{Contains-here}
 use Rattle.wit_elaboration.specs.Entries.{keyed_interfaces}
 use Rattle.wit_elaboration.specs.Valid.{IsValid}
-use Rattle.wit_graph_data.specs.IdText.{id_text, id_text_in, interface_id_text, key_text}
 use Rattle.wit_graph_data.specs.declared.graph.Graph.{Graph}
-use Rattle.wit_graph_data.specs.declared.graph.Package.{Package}
 use Rattle.wit_elaboration.specs.AllElaborated.{elaborated_world}
-use Rattle.wit_graph_theory.specs.facts.CoveredIsValid.{IsGoodWhere-of_covered}
-use Rattle.wit_graph_theory.specs.Cut.{IsGoodWhere}
 use Rattle.wit_remap_spec.specs.Image.{world_image}
-use Rattle.wit_remap_spec.specs.Kept.{everything}
 use Rattle.wit_graph_theory.specs.facts.LawsOfElaboration.{LawsOfElaboration}
-use Rattle.wit_graph_theory.specs.facts.ListFacts.{at_map, found_at, from_map, get_at, place_of, same_at, some_at}
+use Rattle.wit_graph_theory.specs.facts.ListFacts.{at_map, found_at, from_map, get_at, same_at}
 use Rattle.wit_data.specs.Entries.{entries_of}
-use Rattle.wit_graph_theory.specs.Operations.{merge_sources}
-use Rattle.wit_graph_theory.specs.facts.OptionFacts.{some_there}
 use Rattle.wit_merge_spec.specs.Cause.{same_sort, HasNoMismatch}
 use Rattle.wit_merge_spec.specs.Matches.{GraphMerge, counterpart_world}
 use Rattle.wit_merge_spec.specs.United.{merge_maps, merged_world, moves_world, joined_graph, united}
 use Rattle.wit_merge_laws.specs.facts.AgreementBack.{agreement_is_symmetric}
 use Rattle.wit_merge_laws.specs.facts.BothNames.{names_of_both}
 use Rattle.wit_merge_laws.specs.facts.BothOrders.{Corresponds, InBothOrders, flip, of_graph, of_other, other_way}
+use Rattle.wit_merge_laws.specs.facts.ExportsLike.{elaborates_back}
 use Rattle.wit_merge_laws.specs.facts.FoundBack.{interface_back as interface_back_to, world_back as world_back_to}
 use Rattle.wit_merge_laws.specs.facts.JoinedGood.{UnionCanElaborate}
 use Rattle.wit_merge_laws.specs.facts.LabelSorts.{SortFrom, is_same_sort, matched_sort, sort_from, sort_of, sort_of_graph, sort_of_other}
@@ -46,29 +36,18 @@ use Rattle.wit_merge_laws.specs.facts.MatchedOnce.{lists_distinct, one_under}
 use Rattle.wit_merge_laws.specs.facts.MatchedTypes.{alias_matched}
 use Rattle.wit_merge_laws.specs.laws.MergingLaws.{merge_of_graphs}
 use Rattle.wit_merge_laws.specs.laws.Names.{HasImport, HasName, IsInterface, IsWorld, Label, Name, of_export, of_label}
-use Rattle.wit_merge_laws.specs.facts.NamesGo.{MapsInto, home_is, interface_back, interface_remapped, world_back, world_remapped}
+use Rattle.wit_merge_laws.specs.facts.NamesGo.{MapsInto, interface_back, interface_remapped, world_back, world_remapped}
 use Rattle.wit_merge_laws.specs.facts.NamesParts.{going_to, graph_part, other_part, staying}
-use Rattle.wit_merge_laws.specs.laws.OrderLaws.{AreAlike, HasKey, MergingIsOrderFree, StandsUnder}
-use Rattle.wit_merge_laws.specs.facts.PackagesStand.{interfaces_in_tables}
+use Rattle.wit_merge_laws.specs.facts.NoCycles.{are_one, can_elaborate}
+use Rattle.wit_merge_laws.specs.laws.OrderLaws.{AreAlike, EitherOrderElaborates, HasKey, IsKey, Key, MergesAreAlike, MergingIsOrderFree, StandsUnder, under_interface, under_label}
 use Rattle.wit_merge_laws.specs.facts.SharedImports.{imports_it, imports_of_both, matched, world_unique}
 use Rattle.wit_merge_laws.specs.facts.TypesStand.{matched_some}
-use Rattle.wit_merge_laws.specs.facts.UnitedWorlds.{named_key, united_covered, united_stands}
 use Rattle.wit_merge_laws.specs.facts.UsesListed.{key_in}
-use Rattle.wit_merge_laws.specs.facts.WorldsStand.{entry, sources_good}
+use Rattle.wit_merge_laws.specs.facts.WorldsStand.{entry}
 
 other_first : {A B : Type 0} → A ⊎ B → B ⊎ A
 other_first (inl a) = inr a
 other_first (inr b) = inl b
-
--- the text of the key of an interface is made of its names
-named_text : (g : Graph) (of : PackageName) (name : List ℕ) (i : ℕ) → IsInterface g of name i → key_text g.packages g.interfaces (key.Interface i) ≡ id_text_in of name
-named_text g of name i is =
-    let found = found_at (λ (interface : Interface). (interface.name ≡ Some name) × (interface.package ≡ Some is.p)) g.interfaces i is.is in
-    let home = found_at (λ (there : Package). there.name ≡ of) g.packages is.p is.of in
-    ap (λ (o : Option Interface). unwrap_or (option_and_then (interface_id_text g.packages) o) []) found.1
-    ∙ (ap (λ (o : Option (List ℕ)). unwrap_or (option_and_then (λ (n : List ℕ). option_map (λ (q : ℕ). id_text g.packages q n) found.0.package) o) []) found.2.0
-    ∙ (ap (λ (o : Option ℕ). unwrap_or (option_map (λ (q : ℕ). id_text g.packages q name) o) []) found.2.1
-    ∙ (ap (λ (o : Option Package). option_map_or (λ (p : Package). id_text_in p.name name) o []) home.1 ∙ ap (λ (n : PackageName). id_text_in n name) home.2)))
 
 module _ (laws : LawsOfElaboration) (g h : Graph) (offset back : ℕ) (both : InBothOrders g h offset back) (elaborates : UnionCanElaborate (merge_of_graphs g h offset)) (elaborates_back : UnionCanElaborate (merge_of_graphs h g back)) where
   abbrev m : GraphMerge
@@ -160,53 +139,22 @@ module _ (laws : LawsOfElaboration) (g h : Graph) (offset back : ℕ) (both : In
 
   -- ---- keys
 
-  united_good : IsGoodWhere everything there.types there.interfaces there.worlds
-  united_good =
-      IsGoodWhere-of_covered (merge_sources g h (merge_maps m)) there (sources_good m both.valid both.valid_other both.one) (united_stands laws m both.valid both.valid_other both.one elaborates) everything
-      (united_covered laws m both.valid both.valid_other both.one elaborates)
+  -- an entry under a key goes to one under it
+  key_remapped : (home : PackageName) (world : List ℕ) (exported : Bool) (under : Key) (k : WorldKey) (held : WorldItem) (w : ℕ) → IsWorld there home world w
+      → SomeAt there.worlds w (λ (x : World). Contains (entries_of exported x) (entry k held)) → IsKey there under k → HasKey here home world exported under
+  key_remapped home world exported (under_label text) k held w is stands key_is =
+      let l : Label = record { home = home; world = world; exported = exported; label = text } in
+      let goes = names_go (of_label l) (w, held, is, subst (λ (x : WorldKey). SomeAt there.worlds w (λ (y : World). Contains (entries_of exported y) (entry x held))) key_is stands) in
+      record { w = goes.0; of = goes.2; entry = entry (key.Name text) goes.1; listed = goes.3; key_is = refl }
+  key_remapped home world true (under_interface of name) k held w is stands (i, named, key_is) =
+      let goes = names_go (of_export home world of name) (w, i, held, is, named, subst (λ (x : WorldKey). SomeAt there.worlds w (λ (y : World). Contains y.exports (entry x held))) key_is stands) in
+      record { w = goes.0; of = goes.3; entry = entry (key.Interface goes.1) goes.2; listed = goes.5; key_is = (goes.1, goes.4, refl) }
+  key_remapped home world false (under_interface of name) k held w is stands (i, named, key_is) =
+      let goes = imports_go home of world name (w, i, held, is, named, subst (λ (x : WorldKey). SomeAt there.worlds w (λ (y : World). Contains y.imports (entry x held))) key_is stands) in
+      record { w = goes.0; of = goes.3; entry = entry (key.Interface goes.1) goes.2; listed = goes.5; key_is = (goes.1, goes.4, refl) }
 
-  key_named : (w : ℕ) (exported : Bool) (world : World) (i : ℕ) (held : WorldItem) → slice_get there.worlds w ≡ Some world → Contains (entries_of exported world) (entry (key.Interface i) held) → IsNamed there.interfaces i
-  key_named w false world i held at has =
-      let place = place_of world.imports (entry (key.Interface i) held) has in
-      named_key there.interfaces (key.Interface i) held i (Contains-here i []) (united_good.imports_are w world at refl place.0 (entry (key.Interface i) held) place.1).is
-  key_named w true world i held at has =
-      let place = place_of world.exports (entry (key.Interface i) held) has in
-      named_key there.interfaces (key.Interface i) held i (Contains-here i []) (united_good.exports_are w world at refl place.0 (entry (key.Interface i) held) place.1).is
-
-  interface_named : (i : ℕ) → IsNamed there.interfaces i → (of : PackageName) × (name : List ℕ) × IsInterface there of name i
-  interface_named i named =
-      let found = found_at (λ (interface : Interface). IsSome interface.name) there.interfaces i named in
-      let called = some_there found.0.name found.2 in
-      let home = home_is _ found.0.package (interfaces_in_tables m both.valid both.valid_other i found.0 found.1) in
-      let at = found_at (λ (home : Package). IfSome found.0.name (λ (n : List ℕ). Contains home.interfaces (n, i))) there.packages home.0 home.2 in (
-        at.0.name,
-        called.0,
-        record {
-          p = home.0;
-          of = some_at (λ (x : Package). x.name ≡ at.0.name) there.packages home.0 at.0 at.1 refl;
-          is = some_at (λ (interface : Interface). (interface.name ≡ Some called.0) × (interface.package ≡ Some home.0)) there.interfaces i found.0 found.1 (called.1, home.1);
-        },
-      )
-
-  key_remapped : (home : PackageName) (world : List ℕ) (exported : Bool) (text : List ℕ) (w : ℕ) → IsWorld there home world w → (k : WorldKey) (held : WorldItem) → SomeAt there.worlds w (λ (x : World). Contains (entries_of exported x) (entry k held))
-      → key_text there.packages there.interfaces k ≡ text → HasKey here home world exported text
-  key_remapped home world exported text w is (key.Name label) held stands text_is =
-      let l : Label = record { home = home; world = world; exported = exported; label = label } in
-      let goes = names_go (of_label l) (w, held, is, stands) in
-      record { w = goes.0; of = goes.2; entry = entry (key.Name label) goes.1; listed = goes.3; text_is = text_is }
-  key_remapped home world true text w is (key.Interface i) held stands text_is =
-      let at = found_at (λ (x : World). Contains x.exports (entry (key.Interface i) held)) there.worlds w stands in
-      let named = interface_named i (key_named w true at.0 i held at.1 at.2) in
-      let goes = names_go (of_export home world named.0 named.1) (w, i, held, is, named.2, stands) in
-      record { w = goes.0; of = goes.3; entry = entry (key.Interface goes.1) goes.2; listed = goes.5; text_is = named_text here named.0 named.1 goes.1 goes.4 ∙ (sym (named_text there named.0 named.1 i named.2) ∙ text_is) }
-  key_remapped home world false text w is (key.Interface i) held stands text_is =
-      let at = found_at (λ (x : World). Contains x.imports (entry (key.Interface i) held)) there.worlds w stands in
-      let named = interface_named i (key_named w false at.0 i held at.1 at.2) in
-      let goes = imports_go home named.0 world named.1 (w, i, held, is, named.2, stands) in
-      record { w = goes.0; of = goes.3; entry = entry (key.Interface goes.1) goes.2; listed = goes.5; text_is = named_text here named.0 named.1 goes.1 goes.4 ∙ (sym (named_text there named.0 named.1 i named.2) ∙ text_is) }
-
-  keys_go : (home : PackageName) (world : List ℕ) (exported : Bool) (text : List ℕ) → HasKey there home world exported text → HasKey here home world exported text
-  keys_go home world exported text has = key_remapped home world exported text has.w has.of has.entry.0 has.entry.1 has.listed has.text_is
+  keys_go : (home : PackageName) (world : List ℕ) (exported : Bool) (under : Key) → HasKey there home world exported under → HasKey here home world exported under
+  keys_go home world exported under has = key_remapped home world exported under has.entry.0 has.entry.1 has.w has.of has.listed has.key_is
 
   -- ---- sorts
 
@@ -257,9 +205,9 @@ alike laws g h offset back both elaborates elaborates_back =
     record {
       names = λ name. (names_go laws g h offset back both elaborates elaborates_back name, names_go laws h g back offset other_way_so elaborates_back elaborates name);
       sorts = sorts_same laws g h offset back both elaborates elaborates_back;
-      keys = λ home world exported text. (
-        keys_go laws g h offset back both elaborates elaborates_back home world exported text,
-        keys_go laws h g back offset other_way_so elaborates_back elaborates home world exported text,
+      keys = λ home world exported under. (
+        keys_go laws g h offset back both elaborates elaborates_back home world exported under,
+        keys_go laws h g back offset other_way_so elaborates_back elaborates home world exported under,
       );
     }
 
@@ -281,6 +229,17 @@ in_both_orders g h offset back valid valid_other one =
       aliases_back = alias_matched (merge_of_graphs h g back) valid_other valid one_back;
     }
 
+pub either_order_elaborates : EitherOrderElaborates
+either_order_elaborates g h offset back valid valid_other one elaborates = elaborates_back g h offset back (in_both_orders g h offset back valid valid_other one) elaborates
+
 pub merging_is_order_free : LawsOfElaboration → MergingIsOrderFree
-merging_is_order_free laws g h offset back valid valid_other one elaborates elaborates_back =
-    alike laws g h offset back (in_both_orders g h offset back valid valid_other one) elaborates elaborates_back
+merging_is_order_free laws g h offset back valid valid_other one elaborates =
+    let both = in_both_orders g h offset back valid valid_other one in
+    alike laws g h offset back both elaborates (elaborates_back g h offset back both elaborates)
+
+-- ---- where both merges are accepted
+
+pub merges_are_alike : LawsOfElaboration → MergesAreAlike
+merges_are_alike laws g h offset back valid valid_other can can_back =
+    let m = merge_of_graphs g h offset in
+    merging_is_order_free laws g h offset back valid valid_other (are_one m can) (can_elaborate m valid valid_other can laws.refused)

@@ -1,6 +1,6 @@
 -- The types of two graphs that are one: those of the graph stay but for their stability, those of the other stand at
 -- their places, and there are no others but the `own`s that values ask for.
-use Rattle.std.proofs.Common.{◌≡◌, ◌∙◌, ℕ, ◌+◌, ◌<◌, true, false, not, List, ◌++◌, ◌⊎◌, inl, inr, map, length, is_some, Option, None, Some, option_map, unwrap_or, IsSome, slice_get, refl, sym, ap, subst, arith, if◌then◌else◌}
+use Rattle.std.proofs.Common.{◌≡◌, ◌∙◌, ℕ, ◌+◌, ◌<◌, true, false, not, List, ◌++◌, ◌⊎◌, inl, inr, map, length, is_some, Option, None, Some, option_map, unwrap_or, IsSome, slice_get, refl, sym, ap, subst, arith}
 use Rattle.std.specs.List.{enumerate_from}
 use Rattle.std.specs.Option.{option_map_or}
 use Rattle.std.proofs.lemmas.Bool.{cases_Bool, lt-ltb}
