@@ -47,7 +47,12 @@ fn laws_of_adding_can_be_named(_rt: HostRuntime) {
 #[test]
 fn laws_of_merging_can_be_named(_rt: HostRuntime) {
     of_unions::agreement_is_symmetric();
+    of_unions::copies_go_to_themselves();
+    of_unions::either_order_elaborates();
+    of_unions::empty_becomes_alike();
+    of_unions::empty_keeps_ids();
     of_unions::examples_of_structure();
+    of_unions::merges_are_alike();
     of_unions::merges_make_no_borrow();
     of_unions::merging_is_order_free();
     of_unions::nothing_comes();
@@ -73,6 +78,7 @@ fn laws_of_changed_worlds_can_be_named(_rt: HostRuntime) {
     of_unions::one_on_each_track();
     of_unions::rewritten_keep();
     of_unions::rewritten_stay_valid();
+    of_unions::semver_merges_once();
     of_unions::worlds_are_elaborated();
 }
 
