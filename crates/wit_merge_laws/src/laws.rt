@@ -1,6 +1,6 @@
 //! Laws of merging: the contract of each function is what is proved.
 ghost use Rattle.wit_merge_laws.specs.laws.BorrowLaws.{MergesMakeNoBorrow};
-ghost use Rattle.wit_merge_laws.specs.laws.CopyLaws.{CopiesGoToThemselves, EmptyBecomesAlike, EmptyKeepsIds};
+ghost use Rattle.wit_merge_laws.specs.laws.CopyLaws.{AcceptedCopiesChangeNothing, CopiesGoToThemselves, EmptyBecomesAlike, EmptyKeepsIds};
 ghost use Rattle.wit_merge_laws.specs.laws.MergingLaws.{NothingComes, SharedWorldsKeepImports, UnionsHaveBothNames, UnionsStayValid};
 ghost use Rattle.wit_merge_laws.specs.laws.OrderLaws.{AgreementIsSymmetric, EitherOrderElaborates, MergesAreAlike, MergingIsOrderFree, ResourcesStay};
 
@@ -89,3 +89,10 @@ pub fn empty_keeps_ids()
 pub fn copies_go_to_themselves()
     ensures { CopiesGoToThemselves }
 {}
+
+/// Where no cause holds against the merge of a valid graph with a copy of it, the graph keeps its names and its worlds.
+pub fn accepted_copies_change_nothing()
+    ensures { AcceptedCopiesChangeNothing }
+{
+    laws_of_elaboration();
+}

@@ -1,7 +1,7 @@
 -- A graph with which a copy of it is merged: each package, world and named type and each interface that has a name or
 -- stands under a label is matched with itself, so nothing is brought and what is joined is what was there.
 use Rattle.std.specs.Prelude.{bytes_eq}
-use Rattle.std.proofs.Common.{◌≡◌, ◌∙◌, ℕ, ◌+◌, zero, suc, Bool, true, false, List, [], ◌∷◌, ◌++◌, map, filter, cond, nat_eq, not, is_some, Option, None, Some, IsSome, option_and_then, unwrap_or, slice_get, refl, sym, ap, subst, arith, Contains}
+use Rattle.std.proofs.Common.{◌≡◌, ◌∙◌, inl, inr, ℕ, ◌+◌, zero, suc, Bool, true, false, List, [], ◌∷◌, ◌++◌, map, filter, cond, nat_eq, not, is_some, Option, None, Some, IsSome, option_and_then, unwrap_or, slice_get, refl, sym, ap, subst, arith, Contains}
 use Rattle.std.specs.List.{enumerate_from}
 use Rattle.std.specs.Map.{lookup}
 use Rattle.std.specs.Option.{option_map_or}
@@ -30,30 +30,42 @@ use Rattle.wit_names.specs.declared.package_name.PackageName.{PackageName}
 use Rattle.wit_elaboration.specs.Entries.{key_interface, same_key}
 use Rattle.wit_elaboration.specs.facts.Filters.{Contains-filter}
 use Rattle.wit_elaboration.specs.facts.FreshEntries.{same_key-true}
+use Rattle.wit_elaboration.specs.Elaborated.{with_elaborated_lists}
+use Rattle.wit_elaboration.specs.Elaboration.{elaborated_world}
 use Rattle.wit_elaboration.specs.Valid.{IsValid}
+use Rattle.wit_digraph.specs.Relation.{IsAcyclic}
+use Rattle.wit_data.specs.Uses.{uses_of}
 use Rattle.wit_graph_data.specs.declared.graph.Graph.{Graph}
 use Rattle.wit_graph_data.specs.declared.graph.Package.{Package}
+use Rattle.wit_graph_theory.specs.facts.GoodIsValid.{good_things}
+use Rattle.wit_graph_theory.specs.facts.GraphSource.{good_items}
+use Rattle.wit_graph_theory.specs.facts.LawsOfElaboration.{LawsOfElaboration}
 use Rattle.wit_graph_theory.specs.facts.ListFacts.{Contains-map_cases, contained_at, found_at, place_of, same_at}
 use Rattle.wit_graph_theory.specs.facts.OptionFacts.{some_parts, some_same, some_whole}
 use Rattle.wit_graph_theory.specs.facts.PackagesAcyclic.{numbered_from}
-use Rattle.wit_remap_spec.specs.Image.{entry_image, function_image, item_image, key_image, world_image}
+use Rattle.wit_remap_spec.specs.Image.{entry_image, function_image, interface_image, item_image, key_image, world_image}
+use Rattle.wit_link_laws.specs.facts.CanonicalStays.{canonical_longer}
 use Rattle.wit_link_spec.specs.Include.{joined_entry, joined_item, joined_stability}
 use Rattle.wit_link_spec.specs.Lookup.{interface_type}
+use Rattle.wit_link_spec.specs.ValueRemap.{types_behind}
 use Rattle.wit_link_spec.specs.Selected.{selected, selected_with_index}
+use Rattle.wit_merge_spec.specs.Cause.{MergeIsAccepted}
 use Rattle.wit_merge_spec.specs.Matches.{GraphMerge, counterpart_at_label, counterpart_interface, counterpart_interface_by, counterpart_of, counterpart_package, counterpart_type, counterpart_type_by, counterpart_world, matched_world, named_in_counterpart, unnamed_item, world_labels}
-use Rattle.wit_merge_spec.specs.United.{brought_functions, brought_types, is_under_id, joined_graph, joined_interface, joined_package, joined_type, joined_world, merge_maps, merged_interface, merged_package, merged_type, merged_world, moved_worlds, moves_interface, moves_package, moves_type, moves_world, package_image, united, with_entries, with_interface, with_package, with_type, with_world}
+use Rattle.wit_merge_spec.specs.United.{brought_functions, brought_types, is_under_id, joined_graph, joined_interface, joined_package, joined_type, joined_world, merge_maps, merged_interface, merged_package, merged_type, merged_world, moved_interfaces, moved_worlds, moves_interface, moves_package, moves_type, moves_world, package_image, remap_of_merge, united, with_entries, with_interface, with_package, with_type, with_world}
+use Rattle.wit_merge_laws.specs.facts.BothNames.{both_names}
 use Rattle.wit_merge_laws.specs.facts.FoundBack.{label_found, lookup_finds_entry, lookup_finds_name, lookup_finds_package, lookup_finds_world_type, unnamed_held, unnamed_so}
 use Rattle.wit_merge_laws.specs.facts.InterfacesStand.{counterpart_from, old_interface_at}
 use Rattle.wit_merge_laws.specs.facts.MatchFacts.{goes_to, label_match, no_name, stands_at}
 use Rattle.wit_merge_laws.specs.facts.MatchedOnce.{in_own_table, lists_distinct, one_under, world_in_table}
 use Rattle.wit_merge_laws.specs.facts.NamesGo.{home_is}
+use Rattle.wit_merge_laws.specs.facts.NoCycles.{can_elaborate}
 use Rattle.wit_merge_laws.specs.facts.NothingFacts.{map_same}
 use Rattle.wit_merge_laws.specs.facts.TypesStand.{old_type_at}
 use Rattle.wit_merge_laws.specs.facts.UnitedWorlds.{named_key}
 use Rattle.wit_merge_laws.specs.facts.WorldsStand.{entry}
-use Rattle.wit_merge_laws.specs.laws.CopyLaws.{CopiesGoToThemselves, IsPlaced, IsPlacedType, StaysItself}
+use Rattle.wit_merge_laws.specs.laws.CopyLaws.{AcceptedCopiesChangeNothing, IsPlacedType, StaysItself}
 use Rattle.wit_merge_laws.specs.laws.MergingLaws.{merge_of_graphs}
-use Rattle.wit_merge_laws.specs.laws.Names.{InterfaceName, IsNamedSo, at_label, in_package}
+use Rattle.wit_merge_laws.specs.laws.Names.{HaveSameNames, InterfaceName, IsNamedSo, at_label, in_package}
 
 -- ---- lists
 
@@ -379,3 +391,36 @@ module _ (g : Graph) (offset : ℕ) (valid : IsValid g) where
     interface_ids = λ i placed. goes_to (counterpart_interface m i) _ i (placed_self i placed.0 placed.1);
     type_ids = λ t def at placed. goes_to (counterpart_type m t) _ t (type_id t def at placed);
   }
+
+-- ---- where no cause holds
+
+module _ (laws : LawsOfElaboration) (g : Graph) (offset : ℕ) (valid : IsValid g) (can : MergeIsAccepted (merge_of_graphs g g offset)) where
+  abbrev copied : GraphMerge
+  copied = merge_of_graphs g g offset
+
+  abbrev joined : Graph
+  joined = joined_graph copied
+
+  same_types : joined.types ≡ g.types ++ types_behind (remap_of_merge copied)
+  same_types = ap (λ (l : List TypeDef). l ++ types_behind (remap_of_merge copied)) (all_same (joined_type copied) g.types (same_type g offset valid))
+
+  same_interfaces : joined.interfaces ≡ g.interfaces ++ map (interface_image (merge_maps copied)) (moved_interfaces copied)
+  same_interfaces = ap (λ (l : List Interface). l ++ map (interface_image (merge_maps copied)) (moved_interfaces copied)) (all_same (joined_interface copied) g.interfaces (same_interface g offset valid))
+
+  same_elaborated : (w : ℕ) (world : World) → slice_get g.worlds w ≡ Some world → elaborated_world joined world ≡ world
+  same_elaborated w world at =
+      let acyclic = (can_elaborate copied valid valid can laws.refused).acyclic in
+      let longer = canonical_longer g (good_items g (good_things g valid)) (types_behind (remap_of_merge copied)) (map (interface_image (merge_maps copied)) (moved_interfaces copied)) laws.local valid.no_cycles.uses
+      (subst IsAcyclic (λ k. uses_of (same_types k) (same_interfaces k)) acyclic) w world at (valid.canonical w world at) in
+      (λ k. with_elaborated_lists (same_types k) (uses_of (same_types k) (same_interfaces k)) world) ∙ sym longer.world_is
+
+  same_all : (united copied).worlds ≡ g.worlds
+  same_all = ap (map (elaborated_world joined)) (same_worlds g offset valid) ∙ map_same (elaborated_world joined) g.worlds same_elaborated
+
+  same_name : HaveSameNames g (united copied)
+  same_name name =
+      let both = both_names laws copied name valid valid can in
+      (λ has. both.1 (inl has), λ has. elim (both.0 has) [ | inl mine ↦ mine | inr theirs ↦ theirs ])
+
+pub copies_change_nothing : LawsOfElaboration → AcceptedCopiesChangeNothing
+copies_change_nothing laws g offset valid can = (same_name laws g offset valid can, same_all laws g offset valid can)

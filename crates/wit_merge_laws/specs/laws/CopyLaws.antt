@@ -10,10 +10,11 @@ use Rattle.wit_elaboration.specs.examples.Examples.{empty_graph}
 use Rattle.wit_elaboration.specs.Valid.{IsValid}
 use Rattle.wit_graph_data.specs.declared.graph.Graph.{Graph}
 use Rattle.wit_graph_data.specs.declared.graph.Package.{Package}
+use Rattle.wit_merge_spec.specs.Cause.{MergeIsAccepted}
 use Rattle.wit_merge_spec.specs.Matches.{GraphMerge}
 use Rattle.wit_merge_spec.specs.United.{joined_graph, merged_interface, merged_package, merged_type, merged_world, united}
 use Rattle.wit_merge_laws.specs.laws.MergingLaws.{merge_of_graphs}
-use Rattle.wit_merge_laws.specs.laws.Names.{InterfaceName, IsNamedSo}
+use Rattle.wit_merge_laws.specs.laws.Names.{HaveSameNames, InterfaceName, IsNamedSo}
 use Rattle.wit_merge_laws.specs.laws.OrderLaws.{AreAlike}
 
 -- ---- into an empty graph
@@ -63,3 +64,7 @@ pub record StaysItself (g : Graph) (m : GraphMerge) : Type 0 where
 -- to itself
 abbrev pub CopiesGoToThemselves : Type 0
 CopiesGoToThemselves = (g : Graph) (offset : ℕ) → IsValid g → StaysItself g (merge_of_graphs g g offset)
+
+-- where no cause holds against it, the graph keeps its names and its worlds, elaborated again
+abbrev pub AcceptedCopiesChangeNothing : Type 0
+AcceptedCopiesChangeNothing = (g : Graph) (offset : ℕ) → IsValid g → MergeIsAccepted (merge_of_graphs g g offset) → HaveSameNames g (united (merge_of_graphs g g offset)) × ((united (merge_of_graphs g g offset)).worlds ≡ g.worlds)
