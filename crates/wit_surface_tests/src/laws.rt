@@ -46,6 +46,7 @@ fn laws_of_adding_can_be_named(_rt: HostRuntime) {
 
 #[test]
 fn laws_of_merging_can_be_named(_rt: HostRuntime) {
+    of_unions::accepted_copies_change_nothing();
     of_unions::agreement_is_symmetric();
     of_unions::copies_go_to_themselves();
     of_unions::either_order_elaborates();

@@ -1,9 +1,10 @@
 //! Laws of merging, of transformed worlds and of semver merging: functions that compute nothing, whose contracts are the
 //! laws.
 pub use wit_merge_laws::laws::{
-    agreement_is_symmetric, copies_go_to_themselves, either_order_elaborates, empty_becomes_alike,
-    empty_keeps_ids, merges_are_alike, merges_make_no_borrow, merging_is_order_free, nothing_comes,
-    resources_stay, shared_worlds_keep_imports, unions_have_both_names, unions_stay_valid,
+    accepted_copies_change_nothing, agreement_is_symmetric, copies_go_to_themselves,
+    either_order_elaborates, empty_becomes_alike, empty_keeps_ids, merges_are_alike,
+    merges_make_no_borrow, merging_is_order_free, nothing_comes, resources_stay,
+    shared_worlds_keep_imports, unions_have_both_names, unions_stay_valid,
 };
 pub use wit_merge_structure::laws::examples_of_structure;
 pub use wit_semver_laws::laws::{
