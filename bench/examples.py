@@ -1,17 +1,19 @@
 #!/usr/bin/env python3
-"""Compares the examples of docs/FROM_WIT_PARSER.md with the stored cases of `witgraph_cases`.
+"""Compares the examples of the documents with the stored cases of `witgraph_cases`.
 
     python3 bench/examples.py        # at the top of the repository
 
-An example is a line `**N**, `CASE`` and the block below it: without its lines that begin with `# ` it is the script of
-the case, and those lines, without the `# `, are what the case prints. Ends with status 1 where one differs, where an
-example of a number doesn't print a refusal of that number, or where a number of the table of refusals has no example but
-27 and 28, which have no script.
+In docs/FROM_WIT_PARSER.md an example is a line `**N**, `CASE`` and the block below it: without its lines that begin with
+`# ` it is the script of the case, and those lines, without the `# `, are what the case prints. In docs/SCRIPT.md it is a
+block, a line `answers` and a second block: the script of some case, and what that prints. Ends with status 1 where one
+differs, where an example of a number doesn't print a refusal of that number, where a number of the table of refusals
+has no example but 27 and 28, which have no script, or where the two documents have not the same numbers.
 """
 import re
 import sys
 
-DOCUMENT = "docs/FROM_WIT_PARSER.md"
+REFUSALS = "docs/FROM_WIT_PARSER.md"
+LANGUAGE = "docs/SCRIPT.md"
 CASES = "crates/witgraph_cases/stdin"
 
 
@@ -21,22 +23,47 @@ def cases():
     return {name: tuple(case.split("---\n", 1)) for name, case in parts.items()}
 
 
-def main():
-    stored = cases()
-    document = open(DOCUMENT).read()
+def wrong_refusals(document, stored):
+    """The examples of refusals, and what is wrong with them."""
     examples = re.findall(r"(?ms)^\*\*(\d+)\*\*, `([^`]+)`\n\n```\n(.*?)^```$", document)
     listed = set(re.findall(r"(?m)^\| (\d+) \| `", document)) - {"27", "28"}
-    wrong = sorted(map(int, listed - {example[0] for example in examples}))
+    wrong = [f"no example of {number}" for number in sorted(listed - {example[0] for example in examples})]
     for number, case, block in examples:
         lines = block.splitlines(keepends=True)
         script = "".join(line for line in lines if not line.startswith("# "))
         answer = "".join(line[2:] for line in lines if line.startswith("# "))
         if stored.get(case) != (script, answer) or not re.search(rf"(?m)^refused {number} ", answer):
-            wrong.append(int(number))
-    for number in wrong:
-        print(f"{DOCUMENT}: the example of {number} is not as its case")
-    print(f"{len(examples)} examples, {len(wrong)} wrong")
-    return 1 if wrong else 0
+            wrong.append(f"the example of {number} is not as its case")
+    return examples, wrong
+
+
+def wrong_scripts(document, stored):
+    """The examples of scripts, and what is wrong with them."""
+    examples = re.findall(r"(?ms)^```\n(.*?)^```\n\nanswers\n\n```\n(.*?)^```$", document)
+    unknown = [script for script, answer in examples if (script, answer) not in stored.values()]
+    unpaired = document.count("\n```\n") - 4 * len(examples)
+    wrong = [f"no case is the example\n{script}" for script in unknown]
+    return examples, wrong + [f"{unpaired} ends of blocks that are of no example"] * (unpaired != 0)
+
+
+def numbers_of(document):
+    """The numbers of a table of refusals, whose rows may be of several."""
+    return {number for row in re.findall(r"(?m)^\| (\d+(?:, \d+)*) \|", document) for number in row.split(", ")}
+
+
+def main():
+    stored = cases()
+    refusals, language = open(REFUSALS).read(), open(LANGUAGE).read()
+    examples, wrong = wrong_refusals(refusals, stored)
+    scripts, wrong_of_scripts = wrong_scripts(language, stored)
+    if numbers_of(refusals) != numbers_of(language):
+        wrong_of_scripts.append(f"other refusals than in {REFUSALS}")
+    for path, those in (REFUSALS, wrong), (LANGUAGE, wrong_of_scripts):
+        for one in those:
+            print(f"{path}: {one}")
+    count = len(wrong) + len(wrong_of_scripts)
+    print(f"{len(examples) + len(scripts)} examples, {count} wrong")
+    return 1 if count else 0
 
 
 if __name__ == "__main__":
