@@ -16,6 +16,7 @@ use wit_validity::is_valid;
 #[derive(Clone, Copy, Debug)]
 enum Change {
     Nothing,
+    Kind,
     Parameter,
     FurtherImport,
     FurtherExport,
@@ -52,16 +53,8 @@ fn changed(rt: &impl Abort, alloc: Global, change: Change) -> Graph {
     match change {
         Change::Nothing => graph(rt, alloc, Breach::Nothing),
         Change::FurtherImport => importing(rt, alloc, "more"),
-        Change::Parameter => {
-            let kind = FunctionKind::Freestanding;
-            let f = function(rt, alloc, "f", kind, Type_::U32);
-            let mut other = graph(rt, alloc, Breach::Nothing);
-            let functions = names(rt, alloc, [(string(rt, alloc, "f"), f)]);
-            if other.interfaces.len() > 0 {
-                other.interfaces.at_mut(0).functions = functions;
-            }
-            other
-        }
+        Change::Kind => with_function(rt, alloc, FunctionKind::AsyncFreestanding, Type_::U8),
+        Change::Parameter => with_function(rt, alloc, FunctionKind::Freestanding, Type_::U32),
         Change::FurtherExport => exporting(rt, alloc, "h", Some("more")),
         Change::Export => exporting(rt, alloc, "k", None),
         Change::ExportOfInterface => exporting_interface(rt, alloc, "h"),
@@ -69,6 +62,17 @@ fn changed(rt: &impl Abort, alloc: Global, change: Change) -> Graph {
         Change::TypeOfUnnamed => with_kind(rt, alloc, 3, TypeDefKind::List(Type_::U32)),
         Change::TypeOfWorld => with_kind(rt, alloc, 4, TypeDefKind::Type_(type_at(0))),
     }
+}
+
+/// The graph where function `f` of the first interface is of this kind and type.
+fn with_function(rt: &impl Abort, alloc: Global, kind: FunctionKind, ty: Type_) -> Graph {
+    let f = function(rt, alloc, "f", kind, ty);
+    let functions = names(rt, alloc, [(string(rt, alloc, "f"), f)]);
+    let mut other = graph(rt, alloc, Breach::Nothing);
+    if other.interfaces.len() > 0 {
+        other.interfaces.at_mut(0).functions = functions;
+    }
+    other
 }
 
 /// The graph where a type is of another kind.
@@ -124,6 +128,10 @@ fn with_exports(rt: &impl Abort, alloc: Global, exports: Table<WorldKey, WorldIt
 fn what_is_matched_has_to_agree(rt: HostRuntime) {
     let told = [
         (Change::Nothing, "-"),
+        (
+            Change::Kind,
+            "failed to merge package `foo:bar` into existing copy: failed to merge interface `a`: mismatch in function `f`: different function kind types",
+        ),
         (
             Change::Parameter,
             "failed to merge package `foo:bar` into existing copy: failed to merge interface `a`: mismatch in function `f`: different function parameter types for `p`: different kinds of types",
