@@ -5,7 +5,7 @@ use Rattle.wit_link_spec.specs.Gates.{asked_gates, interface_is_active, is_activ
 use Rattle.wit_graph_data.specs.examples.Samples.{foo_bar}
 use Rattle.wit_link_examples.specs.Packages.{all_features, feature_f, gate_f, gated, main_name, naming, no_features, since_one}
 
--- gates that are active, and gates that are asked
+-- gates that let their items be active, and gates that are asked
 pub record ExamplesOfGates : Type 0 where
   pub off : is_active no_features gate_f ≡ false
   pub on : is_active feature_f gate_f ≡ true

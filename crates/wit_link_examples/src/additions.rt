@@ -6,7 +6,7 @@ ghost use Rattle.wit_link_examples.specs.Pushes.{ExamplesOfPushes, ExamplesOfSpa
 ghost use Rattle.wit_link_examples.specs.Values.{ExamplesOfValues};
 ghost use Rattle.wit_link_examples.specs.Worked.{ExamplesOfWorked};
 
-/// Notes that are active, and gates that are asked.
+/// Gates that let their items be active, and gates that are asked.
 pub fn examples_of_gates()
     ensures { ExamplesOfGates }
 {}

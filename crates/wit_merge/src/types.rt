@@ -31,7 +31,7 @@ impl Part for TypeDef {
         Ok(moved)
     }
 
-    fn joined(&self, _uniting: &UnionPlan<'_>, from: &TypeDef) -> Result<TypeDef, AllocError> {
+    fn joined(&self, _plan: &UnionPlan<'_>, from: &TypeDef) -> Result<TypeDef, AllocError> {
         let mut joined = self.try_clone()?;
         join_stability(&mut joined.stability, &from.stability)?;
         Ok(joined)

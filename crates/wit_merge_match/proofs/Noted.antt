@@ -15,7 +15,7 @@ use Rattle.wit_link_spec.specs.facts.DropFacts.{drop_at}
 from_place : {X Y : Type 0} (f : X → List Y) (xs : List X) (k n : ℕ) (x : X) → n ≡ suc k → slice_get xs k ≡ Some x → flat_map f (drop k xs) ≡ f x ++ flat_map f (drop n xs)
 from_place f xs k n x next at = ap (flat_map f) (drop_at xs k x at) ∙ ap (λ (m : ℕ). f x ++ flat_map f (drop m xs)) (sym next)
 
--- the labels of worlds of a side of a world, with those behind
+-- the labels of a side of a world, with those behind
 pub side_from : (w : ℕ) (exported : Bool) (es : List Entry) (k n : ℕ) (e : Entry) (later : List (ℕ × WorldLabel)) → n ≡ suc k → slice_get es k ≡ Some e
     → flat_map (λ (d : Entry). interface_at_label w exported d.0 d.1) (drop k es) ++ later ≡ interface_at_label w exported e.0 e.1 ++ (flat_map (λ (d : Entry). interface_at_label w exported d.0 d.1) (drop n es) ++ later)
 side_from w exported es k n e later next at =

@@ -85,7 +85,7 @@ lookup_finds_world_type g valid w world at name t has =
 
 -- ---- labels of worlds
 
--- an interface under a label is among the labels of worlds of its world
+-- an interface under a label is among the labels of its world
 spotted_here : (w : ℕ) (exported : Bool) (label : List ℕ) (held : WorldItem) (i : ℕ) → item_interface held ≡ i ∷ [] → Contains (interface_at_label w exported (key.Name label) held) (i, record { world = w; exported = exported; label = label })
 spotted_here w exported label (item.Interface j stability docs span external_id) i is =
     let world_label : WorldLabel = record { world = w; exported = exported; label = label } in

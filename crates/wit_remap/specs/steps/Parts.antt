@@ -12,7 +12,7 @@ use Rattle.wit_remap.specs.declared.part.Part.{Part}
 abbrev pub flag : List Bool → ℕ → Bool
 flag flags i = unwrap_or (slice_get flags i) false
 
--- an entry of a world that is active, where it is told of types which do
+-- an entry of a world that is active, where it is told which types are
 abbrev pub has_item : Features → (ℕ → Bool) → WorldItem → Bool
 has_item features types (item.Interface id stability docs span external_id) = is_active features stability
 has_item features types (item.Function function) = function_is_active features function
