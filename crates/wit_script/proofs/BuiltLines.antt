@@ -3,6 +3,7 @@ use Rattle.std.proofs.Common.{◌≡◌, ◌↔◌, ℕ, zero, suc, Bool, true, 
 use Rattle.wit_values.specs.facts.Lists.{slice_get-behind}
 use Rattle.wit_data.specs.Each.{Each}
 use Rattle.wit_data.specs.Shape.{IsGroupShaped}
+use Rattle.wit_names.specs.PackageName.{HasValidVersion}
 use Rattle.wit_names.specs.declared.package_name.PackageName.{PackageName}
 use Rattle.wit_data.specs.declared.stability.Stability.{Stability}
 use Rattle.wit_data.specs.declared.unresolved.UnresolvedPackageGroup.{UnresolvedPackageGroup}
@@ -22,6 +23,7 @@ use Rattle.wit_script.specs.Script.{mentions_ahead, after_first, after_line, aft
 use Rattle.wit_script.specs.Ready.{other_after}
 use Rattle.wit_script.specs.declared.reader.Reading.{Reading}
 use Rattle.wit_script.specs.steps.BuiltReading.{AreBuilt, AreShapedIfPushable}
+use Rattle.wit_script_lines.specs.facts.NameFacts.{line-valid}
 use Rattle.wit_script_lines.specs.facts.OptionFacts.{map-of, same-some, step-of}
 
 -- ---- steps that were taken
@@ -43,12 +45,12 @@ if_some_at P (Some y) x is holds = let same : y ≡ x = cc in subst P same holds
 -- ---- lines
 
 module _ (r : Reading) (built : AreBuilt r) (q : Reading) where
-  package_built : (name : PackageName) (line : List ℕ) (ahead : List (List ℕ)) → with_package r name line ahead ≡ Some q → AreBuilt q
-  package_built name line ahead is =
+  package_built : (name : PackageName) (line : List ℕ) (ahead : List (List ℕ)) → HasValidVersion name → with_package r name line ahead ≡ Some q → AreBuilt q
+  package_built name line ahead valid is =
       let p = map-of (with_begun r) (new_draft name line (mentions_ahead _ ahead)) q is in
       subst AreBuilt p.2 (record {
         finished = Each-append IsBuilt r.finished (option_to_list r.current) built.finished (Each-option IsBuilt r.current built.current);
-        current = first_line name line (mentions_ahead _ ahead) p.1;
+        current = first_line name line (mentions_ahead _ ahead) valid p.1;
       })
 
   line_built : (said : PackageLine) (gate : Stability) (line : List ℕ) → with_package_line r said gate line ≡ Some q → AreBuilt q
@@ -73,23 +75,23 @@ module _ (r : Reading) (built : AreBuilt r) (q : Reading) where
     by true is = cc
     by false is = let other = map-of (with_asked r asked) (other_after asked r.other) q is in subst AreBuilt other.2 (record { finished = built.finished; current = built.current })
 
-  statement_built : (said : Statement) (line : List ℕ) (ahead : List (List ℕ)) → with_statement r said line ahead ≡ Some q → AreBuilt q
-  statement_built (says.Package name) line ahead is = package_built name line ahead is
-  statement_built (says.Line said gate) line ahead is = line_built said gate line is
-  statement_built says.Push line ahead is = push_built is
-  statement_built (says.Request asked) line ahead is = request_built asked is
+  statement_built : (said : Statement) (line : List ℕ) (ahead : List (List ℕ)) → statement_of line ≡ Some (Some said) → with_statement r said line ahead ≡ Some q → AreBuilt q
+  statement_built (says.Package name) line ahead of is = package_built name line ahead (line-valid name line of) is
+  statement_built (says.Line said gate) line ahead of is = line_built said gate line is
+  statement_built says.Push line ahead of is = push_built is
+  statement_built (says.Request asked) line ahead of is = request_built asked is
 
-  said_built : (o : Option (Option Statement)) (line : List ℕ) (ahead : List (List ℕ)) → after_statement_in r line ahead o ≡ Some q → AreBuilt q
-  said_built None line ahead is = cc
-  said_built (Some None) line ahead is = let same : r ≡ q = cc in subst AreBuilt same built
-  said_built (Some (Some said)) line ahead is = statement_built said line ahead is
+  said_built : (o : Option (Option Statement)) (line : List ℕ) (ahead : List (List ℕ)) → statement_of line ≡ o → after_statement_in r line ahead o ≡ Some q → AreBuilt q
+  said_built None line ahead of is = cc
+  said_built (Some None) line ahead of is = let same : r ≡ q = cc in subst AreBuilt same built
+  said_built (Some (Some said)) line ahead of is = statement_built said line ahead of is
 
 first_built : (r : Reading) (k : ℕ) (lines : List (List ℕ)) (q : Reading) → AreBuilt r → after_first r k lines ≡ Some q → AreBuilt q
 first_built r zero lines q built is = let same : r ≡ q = cc in subst AreBuilt same built
 first_built r (suc k) [] q built is = let same : r ≡ q = cc in subst AreBuilt same built
 first_built r (suc k) (line ∷ lines) q built is =
     let next = step-of (λ (s : Reading). after_first s k lines) (after_line r line lines) q is in
-    first_built next.0 k lines q (said_built r built next.0 (statement_of line) line lines next.1) next.2
+    first_built next.0 k lines q (said_built r built next.0 (statement_of line) line lines refl next.1) next.2
 
 -- what lines before one make
 pub before-built : (k : ℕ) (lines : List (List ℕ)) (r : Reading) → reading_before k lines ≡ Some r → AreBuilt r

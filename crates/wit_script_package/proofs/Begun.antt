@@ -18,7 +18,7 @@ use Rattle.wit_names.specs.facts.PackageNameFacts.{own_name, same_name, same_pac
 use Rattle.wit_data.specs.Entries.{IsExport, IsImport, ItemUsesOwn}
 use Rattle.wit_data.specs.Foreign.{ForeignItem, ForeignItems, IsForeign, IsForeignType, IsNameOnly, IsNameOnlyInterface, IsNameOnlyWorld, foreign_interfaces, foreign_worlds, interface_id, world_id}
 use Rattle.wit_data.specs.Ownership.{IsListed, IsOwn, IsTypeOf, UsesOwn, parts}
-use Rattle.wit_names.specs.PackageName.{same_package}
+use Rattle.wit_names.specs.PackageName.{HasValidVersion, same_package}
 use Rattle.wit_data.specs.Kind.{referred}
 use Rattle.wit_data.specs.Uses.{alias_target}
 use Rattle.wit_data.specs.declared.unresolved.AstItem.{AstItem}
@@ -503,9 +503,10 @@ module _ (p : Draft) (begun : IsBegun p) (required : p.required ≡ []) (interfa
       }
 
   -- what has only what is foreign is sound
-  begun-sound : IsSound p
+  begun-sound : HasValidVersion p.name → IsSound p
   unfolding IsDistinct
-  begun-sound = record {
+  begun-sound valid = record {
+    version = valid;
     good = record {
       types = good_type;
       interfaces = good_interface;
@@ -539,7 +540,7 @@ module _ (p : Draft) (begun : IsBegun p) (required : p.required ≡ []) (interfa
   }
 
 -- a package that begins is sound
-pub begin-sound : (name : PackageName) (line : List ℕ) (ms : List Mention) (p : Draft) → new_draft name line ms ≡ Some p → IsSound p
-begin-sound name line ms p made =
+pub begin-sound : (name : PackageName) (line : List ℕ) (ms : List Mention) (p : Draft) → HasValidVersion name → new_draft name line ms ≡ Some p → IsSound p
+begin-sound name line ms p valid made =
     let span = map-of (new_draft_at name line (known_mentions ms)) (span_after 0 line) p made in
-    subst IsSound span.2 (begun-sound (new_draft_at name line (known_mentions ms) span.0) (all-begun name line span.0 ms) refl refl refl refl)
+    subst IsSound span.2 (begun-sound (new_draft_at name line (known_mentions ms) span.0) (all-begun name line span.0 ms) refl refl refl refl valid)

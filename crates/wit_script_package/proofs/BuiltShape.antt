@@ -27,7 +27,7 @@ use Rattle.wit_script_lines.specs.facts.OptionFacts.{map-of, same-some}
 
 -- what lines built is sound
 pub built-sound : (p : Draft) → IsBuilt p → IsSound p
-built-sound p (first_line name line ms is) = begin-sound name line ms p is
+built-sound p (first_line name line ms valid is) = begin-sound name line ms p valid is
 built-sound q (next_line p said gate line built is) = line-sound p q said gate line (built-sound p built) is
 
 -- ---- lists of which nothing is kept, and lists that some give
@@ -107,6 +107,7 @@ module _ (p : Draft) (sound : IsSound p) where
       own = may.own;
       interfaces = may.interfaces;
       worlds = may.worlds;
+      version = sound.version;
       interfaces_differ = subst (IsDistinct bytes_eq) (sym sound.interfaces_named) sound.interfaces_differ;
       worlds_differ = subst (IsDistinct bytes_eq) (sym sound.worlds_named) sound.worlds_differ;
     };

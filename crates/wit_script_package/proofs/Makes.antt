@@ -194,6 +194,7 @@ module _ (p : Draft) (sound : IsSound p) where
 
   sound-required : (root : ℕ) (span : OptionalSpan) → SomeAt p.types root (λ (def : TypeDef). def.kind ≡ kind.Unknown) → IsSound (record p { required = p.required ++ (root, span) ∷ [] })
   sound-required root span unknown = record {
+    version = sound.version;
     good = sound.good;
     known = sound.known;
     required = EachAt-push (λ _ (r : ℕ × OptionalSpan). SomeAt p.types r.0 (λ (def : TypeDef). def.kind ≡ kind.Unknown)) p.required (root, span) sound.required unknown;
@@ -273,7 +274,7 @@ module _ (p : Draft) (sound : IsSound p) (k : TypeDefKind) (here : LineContext) 
       let grows = grows-unnamed (interface_count p.foreign.deps) (world_count p.foreign.deps) (length p.foreign.type_spans) (things p) sound.good k here in
       let earlier = good-earlier (interface_count p.foreign.deps) (world_count p.foreign.deps) (length p.foreign.type_spans) (things p) sound.good in (
         record {
-          sound = sound-with p.required p.interface_ids p.world_ids p.scope p.foreign (things p) (things unnamed) sound grows
+          sound = sound-with p.name p.required p.interface_ids p.world_ids p.scope p.foreign (things p) (things unnamed) sound grows
               (good-unnamed (interface_count p.foreign.deps) (world_count p.foreign.deps) (length p.foreign.type_spans) (things p) sound.good k here plain made.known (below_all made.own))
               refl refl refl refl;
           owns = λ by id own. own-stays p.types unnamed.types grows.types earlier by id own;

@@ -16,6 +16,7 @@ use Rattle.wit_data.specs.Shape.{interface_names, world_names}
 use Rattle.wit_data.specs.declared.unresolved.AstItem.{AstItem}
 use Rattle.wit_data.specs.declared.function.Function.{Function}
 use Rattle.wit_data.specs.declared.interface.Interface.{Interface}
+use Rattle.wit_names.specs.PackageName.{HasValidVersion}
 use Rattle.wit_names.specs.declared.package_name.PackageName.{PackageName}
 use Rattle.wit_data.specs.declared.types.TypeDef.{TypeDef}
 use Rattle.wit_data.specs.declared.types.TypeDefKind.{TypeDefKind}
@@ -69,7 +70,8 @@ IsOpenOwn scope.Interface foreign interfaces foreign_worlds worlds = foreign < i
 IsOpenOwn scope.World foreign interfaces foreign_worlds worlds = foreign_worlds < worlds
 
 -- the parts of a package
-pub record IsSoundAs (s : Things) (roots : List (ℕ × OptionalSpan)) (interface_ids world_ids : List (List ℕ × ℕ)) (into : Scope) (foreign : Foreign) : Type 0 where
+pub record IsSoundAs (name : PackageName) (s : Things) (roots : List (ℕ × OptionalSpan)) (interface_ids world_ids : List (List ℕ × ℕ)) (into : Scope) (foreign : Foreign) : Type 0 where
+  pub version : HasValidVersion name
   pub good : AreGood (interface_count foreign.deps) (world_count foreign.deps) (length foreign.type_spans) s
   pub known : IsKnown foreign.deps foreign.dep_spans s
   pub required : Each (λ (r : ℕ × OptionalSpan). SomeAt s.types r.0 (λ (def : TypeDef). def.kind ≡ kind.Unknown)) roots
@@ -81,7 +83,7 @@ pub record IsSoundAs (s : Things) (roots : List (ℕ × OptionalSpan)) (interfac
   pub open_own : IsOpenOwn into (interface_count foreign.deps) (length s.interfaces) (world_count foreign.deps) (length s.worlds)
 
 abbrev pub IsSound : Draft → Type 0
-IsSound p = IsSoundAs (things p) p.required p.interface_ids p.world_ids p.scope p.foreign
+IsSound p = IsSoundAs p.name (things p) p.required p.interface_ids p.world_ids p.scope p.foreign
 
 -- ---- what is foreign stays
 
@@ -116,15 +118,16 @@ module _ (s t : Things) (deps : ForeignItems) (grows : Grows (interface_count de
         );
   }
 
-module _ (required : List (ℕ × OptionalSpan)) (interface_ids world_ids : List (List ℕ × ℕ)) (into : Scope) (foreign : Foreign) (s t : Things) where
+module _ (name : PackageName) (required : List (ℕ × OptionalSpan)) (interface_ids world_ids : List (List ℕ × ℕ)) (into : Scope) (foreign : Foreign) (s t : Things) where
   -- a package whose things grow, but which has no interface and no world more
-  pub sound-with : IsSoundAs s required interface_ids world_ids into foreign → Grows (interface_count foreign.deps) (world_count foreign.deps) s t
+  pub sound-with : IsSoundAs name s required interface_ids world_ids into foreign → Grows (interface_count foreign.deps) (world_count foreign.deps) s t
       → AreGood (interface_count foreign.deps) (world_count foreign.deps) (length foreign.type_spans) t
       → length t.interfaces ≡ length s.interfaces → length t.worlds ≡ length s.worlds
       → interface_names (interface_count foreign.deps) t.interfaces ≡ interface_names (interface_count foreign.deps) s.interfaces
       → world_names (world_count foreign.deps) t.worlds ≡ world_names (world_count foreign.deps) s.worlds
-      → IsSoundAs t required interface_ids world_ids into foreign
+      → IsSoundAs name t required interface_ids world_ids into foreign
   sound-with sound grows good interfaces worlds names world_names_same = record {
+    version = sound.version;
     good = good;
     known = known-stays s t foreign.deps grows foreign.dep_spans sound.known;
     required = λ i r at. type-stays (interface_count foreign.deps) (world_count foreign.deps) s t grows (good-earlier (interface_count foreign.deps) (world_count foreign.deps) (length foreign.type_spans) s sound.good)
@@ -250,6 +253,7 @@ module _ (p : Draft) (sound : IsSound p) where
   sound-interface name here q made =
       let new = new-is (lookup (bytes_eq name) p.interface_ids) _ q made in
       subst IsSound new.1 (record {
+        version = sound.version;
         good = good-begun nf nw nu (things p) sound.good name here;
         known = known-stays (things p) _ p.foreign.deps (grows-begun nf nw nu (things p) sound.good name here) p.foreign.dep_spans sound.known;
         required = sound.required;
@@ -269,6 +273,7 @@ module _ (p : Draft) (sound : IsSound p) where
   sound-world name here q made =
       let new = new-is (lookup (bytes_eq name) p.world_ids) _ q made in
       subst IsSound new.1 (record {
+        version = sound.version;
         good = good-opened nf nw nu (things p) sound.good name here;
         known = known-stays (things p) _ p.foreign.deps (grows-opened nf nw nu (things p) sound.good name here) p.foreign.dep_spans sound.known;
         required = sound.required;
@@ -289,7 +294,7 @@ module _ (p : Draft) (sound : IsSound p) where
       let new = new-is (lookup (bytes_eq f.name) to.0.functions) _ q to.2 in
       let opened = open_interface-is p into.0 sound into.1 in
       let held : Interface = record to.0 { functions = to.0.functions ++ (f.name, f) ∷ [] } in
-      subst IsSound new.1 (sound-with p.required p.interface_ids p.world_ids p.scope p.foreign (things p) (record (things p) { interfaces = slice_set p.interfaces into.0 held }) sound
+      subst IsSound new.1 (sound-with p.name p.required p.interface_ids p.world_ids p.scope p.foreign (things p) (record (things p) { interfaces = slice_set p.interfaces into.0 held }) sound
       (grows-called nf nw nu (things p) sound.good into.0 to.0 to.1 opened.own f)
       (good-called nf nw nu (things p) sound.good into.0 to.0 to.1 opened.own f new.0 (subst (λ (by : TypeOwner). UsesOwn p.types by f) opened.owns uses))
       (length-set p.interfaces into.0 held) refl (interface_names-set nf p.interfaces into.0 to.0 held to.1 refl) refl)
@@ -303,7 +308,7 @@ module _ (p : Draft) (sound : IsSound p) where
       let opened = open_world-is p into.0 sound into.1 in
       let may = allowed into.0 opened.owns in
       let held : World = record to.0 { imports = to.0.imports ++ (k, e) ∷ [] } in
-      subst IsSound new.1 (sound-with p.required p.interface_ids p.world_ids p.scope p.foreign (things p) (record (things p) { worlds = slice_set p.worlds into.0 held }) sound
+      subst IsSound new.1 (sound-with p.name p.required p.interface_ids p.world_ids p.scope p.foreign (things p) (record (things p) { worlds = slice_set p.worlds into.0 held }) sound
       (grows-imported nf nw nu (things p) sound.good into.0 to.0 to.1 opened.own k e)
       (good-imported nf nw nu (things p) sound.good into.0 to.0 to.1 opened.own k e new.0 may.0 may.1)
       refl (length-set p.worlds into.0 held) refl (world_names-set nw p.worlds into.0 to.0 held to.1 refl))
@@ -317,7 +322,7 @@ module _ (p : Draft) (sound : IsSound p) where
       let opened = open_world-is p into.0 sound into.1 in
       let may = allowed into.0 opened.owns in
       let held : World = record to.0 { exports = to.0.exports ++ (k, e) ∷ [] } in
-      subst IsSound new.1 (sound-with p.required p.interface_ids p.world_ids p.scope p.foreign (things p) (record (things p) { worlds = slice_set p.worlds into.0 held }) sound
+      subst IsSound new.1 (sound-with p.name p.required p.interface_ids p.world_ids p.scope p.foreign (things p) (record (things p) { worlds = slice_set p.worlds into.0 held }) sound
       (grows-exported nf nw nu (things p) sound.good into.0 to.0 to.1 opened.own k e)
       (good-exported nf nw nu (things p) sound.good into.0 to.0 to.1 opened.own k e new.0 may.0 may.1)
       refl (length-set p.worlds into.0 held) refl (world_names-set nw p.worlds into.0 to.0 held to.1 refl))
@@ -329,7 +334,7 @@ module _ (p : Draft) (sound : IsSound p) where
       let to = map-of (λ (world : World). record p { worlds = slice_set p.worlds into.0 (record world { includes = world.includes ++ i ∷ [] }) }) (slice_get p.worlds into.0) q into.2 in
       let opened = open_world-is p into.0 sound into.1 in
       let held : World = record to.0 { includes = to.0.includes ++ i ∷ [] } in
-      subst IsSound to.2 (sound-with p.required p.interface_ids p.world_ids p.scope p.foreign (things p) (record (things p) { worlds = slice_set p.worlds into.0 held }) sound
+      subst IsSound to.2 (sound-with p.name p.required p.interface_ids p.world_ids p.scope p.foreign (things p) (record (things p) { worlds = slice_set p.worlds into.0 held }) sound
       (grows-included nf nw nu (things p) sound.good into.0 to.0 to.1 opened.own i)
       (good-included nf nw nu (things p) sound.good into.0 to.0 to.1 opened.own i)
       refl (length-set p.worlds into.0 held) refl (world_names-set nw p.worlds into.0 to.0 held to.1 refl))
@@ -346,7 +351,7 @@ module _ (p : Draft) (sound : IsSound p) where
       let opened = open_interface-is p into.0 sound into.1 in
       let held : Interface = record to.0 { types = to.0.types ++ (name, length p.types) ∷ [] } in
       let whole : with_type (record p { interfaces = slice_set p.interfaces into.0 held }) def ≡ q = ap (λ (r : Draft). with_type r def) new.1 ∙ half.2 in
-      subst IsSound whole (sound-with p.required p.interface_ids p.world_ids p.scope p.foreign (things p)
+      subst IsSound whole (sound-with p.name p.required p.interface_ids p.world_ids p.scope p.foreign (things p)
       (record { types = p.types ++ def ∷ []; interfaces = slice_set p.interfaces into.0 held; worlds = p.worlds }) sound
       (grows-owned nf nw nu (things p) sound.good into.0 to.0 to.1 opened.own name k here)
       (good-owned nf nw nu (things p) sound.good into.0 to.0 to.1 opened.own name k here new.0 (subst (λ (by : TypeOwner). IsNamedKind (things p) by k) opened.owns named))
@@ -361,7 +366,7 @@ module _ (p : Draft) (sound : IsSound p) where
       let opened = open_world-is p into.0 sound into.1 in
       let held : World = record to.0 { imports = to.0.imports ++ (key.Name name, it) ∷ [] } in
       let whole : with_type (record p { worlds = slice_set p.worlds into.0 held }) def ≡ q = ap (λ (r : Draft). with_type r def) new.1 ∙ half.2 in
-      subst IsSound whole (sound-with p.required p.interface_ids p.world_ids p.scope p.foreign (things p)
+      subst IsSound whole (sound-with p.name p.required p.interface_ids p.world_ids p.scope p.foreign (things p)
       (record { types = p.types ++ def ∷ []; interfaces = p.interfaces; worlds = slice_set p.worlds into.0 held }) sound
       (grows-world_owned nf nw nu (things p) sound.good into.0 to.0 to.1 opened.own name k here)
       (good-world_owned nf nw nu (things p) sound.good into.0 to.0 to.1 opened.own name k here new.0 (subst (λ (by : TypeOwner). IsNamedKind (things p) by k) opened.owns named))
