@@ -1,5 +1,6 @@
 mod Accepted
 mod Computed
+mod KeysAre
 mod Mismatches
 mod NamesAre
 mod Pairs

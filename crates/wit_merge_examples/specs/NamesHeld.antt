@@ -1,10 +1,16 @@
--- The names of small graphs.
-use Rattle.std.specs.Prelude.{[], ◌∷◌, false, true, None, codes}
+-- The names of small graphs, the keys of their worlds, and which of their interfaces are placed.
+use Rattle.std.specs.Prelude.{◌≡◌, [], ◌∷◌, false, true, None, codes}
 use Rattle.wit_data.specs.declared.types.Type_.TheVariants as type
-use Rattle.wit_graph_data.specs.examples.Samples.{foo_bar, function_of}
+use Rattle.wit_data.specs.declared.world.WorldItem.TheVariants as item
+use Rattle.wit_data.specs.declared.world.WorldKey.TheVariants as key
+use Rattle.wit_graph_data.specs.examples.Samples.{foo_bar, function_of, world_of}
+use Rattle.wit_graph_data.specs.IdText.{key_text}
 use Rattle.wit_graph_data.specs.declared.graph.Graph.{Graph}
+use Rattle.wit_merge_spec.specs.United.{merged_interface, merged_type}
+use Rattle.wit_merge_laws.specs.laws.CopyLaws.{IsPlaced}
+use Rattle.wit_merge_laws.specs.laws.OrderLaws.{AreAlike, HasKey, under_interface, under_label}
 use Rattle.wit_merge_laws.specs.laws.Names.{HasImport, HasName, Label, at_label, in_package, of_export, of_function, of_interface, of_label, of_package, of_type, of_world}
-use Rattle.wit_merge_examples.specs.Graphs.{b_uses_a, foo_named, inner, number_in, three, world_of_i}
+use Rattle.wit_merge_examples.specs.Graphs.{b_uses_a, foo_named, inner, merge_of_graphs, number_in, three, world_of_i}
 
 -- label x of the imports of world w of foo:bar
 abbrev pub at_x : Label
@@ -38,3 +44,37 @@ pub record ExamplesOfNames : Type 0 where
   -- an interface that is imported isn't exported
   pub imported : HasImport three foo_bar (codes "w") foo_bar (codes "c")
   pub no_export : HasName three (of_export foo_bar (codes "w") foo_bar (codes "c")) → ⊥
+
+-- ---- keys
+
+-- a world w that imports a function under a label with the text of the key of interface i
+abbrev pub same_text : Graph
+same_text = record world_of_i { worlds = world_of (codes "w") ((key.Name (codes "foo:bar/i"), item.Function (function_of (codes "foo:bar/i") [] None)) ∷ []) [] ∷ [] }
+
+pub record ExamplesOfKeys : Type 0 where
+  pub text : key_text world_of_i.packages world_of_i.interfaces (key.Interface 0) ≡ codes "foo:bar/i"
+  pub imported : HasKey world_of_i foo_bar (codes "w") false (under_interface foo_bar (codes "i"))
+  pub labelled : HasKey same_text foo_bar (codes "w") false (under_label (codes "foo:bar/i"))
+  -- the key of an interface isn't the label of its text, nor is the label that key
+  pub no_label : HasKey world_of_i foo_bar (codes "w") false (under_label (codes "foo:bar/i")) → ⊥
+  pub no_interface : HasKey same_text foo_bar (codes "w") false (under_interface foo_bar (codes "i")) → ⊥
+  -- what is imported isn't exported
+  pub other_side : HasKey world_of_i foo_bar (codes "w") true (under_interface foo_bar (codes "i")) → ⊥
+  -- so two graphs aren't alike whose worlds have keys of one text
+  pub not_alike : AreAlike world_of_i same_text → ⊥
+
+-- ---- places of interfaces
+
+-- the interface without a name, which stands in no world
+abbrev pub lost : Graph
+lost = record inner_t { worlds = world_of (codes "w") [] [] ∷ [] }
+
+pub record ExamplesOfPlaces : Type 0 where
+  pub named : IsPlaced three 1
+  pub unnamed : IsPlaced inner_t 0
+  pub nowhere : IsPlaced lost 0 → ⊥
+  -- where a copy of its graph goes into it, one that is placed is where its copy goes, and another comes again
+  pub goes_to_itself : merged_interface (merge_of_graphs inner_t inner_t) 0 ≡ 0
+  pub type_goes_to_itself : merged_type (merge_of_graphs inner_t inner_t) 0 ≡ 0
+  pub comes_again : merged_interface (merge_of_graphs lost lost) 0 ≡ 1
+  pub type_comes_again : merged_type (merge_of_graphs lost lost) 0 ≡ 1

@@ -420,7 +420,7 @@ module _ (laws : LawsOfElaboration) (g : Graph) (offset : ℕ) (valid : IsValid 
   same_name : HaveSameNames g (united copied)
   same_name name =
       let both = both_names laws copied name valid valid can in
-      (λ has. both.1 (inl has), λ has. elim (both.0 has) [ | inl mine ↦ mine | inr theirs ↦ theirs ])
+      (λ has. both.1 (inl has), λ has. elim (both.0 has) [ inl mine ↦ mine | inr theirs ↦ theirs ])
 
 pub copies_change_nothing : LawsOfElaboration → AcceptedCopiesChangeNothing
 copies_change_nothing laws g offset valid can = (same_name laws g offset valid can, same_all laws g offset valid can)
