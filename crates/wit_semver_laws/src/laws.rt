@@ -1,5 +1,5 @@
 //! Laws of semver merging: the contract of each function is what is proved.
-ghost use Rattle.wit_semver_laws.specs.laws.TrackLaws.{AliasesKeepNames, AliasesNameNewest, ExportsAreKept, KeysAreExact, LabelsAreKept, NewestIsGreatest, OneOnEachTrack, RewrittenKeep, RewrittenStayValid, WorldsAreElaborated};
+ghost use Rattle.wit_semver_laws.specs.laws.TrackLaws.{AliasesKeepNames, AliasesNameNewest, ExportsAreKept, KeysAreExact, LabelsAreKept, NewestIsGreatest, OneOnEachTrack, RewrittenKeep, RewrittenStayValid, SemverMergesOnce, WorldsAreElaborated};
 
 use wit_graph_theory::laws::laws_of_elaboration;
 
@@ -48,6 +48,14 @@ pub fn rewritten_stay_valid()
 /// each other its former one.
 pub fn worlds_are_elaborated()
     ensures { WorldsAreElaborated }
+{
+    laws_of_elaboration();
+}
+
+/// Where no cause holds against semver merging in a valid graph, none holds against a second one of the same world by
+/// the same rule, and it changes nothing.
+pub fn semver_merges_once()
+    ensures { SemverMergesOnce }
 {
     laws_of_elaboration();
 }

@@ -66,6 +66,11 @@ WorldsAreElaborated = (rule : TrackRule) (g : Graph) (w : ℕ) (old : World) (v 
 abbrev pub RewrittenStayValid : Type 0
 RewrittenStayValid = (rule : TrackRule) (g : Graph) (w : ℕ) (old : World) → IsValid g → slice_get g.worlds w ≡ Some old → SemverMergeIsAccepted rule g w → IsValid (rewritten rule g w)
 
+-- a second semver merge of the same world by the same rule has no cause against it, and changes nothing
+abbrev pub SemverMergesOnce : Type 0
+SemverMergesOnce = (rule : TrackRule) (g : Graph) (w : ℕ) (old : World) → IsValid g → slice_get g.worlds w ≡ Some old → SemverMergeIsAccepted rule g w
+    → SemverMergeIsAccepted rule (rewritten rule g w) w × (rewritten rule (rewritten rule g w) w ≡ rewritten rule g w)
+
 -- everything of a graph is in another at its id: types as they were but for what aliases name, worlds but for their
 -- lists, interfaces, packages and their names as they were
 pub record KeepsThings (old new : Graph) : Type 0 where
