@@ -1,6 +1,6 @@
 -- A second semver merge by the same rule: no import is replaced any more, so the graph with its new entries is the graph,
 -- which is valid, so that its worlds are elaborated and no cause holds.
-use Rattle.std.proofs.Common.{◌≡◌, ◌∙◌, inl, inr, ℕ, ◌+◌, zero, suc, Bool, true, false, not, ◌&&◌, List, [], ◌∷◌, map, filter, Option, None, Some, is_some, option_and_then, slice_get, slice_set, refl, sym, ap, subst, Contains, nat_eq}
+use Rattle.std.proofs.Common.{◌≡◌, ◌∙◌, inl, inr, ℕ, ◌+◌, zero, suc, Bool, true, false, not, ◌&&◌, List, [], ◌∷◌, map, filter, Option, None, Some, if◌then◌else◌, is_some, option_and_then, slice_get, slice_set, refl, sym, ap, subst, Contains, nat_eq}
 use Rattle.std.specs.List.{enumerate_from, flat_map, list_any}
 use Rattle.std.specs.Map.{lookup}
 use Rattle.std.proofs.lemmas.Bool.{and_parts, cases_Bool, false≢true}
