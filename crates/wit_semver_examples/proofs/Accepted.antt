@@ -17,6 +17,7 @@ accepted = record {
   other_world_again = passing _ (record { there = refl; targets = refl; functions = refl; packages = refl; interfaces = refl; types = refl; exports = refl });
   apart_from_release = passing _ (record { there = refl; targets = refl; functions = refl; packages = refl; interfaces = refl; types = refl; exports = refl });
   below_release = passing _ (record { there = refl; targets = refl; functions = refl; packages = refl; interfaces = refl; types = refl; exports = refl });
+  apart_again = passing _ (record { there = refl; targets = refl; functions = refl; packages = refl; interfaces = refl; types = refl; exports = refl });
   apart_from_major = passing _ (record { there = refl; targets = refl; functions = refl; packages = refl; interfaces = refl; types = refl; exports = refl });
   other_major = passing _ (record { there = refl; targets = refl; functions = refl; packages = refl; interfaces = refl; types = refl; exports = refl });
   apart_from_patch = passing _ (record { there = refl; targets = refl; functions = refl; packages = refl; interfaces = refl; types = refl; exports = refl });

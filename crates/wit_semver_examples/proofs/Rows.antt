@@ -78,6 +78,8 @@ examples_of_rules = record {
   not_one_major = λ same. let apart : 2 ≡ 1 = ap (import_count 0) same in absurd (omega (arith, apart));
   not_beside_patch = λ same. let apart : 1 ≡ 2 = ap (import_count 0) same in absurd (omega (arith, apart));
   not_above_patch = λ same. let apart : 1 ≡ 0 = ap (import_at 0 0) same in absurd (omega (arith, apart));
+  again = refl;
+  not_by_the_other = λ same. let apart : 1 ≡ 2 = ap (import_count 0) same in absurd (omega (arith, apart));
   not_ignored = λ same. let apart : 1 ≡ 2 = ap (import_count 0) same in absurd (omega (arith, apart));
 }
 

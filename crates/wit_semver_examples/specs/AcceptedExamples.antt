@@ -19,9 +19,10 @@ pub record ExamplesOfAccepted : Type 0 where
   -- another world beside it, and a second time
   pub other_world : SemverMergeIsAccepted Published (with_worlds 0 (keyed (0 ∷ 2 ∷ 1 ∷ [])) [] (keyed (0 ∷ 2 ∷ []))) 0
   pub other_world_again : SemverMergeIsAccepted Published (with_worlds 1 (keyed (1 ∷ 2 ∷ [])) [] (keyed (0 ∷ 1 ∷ 2 ∷ []))) 0
-  -- a pre-release beside its release and an older one, beside one of another major, beside its release alone, by either rule
+  -- a pre-release beside its release and an older one, a second time, beside one of another major, beside its release alone, by either rule
   pub apart_from_release : SemverMergeIsAccepted Published (with_release (0 ∷ 1 ∷ 2 ∷ [])) 0
   pub below_release : SemverMergeIsAccepted WithPrereleases (with_release (0 ∷ 1 ∷ 2 ∷ [])) 0
+  pub apart_again : SemverMergeIsAccepted Published (with_release (1 ∷ 2 ∷ [])) 0
   pub apart_from_major : SemverMergeIsAccepted Published (major_release (0 ∷ 1 ∷ [])) 0
   pub other_major : SemverMergeIsAccepted WithPrereleases (major_release (0 ∷ 1 ∷ [])) 0
   pub apart_from_patch : SemverMergeIsAccepted Published (patch_release (0 ∷ 1 ∷ [])) 0

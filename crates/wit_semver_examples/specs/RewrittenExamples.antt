@@ -126,5 +126,8 @@ pub record ExamplesOfRules : Type 0 where
   pub not_one_major : rewritten WithPrereleases (major_release (0 ∷ 1 ∷ [])) 0 ≡ major_release (1 ∷ []) → ⊥
   pub not_beside_patch : rewritten WithPrereleases (patch_release (0 ∷ 1 ∷ [])) 0 ≡ patch_release (0 ∷ 1 ∷ []) → ⊥
   pub not_above_patch : rewritten WithPrereleases (patch_release (0 ∷ 1 ∷ [])) 0 ≡ patch_release (0 ∷ []) → ⊥
+  -- a second time by the published rule nothing changes, but by the other rule something does
+  pub again : rewritten Published (with_release (1 ∷ 2 ∷ [])) 0 ≡ with_release (1 ∷ 2 ∷ [])
+  pub not_by_the_other : rewritten WithPrereleases (with_release (1 ∷ 2 ∷ [])) 0 ≡ with_release (1 ∷ 2 ∷ []) → ⊥
   -- the rule isn't ignored
   pub not_ignored : rewritten WithPrereleases (first_release (0 ∷ 1 ∷ [])) 0 ≡ rewritten Published (first_release (0 ∷ 1 ∷ [])) 0 → ⊥
