@@ -1,7 +1,7 @@
 -- A type of the incoming graph holds a borrow in two graphs that are one only if it does in its own: what moves holds
 -- what it held, at its place or by an `own` of it, and what is matched holds what its counterpart does, since the two
 -- have one structure.
-use Rattle.std.proofs.Common.{◌≡◌, ◌∙◌, ◌⊎◌, inl, inr, ℕ, ◌<◌, ◌+◌, true, false, List, [], ◌∷◌, ◌++◌, length, Option, None, Some, option_map, option_to_list, slice_get, refl, sym, ap, subst, Contains, if◌then◌else◌}
+use Rattle.std.proofs.Common.{◌≡◌, ◌∙◌, ◌⊎◌, inl, inr, ℕ, ◌<◌, true, false, List, [], ◌∷◌, ◌++◌, length, Option, None, Some, option_map, option_to_list, slice_get, refl, sym, ap, subst, Contains}
 use Rattle.std.specs.List.{flat_map}
 use Rattle.std.proofs.lemmas.Bool.{cases_Bool}
 use Rattle.std.proofs.lemmas.List.Elements.{Contains-append_right}

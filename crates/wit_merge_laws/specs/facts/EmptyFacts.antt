@@ -1,12 +1,9 @@
 -- An empty graph into which a valid one goes: nothing is matched, so all goes to the next ids, which are those it has;
 -- and where the empty graph goes into the valid one nothing changes, so the other order gives what is alike.
-use Rattle.std.proofs.Common.{◌≡◌, ◌∙◌, ℕ, ◌+◌, zero, suc, Bool, true, List, [], ◌∷◌, ◌++◌, map, filter, not, is_some, Option, None, Some, option_and_then, unwrap_or, slice_get, refl, sym, ap, subst, arith}
+use Rattle.std.proofs.Common.{◌≡◌, ◌∙◌, ℕ, ◌+◌, zero, suc, Bool, true, List, map, not, is_some, Option, None, Some, option_and_then, unwrap_or, slice_get, refl, ap, subst, arith}
 use Rattle.std.specs.List.{enumerate_from}
-use Rattle.wit_data.specs.declared.interface.Interface.{Interface}
-use Rattle.wit_data.specs.declared.types.TypeDef.{TypeDef}
 use Rattle.wit_data.specs.declared.types.TypeOwner.{TypeOwner}
 use Rattle.wit_data.specs.declared.types.TypeOwner.TheVariants as owner
-use Rattle.wit_data.specs.declared.world.World.{World}
 use Rattle.wit_names.specs.declared.package_name.PackageName.{PackageName}
 use Rattle.wit_elaboration.specs.examples.Examples.{ExamplesOfValidity, empty_graph}
 use Rattle.wit_graph_data.specs.declared.graph.Graph.{Graph}
@@ -15,12 +12,12 @@ use Rattle.wit_graph_theory.specs.facts.LawsOfElaboration.{LawsOfElaboration}
 use Rattle.wit_link_spec.specs.Selected.{rank, selected}
 use Rattle.wit_link_spec.specs.facts.RankFacts.{rank-kept}
 use Rattle.wit_merge_spec.specs.Matches.{GraphMerge, WorldLabel, counterpart_at_label, counterpart_interface, counterpart_interface_by, counterpart_package, counterpart_type, counterpart_type_by, counterpart_world, matched_world, named_in_counterpart}
-use Rattle.wit_merge_spec.specs.United.{merged_interface, merged_package, merged_type, merged_world, moves_interface, moves_package, moves_type, moves_world, package_image, united}
+use Rattle.wit_merge_spec.specs.United.{merged_interface, merged_package, merged_world, moves_package, package_image, united}
 use Rattle.wit_merge_laws.specs.facts.NoCycles.{are_one, can_elaborate}
 use Rattle.wit_merge_laws.specs.facts.NothingFacts.{map_same, nothing, unnumbered}
 use Rattle.wit_merge_laws.specs.facts.OrderFree.{merging_is_order_free}
 use Rattle.wit_merge_laws.specs.facts.WholeFacts.{all_pass}
-use Rattle.wit_merge_laws.specs.laws.CopyLaws.{EmptyBecomesAlike, EmptyKeepsIds, KeepsIds}
+use Rattle.wit_merge_laws.specs.laws.CopyLaws.{EmptyBecomesAlike, KeepsIds}
 use Rattle.wit_merge_laws.specs.laws.MergingLaws.{merge_of_graphs}
 use Rattle.wit_merge_laws.specs.laws.OrderLaws.{AreAlike}
 

@@ -1,7 +1,7 @@
 -- A graph with which a copy of it is merged: each package, world and named type and each interface that has a name or
 -- stands under a label is matched with itself, so nothing is brought and what is joined is what was there.
 use Rattle.std.specs.Prelude.{bytes_eq}
-use Rattle.std.proofs.Common.{◌≡◌, ◌∙◌, inl, inr, ℕ, ◌+◌, zero, suc, Bool, true, false, List, [], ◌∷◌, ◌++◌, map, filter, cond, nat_eq, not, is_some, Option, None, Some, IsSome, option_and_then, unwrap_or, slice_get, refl, sym, ap, subst, arith, Contains}
+use Rattle.std.proofs.Common.{◌≡◌, ◌∙◌, inl, inr, ℕ, ◌+◌, suc, Bool, true, false, List, [], ◌∷◌, ◌++◌, map, filter, cond, nat_eq, not, is_some, Option, None, Some, IsSome, option_and_then, slice_get, refl, sym, ap, subst, arith, Contains}
 use Rattle.std.specs.List.{enumerate_from}
 use Rattle.std.specs.Map.{lookup}
 use Rattle.std.specs.Option.{option_map_or}
@@ -10,8 +10,8 @@ use Rattle.std.proofs.lemmas.List.{append-nil}
 use Rattle.std.proofs.lemmas.Map.Views.{Contains-from_lookup}
 use Rattle.wit_digraph.specs.facts.MemberFacts.{Contains-here}
 use Rattle.wit_values.specs.Table.{HasDistinctKeys}
-use Rattle.wit_data.specs.Each.{Each, EachAt, SomeAt}
-use Rattle.wit_data.specs.Entries.{Entry, IsImport, entries_of, is_unnamed, item_interface}
+use Rattle.wit_data.specs.Each.{Each, EachAt}
+use Rattle.wit_data.specs.Entries.{Entry, IsImport, entries_of, item_interface}
 use Rattle.wit_data.specs.Ownership.{IsListed, IsNamed, world_types}
 use Rattle.wit_data.specs.declared.function.Function.{Function}
 use Rattle.wit_data.specs.declared.interface.Interface.{Interface}

@@ -8,7 +8,7 @@ use Rattle.std.proofs.lemmas.Bool.{false≢true}
 use Rattle.std.proofs.lemmas.Map.Views.{Contains-from_lookup}
 use Rattle.wit_digraph.specs.facts.FreshFacts.{any_from_contains, contains_from_any}
 use Rattle.wit_digraph.specs.facts.MemberFacts.{Contains-flat_map, Contains-flat_map_cases, Contains-here, Contains-nil}
-use Rattle.wit_digraph.specs.Relation.{IsPath, direct}
+use Rattle.wit_digraph.specs.Relation.{direct}
 use Rattle.wit_data.specs.Entries.{Entry, IsImport, item_interface, entries_of}
 use Rattle.wit_data.specs.Uses.{type_interface_dep}
 use Rattle.wit_data.specs.declared.interface.Interface.{Interface}
@@ -22,7 +22,8 @@ use Rattle.wit_data.specs.declared.world.WorldKey.TheVariants as key
 use Rattle.wit_elaboration.specs.facts.FreshEntries.{same_key-true}
 use Rattle.wit_elaboration.specs.Elaboration.{graph_uses}
 use Rattle.wit_elaboration.specs.Entries.{keyed_interfaces, role_of, same_key, type_role}
-use Rattle.wit_elaboration.specs.laws.Imports.{Needed, roots_of}
+use Rattle.wit_elaboration.specs.Imported.{exported_interfaces, exported_keys}
+use Rattle.wit_elaboration.specs.laws.Imports.{roots_of}
 use Rattle.wit_elaboration.specs.laws.KeptByElaboration.{HoldsImports, ImportsAreLeast}
 use Rattle.wit_graph_data.specs.Queries.{entry_interface}
 use Rattle.wit_elaboration.specs.Valid.{IsValid}
@@ -197,16 +198,13 @@ module _ (least : ImportsAreLeast) (m : GraphMerge) (valid : IsValid m.graph) (v
         let e = key_entry into.imports i has in
         used false e.0 i j e.1 (keyed_import m.graph.interfaces m.graph.types w' e.0.0 e.0.1 i e.2 (import_is e.0 e.1)) edge
 
-    reached : (i : ℕ) (path : List ℕ) (j : ℕ) → Contains (keyed_interfaces into.imports) i → IsPath uses i path j → Contains (keyed_interfaces into.imports) j
-    reached i [] j has same = subst (Contains (keyed_interfaces into.imports)) same has
-    reached i (k ∷ path) j has leads = reached k path j (closed i k has leads.0) leads.1
-
-    needed : (j : ℕ) → Needed uses listed.exports j → Contains (keyed_interfaces into.imports) j
-    needed j need =
-        let e = Contains-flat_map_cases (λ (e : Entry). item_interface e.1) listed.exports need.0 need.2 in
+    -- what the exports name from outside
+    from_outside : (x d : ℕ) → Contains (exported_interfaces listed.exports) x → Contains (direct uses x) d → (Contains (exported_keys listed.exports) d → ⊥) → Contains (keyed_interfaces into.imports) d
+    from_outside x d exported edge apart =
+        let e = Contains-flat_map_cases (λ (e : Entry). item_interface e.1) listed.exports x exported in
         let from = (world_keeps_entries m (w', into)).from true e.0 e.1.0 in
-        let lists = used true from.0 need.0 need.1 from.1 (sym from.3 ∙ held_one e.0.1 need.0 e.1.1) need.3 in
-        reached need.1 need.5.0 j (elim lists [ inl imported ↦ imported | inr exported ↦ absurd (need.4 (exported_too need.1 exported)) ]) need.5.1
+        let lists = used true from.0 x d from.1 (sym from.3 ∙ held_one e.0.1 x e.1.1) edge in
+        elim lists [ inl imported ↦ imported | inr there ↦ absurd (apart (exported_too d there)) ]
       where
         exported_too : (d : ℕ) → Contains (keyed_interfaces into.exports) d → Contains (keyed_interfaces listed.exports) d
         exported_too d has =
@@ -255,6 +253,6 @@ module _ (least : ImportsAreLeast) (m : GraphMerge) (valid : IsValid m.graph) (v
     pub holds_test : HoldsImports g.types uses listed.imports listed.exports (λ j. list_any (nat_eq j) (keyed_interfaces into.imports) ≡ true)
     holds_test = record {
       roots = λ r has. any_from_contains r (keyed_interfaces into.imports) (roots r has);
-      needed = λ j need. any_from_contains j (keyed_interfaces into.imports) (needed j need);
+      from_outside = λ x d exported edge apart. any_from_contains d (keyed_interfaces into.imports) (from_outside x d exported edge apart);
       closed = λ i j on edge. any_from_contains j (keyed_interfaces into.imports) (closed i j (contains_from_any i (keyed_interfaces into.imports) on) edge);
     }

@@ -1,5 +1,5 @@
 -- Laws of merging where the one graph is empty, or both are the same: nothing gets a new name, and ids stay.
-use Rattle.std.specs.Prelude.{◌≡◌, ℕ, Some, slice_get, Contains}
+use Rattle.std.specs.Prelude.{◌≡◌, ℕ, Some, slice_get}
 use Rattle.wit_data.specs.Each.{EachAt}
 use Rattle.wit_data.specs.declared.interface.Interface.{Interface}
 use Rattle.wit_data.specs.declared.types.TypeDef.{TypeDef}
