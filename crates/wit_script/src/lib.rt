@@ -3,7 +3,8 @@
 //!
 //! [`execute`] reads a script to its end and writes the answers of its commands; it answers false where a line isn't
 //! understood, which is then all that it writes. It works on any reader and writer, each within a [`Watched`], which
-//! records whether one of its calls failed. [`print_world`] gives the text of one world, [`read_script`] the commands of
+//! records whether one of its calls failed. [`execute_text`] does the same from a text to a text, and [`exit_status`] is
+//! what a program answers that executes a script. [`print_world`] gives the text of one world, [`read_script`] the commands of
 //! a script, and [`action_of`] what one of them does.
 //!
 //! ```text
@@ -29,5 +30,5 @@ pub use crate::fault::{ReadFault, ScriptFault};
 pub use crate::printer::print_world;
 pub use crate::reader::read_script;
 pub use crate::ready::{ReadyCommand, ScriptCommand};
-pub use crate::script::execute;
+pub use crate::script::{execute, execute_text, exit_status};
 pub use crate::watched::Watched;

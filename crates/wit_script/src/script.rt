@@ -2,7 +2,7 @@
 ghost use Rattle.std.specs.Prelude.{◌≡◌, ◌⊎◌, [], Bool, List, ℕ, true, IfErr, IfOk, IfSome, OnOk, IsErrOf, string_bytes};
 ghost use Rattle.std.specs.Str.{IsUtf8};
 ghost use Rattle.std.specs.Io.KnownBytes.{Appends};
-ghost use Rattle.wit_script.specs.Prints.{PrintsByRun};
+ghost use Rattle.wit_script.specs.Prints.{PrintsByRun, exit_status};
 ghost use Rattle.wit_script.specs.Watched.{AppendsBeginning};
 
 use crate::answer::answers_to;
@@ -10,7 +10,7 @@ use crate::fault::{ReadFault, ScriptFault};
 use crate::reader::read_script;
 use crate::stream::{read_all, write_all};
 use crate::watched::Watched;
-use std::alloc::Global;
+use std::alloc::{AllocError, Global};
 use std::io::{Read, Write};
 
 /// Reads a script to the end of the reader, runs it on an empty graph, and writes its answers. A script
@@ -18,7 +18,8 @@ use std::io::{Read, Write};
 ///
 /// The faults are a failed call of the reader or the writer, an input that isn't UTF-8, and want of
 /// memory outside a command. The clauses speak of readers and writers that tell their bytes. Where the
-/// writer fails, a beginning of what was to be written is; after any other fault nothing is.
+/// writer fails, a beginning of what was to be written is; after any other fault nothing is. Once the
+/// reader has told its end, an input that isn't UTF-8 is told as that, whatever memory there is.
 pub fn execute<R: Read, W: Write>(
     alloc: Global,
     reader: &mut Watched<R>,
@@ -33,6 +34,7 @@ pub fn execute<R: Read, W: Write>(
     ensures read { IsErrOf result ScriptFault.Read → reader.new.failed ≡ true }
     ensures write { IsErrOf result ScriptFault.Write → writer.new.failed ≡ true }
     ensures utf8 { IsErrOf result ScriptFault.NotUtf8 → IfSome (R.remaining reader.old.inner) (λ input. IsUtf8 input → ⊥) }
+    ensures memory { IsErrOf result ScriptFault.OutOfMemory → (reader.new.ended ≡ reader.old.ended) ⊎ IfSome (R.remaining reader.old.inner) IsUtf8 }
 {
     let input = read_all(alloc, reader)?;
     let (understood, text) = printed(alloc, &input)?;
@@ -40,22 +42,44 @@ pub fn execute<R: Read, W: Write>(
     Ok(understood)
 }
 
-/// What a script prints, and whether it is understood.
+/// What an input prints as a script, and whether it is understood. An input that isn't UTF-8 is told as that, whatever
+/// memory there is.
 fn printed(alloc: Global, input: &[u8]) -> Result<(bool, String), ScriptFault>
     ensures ok { IfOk result (λ answer. PrintsByRun input.now answer.0 (string_bytes answer.1)) }
     ensures read { IsErrOf result ScriptFault.Read → ⊥ }
     ensures write { IsErrOf result ScriptFault.Write → ⊥ }
     ensures utf8 { IsErrOf result ScriptFault.NotUtf8 → IsUtf8 input.now → ⊥ }
+    ensures memory { IsErrOf result ScriptFault.OutOfMemory → IsUtf8 input.now }
 {
-    let Ok(script) = str::from_utf8(input) else {
-        return Err(ScriptFault::NotUtf8);
-    };
+    match str::from_utf8(input) {
+        Ok(script) => Ok(execute_text(alloc, script)?),
+        Err(_) => Err(ScriptFault::NotUtf8),
+    }
+}
+
+/// Runs a script on an empty graph: whether it is understood, and what it prints. The only error is want of memory outside
+/// a command.
+pub fn execute_text(alloc: Global, script: &str) -> Result<(bool, String), AllocError>
+    ensures { IfOk result (λ answer. PrintsByRun script.now answer.0 (string_bytes answer.1)) }
+{
     match read_script(alloc, script) {
         Ok(commands) => Ok((true, answers_to(alloc, commands)?)),
         Err(ReadFault::NotUnderstood { line }) => Ok((
             false,
             format!(in alloc; "line {line}: not understood\n")?,
         )),
-        Err(ReadFault::OutOfMemory) => Err(ScriptFault::OutOfMemory),
+        Err(ReadFault::OutOfMemory) => Err(AllocError),
+    }
+}
+
+/// The exit status of a program that has executed a script: 0 where the script was understood and its answers are written,
+/// else 1.
+pub fn exit_status(executed: Result<bool, ScriptFault>) -> u8
+    ensures { result ≡ exit_status executed }
+{
+    match executed {
+        Ok(true) => 0,
+        Ok(false) => 1,
+        Err(_) => 1,
     }
 }

@@ -8,13 +8,15 @@ use crate::watched::Watched;
 use std::alloc::Global;
 use std::io::{Read, Write};
 
-/// All bytes of a reader up to its end. The faults are a failed call of the reader and want of memory.
+/// All bytes of a reader up to its end. The faults are a failed call of the reader, and want of memory before the reader
+/// has told its end.
 pub fn read_all<R: Read>(alloc: Global, reader: &mut Watched<R>) -> Result<Vec<u8>, ScriptFault>
     ensures ok { IfOk result (λ v. IfSome (R.remaining reader.old.inner) (λ input. v.items ≡ input)) }
     ensures end { OnOk result (IfSome (R.remaining reader.new.inner) (λ rest. rest ≡ [])) }
     ensures read { IsErrOf result ScriptFault.Read → reader.new.failed ≡ true }
     ensures write { IsErrOf result ScriptFault.Write → ⊥ }
     ensures utf8 { IsErrOf result ScriptFault.NotUtf8 → ⊥ }
+    ensures memory { IsErrOf result ScriptFault.OutOfMemory → reader.new.ended ≡ reader.old.ended }
 {
     let mut bytes = Vec::new(alloc);
     let mut chunk = [0u8; 4096];

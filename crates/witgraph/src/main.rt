@@ -3,14 +3,11 @@
 
 use std::io;
 use std::process::ExitCode;
-use wit_script::{Watched, execute};
+use wit_script::{Watched, execute, exit_status};
 
-/// Status 0 where the script was understood and run, else 1.
+/// Status 0 where the script was understood and its answers are written, else 1.
 fn main(rt: HostRuntime) -> ExitCode {
     let mut reader = Watched::new(rt.reader());
     let mut writer = Watched::new(io::writer(&rt));
-    match execute(rt.alloc(), &mut reader, &mut writer) {
-        Ok(true) => ExitCode::SUCCESS,
-        Ok(false) | Err(_) => ExitCode::FAILURE,
-    }
+    ExitCode::from(exit_status(execute(rt.alloc(), &mut reader, &mut writer)))
 }

@@ -1,4 +1,7 @@
 //! Commands as notes name them.
+ghost use Rattle.std.specs.Prelude.{Some};
+ghost use Rattle.witgraph_dot.specs.Texts.{heading};
+
 use std::fmt;
 use wit_script::ScriptCommand;
 
@@ -7,6 +10,8 @@ use wit_script::ScriptCommand;
 pub struct Heading<'a>(pub &'a ScriptCommand);
 
 impl fmt::Display for Heading<'_> {
+    ghost output = { λ asked. Some (heading asked.0.now) };
+
     fn fmt<W: fmt::Write>(&self, f: &mut fmt::Formatter<W>) -> fmt::Result {
         match self.0 {
             ScriptCommand::Push { main, .. } => {

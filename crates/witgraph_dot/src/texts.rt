@@ -1,4 +1,7 @@
 //! Texts as they stand in a picture.
+ghost use Rattle.std.specs.Prelude.{Some};
+ghost use Rattle.witgraph_dot.specs.Texts.{html_char, html_text, quoted_char, quoted_text};
+
 use std::fmt;
 
 /// A text between the quotes of a label: what DOT takes for more than itself stands for itself.
@@ -6,16 +9,32 @@ use std::fmt;
 pub struct Quoted<'a>(pub &'a str);
 
 impl fmt::Display for Quoted<'_> {
+    ghost output = { λ text. Some (quoted_text text.0.now) };
+
     fn fmt<W: fmt::Write>(&self, f: &mut fmt::Formatter<W>) -> fmt::Result {
         for char in self.0.chars() {
-            match char {
-                '"' => f.write_str("\\\"")?,
-                '\\' => f.write_str("\\\\")?,
-                '&' => f.write_str("&amp;")?,
-                _ => write!(f, "{char}")?,
-            }
+            let quoted = QuotedChar(char);
+            write!(f, "{quoted}")?;
         }
         Ok(())
+    }
+}
+
+/// A character between the quotes of a label.
+#[derive(Clone, Copy)]
+struct QuotedChar(char);
+
+impl fmt::Display for QuotedChar {
+    ghost output = { λ char. Some (quoted_char char.0) };
+
+    fn fmt<W: fmt::Write>(&self, f: &mut fmt::Formatter<W>) -> fmt::Result {
+        let char = self.0;
+        match char {
+            '"' => f.write_str("\\\""),
+            '\\' => f.write_str("\\\\"),
+            '&' => f.write_str("&amp;"),
+            _ => write!(f, "{char}"),
+        }
     }
 }
 
@@ -24,18 +43,34 @@ impl fmt::Display for Quoted<'_> {
 pub struct Html<'a>(pub &'a str);
 
 impl fmt::Display for Html<'_> {
+    ghost output = { λ text. Some (html_text text.0.now) };
+
     fn fmt<W: fmt::Write>(&self, f: &mut fmt::Formatter<W>) -> fmt::Result {
         for char in self.0.chars() {
-            match char {
-                '<' => f.write_str("&lt;")?,
-                '>' => f.write_str("&gt;")?,
-                '"' => f.write_str("&quot;")?,
-                '&' => f.write_str("&amp;")?,
-                ' ' => f.write_str("&#160;")?,
-                '\n' => f.write_str("<br align=\"left\"/>")?,
-                _ => write!(f, "{char}")?,
-            }
+            let shown = HtmlChar(char);
+            write!(f, "{shown}")?;
         }
         Ok(())
+    }
+}
+
+/// A character in a label of HTML.
+#[derive(Clone, Copy)]
+struct HtmlChar(char);
+
+impl fmt::Display for HtmlChar {
+    ghost output = { λ char. Some (html_char char.0) };
+
+    fn fmt<W: fmt::Write>(&self, f: &mut fmt::Formatter<W>) -> fmt::Result {
+        let char = self.0;
+        match char {
+            '<' => f.write_str("&lt;"),
+            '>' => f.write_str("&gt;"),
+            '"' => f.write_str("&quot;"),
+            '&' => f.write_str("&amp;"),
+            ' ' => f.write_str("&#160;"),
+            '\n' => f.write_str("<br align=\"left\"/>"),
+            _ => write!(f, "{char}"),
+        }
     }
 }
