@@ -1,21 +1,19 @@
 -- The keys of worlds of small graphs, and which interfaces are placed.
-use Rattle.std.proofs.Common.{◌≡◌, ◌∙◌, ℕ, Bool, true, false, zero, suc, List, [], ◌∷◌, None, Some, codes, refl, sym, ap, Contains}
+use Rattle.std.proofs.Common.{◌≡◌, ◌∙◌, ℕ, Bool, true, false, zero, suc, [], None, codes, refl, ap, Contains}
 use Rattle.wit_digraph.specs.facts.MemberFacts.{Contains-here, Contains-nil}
 use Rattle.wit_data.specs.Each.{SomeAt}
-use Rattle.wit_data.specs.Entries.{Entry, entries_of}
+use Rattle.wit_data.specs.Entries.{Entry}
 use Rattle.wit_data.specs.declared.world.World.{World}
 use Rattle.wit_data.specs.declared.world.WorldItem.{WorldItem}
-use Rattle.wit_data.specs.declared.world.WorldKey.{WorldKey}
 use Rattle.wit_data.specs.declared.world.WorldItem.TheVariants as item
 use Rattle.wit_data.specs.declared.world.WorldKey.TheVariants as key
 use Rattle.wit_graph_data.specs.examples.Samples.{entry_of, foo_bar, function_of, instance}
-use Rattle.wit_graph_data.specs.declared.graph.Graph.{Graph}
 use Rattle.wit_graph_theory.specs.examples.TestFacts.{none_some, only_one}
 use Rattle.wit_merge_laws.specs.laws.CopyLaws.{IsPlaced}
-use Rattle.wit_merge_laws.specs.laws.Names.{HasLabel, IsWorld, at_label, in_package}
-use Rattle.wit_merge_laws.specs.laws.OrderLaws.{AreAlike, HasKey, under_interface, under_label}
-use Rattle.wit_merge_examples.specs.Graphs.{three, world_of_i}
-use Rattle.wit_merge_examples.specs.NamesHeld.{ExamplesOfKeys, ExamplesOfPlaces, at_x, inner_t, lost, same_text}
+use Rattle.wit_merge_laws.specs.laws.Names.{HasLabel, at_label, in_package}
+use Rattle.wit_merge_laws.specs.laws.OrderLaws.{HasKey, under_interface, under_label}
+use Rattle.wit_merge_examples.specs.Graphs.{world_of_i}
+use Rattle.wit_merge_examples.specs.NamesHeld.{ExamplesOfKeys, ExamplesOfPlaces, at_x, lost, same_text}
 
 abbrev function_entry : Entry
 function_entry = (key.Name (codes "foo:bar/i"), item.Function (function_of (codes "foo:bar/i") [] None))
