@@ -12,6 +12,8 @@ work=$(mktemp -d)
 trap 'rm -rf "$work"' EXIT
 
 if [ -z "${WITGRAPH_LIBRARY:-}" ]; then
+    # what `rt ci` has kept of the libraries below, so that this one alone is built
+    python3 bench/given.py > "$work/given"
     (cd crates/witgraph_c && rt lib)
     WITGRAPH_LIBRARY=crates/witgraph_c/out
 fi
