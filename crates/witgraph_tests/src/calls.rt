@@ -27,13 +27,20 @@ fn told(rt: &impl Abort, alloc: Global, call: Call, input: &[u8], room: usize) -
     format!(in alloc; "{status} {needed} {output}").expect(rt, "memory")
 }
 
-/// A script with an answer, and one that is refused.
-const REFUSED: &str = "package a:b\npush\npackage a:b\npush\n";
-
 /// The calls, each with its input, the room of its output, and what is told.
 const CALLS: [(Call, &[u8], usize, &str); 16] = [
-    (Call::Execute, b"package a:b\npush\n", 14, "0 11 pushed a:b\n..."),
-    (Call::Execute, b"package a:b\npush\n", 11, "0 11 pushed a:b\n"),
+    (
+        Call::Execute,
+        b"package a:b\npush\n",
+        14,
+        "0 11 pushed a:b\n...",
+    ),
+    (
+        Call::Execute,
+        b"package a:b\npush\n",
+        11,
+        "0 11 pushed a:b\n",
+    ),
     (Call::Execute, b"package a:b\npush\n", 10, "2 11 .........."),
     (Call::Execute, b"", 2, "0 0 .."),
     (Call::Execute, b"push", 24, "1 23 line 1: not understood\n."),
@@ -43,11 +50,16 @@ const CALLS: [(Call, &[u8], usize, &str); 16] = [
     (Call::Execute, b"\xff", 0, "3 0 "),
     (
         Call::Explain,
-        REFUSED.as_bytes(),
-        80,
-        "0 70 refused 5 package `a:b` is defined in two different locations:\n  ...",
+        b"package a:b\npush\nselect a:b\n",
+        54,
+        "0 53 refused 26 The main package `a:b` contains no worlds\n.",
     ),
-    (Call::Explain, REFUSED.as_bytes(), 3, "2 70 ..."),
+    (
+        Call::Explain,
+        b"package a:b\npush\nselect a:b\n",
+        3,
+        "2 53 ...",
+    ),
     (Call::Explain, b"package a:b\npush\n", 3, "0 0 ..."),
     (Call::Explain, b"push", 24, "1 23 line 1: not understood\n."),
     (Call::Explain, b"push", 22, "2 23 ......................"),
