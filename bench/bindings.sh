@@ -1,6 +1,6 @@
 #!/bin/sh
 # bench/bindings.sh [PROGRAM]: builds the static library, and builds and runs what stands on it: what is written in C
-# (bench/c_example.sh, which the gate runs too), and the Rust crate with its tests, its examples and its documentation.
+# (bench/c_example.sh), and the Rust crate with its tests, its examples and its documentation.
 # With PROGRAM, which reads scripts as `witgraph` does, compares the two on the worked scripts. Needs rt, cc and cargo; the
 # Rust crate is no part of the gate.
 #

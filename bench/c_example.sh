@@ -1,7 +1,7 @@
 #!/bin/sh
 # bench/c_example.sh: builds the static library and what stands on it in C, with gcc or another C compiler and nothing else:
 # the example prints what each worked script is to print and ends with the status of `witgraph`, and an allocation that is
-# refused is told. `.ci/run` runs it after `rt ci`, which has proved all that it builds.
+# refused is told.
 #
 # WITGRAPH_LIBRARY, the folder of a libwitgraph_c.a that is there, spares the build of the library.
 set -eu
