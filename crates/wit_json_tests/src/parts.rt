@@ -1,8 +1,11 @@
 //! Graphs built by hand, and what is asked of them.
+use indexmap::IndexMap;
 use std::alloc::Global;
+use std::hash::Hash;
 use std::process::Abort;
 use wit_data::{
-    Docs, Items, Stability, Text, Type_, TypeDef, TypeDefKind, TypeId, TypeOwner, Version,
+    Docs, Items, Names, Stability, Table, Text, Type_, TypeDef, TypeDefKind, TypeId, TypeOwner,
+    Version,
 };
 use wit_graph_data::Graph;
 use wit_json::graph_to_json;
@@ -33,6 +36,35 @@ pub fn docs(rt: &impl Abort, alloc: Global, contents: &str) -> Docs {
 
 pub fn list<T: Drop, const N: usize>(rt: &impl Abort, alloc: Global, items: [T; N]) -> Items<T> {
     Items::from_vec(Vec::from_array(alloc, items).expect(rt, "memory"))
+}
+
+/// The last of several values under one key stands.
+fn mapped<K: Eq + Hash + Drop, V: Drop, const N: usize>(
+    rt: &impl Abort,
+    alloc: Global,
+    entries: [(K, V); N],
+) -> IndexMap<K, V> {
+    let mut map = IndexMap::new(alloc);
+    for (key, value) in Vec::from_array(alloc, entries).expect(rt, "memory") {
+        map.insert(key, value).expect(rt, "memory");
+    }
+    map
+}
+
+pub fn table<K: Eq + Hash + Drop, V: Drop, const N: usize>(
+    rt: &impl Abort,
+    alloc: Global,
+    entries: [(K, V); N],
+) -> Table<K, V> {
+    Table::from_map(mapped(rt, alloc, entries))
+}
+
+pub fn names<V: Drop, const N: usize>(
+    rt: &impl Abort,
+    alloc: Global,
+    entries: [(String, V); N],
+) -> Names<V> {
+    Names::from_map(mapped(rt, alloc, entries))
 }
 
 pub fn version(rt: &impl Abort, alloc: Global, text: &str) -> Version {

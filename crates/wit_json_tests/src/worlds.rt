@@ -1,10 +1,10 @@
 //! Worlds and packages.
-use crate::parts::{assert_json, docs, list, since, string, text, version_or_none};
+use crate::parts::{assert_json, docs, list, names, since, string, table, text, version_or_none};
 use std::alloc::Global;
 use std::process::Abort;
 use wit_data::{
-    Docs, Function, FunctionKind, InterfaceId, Items, Names, PackageId, PackageName, Span, TypeId,
-    World, WorldId, WorldItem, WorldKey,
+    Docs, Function, FunctionKind, InterfaceId, Items, Names, PackageId, PackageName, Span, Table,
+    TypeId, World, WorldId, WorldItem, WorldKey,
 };
 use wit_graph_data::{Graph, Package};
 
@@ -22,23 +22,16 @@ fn package(rt: &impl Abort, alloc: Global, name: &str, version: &str) -> Package
 fn first_package(rt: &impl Abort, alloc: Global) -> Package {
     let mut first = package(rt, alloc, "bar", "1.0.0");
     first.docs = docs(rt, alloc, "Bar.");
-    first
-        .interfaces
-        .push(string(rt, alloc, "j"), InterfaceId::from_index(1))
-        .expect(rt, "memory");
-    first
-        .interfaces
-        .push(string(rt, alloc, "i"), InterfaceId::from_index(0))
-        .expect(rt, "memory");
-    first
-        .worlds
-        .push(string(rt, alloc, "w"), WorldId::from_index(0))
-        .expect(rt, "memory");
+    let j = (string(rt, alloc, "j"), InterfaceId::from_index(1));
+    let i = (string(rt, alloc, "i"), InterfaceId::from_index(0));
+    first.interfaces = names(rt, alloc, [j, i]);
+    let w = (string(rt, alloc, "w"), WorldId::from_index(0));
+    first.worlds = names(rt, alloc, [w]);
     first
 }
 
-fn full_world(rt: &impl Abort, alloc: Global) -> World {
-    let mut world = World::new(alloc, text(rt, alloc, "w"));
+/// Interface 3 under its key, and type 7 under a label.
+fn imports(rt: &impl Abort, alloc: Global) -> Table<WorldKey, WorldItem> {
     let id = InterfaceId::from_index(3);
     let gated = WorldItem::Interface {
         id,
@@ -47,30 +40,32 @@ fn full_world(rt: &impl Abort, alloc: Global) -> World {
         span: Span::unknown(),
         external_id: Some(text(rt, alloc, "x")),
     };
-    world
-        .imports
-        .push(WorldKey::Interface(id), gated)
-        .expect(rt, "memory");
-    let label = WorldKey::Name(text(rt, alloc, "t"));
     let held = WorldItem::Type_ {
         id: TypeId::from_index(7),
         span: Span::unknown(),
     };
-    world.imports.push(label, held).expect(rt, "memory");
-    let label = WorldKey::Name(text(rt, alloc, "f"));
+    let label = WorldKey::Name(text(rt, alloc, "t"));
+    table(rt, alloc, [(WorldKey::Interface(id), gated), (label, held)])
+}
+
+/// A function, and interface 10 under a label.
+fn exports(rt: &impl Abort, alloc: Global) -> Table<WorldKey, WorldItem> {
     let f = Function::new(
         text(rt, alloc, "f"),
         FunctionKind::Freestanding,
         Items::new(alloc),
         None,
     );
-    world
-        .exports
-        .push(label, WorldItem::Function(f))
-        .expect(rt, "memory");
-    let label = WorldKey::Name(text(rt, alloc, "inline"));
+    let function = (WorldKey::Name(text(rt, alloc, "f")), WorldItem::Function(f));
     let inline = WorldItem::interface(InterfaceId::from_index(10));
-    world.exports.push(label, inline).expect(rt, "memory");
+    let label = WorldKey::Name(text(rt, alloc, "inline"));
+    table(rt, alloc, [function, (label, inline)])
+}
+
+fn full_world(rt: &impl Abort, alloc: Global) -> World {
+    let mut world = World::new(alloc, text(rt, alloc, "w"));
+    world.imports = imports(rt, alloc);
+    world.exports = exports(rt, alloc);
     world.package = Some(PackageId::from_index(0));
     world.docs = docs(rt, alloc, "W.");
     world.stability = since(rt, alloc, "1.0.0", "");
