@@ -1,0 +1,42 @@
+-- Interfaces and worlds as JSON.
+use Rattle.std.specs.Prelude.{ℕ, List, ◌++◌, codes, decimal, map}
+use Rattle.json.specs.Json.{Json}
+use Rattle.wit_data.specs.declared.interface.Interface.{Interface}
+use Rattle.wit_data.specs.declared.stability.Stability.{Stability}
+use Rattle.wit_data.specs.declared.world.World.{World}
+use Rattle.wit_data.specs.declared.world.WorldItem.{WorldItem}
+use Rattle.wit_data.specs.declared.world.WorldItem.TheVariants as item
+use Rattle.wit_data.specs.declared.world.WorldKey.{WorldKey}
+use Rattle.wit_data.specs.declared.world.WorldKey.TheVariants as key
+use Rattle.wit_json.specs.Functions.{json_of_function}
+use Rattle.wit_json.specs.Gates.{docs_member, stability_member}
+use Rattle.wit_json.specs.Values.{json_of_number, json_of_text, member, null_or, object, object_under_names, tagged}
+
+abbrev pub json_of_interface : Interface → Json
+json_of_interface interface =
+    object (member (codes "name") (null_or json_of_text interface.name) ++ member (codes "types") (object_under_names json_of_number interface.types)
+    ++ member (codes "functions") (object_under_names json_of_function interface.functions) ++ docs_member interface.docs ++ stability_member interface.stability
+    ++ member (codes "package") (null_or json_of_number interface.«package»))
+
+-- the name of an entry of a world: a label as it is, an interface by its id
+abbrev pub entry_name : WorldKey → List ℕ
+entry_name (key.Name label) = label
+entry_name (key.Interface id) = codes "interface-" ++ decimal id
+
+-- an interface that a world imports or exports
+abbrev pub json_of_interface_entry : ℕ → Stability → Json
+json_of_interface_entry id stability = object (member (codes "id") (json_of_number id) ++ stability_member stability)
+
+-- what a world imports or exports
+abbrev pub json_of_item : WorldItem → Json
+json_of_item (item.Interface id stability docs span external_id) = tagged (codes "interface") (json_of_interface_entry id stability)
+json_of_item (item.Function f) = tagged (codes "function") (json_of_function f)
+json_of_item (item.Type_ id span) = tagged (codes "type") (json_of_number id)
+
+abbrev pub json_of_entries : List (WorldKey × WorldItem) → Json
+json_of_entries entries = object (map (λ (e : WorldKey × WorldItem). (entry_name e.0, json_of_item e.1)) entries)
+
+abbrev pub json_of_world : World → Json
+json_of_world world =
+    object (member (codes "name") (json_of_text world.name) ++ member (codes "imports") (json_of_entries world.imports) ++ member (codes "exports") (json_of_entries world.exports)
+    ++ member (codes "package") (null_or json_of_number world.«package») ++ docs_member world.docs ++ stability_member world.stability)

@@ -1,0 +1,5 @@
+pub mod Gates
+pub mod Types
+pub mod Functions
+pub mod Worlds
+pub mod Graphs

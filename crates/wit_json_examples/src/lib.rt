@@ -1,0 +1,44 @@
+//! Examples of what things are as JSON, and near misses: the contract of each function is what is proved. They stand
+//! beside the crate, so that it doesn't wait for them.
+#![tactic(auto)]
+
+ghost use Rattle.wit_json_examples.specs.Gates.{ExamplesOfGates};
+ghost use Rattle.wit_json_examples.specs.Functions.{ExamplesOfFunctions};
+ghost use Rattle.wit_json_examples.specs.Graphs.{ExamplesOfGraphs};
+ghost use Rattle.wit_json_examples.specs.Types.{ExamplesOfKinds, ExamplesOfTypes};
+ghost use Rattle.wit_json_examples.specs.Worlds.{ExamplesOfInterfaces, ExamplesOfWorlds};
+
+/// Docs, and gates with and without deprecations.
+pub fn examples_of_gates()
+    ensures { ExamplesOfGates }
+{}
+
+/// What values are of, owners, and whole types.
+pub fn examples_of_types()
+    ensures { ExamplesOfTypes }
+{}
+
+/// Each kind of type.
+pub fn examples_of_kinds()
+    ensures { ExamplesOfKinds }
+{}
+
+/// Each kind of function, and a whole function.
+pub fn examples_of_functions()
+    ensures { ExamplesOfFunctions }
+{}
+
+/// Interfaces.
+pub fn examples_of_interfaces()
+    ensures { ExamplesOfInterfaces }
+{}
+
+/// The entries of worlds, and whole worlds.
+pub fn examples_of_worlds()
+    ensures { ExamplesOfWorlds }
+{}
+
+/// Packages and whole graphs.
+pub fn examples_of_graphs()
+    ensures { ExamplesOfGraphs }
+{}
