@@ -1,3 +1,5 @@
+mod Alone
 mod NameOrders
+mod Alone
 mod Orders
 mod Refusals
