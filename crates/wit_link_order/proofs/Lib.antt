@@ -1,5 +1,4 @@
 mod Alone
 mod NameOrders
-mod Alone
 mod Orders
 mod Refusals
