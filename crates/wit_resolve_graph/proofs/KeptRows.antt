@@ -29,22 +29,23 @@ transformed_leaves g w turn = of (slice_get g.worlds w)
     of None = record { uses = refl; types = refl }
     of (Some world) = record { uses = refl; types = refl }
 
--- what was kept of a graph is of another with the same types and uses
-same_kept : (g new : Graph) (kept : Kept) → AreKept g kept → IsValid new → LeavesTypes g new → AreKept new kept
-same_kept g new kept of valid leaves = record {
-  valid = valid;
-  uses = of.uses ∙ sym leaves.uses;
-  met = subst (λ (types : List TypeDef). KnowsLeads types kept.met) (sym leaves.types) of.met;
-  bits = subst (λ (types : List TypeDef). AreValidBitsOf types kept.valid_bits) (sym leaves.types) of.bits;
-}
+-- what was kept of a graph is of another with the same types and uses, whose adjacency lists stay
+module _ (g new : Graph) (kept : Kept) (uses : List (List ℕ)) (same_uses : uses ≡ kept.elaborator) (of : AreKept g kept) (valid : IsValid new) where
+  same_kept : LeavesTypes g new → AreKept new (record kept { elaborator = uses })
+  same_kept leaves = record {
+    valid = valid;
+    uses = same_uses ∙ of.uses ∙ sym leaves.uses;
+    met = subst (λ (types : List TypeDef). KnowsLeads types kept.met) (sym leaves.types) of.met;
+    bits = subst (λ (types : List TypeDef). AreValidBitsOf types kept.valid_bits) (sym leaves.types) of.bits;
+  }
 
--- and so where it is transformed or the turn is refused
-pub kept_after : {T E P : Type 0} (r : Result T E) (g new : Graph) (kept : Kept) → AreKept g kept → IsValid new → OnOk r P → (P → LeavesTypes g new) → OnErr r (new ≡ g) → AreKept new kept
-kept_after (Ok x) g new kept of valid told leaves same = same_kept g new kept of valid (leaves told)
-kept_after (Err e) g new kept of valid told leaves same = same_kept g new kept of valid (record { uses = ap graph_uses same; types = ap (λ (h : Graph). h.types) same })
+  -- and so where it is transformed or the turn is refused
+  pub kept_after : {T E P : Type 0} (r : Result T E) → OnOk r P → (P → LeavesTypes g new) → OnErr r (new ≡ g) → AreKept new (record kept { elaborator = uses })
+  kept_after (Ok x) told leaves same = same_kept (leaves told)
+  kept_after (Err e) told leaves same = same_kept (record { uses = ap graph_uses same; types = ap (λ (h : Graph). h.types) same })
 
-pub kept_transformed : {T E : Type 0} (r : Result T E) (g new : Graph) (kept : Kept) (w : ℕ) (turn : World → WorldLists) → AreKept g kept → IsValid new → OnOk r (new ≡ transformed g w turn) → OnErr r (new ≡ g) → AreKept new kept
-kept_transformed r g new kept w turn of valid ok = kept_after r g new kept of valid ok (λ is. subst (λ (h : Graph). LeavesTypes g h) (sym is) (transformed_leaves g w turn))
+  pub kept_transformed : {T E : Type 0} (r : Result T E) (w : ℕ) (turn : World → WorldLists) → OnOk r (new ≡ transformed g w turn) → OnErr r (new ≡ g) → AreKept new (record kept { elaborator = uses })
+  kept_transformed r w turn ok = kept_after r ok (λ is. subst (λ (h : Graph). LeavesTypes g h) (sym is) (transformed_leaves g w turn))
 
 -- where no types were met nothing is known
 pub none_met : (types : List TypeDef) (met : List (ℕ × Bool)) → met ≡ [] → KnowsLeads types met

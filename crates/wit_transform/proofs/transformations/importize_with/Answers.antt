@@ -11,7 +11,7 @@ use Rattle.wit_graph_theory.specs.facts.ListFacts.{same_at}
 use Rattle.wit_transform.proofs.Accepted.{under_labels}
 use Rattle.wit_transform.proofs.TransformSteps.{has_home, importize_clear, importized_in_order, transformed_same}
 use Rattle.wit_transform.specs.Transformed.{IsImportizeCause, NameIsFreeAt, importized_name_taken, label_clash, WorldLists, importized, transformed}
-use Rattle.wit_transform.proofs.transformations.importize.Goals as goal
+use Rattle.wit_transform.proofs.transformations.importize_with.Goals as goal
 
 pub free_name-requires : goal.free_name-requires
 free_name-requires c = record { world = has_home c.args.graph.now c.requires.valid c.args.world c.requires.world }
@@ -39,8 +39,8 @@ returns-in_err-lists-clause-cause c =
       | inr told ↦ inr (c.at.result.now, there, label_clash told.0 told.1 told.2)
     ]))
 
-pub transform-requires-clause-world : goal.transform-requires-clause-world
-transform-requires-clause-world c = has_home c.args.graph.now c.requires.valid c.args.world c.requires.world
+pub transform-requires-clause-tables : goal.transform-requires-clause-tables
+transform-requires-clause-tables c = c.requires.valid.well_formed.tables
 
 pub importized_lists-requires : goal.importized_lists-requires
 importized_lists-requires c =

@@ -12,7 +12,7 @@ use Rattle.wit_graph_data.specs.declared.error_kind.ResolveErrorKind.TheVariants
 use Rattle.wit_graph_theory.specs.facts.ListFacts.{same_at}
 use Rattle.wit_transform.proofs.TransformSteps.{exportize_clear, exportize_conflict, exportized_in_order, has_home, transformed_same}
 use Rattle.wit_transform.specs.Transformed.{IsExportizeCause, NameIsFreeAt, exportized_name_taken, not_exported, WorldLists, entries_by_answer, exportized, transformed}
-use Rattle.wit_transform.proofs.transformations.exportize_answered.Goals as goal
+use Rattle.wit_transform.proofs.transformations.exportize_answered_with.Goals as goal
 
 pub free_name-requires : goal.free_name-requires
 free_name-requires c = record { world = has_home c.args.graph.now c.requires.valid c.args.world c.requires.world }
@@ -40,8 +40,8 @@ returns-in_err-lists-clause-cause c =
       | inr told ↦ inr (c.at.result.now, there, not_exported told)
     ]))
 
-pub transform-requires-clause-world : goal.transform-requires-clause-world
-transform-requires-clause-world c = has_home c.args.graph.now c.requires.valid c.args.world c.requires.world
+pub transform-requires-clause-tables : goal.transform-requires-clause-tables
+transform-requires-clause-tables c = c.requires.valid.well_formed.tables
 
 pub transform-requires-clause-listed : goal.transform-requires-clause-listed
 transform-requires-clause-listed c =
