@@ -7,7 +7,7 @@
 set -eu
 cd "$(dirname "$0")/.."
 kit=$(dirname "$(rt doc)")
-compiler=$(command -v cc || command -v gcc || command -v clang)
+compiler=$(command -v cc || command -v gcc || command -v clang) || { echo "c_example: no cc, gcc or clang is here" >&2; exit 1; }
 work=$(mktemp -d)
 trap 'rm -rf "$work"' EXIT
 
