@@ -91,7 +91,8 @@ pub fn find_semver_merge(
 {
     rewritten_stay_valid();
     same_types_keep_worlds();
-    let NewEntries { imports, targets } = new_entries(alloc, graph, world, rule)?;
+    let entries = new_entries(alloc, graph, world, rule)?;
+    let NewEntries { imports, targets } = entries;
     if !is_any_retargeted(&targets) {
         return Ok(SemverMerge::Imports(imports));
     }

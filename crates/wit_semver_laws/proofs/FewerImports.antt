@@ -28,13 +28,13 @@ filters_swap : {X : Type 0} (p q : X → Bool) (xs : List X) → filter p (filte
 filters_swap p q [] = refl
 filters_swap p q (x ∷ xs) =
     elim (cases_Bool (p x)) [
-      | inl yes ↦ elim (cases_Bool (q x)) [
-        | inl also ↦ rw (filter-pass q x xs also, filter-pass p x (filter q xs) yes, filter-pass p x xs yes, filter-pass q x (filter p xs) also) (ap (λ ys. x ∷ ys) (filters_swap p q xs))
-        | inr not ↦ rw (filter-fail q x xs not, filter-pass p x xs yes, filter-fail q x (filter p xs) not) (filters_swap p q xs)
+      | inl stays ↦ elim (cases_Bool (q x)) [
+        | inl also ↦ rw (filter-pass q x xs also, filter-pass p x (filter q xs) stays, filter-pass p x xs stays, filter-pass q x (filter p xs) also) (ap (λ ys. x ∷ ys) (filters_swap p q xs))
+        | inr alone ↦ rw (filter-fail q x xs alone, filter-pass p x xs stays, filter-fail q x (filter p xs) alone) (filters_swap p q xs)
       ]
-      | inr no ↦ elim (cases_Bool (q x)) [
-        | inl also ↦ rw (filter-pass q x xs also, filter-fail p x (filter q xs) no, filter-fail p x xs no) (filters_swap p q xs)
-        | inr not ↦ rw (filter-fail q x xs not, filter-fail p x xs no) (filters_swap p q xs)
+      | inr goes ↦ elim (cases_Bool (q x)) [
+        | inl alone ↦ rw (filter-pass q x xs alone, filter-fail p x (filter q xs) goes, filter-fail p x xs goes) (filters_swap p q xs)
+        | inr also ↦ rw (filter-fail q x xs also, filter-fail p x xs goes) (filters_swap p q xs)
       ]
     ]
 

@@ -86,7 +86,7 @@ without_span_twice (item.Type_ t span) = refl
 -- under the key of an interface stands that interface
 own_role : (interfaces : List Interface) (types : List TypeDef) (w : ℕ) (k : WorldKey) (held : WorldItem) (i : ℕ) → k ≡ key.Interface i → IsImport interfaces types w k held → role_of types held ≡ Instance i
 own_role interfaces types w (key.Name name) held i same is = cc
-own_role interfaces types w (key.Interface f) (item.Interface id stability docs span external_id) i same is = let one : f ≡ i = cc in ap Instance (is.0 ∙ one)
+own_role interfaces types w (key.Interface f) (item.Interface id stability docs span external_id) i same is = let one : f ≡ i = cc in ap (λ (x : ℕ). Instance x) (is.0 ∙ one)
 own_role interfaces types w (key.Interface f) (item.Function fn) i same is = absurd is
 own_role interfaces types w (key.Interface f) (item.Type_ t span) i same is = absurd is
 
@@ -247,42 +247,42 @@ module _ (laws : LawsOfElaboration) (order : ImportsKeepOrder) (u : Upgrade) (va
 
   -- ---- what is asked of the graph with its new entries
 
+  abbrev needs_of : List World → ℕ × Package → List ℕ
+  needs_of worlds e = package_needs types interfaces worlds e.0 e.1
+
+  abbrev by_interfaces : List ℕ × ℕ → List ℕ
+  by_interfaces e = option_map_or (interface_uses types) (slice_get interfaces e.1) []
+
+  abbrev by_worlds : List World → List ℕ × ℕ → List ℕ
+  by_worlds worlds e = option_map_or (world_interfaces types) (slice_get worlds e.1) []
+
+  named_before : (home : Package) (i : ℕ) → Contains (package_interfaces types interfaces relisted home) i → Contains (package_interfaces types interfaces u.graph.worlds home) i
+  named_before home i has =
+      elim (Contains-append_cases (flat_map by_interfaces home.interfaces) (flat_map (by_worlds relisted) home.worlds) i has) [
+        | inl among ↦ Contains-append_left (flat_map by_interfaces home.interfaces) (flat_map (by_worlds u.graph.worlds) home.worlds) i among
+        | inr among ↦
+            let e = Contains-flat_map_cases (by_worlds relisted) home.worlds i among in
+            let new = there_is (world_interfaces types) (slice_get relisted e.0.1) i e.1.1 in
+            let from = relisted_from u valid w there e.0.1 new.0 new.1 in
+            Contains-append_right (flat_map by_interfaces home.interfaces) (flat_map (by_worlds u.graph.worlds) home.worlds) i
+            (Contains-flat_map (by_worlds u.graph.worlds) home.worlds e.0 i e.1.0
+            (is_there (world_interfaces types) (slice_get u.graph.worlds e.0.1) from.before i from.at
+            (fewer_named types new.0 from.before i from.imports (ap (λ (x : World). x.exports) from.is) new.2)))
+      ]
+
+  depended_before : (p q : ℕ) → Contains (direct (package_uses types interfaces relisted u.graph.packages) p) q → Contains (direct (package_uses types interfaces u.graph.worlds u.graph.packages) p) q
+  depended_before p q has =
+      let tables = valid.well_formed.tables.interfaces_listed in
+      let row = row_from types interfaces u.graph.packages tables relisted p q has in
+      let from = filter_map_from (other_package interfaces p) (package_interfaces types interfaces relisted row.0) q row.2 in
+      row_into types interfaces u.graph.packages tables u.graph.worlds p q row.0 row.1
+      (filter_map_into (other_package interfaces p) (package_interfaces types interfaces u.graph.worlds row.0) from.0 q (named_before row.0 from.0 from.1) from.2)
+
   -- packages depend on none but those on which they did
   packages_acyclic : IsAcyclic (package_uses types interfaces relisted u.graph.packages)
   packages_acyclic =
       IsAcyclic-among (package_uses types interfaces relisted u.graph.packages) (package_uses types interfaces u.graph.worlds u.graph.packages)
-      (length-map (enumerate_from 0 u.graph.packages) (needs_of relisted) ∙ sym (length-map (enumerate_from 0 u.graph.packages) (needs_of u.graph.worlds))) among valid.no_cycles.packages
-    where
-      abbrev needs_of : List World → ℕ × Package → List ℕ
-      needs_of worlds e = package_needs types interfaces worlds e.0 e.1
-
-      abbrev by_interfaces : List ℕ × ℕ → List ℕ
-      by_interfaces e = option_map_or (interface_uses types) (slice_get interfaces e.1) []
-
-      abbrev by_worlds : List World → List ℕ × ℕ → List ℕ
-      by_worlds worlds e = option_map_or (world_interfaces types) (slice_get worlds e.1) []
-
-      named_before : (home : Package) (i : ℕ) → Contains (package_interfaces types interfaces relisted home) i → Contains (package_interfaces types interfaces u.graph.worlds home) i
-      named_before home i has =
-          elim (Contains-append_cases (flat_map by_interfaces home.interfaces) (flat_map (by_worlds relisted) home.worlds) i has) [
-            | inl among ↦ Contains-append_left (flat_map by_interfaces home.interfaces) (flat_map (by_worlds u.graph.worlds) home.worlds) i among
-            | inr among ↦
-                let e = Contains-flat_map_cases (by_worlds relisted) home.worlds i among in
-                let new = there_is (world_interfaces types) (slice_get relisted e.0.1) i e.1.1 in
-                let from = relisted_from u valid w there e.0.1 new.0 new.1 in
-                Contains-append_right (flat_map by_interfaces home.interfaces) (flat_map (by_worlds u.graph.worlds) home.worlds) i
-                (Contains-flat_map (by_worlds u.graph.worlds) home.worlds e.0 i e.1.0
-                (is_there (world_interfaces types) (slice_get u.graph.worlds e.0.1) from.before i from.at
-                (fewer_named types new.0 from.before i from.imports (ap (λ (x : World). x.exports) from.is) new.2)))
-          ]
-
-      among : (p q : ℕ) → Contains (direct (package_uses types interfaces relisted u.graph.packages) p) q → Contains (direct (package_uses types interfaces u.graph.worlds u.graph.packages) p) q
-      among p q has =
-          let tables = valid.well_formed.tables.interfaces_listed in
-          let row = row_from types interfaces u.graph.packages tables relisted p q has in
-          let from = filter_map_from (other_package interfaces p) (package_interfaces types interfaces relisted row.0) q row.2 in
-          row_into types interfaces u.graph.packages tables u.graph.worlds p q row.0 row.1
-          (filter_map_into (other_package interfaces p) (package_interfaces types interfaces u.graph.worlds row.0) from.0 q (named_before row.0 from.0 from.1) from.2)
+      (length-map (enumerate_from 0 u.graph.packages) (needs_of relisted) ∙ sym (length-map (enumerate_from 0 u.graph.packages) (needs_of u.graph.worlds))) depended_before valid.no_cycles.packages
 
   no_conflict : (world : World) → Contains relisted world → HasTransitiveConflict uses world.exports → ⊥
   no_conflict world among = let place = place_of relisted world among in (stays_at place.0 world place.1).no_conflict
