@@ -1,10 +1,11 @@
--- What is kept beside a graph, after a transformation of a world and after packages came.
+-- What is kept beside a graph, after a transformation of a world, after its imports are merged and after packages came.
 use Rattle.std.proofs.Common.{◌≡◌, ◌∙◌, ℕ, List, [], Bool, Contains, Option, None, Some, length, take, slice_get, OnOk, OnErr, Result, Ok, Err, refl, sym, ap, subst}
 use Rattle.std.specs.Option.{option_map_or}
 use Rattle.wit_digraph.specs.facts.MemberFacts.{Contains-nil}
 use Rattle.wit_data.specs.declared.types.TypeDef.{TypeDef}
 use Rattle.wit_data.specs.declared.world.World.{World}
 use Rattle.wit_elaboration.specs.Elaboration.{graph_uses}
+use Rattle.wit_elaboration.specs.Entries.{Entry}
 use Rattle.wit_elaboration.specs.Valid.{IsValid}
 use Rattle.wit_graph_data.specs.declared.graph.Graph.{Graph}
 use Rattle.wit_remap.specs.Grown.{Begins, Grown, cut_at, mark_of}
@@ -14,6 +15,7 @@ use Rattle.wit_queries.specs.ValidBits.{AreValidBits, AreValidBitsOf}
 use Rattle.wit_queries.specs.facts.ValidBitsFacts.{flags_stay}
 use Rattle.wit_transform.specs.Transformed.{WorldLists, transformed, transformed_at}
 use Rattle.wit_link.specs.Appending.{KnowsLeads}
+use Rattle.wit_semver.specs.steps.Replacing.{with_imports}
 use Rattle.wit_resolve_graph.specs.State.{AreKept}
 use Rattle.wit_resolve_graph.specs.declared.kept.Kept.{Kept}
 
@@ -46,6 +48,10 @@ module _ (g new : Graph) (kept : Kept) (uses : List (List ℕ)) (same_uses : use
 
   pub kept_transformed : {T E : Type 0} (r : Result T E) (w : ℕ) (turn : World → WorldLists) → OnOk r (new ≡ transformed g w turn) → OnErr r (new ≡ g) → AreKept new (record kept { elaborator = uses })
   kept_transformed r w turn ok = kept_after r ok (λ is. subst (λ (h : Graph). LeavesTypes g h) (sym is) (transformed_leaves g w turn))
+
+-- a world that lists other imports leaves them, too
+pub kept_imports : (g : Graph) (w : ℕ) (imports : List Entry) (kept : Kept) → AreKept g kept → IsValid (with_imports g w imports) → AreKept (with_imports g w imports) kept
+kept_imports g w imports kept of valid = same_kept g (with_imports g w imports) kept of valid (record { uses = refl; types = refl })
 
 -- where no types were met nothing is known
 pub none_met : (types : List TypeDef) (met : List (ℕ × Bool)) → met ≡ [] → KnowsLeads types met

@@ -21,6 +21,7 @@ ghost use Rattle.wit_transform.specs.Transformed.{AreAnswers, Exportizes, IsExpo
 
 use crate::groups::{add_packages, place_groups};
 use crate::kept::{Kept, append_kept};
+use crate::merged_imports::merge_kept_by_track;
 use crate::uniting::unite_kept;
 use std::alloc::{AllocError, Global};
 use std::marker::Model;
@@ -32,7 +33,6 @@ use wit_data::{
 use wit_graph_data::{Features, Graph, Package, ResolveErrorKind, ResolveResult};
 use wit_link::Remap;
 use wit_selection::select_world;
-use wit_semver::merged_by_track;
 use wit_transform::{exportize_answered_with, exportize_with, importize_with};
 use wit_validity::is_valid;
 use wit_values::try_clone_four;
@@ -496,11 +496,13 @@ impl Resolve {
         ensures cause { IfErr result (λ kind. (kind ≡ OutOfMemory) ⊎ IsTrackCause self.old.track_rule self.old.graph world kind) }
         ensures refuses { (kind : ResolveErrorKind) → IsTrackCause self.old.track_rule self.old.graph world kind → OnOk result ⊥ }
     {
-        let merged = merged_by_track(alloc, &self.graph, world, self.track_rule)?;
-        let kept = Kept::of(alloc, &merged)?;
-        self.graph = merged;
-        self.kept = kept;
-        Ok(())
+        merge_kept_by_track(
+            alloc,
+            &mut self.graph,
+            &mut self.kept,
+            world,
+            self.track_rule,
+        )
     }
 }
 

@@ -9,9 +9,9 @@ use Rattle.wit_graph_data.specs.declared.graph.Graph.{Graph}
 use Rattle.wit_graph_data.specs.declared.error_kind.ResolveErrorKind.{ResolveErrorKind}
 use Rattle.wit_graph_data.specs.declared.error_kind.ResolveErrorKind.TheVariants.{OutOfMemory, Semantic}
 use Rattle.wit_semver_spec.specs.Rewritten.{entry_types, kept_imports, rewritable_types, Upgrade, Disagrees, IsTrackCause, UpgradeCause, functions_disagree_25, type_missing_25}
-use Rattle.wit_semver.specs.steps.Replacing.{IsFilled, LackTypes, upgrade, upgrade_of, used_target, with_lists}
-use Rattle.wit_semver.proofs.NewEntries.{following_is, following_within, imports_within, lacks_from, lacks_into, relisted_is}
-use Rattle.wit_semver.proofs.merging.world_with_new_entries.Goals as goal
+use Rattle.wit_semver.specs.steps.Replacing.{IsFilled, LackTypes, upgrade, upgrade_of, used_target}
+use Rattle.wit_semver.proofs.NewEntries.{following_is, following_within, imports_within, lacks_from, lacks_into}
+use Rattle.wit_semver.proofs.merging.new_entries.Goals as goal
 
 module _ (rule : TrackRule) (g : Graph) (w : ℕ) (world : World) (there : slice_get g.worlds w ≡ Some world) (v : Upgrade) (of : v ≡ upgrade rule g world) where
   abbrev u : Upgrade
@@ -95,7 +95,6 @@ returns-clause-ok c =
       there = there;
       complete = λ message lacks. c.in_ok-targets.ensures.complete message (back c.args.rule g c.args.world world there v of imports stay ids are message (lacks_into (upgrade c.args.rule g world) message lacks));
       agree = λ message differ. c.in_ok-check_functions.ensures.agree message (subst (λ (x : Upgrade). Disagrees x message) (sym of) differ);
-      is =
-          c.in_ok-with_new_entries.ensures ∙ ap (λ (es : List Entry). with_lists g c.args.world es targets) (imports_are c.args.rule g c.args.world world there v of imports stay ids are)
-          ∙ relisted_is (upgrade c.args.rule g world) c.requires.valid targets (filled c.args.rule g c.args.world world there v of imports stay ids are targets c.in_ok-targets.ensures.ok) c.args.world there;
+      imports_are = imports_are c.args.rule g c.args.world world there v of imports stay ids are;
+      targets_are = filled c.args.rule g c.args.world world there v of imports stay ids are targets c.in_ok-targets.ensures.ok;
     }
