@@ -9,6 +9,9 @@ pub mod FeaturesTold
 pub mod FoundBack
 pub mod FunctionsBack
 pub mod FunctionsThere
+pub mod GrownPackages
+pub mod GrownUses
+pub mod GrownWorlds
 pub mod InterfacesStand
 pub mod JoinedGood
 pub mod KeptFacts
