@@ -18,6 +18,7 @@ pub mod KeptFacts
 pub mod LabelSorts
 pub mod LabelsStay
 pub mod LeadsStay
+pub mod Leaves
 pub mod ListedStand
 pub mod LoneWorlds
 pub mod MatchFacts

@@ -1,7 +1,7 @@
 //! Laws of merging: the contract of each function is what is proved.
 ghost use Rattle.wit_merge_laws.specs.laws.BorrowLaws.{MergesMakeNoBorrow};
 ghost use Rattle.wit_merge_laws.specs.laws.CopyLaws.{AcceptedCopiesChangeNothing, CopiesGoToThemselves, EmptyBecomesAlike, EmptyKeepsIds};
-ghost use Rattle.wit_merge_laws.specs.laws.GrowingLaws.{JoinedIsGrown, NothingNewIsCyclic, OldWorldsStay, UnionsGrow, UsesGrow};
+ghost use Rattle.wit_merge_laws.specs.laws.GrowingLaws.{GrowthIsAccepted, JoinedIsGrown, LeftByMatches, NothingNewIsCyclic, OldWorldsStay, UnionsGrow, UsesGrow};
 ghost use Rattle.wit_merge_laws.specs.laws.MergingLaws.{NothingComes, SharedWorldsKeepImports, UnionsHaveBothNames, UnionsStayValid};
 ghost use Rattle.wit_merge_laws.specs.laws.OrderLaws.{AgreementIsSymmetric, EitherOrderElaborates, MergesAreAlike, MergingIsOrderFree, ResourcesStay};
 
@@ -98,7 +98,12 @@ pub fn accepted_copies_change_nothing()
     laws_of_elaboration();
 }
 
-/// A merge that leaves what the graph has as it is puts what comes behind it.
+/// A merge in which what is matched leaves its counterpart as it is leaves all that the graph has as it is.
+pub fn left_by_matches()
+    ensures { LeftByMatches }
+{}
+
+/// Then what comes stands behind what was there.
 pub fn joined_is_grown()
     ensures { JoinedIsGrown }
 {}
@@ -124,6 +129,14 @@ pub fn old_worlds_stay()
 /// Then only the worlds that come are elaborated, and only they can be in conflict.
 pub fn unions_grow()
     ensures { UnionsGrow }
+{
+    laws_of_elaboration();
+}
+
+/// Then no cause holds where stabilities can be joined and spans be moved, no function that comes returns a borrow, and no
+/// world that comes is in conflict.
+pub fn accepted_growth()
+    ensures { GrowthIsAccepted }
 {
     laws_of_elaboration();
 }

@@ -15,10 +15,9 @@ use Rattle.wit_digraph.specs.facts.MemberFacts.{Contains-flat_map, Contains-flat
 use Rattle.wit_values.specs.facts.Lists.{slice_get-append}
 use Rattle.wit_data.specs.Entries.{Entry, IsExport, IsImport}
 use Rattle.wit_data.specs.Ownership.{world_types}
-use Rattle.wit_data.specs.Uses.{interface_uses, type_interface_dep}
+use Rattle.wit_data.specs.Uses.{interface_uses}
 use Rattle.wit_data.specs.declared.interface.Interface.{Interface}
 use Rattle.wit_data.specs.declared.types.TypeDef.{TypeDef}
-use Rattle.wit_data.specs.declared.types.TypeOwner.{TypeOwner}
 use Rattle.wit_data.specs.declared.types.TypeOwner.TheVariants as owner
 use Rattle.wit_data.specs.declared.world.World.{World}
 use Rattle.wit_data.specs.declared.world.WorldItem.{WorldItem}
@@ -43,7 +42,7 @@ use Rattle.wit_link_laws.specs.facts.CanonicalStays.{filter_map_agrees, interfac
 use Rattle.wit_link_spec.specs.Selected.{rank, selected}
 use Rattle.wit_link_spec.specs.facts.RankFacts.{rank-injective}
 use Rattle.wit_merge_spec.specs.Cause.{HasNoMismatch}
-use Rattle.wit_merge_spec.specs.Matches.{GraphMerge, counterpart_interface, counterpart_package, counterpart_type, counterpart_type_by, counterpart_world}
+use Rattle.wit_merge_spec.specs.Matches.{GraphMerge, counterpart_interface, counterpart_package, counterpart_type_by, counterpart_world}
 use Rattle.wit_merge_spec.specs.United.{joined_graph, merge_maps, merged_interface, merged_package, merged_type, merged_world, moves_interface, moves_package, moves_type, moves_world, package_image}
 use Rattle.wit_merge_spec.specs.steps.Leaving.{LeavesGraph, new_worlds}
 use Rattle.wit_merge_laws.specs.facts.GrownUses.{interfaces_are, more_interfaces, more_types, new_use, types_are, valid_items}

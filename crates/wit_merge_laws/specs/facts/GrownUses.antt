@@ -1,7 +1,7 @@
 -- A merge that leaves what the graph has as it is: the interfaces that were there use what they used, and no interface uses
 -- itself, since those that come use what the ones that they come of use, each at its place.
-use Rattle.std.proofs.Common.{◌≡◌, ◌∙◌, ◌⊎◌, inl, inr, ℕ, ◌<◌, ◌≤◌, List, [], ◌++◌, map, length, take, Some, get_or, slice_get, refl, sym, ap, subst, arith, Contains}
-use Rattle.std.proofs.lemmas.List.{append-nil, length-append, length-map}
+use Rattle.std.proofs.Common.{◌≡◌, ◌∙◌, ◌⊎◌, inl, inr, ℕ, ◌<◌, ◌≤◌, List, [], ◌++◌, map, length, take, get_or, refl, sym, ap, subst, arith, Contains}
+use Rattle.std.proofs.lemmas.List.{append-nil, length-map}
 use Rattle.std.proofs.lemmas.List.Elements.{Contains-get_or}
 use Rattle.std.proofs.lemmas.Option.{slice_get_within}
 use Rattle.std.proofs.Math.Seq.{take-append_seam}
@@ -31,7 +31,7 @@ use Rattle.wit_merge_spec.specs.steps.Leaving.{LeavesGraph, grown_graph, new_wor
 use Rattle.wit_merge_laws.specs.facts.JoinedGood.{aliases}
 use Rattle.wit_merge_laws.specs.facts.ListedStand.{interfaces_apart}
 use Rattle.wit_merge_laws.specs.facts.UsesFrom.{UseOfOther, use_from}
-use Rattle.wit_merge_laws.specs.laws.GrowingLaws.{JoinedIsGrown, OldUsesStay, UsesGrow}
+use Rattle.wit_merge_laws.specs.laws.GrowingLaws.{JoinedIsGrown, UsesGrow}
 
 -- ---- what comes stands behind what was there
 

@@ -5,20 +5,19 @@ use Rattle.std.proofs.lemmas.List.{map-append}
 use Rattle.std.proofs.lemmas.List.Elements.{Contains-append_cases, Contains-append_right}
 use Rattle.wit_digraph.specs.Cycles.{IsOnCycle}
 use Rattle.wit_digraph.specs.Relation.{IsAcyclic}
-use Rattle.wit_data.specs.Uses.{uses_of}
 use Rattle.wit_data.specs.declared.world.World.{World}
 use Rattle.wit_elaboration.specs.AllElaborated.{DependsOnItself, HasWorldInConflict, RefersToItself, UsesItself, graph_package_uses}
-use Rattle.wit_elaboration.specs.Elaborated.{Elaborated, with_elaborated_lists}
-use Rattle.wit_elaboration.specs.Elaboration.{IsRefusedWorld, all_elaborated, elaborated_world, graph_uses}
+use Rattle.wit_elaboration.specs.Elaborated.{with_elaborated_lists}
+use Rattle.wit_elaboration.specs.Elaboration.{IsRefusedWorld, elaborated_world, graph_uses}
 use Rattle.wit_elaboration.specs.Imported.{HasTransitiveConflict}
 use Rattle.wit_elaboration.specs.Valid.{IsValid}
 use Rattle.wit_graph_data.specs.declared.error_kind.ResolveErrorKind.{ResolveErrorKind}
 use Rattle.wit_graph_data.specs.declared.error_kind.ResolveErrorKind.TheVariants.{InvalidTransitiveDependency}
 use Rattle.wit_graph_data.specs.declared.graph.Graph.{Graph}
 use Rattle.wit_graph_theory.specs.facts.LawsOfElaboration.{LawsOfElaboration}
-use Rattle.wit_graph_theory.specs.facts.ListFacts.{contained_at, place_of}
+use Rattle.wit_graph_theory.specs.facts.ListFacts.{place_of}
 use Rattle.wit_link_laws.specs.facts.CanonicalStays.{canonical_longer}
-use Rattle.wit_merge_spec.specs.Cause.{HasNoMismatch, IsMergeCause, conflict_4}
+use Rattle.wit_merge_spec.specs.Cause.{HasNoMismatch, IsMergeCause, MergeIsAccepted, borrow_in_result_15, conflict_4, interface_cycle_22, merge_mismatch_24, mismatch_8, offset_overflow_27, package_cycle_6}
 use Rattle.wit_merge_spec.specs.Matches.{GraphMerge}
 use Rattle.wit_merge_spec.specs.United.{joined_graph, united}
 use Rattle.wit_merge_spec.specs.steps.Leaving.{LeavesGraph, grown_graph, new_worlds, with_new_worlds}
@@ -26,7 +25,7 @@ use Rattle.wit_merge_laws.specs.facts.GrownPackages.{grown_packages_acyclic}
 use Rattle.wit_merge_laws.specs.facts.GrownUses.{grown_uses_acyclic, is_grown, more_interfaces, more_types, types_are, uses_are, valid_items}
 use Rattle.wit_merge_laws.specs.facts.NoCycles.{joined_types_acyclic}
 use Rattle.wit_merge_laws.specs.facts.NothingFacts.{map_same}
-use Rattle.wit_merge_laws.specs.laws.GrowingLaws.{GrowsAlone, NothingNewIsCyclic, OldWorldsStay, UnionsGrow, WorldStays}
+use Rattle.wit_merge_laws.specs.laws.GrowingLaws.{GrowsAlone, GrowthIsAccepted, NothingNewIsCyclic, OldWorldsStay, UnionsGrow, WorldStays}
 
 pub no_new_cycles : NothingNewIsCyclic
 no_new_cycles m valid valid_other one leaves = record {
@@ -110,3 +109,20 @@ old_worlds laws m world valid valid_other one leaves has = let place = place_of 
 
 pub unions_grow : LawsOfElaboration → UnionsGrow
 unions_grow laws m valid valid_other one leaves = grows_alone laws m valid valid_other one leaves
+
+-- ---- no cause holds
+
+pub accepted_growth : LawsOfElaboration → GrowthIsAccepted
+accepted_growth laws m valid valid_other one leaves can = by
+  where
+    alone : GrowsAlone m
+    alone = grows_alone laws m valid valid_other one leaves
+
+    by : MergeIsAccepted m
+    by error (conflict_4 span name same is) = let refused = alone.conflict span name is in can.worlds refused.world refused.there refused.conflict
+    by error (package_cycle_6 home same is) = alone.no_dependency home is
+    by error (mismatch_8 from into is) = can.stabilities from into is
+    by error (borrow_in_result_15 message same is) = can.results message is
+    by error (interface_cycle_22 message same is) = alone.no_use message is
+    by error (merge_mismatch_24 message differ) = one message differ
+    by error (offset_overflow_27 is) = can.spans is

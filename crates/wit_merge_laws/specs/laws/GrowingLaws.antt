@@ -4,6 +4,7 @@ use Rattle.std.specs.Prelude.{◌≡◌, ℕ, List, ◌++◌, Contains, length, 
 use Rattle.wit_digraph.specs.Relation.{IsAcyclic}
 use Rattle.wit_data.specs.Kind.{type_references}
 use Rattle.wit_data.specs.Uses.{interface_uses, uses_of}
+use Rattle.wit_data.specs.declared.stability.Stability.{Stability}
 use Rattle.wit_data.specs.declared.world.World.{World}
 use Rattle.wit_names.specs.declared.package_name.PackageName.{PackageName}
 use Rattle.wit_elaboration.specs.AllElaborated.{DependsOnItself, HasWorldInConflict, UsesItself, graph_package_uses}
@@ -13,10 +14,20 @@ use Rattle.wit_elaboration.specs.Valid.{IsValid}
 use Rattle.wit_graph_data.specs.declared.error_kind.ResolveErrorKind.{ResolveErrorKind}
 use Rattle.wit_graph_data.specs.declared.error_kind.ResolveErrorKind.TheVariants.{InvalidTransitiveDependency}
 use Rattle.wit_remap_spec.specs.Image.{interface_image}
-use Rattle.wit_merge_spec.specs.Cause.{HasNoMismatch, IsMergeCause}
-use Rattle.wit_merge_spec.specs.Matches.{GraphMerge}
-use Rattle.wit_merge_spec.specs.United.{joined_graph, merge_maps, moved_interfaces, united}
+use Rattle.wit_merge_spec.specs.Cause.{HasNoMismatch, IsMergeCause, MergeIsAccepted, MergeOverflows, MergeReturnsBorrow, StabilitiesMismatch}
+use Rattle.wit_merge_spec.specs.Matches.{GraphMerge, Pair, counterpart_interface, counterpart_package, counterpart_type, counterpart_world}
+use Rattle.wit_merge_spec.specs.United.{joined_graph, merge_maps, moved_interfaces, united, with_interface, with_package, with_type, with_world}
 use Rattle.wit_merge_spec.specs.steps.Leaving.{LeavesGraph, grown_graph, new_worlds, with_new_worlds}
+
+-- what is matched leaves its counterpart as it is: it has no stability that this lacks, and nothing of it moves
+pub record BringsNothing (m : GraphMerge) : Type 0 where
+  pub types : (p : Pair (counterpart_type m) m.other.types m.graph.types) → with_type p.from p.into ≡ p.into
+  pub interfaces : (p : Pair (counterpart_interface m) m.other.interfaces m.graph.interfaces) → with_interface m p.from p.into ≡ p.into
+  pub worlds : (p : Pair (counterpart_world m) m.other.worlds m.graph.worlds) → with_world m (p.x, p.from) p.into ≡ p.into
+  pub packages : (p : Pair (counterpart_package m) m.other.packages m.graph.packages) → with_package m p.from p.into ≡ p.into
+
+abbrev pub LeftByMatches : Type 0
+LeftByMatches = (m : GraphMerge) → BringsNothing m → LeavesGraph m
 
 -- what comes stands behind what was there
 abbrev pub JoinedIsGrown : Type 0
@@ -68,3 +79,15 @@ pub record GrowsAlone (m : GraphMerge) : Type 0 where
 
 abbrev pub UnionsGrow : Type 0
 UnionsGrow = (m : GraphMerge) → IsValid m.graph → IsValid m.other → HasNoMismatch m → LeavesGraph m → GrowsAlone m
+
+-- of what is asked beside that nothing differs, all holds of what comes: stabilities can be joined, spans can be moved, no
+-- result holds a borrow, and no world that comes is in conflict
+pub record CanCome (m : GraphMerge) : Type 0 where
+  pub stabilities : (from into : Stability) → StabilitiesMismatch m from into → ⊥
+  pub spans : MergeOverflows m → ⊥
+  pub results : (message : List ℕ) → MergeReturnsBorrow m message → ⊥
+  pub worlds : (world : World) → Contains (new_worlds m) world → HasTransitiveConflict (graph_uses (joined_graph m)) world.exports → ⊥
+
+-- then no cause holds
+abbrev pub GrowthIsAccepted : Type 0
+GrowthIsAccepted = (m : GraphMerge) → IsValid m.graph → IsValid m.other → HasNoMismatch m → LeavesGraph m → CanCome m → MergeIsAccepted m
