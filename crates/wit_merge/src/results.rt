@@ -8,11 +8,11 @@ ghost use Rattle.wit_merge_spec.specs.Cause.{MergeReturnsBorrow};
 ghost use Rattle.wit_link_resources.specs.steps.Borrows.{AreFreeTypes};
 ghost use Rattle.wit_merge.specs.steps.UnionSteps.{CanUnite, IsBorrowError, ReturnsFree, merging_of};
 
-use crate::functions::moved_functions;
+use crate::functions::{moved_functions, push_all, push_world};
 use crate::union_plan::UnionPlan;
 use indexmap::IndexSet;
 use std::alloc::{AllocError, Global};
-use wit_data::{Function, Span, Text, TypeDef};
+use wit_data::{Function, Interface, Items, Span, Text, TypeDef, World};
 use wit_graph_data::{Cause, ResolveError, ResolveErrorKind, ResolveResult};
 use wit_link_resources::{holds_borrow, result_type};
 
@@ -76,4 +76,44 @@ fn borrow_in_result(alloc: Global, name: &Text) -> Result<ResolveError, AllocErr
         cause: Cause::BorrowInResult,
     }
     .into())
+}
+
+/// Refuses a function that comes whose result holds a borrow, by all types: those of interfaces that come, and then
+/// those of worlds that come.
+///
+/// It takes a step for each function that comes, and for each type that their results hold, once for all functions.
+pub(crate) fn check_returned(
+    alloc: Global,
+    types: &[TypeDef],
+    interfaces: &Items<Interface>,
+    worlds: &Items<World>,
+) -> ResolveResult<()> {
+    let mut functions = Vec::new(alloc);
+    for interface in interfaces.as_slice() {
+        push_all(&mut functions, &interface.functions)?;
+    }
+    for world in worlds.as_slice() {
+        push_world(&mut functions, world)?;
+    }
+    let mut free = IndexSet::new(alloc);
+    for function in &functions {
+        check_returns(alloc, types, &mut free, function)?;
+    }
+    Ok(())
+}
+
+/// Refuses one function whose result holds a borrow.
+fn check_returns(
+    alloc: Global,
+    types: &[TypeDef],
+    free: &mut IndexSet<usize>,
+    function: &Function,
+) -> ResolveResult<()> {
+    let Some(id) = result_type(function) else {
+        return Ok(());
+    };
+    if holds_borrow(alloc, types, free, id)? {
+        return Err(borrow_in_result(alloc, &function.name)?);
+    }
+    Ok(())
 }

@@ -11,12 +11,14 @@ ghost use Rattle.wit_merge.specs.steps.UnionSteps.{DoAgree};
 ghost use Rattle.wit_merge.specs.Remapped.{remap_of};
 
 use crate::agreement::check_agreement;
-use crate::counterparts::counterparts;
+use crate::appending::append;
+use crate::coming::{Coming, moved_things};
 use crate::joined::joined_graph;
 use crate::owning::values;
 use crate::results::check_results;
 use crate::union_plan::UnionPlan;
-use std::alloc::Global;
+use std::alloc::{AllocError, Global};
+use wit_elaboration::Elaborator;
 use wit_graph_data::{Graph, ResolveResult};
 use wit_link_spec::{NewIds, Values};
 use wit_merge_laws::laws::unions_stay_valid;
@@ -74,16 +76,99 @@ pub fn union_of(alloc: Global, graph: &Graph, other: &Graph, offset: u32) -> Res
     ensures cause { IfErr result (λ e. (e ≡ OutOfMemory) ⊎ IsMergeCause (merge_of_graphs_by graph.now other.now offset) e) }
     ensures refuses { (e : ResolveErrorKind) → IsMergeCause (merge_of_graphs_by graph.now other.now offset) e → OnOk result ⊥ }
 {
-    unions_stay_valid();
+    let matches = agreed_matches(alloc, graph, other, offset)?;
+    united_by(alloc, graph, other, &matches, offset)
+}
+
+/// What is matched of two valid graphs that agree: refused where what matches disagrees (24), where two stabilities that
+/// would be joined are known and differ (8), where a span of the other would pass 4294967295 (27), and for memory (28).
+/// It costs what the other graph costs.
+pub fn agreed_matches(
+    alloc: Global,
+    graph: &Graph,
+    other: &Graph,
+    offset: u32,
+) -> ResolveResult<Matches>
+    requires valid { IsValid graph.now }
+    requires other { IsValid other.now }
+    ensures matches { IfOk result (AreMatches graph.now other.now) }
+    ensures agree { OnOk result (DoAgree (merge_of_graphs_by graph.now other.now offset)) }
+    ensures cause { IfErr result (λ e. (e ≡ OutOfMemory) ⊎ IsMergeCause (merge_of_graphs_by graph.now other.now offset) e) }
+{
     let matches = find_matches(alloc, graph, other)?;
     check_agreement(alloc, graph, other, &matches, offset)?;
-    let merge_remap = find_remap(alloc, graph, other, &matches)?;
-    let mut joined = as_listed(alloc, graph, other, &matches, &merge_remap, offset)?;
+    Ok(matches)
+}
+
+/// `union_of` of two graphs that agree, by what is matched of them.
+pub fn united_by(
+    alloc: Global,
+    graph: &Graph,
+    other: &Graph,
+    matches: &Matches,
+    offset: u32,
+) -> ResolveResult<United>
+    requires valid { IsValid graph.now }
+    requires other { IsValid other.now }
+    requires agree { DoAgree (merge_of_graphs_by graph.now other.now offset) }
+    requires matches { AreMatches graph.now other.now matches.now }
+    ensures graph { IfOk result (λ made. made.graph ≡ united (merge_of_graphs_by graph.now other.now offset)) }
+    ensures remap { IfOk result (λ made. made.remap ≡ remap_of (ids_of (merge_of_graphs_by graph.now other.now offset))) }
+    ensures valid { IfOk result (λ made. IsValid made.graph) }
+    ensures cause { IfErr result (λ e. (e ≡ OutOfMemory) ⊎ IsMergeCause (merge_of_graphs_by graph.now other.now offset) e) }
+    ensures refuses { (e : ResolveErrorKind) → IsMergeCause (merge_of_graphs_by graph.now other.now offset) e → OnOk result ⊥ }
+{
+    unions_stay_valid();
+    let merge_remap = find_remap(alloc, graph, other, matches)?;
+    let mut joined = as_listed(alloc, graph, other, matches, &merge_remap, offset)?;
     check_and_elaborate(alloc, &mut joined)?;
     Ok(United {
         graph: joined,
         remap: into_remap(merge_remap),
     })
+}
+
+/// The same in place, with an elaborator of the graph, which becomes one of the new graph, where nothing of the graph
+/// changes: what comes goes behind what is there, and its worlds alone are elaborated. It costs what comes. After a
+/// refusal (4, 15, 28) graph and elaborator are as before.
+///
+/// Source: `merge` of wit-parser 0.263.0.
+pub fn append_union(
+    alloc: Global,
+    graph: &mut Graph,
+    elaborator: &mut Elaborator,
+    other: &Graph,
+    matches: &Matches,
+    offset: u32,
+) -> ResolveResult<Remap> {
+    let merge_remap = find_remap(alloc, graph, other, matches)?;
+    let coming = what_comes(alloc, graph, other, matches, &merge_remap, offset)?;
+    append(alloc, graph, elaborator, coming)?;
+    Ok(into_remap(merge_remap))
+}
+
+/// What comes behind the graph.
+fn what_comes(
+    alloc: Global,
+    graph: &Graph,
+    other: &Graph,
+    matches: &Matches,
+    merge_remap: &MergeRemap,
+    offset: u32,
+) -> Result<Coming, AllocError> {
+    let Values {
+        new_ids: value_ids,
+        owns,
+    } = values(alloc, graph, other, matches, merge_remap)?;
+    let plan = UnionPlan {
+        graph,
+        other,
+        matches,
+        merge_remap,
+        values: &value_ids,
+        offset,
+    };
+    moved_things(alloc, &plan, owns)
 }
 
 /// Where things are now, as it is answered.
@@ -121,14 +206,12 @@ fn as_listed(
         new_ids: value_ids,
         owns,
     } = values(alloc, graph, other, matches, merge_remap)?;
-    let counterparts = counterparts(alloc, &matches.interfaces, graph.interfaces.len())?;
     let plan = UnionPlan {
         graph,
         other,
         matches,
         merge_remap,
         values: &value_ids,
-        counterparts: &counterparts,
         offset,
     };
     let joined = joined_graph(alloc, &plan, owns)?;

@@ -1,0 +1,206 @@
+//! Whether a merge leaves what a graph has as it is: each thing of it that is matched gets no stability that it lacks, no
+//! type, no function, no interface and no world.
+
+use crate::matched_graphs::MatchedGraphs;
+use crate::matches::Matches;
+use crate::tables::match_at;
+use wit_data::{
+    Function, Id, Interface, Items, Names, Stability, Table, World, WorldItem, WorldKey,
+};
+use wit_graph_data::{Graph, Package};
+
+/// Whether nothing of the graph changes where the other one goes into it, so that what comes stands behind what was
+/// there. The matches are those of the two graphs.
+///
+/// It goes over the other graph once, and looks up in the graph what is matched with its things. It takes no memory.
+pub fn leaves_graph(graph: &Graph, other: &Graph, matches: &Matches) -> bool {
+    let comparing = MatchedGraphs {
+        graph,
+        other,
+        matches,
+    };
+    comparing.packages_stay()
+        && comparing.interfaces_stay()
+        && comparing.worlds_stay()
+        && comparing.types_stay()
+}
+
+impl<'a> MatchedGraphs<'a> {
+    /// Whether all types stay.
+    fn types_stay(&self) -> bool {
+        for index in 0..self.other.types.len() {
+            if !self.type_stays(index) {
+                return false;
+            }
+        }
+        true
+    }
+
+    /// Whether the type with which one is matched stays.
+    fn type_stays(&self, index: usize) -> bool {
+        let Some(from) = self.other.types.get(index) else {
+            return true;
+        };
+        match self.matched_type(index) {
+            Some(into) => joins_nothing(&from.stability, &into.stability),
+            None => true,
+        }
+    }
+
+    /// Whether all interfaces stay.
+    fn interfaces_stay(&self) -> bool {
+        for index in 0..self.other.interfaces.len() {
+            if !self.interface_stays(index) {
+                return false;
+            }
+        }
+        true
+    }
+
+    /// Whether the interface with which one is matched stays.
+    fn interface_stays(&self, index: usize) -> bool {
+        let Some(from) = self.other.interfaces.get(index) else {
+            return true;
+        };
+        match self.matched_interface(index) {
+            Some(into) => self.brings_nothing(from, into),
+            None => true,
+        }
+    }
+
+    /// Whether an interface brings nothing to the one with which it is matched.
+    fn brings_nothing(&self, from: &Interface, into: &Interface) -> bool {
+        all_matched(&from.types, &self.matches.types)
+            && all_named(&from.functions, &into.functions)
+            && joins_nothing(&from.stability, &into.stability)
+    }
+
+    /// Whether all worlds stay.
+    fn worlds_stay(&self) -> bool {
+        for index in 0..self.other.worlds.len() {
+            if !self.world_stays(index) {
+                return false;
+            }
+        }
+        true
+    }
+
+    /// Whether the world with which one is matched stays.
+    fn world_stays(&self, index: usize) -> bool {
+        let Some(from) = self.other.worlds.get(index) else {
+            return true;
+        };
+        match self.matched_world(index) {
+            Some(into) => self.lists_stay(from, into),
+            None => true,
+        }
+    }
+
+    /// Whether a world and its lists stay, where another is joined to it.
+    fn lists_stay(&self, from: &World, into: &World) -> bool {
+        self.entries_stay(&from.imports, &into.imports)
+            && self.entries_stay(&from.exports, &into.exports)
+            && joins_nothing(&from.stability, &into.stability)
+    }
+
+    /// Whether entries stay, where others are joined to them.
+    fn entries_stay(
+        &self,
+        from: &Table<WorldKey, WorldItem>,
+        into: &Table<WorldKey, WorldItem>,
+    ) -> bool {
+        for (key, item) in from.iter() {
+            if !self.entry_stays(key, item, into) {
+                return false;
+            }
+        }
+        true
+    }
+
+    /// Whether what stands among entries under the key of another one stays, where that one is joined to it.
+    fn entry_stays(
+        &self,
+        key: &WorldKey,
+        item: &WorldItem,
+        entries: &Table<WorldKey, WorldItem>,
+    ) -> bool {
+        let Some(from) = stability_under_id(key, item) else {
+            return true;
+        };
+        let Some(there) = self.matched_item(key, entries) else {
+            return true;
+        };
+        match there {
+            WorldItem::Interface { stability, .. } => joins_nothing(from, stability),
+            WorldItem::Function(_) | WorldItem::Type_ { .. } => true,
+        }
+    }
+
+    /// Whether all packages stay.
+    fn packages_stay(&self) -> bool {
+        for index in 0..self.other.packages.len() {
+            if !self.package_stays(index) {
+                return false;
+            }
+        }
+        true
+    }
+
+    /// Whether the package with which one is matched stays: no interface and no world of the other moves into it.
+    fn package_stays(&self, index: usize) -> bool {
+        let Some(from) = self.other.packages.get(index) else {
+            return true;
+        };
+        match match_at(&self.matches.packages, index) {
+            Some(_) => self.moves_nothing(from),
+            None => true,
+        }
+    }
+
+    /// Whether no interface and no world of a package moves.
+    fn moves_nothing(&self, from: &Package) -> bool {
+        all_matched(&from.interfaces, &self.matches.interfaces)
+            && all_matched(&from.worlds, &self.matches.worlds)
+    }
+}
+
+/// Whether a stability stays as it is, where another is joined to it.
+fn joins_nothing(from: &Stability, into: &Stability) -> bool {
+    from.is_unknown() || *from == *into
+}
+
+/// The stability of an interface that stands under the key of one.
+fn stability_under_id<'a>(key: &WorldKey, item: &'a WorldItem) -> Option<&'a Stability> {
+    match (key, item) {
+        (WorldKey::Interface(_), WorldItem::Interface { stability, .. }) => Some(stability),
+        _ => None,
+    }
+}
+
+/// Whether all that a table lists is matched.
+fn all_matched<S>(names: &Names<Id<S>>, found: &Items<Option<Id<S>>>) -> bool {
+    for (_, id) in names.iter() {
+        if !is_matched(found, id) {
+            return false;
+        }
+    }
+    true
+}
+
+/// Whether a thing is matched.
+fn is_matched<S>(found: &Items<Option<Id<S>>>, id: &Id<S>) -> bool {
+    match found.get(id.index()) {
+        Some(Some(_)) => true,
+        _ => false,
+    }
+}
+
+/// Whether all names of some functions are among those of others.
+fn all_named(from: &Names<Function>, into: &Names<Function>) -> bool {
+    for (name, _) in from.iter() {
+        if !into.contains_key(name) {
+            return false;
+        }
+    }
+    true
+}
