@@ -8,28 +8,16 @@ use Rattle.wit_script_lines.specs.Statement.{gated_line_by, statement_by}
 use Rattle.wit_script_lines.specs.declared.package_line.LineWord.{LineWord}
 use Rattle.wit_script_lines.specs.declared.package_line.LineWord.TheVariants as begins
 use Rattle.wit_script_lines.specs.declared.package_line.PackageLine.{PackageLine}
-<<<<<<< HEAD
-use Rattle.wit_script_lines.specs.declared.statement.Statement.{Statement}
-=======
->>>>>>> 70a95f6145979c184f42d8d325c34e1728d21c17
 use Rattle.wit_script_lines.specs.declared.statement.Statement.TheVariants as says
 use Rattle.wit_script_lines.specs.facts.OptionFacts.{same-some}
 use Rattle.wit_script_lines.specs.steps.LineWords.{line_word, line_words, word_among, word_text}
 
 -- a token that is one of some words is written as it
-<<<<<<< HEAD
-word-is : (words : List LineWord) (token : List ℕ) (word : LineWord) → word_among words token ≡ Some word → token ≡ word_text word
-word-is [] token word is = cc
-word-is (w ∷ ws) token word is = by (bytes_eq token (word_text w)) refl is (λ later. word-is ws token word later) where
-  by : (b : Bool) → bytes_eq token (word_text w) ≡ b → cond b (Some w) (word_among ws token) ≡ Some word → (word_among ws token ≡ Some word → token ≡ word_text word) → token ≡ word_text word
-  by true same is rest = (bytes_eq-Decides token (word_text w)).0 same ∙ ap word_text (same-some w word is)
-=======
 word-is : (words : List LineWord) (token : List ℕ) (found : LineWord) → word_among words token ≡ Some found → token ≡ word_text found
 word-is [] token found is = cc
 word-is (w ∷ ws) token found is = by (bytes_eq token (word_text w)) refl is (λ later. word-is ws token found later) where
   by : (b : Bool) → bytes_eq token (word_text w) ≡ b → cond b (Some w) (word_among ws token) ≡ Some found → (word_among ws token ≡ Some found → token ≡ word_text found) → token ≡ word_text found
   by true same is rest = (bytes_eq-Decides token (word_text w)).0 same ∙ ap word_text (same-some w found is)
->>>>>>> 70a95f6145979c184f42d8d325c34e1728d21c17
   by false other is rest = rest is
 
 -- a token that is none of them is written as none
