@@ -9,6 +9,7 @@ pub mod FeaturesTold
 pub mod FoundBack
 pub mod FunctionsBack
 pub mod FunctionsThere
+pub mod GrownFunctions
 pub mod GrownPackages
 pub mod GrownUses
 pub mod GrownWorlds

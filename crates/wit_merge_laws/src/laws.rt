@@ -1,7 +1,7 @@
 //! Laws of merging: the contract of each function is what is proved.
 ghost use Rattle.wit_merge_laws.specs.laws.BorrowLaws.{MergesMakeNoBorrow};
 ghost use Rattle.wit_merge_laws.specs.laws.CopyLaws.{AcceptedCopiesChangeNothing, CopiesGoToThemselves, EmptyBecomesAlike, EmptyKeepsIds};
-ghost use Rattle.wit_merge_laws.specs.laws.GrowingLaws.{GrowthIsAccepted, JoinedIsGrown, LeftByMatches, NothingNewIsCyclic, OldWorldsStay, UnionsGrow, UsesGrow};
+ghost use Rattle.wit_merge_laws.specs.laws.GrowingLaws.{BorrowsCome, FunctionsCome, GrowthIsAccepted, JoinedIsGrown, LeftByMatches, NewWorldsAreSound, NothingNewIsCyclic, OldWorldsStay, UnionsGrow, UsesGrow};
 ghost use Rattle.wit_merge_laws.specs.laws.MergingLaws.{NothingComes, SharedWorldsKeepImports, UnionsHaveBothNames, UnionsStayValid};
 ghost use Rattle.wit_merge_laws.specs.laws.OrderLaws.{AgreementIsSymmetric, EitherOrderElaborates, MergesAreAlike, MergingIsOrderFree, ResourcesStay};
 
@@ -125,6 +125,21 @@ pub fn old_worlds_stay()
 {
     laws_of_elaboration();
 }
+
+/// A world that comes can be elaborated, where both graphs are valid and agree.
+pub fn new_worlds_are_sound()
+    ensures { NewWorldsAreSound }
+{}
+
+/// Then the functions that move are those of the interfaces and of the worlds that come.
+pub fn functions_come()
+    ensures { FunctionsCome }
+{}
+
+/// Then a merge refuses a result that holds a borrow exactly where one of these functions returns one.
+pub fn borrows_come()
+    ensures { BorrowsCome }
+{}
 
 /// Then only the worlds that come are elaborated, and only they can be in conflict.
 pub fn unions_grow()
