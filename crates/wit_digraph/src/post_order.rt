@@ -12,7 +12,6 @@ use crate::relation::direct_uses;
 use crate::row::{has_bit, set_bit};
 use std::alloc::{AllocError, Global};
 use std::marker::Model;
-use std::mem;
 use wit_values::Items;
 
 /// Some of a number of nodes, in the order in which they were listed. Nodes count from 0. A row of
@@ -22,8 +21,6 @@ pub struct Listing {
     nodes: usize,
     marks: Vec<u64>,
     order: Items<usize>,
-    /// Room for walks, one after another.
-    stack: Vec<Frame>,
 }
 
 impl Model for Listing {
@@ -45,7 +42,6 @@ impl Listing {
             nodes: 0,
             marks: Vec::new(alloc),
             order: Items::new(alloc),
-            stack: Vec::new(alloc),
         }
     }
 
@@ -58,7 +54,6 @@ impl Listing {
             nodes,
             marks,
             order: Items::new(alloc),
-            stack: Vec::new(alloc),
         })
     }
 
@@ -185,7 +180,12 @@ impl Listing {
         if self.has(root) {
             return Ok(());
         }
-        let mut stack = self.take_stack(alloc, root)?;
+        let mut stack = vec![in alloc;
+            Frame {
+                node: root,
+                next: 0
+            },
+        ]?;
         while let Some(frame) = stack.pop() {
             let used_nodes = direct_uses(uses, frame.node);
             if frame.next < used_nodes.len() {
@@ -204,29 +204,7 @@ impl Listing {
                 self.push(frame.node)?;
             }
         }
-        self.keep_stack(stack);
         Ok(())
-    }
-
-    /// The stack of a walk that begins at a node, in the room of the walk before it.
-    fn take_stack(&mut self, alloc: Global, root: usize) -> Result<Vec<Frame>, AllocError>
-        ensures stack { IfOk result (λ stack. stack.items ≡ record { node = root; next = 0 } ∷ []) }
-        ensures same { self.new ≡ self.old }
-    {
-        let mut stack = mem::replace(&mut self.stack, Vec::new(alloc));
-        stack.clear();
-        stack.push(Frame {
-            node: root,
-            next: 0,
-        })?;
-        Ok(stack)
-    }
-
-    /// Keeps the room of a walk for the next one.
-    fn keep_stack(&mut self, stack: Vec<Frame>)
-        ensures { self.new ≡ self.old }
-    {
-        self.stack = stack;
     }
 }
 

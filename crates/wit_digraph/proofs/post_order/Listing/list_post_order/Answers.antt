@@ -12,8 +12,8 @@ returns-then-has-clause-ok c =
 
 pub loop-frame-init : goal.loop-frame-init
 loop-frame-init c = record {
-  walking = rw (c.in_ok-stack.ensures.stack, c.in_ok-stack.ensures.same) (start_walk c.args.uses.now c.requires.acyclic c.args.self.now.order c.args.root c.requires.root c.requires.uses_first);
-  nodes = rw c.in_ok-stack.ensures.same c.requires.nodes;
+  walking = rw c.in_ok-stack.ensures.items (start_walk c.args.uses.now c.requires.acyclic c.args.self.now.order c.args.root c.requires.root c.requires.uses_first);
+  nodes = c.requires.nodes;
 }
 
 pub loop-frame-smaller-in-Continue-branch-3 : goal.loop-frame-smaller-in-Continue-branch-3
