@@ -1,4 +1,14 @@
 //! What comes of another graph goes behind what a graph has.
+ghost use Rattle.std.specs.Prelude.{◌≡◌, ◌++◌, ◌⊎◌, ◌×◌, IfErr, IfOk, OnErr, OnOk, length, map};
+ghost use Rattle.wit_digraph.specs.Relation.{IsAcyclic};
+ghost use Rattle.wit_values.specs.Table.{HasDistinctKeys};
+ghost use Rattle.wit_data.specs.declared.world.World.{World};
+ghost use Rattle.wit_elaboration.specs.Elaboration.{IsConflictError, IsRefusedWorld, elaborated_world as elaborated_by, graph_uses};
+ghost use Rattle.wit_elaboration.specs.Imported.{HasTransitiveConflict};
+ghost use Rattle.wit_elaboration.specs.Sound.{HasSoundEntries};
+ghost use Rattle.wit_graph_data.specs.declared.error_kind.ResolveErrorKind.TheVariants.{OutOfMemory};
+ghost use Rattle.wit_remap.specs.Grown.{Begins, Grown};
+ghost use Rattle.wit_merge.specs.steps.Behind.{AreClear, AreListed, CanAppend, IsAppendCause, IsFine, with_coming, with_elaborated};
 
 use crate::coming::Coming;
 use crate::results::check_returned;
@@ -16,7 +26,18 @@ pub(crate) fn append(
     graph: &mut Graph,
     elaborator: &mut Elaborator,
     coming: Coming,
-) -> ResolveResult<()> {
+) -> ResolveResult<()>
+    requires uses { elaborator.old ≡ graph_uses graph.old }
+    requires can { CanAppend graph.old coming }
+    ensures ok { OnOk result (graph.new ≡ with_elaborated graph.old coming) }
+    ensures uses { OnOk result (elaborator.new ≡ graph_uses (with_coming graph.old coming)) }
+    ensures fine { OnOk result (IsFine graph.old coming) }
+    ensures err { OnErr result (graph.new ≡ graph.old) }
+    ensures rows_err { OnErr result (elaborator.new ≡ elaborator.old) }
+    ensures grown { Grown graph.old graph.new }
+    ensures rows { Begins elaborator.old elaborator.new }
+    ensures cause { IfErr result (λ kind. (kind ≡ OutOfMemory) ⊎ IsAppendCause graph.old coming kind) }
+{
     let mark = Mark::of(graph);
     let rows = elaborator.interfaces();
     let appended = append_parts(alloc, graph, elaborator, coming);
@@ -33,7 +54,16 @@ fn append_parts(
     graph: &mut Graph,
     elaborator: &mut Elaborator,
     coming: Coming,
-) -> ResolveResult<()> {
+) -> ResolveResult<()>
+    requires uses { elaborator.old ≡ graph_uses graph.old }
+    requires can { CanAppend graph.old coming }
+    ensures ok { OnOk result (graph.new ≡ with_elaborated graph.old coming) }
+    ensures uses { OnOk result (elaborator.new ≡ graph_uses (with_coming graph.old coming)) }
+    ensures fine { OnOk result (IsFine graph.old coming) }
+    ensures grown { Grown graph.old graph.new }
+    ensures rows { Begins elaborator.old elaborator.new }
+    ensures cause { IfErr result (λ kind. (kind ≡ OutOfMemory) ⊎ IsAppendCause graph.old coming kind) }
+{
     let Coming {
         types,
         interfaces,
@@ -56,7 +86,11 @@ fn append_parts(
 fn append_names(
     names: &mut Table<PackageName, PackageId>,
     coming: Items<(PackageName, PackageId)>,
-) -> Result<(), AllocError> {
+) -> Result<(), AllocError>
+    requires { HasDistinctKeys (names.old ++ coming) }
+    ensures ok { OnOk result (names.new ≡ names.old ++ coming) }
+    ensures begins { Begins names.old names.new }
+{
     for (name, id) in coming.into_vec() {
         names.push(name, id)?;
     }
@@ -69,7 +103,15 @@ fn elaborated_worlds(
     graph: &Graph,
     elaborator: &mut Elaborator,
     worlds: Items<World>,
-) -> ResolveResult<Items<World>> {
+) -> ResolveResult<Items<World>>
+    requires uses { elaborator.old ≡ graph_uses graph.now }
+    requires acyclic { IsAcyclic (graph_uses graph.now) }
+    requires listed { AreListed graph.now worlds }
+    ensures ok { IfOk result (λ elaborated. elaborated ≡ map (elaborated_by graph.now) worlds) }
+    ensures clear { OnOk result (AreClear graph.now worlds) }
+    ensures cause { IfErr result (λ kind. (kind ≡ OutOfMemory) ⊎ IsRefusedWorld (record graph.now { worlds = worlds }) kind) }
+    ensures same { elaborator.new ≡ elaborator.old }
+{
     let mut elaborated = Items::new(alloc);
     for world in worlds.into_vec() {
         elaborated.push(elaborated_world(alloc, graph, elaborator, world)?)?;
@@ -83,7 +125,15 @@ fn elaborated_world(
     graph: &Graph,
     elaborator: &mut Elaborator,
     world: World,
-) -> ResolveResult<World> {
+) -> ResolveResult<World>
+    requires uses { elaborator.old ≡ graph_uses graph.now }
+    requires acyclic { IsAcyclic (graph_uses graph.now) }
+    requires listed { HasSoundEntries graph.now.types (length graph.now.interfaces) world.imports world.exports }
+    ensures ok { IfOk result (λ new. new ≡ elaborated_by graph.now world) }
+    ensures no_conflict { OnOk result (HasTransitiveConflict (graph_uses graph.now) world.exports → ⊥) }
+    ensures cause { IfErr result (IsConflictError graph.now world) }
+    ensures same { elaborator.new ≡ elaborator.old }
+{
     let mut world = world;
     let complete = elaborator.is_complete(graph, &world)?;
     if !complete {
