@@ -1,5 +1,5 @@
 //! What comes of another graph goes behind what a graph has.
-ghost use Rattle.std.specs.Prelude.{◌≡◌, ◌++◌, ◌⊎◌, ◌×◌, IfErr, IfOk, OnErr, OnOk, length, map};
+ghost use Rattle.std.specs.Prelude.{◌≡◌, ◌++◌, ◌⊎◌, IfErr, IfOk, OnErr, OnOk, length, map};
 ghost use Rattle.wit_digraph.specs.Relation.{IsAcyclic};
 ghost use Rattle.wit_values.specs.Table.{HasDistinctKeys};
 ghost use Rattle.wit_data.specs.declared.world.World.{World};
@@ -13,9 +13,9 @@ ghost use Rattle.wit_merge.specs.steps.Behind.{AreClear, AreListed, CanAppend, I
 use crate::coming::Coming;
 use crate::results::check_returned;
 use std::alloc::{AllocError, Global};
-use wit_data::{Items, PackageId, PackageName, Table, World};
+use wit_data::{Interface, Items, PackageId, PackageName, Table, World};
 use wit_elaboration::Elaborator;
-use wit_graph_data::{Graph, ResolveResult};
+use wit_graph_data::{Graph, Package, ResolveResult};
 use wit_remap::Mark;
 
 /// Puts what comes behind what a graph has, its worlds elaborated, where no function that comes returns a borrow (15) and
@@ -73,16 +73,31 @@ fn append_parts(
     } = coming;
     graph.types.append(types)?;
     check_returned(alloc, graph.types.as_slice(), &interfaces, &worlds)?;
-    graph.interfaces.append(interfaces)?;
-    graph.packages.append(packages)?;
-    append_names(&mut graph.package_names, package_names)?;
+    append_homes(graph, interfaces, packages, package_names)?;
     let types = graph.types.as_slice();
     elaborator.grow(alloc, types, graph.interfaces.as_slice())?;
     let worlds = elaborated_worlds(alloc, graph, elaborator, worlds)?;
     Ok(graph.worlds.append(worlds)?)
 }
 
-/// Adds names of packages with their ids.
+/// Puts interfaces and packages, with the names of these, behind those of a graph. Where there is no memory some of them
+/// may be there.
+fn append_homes(
+    graph: &mut Graph,
+    interfaces: Items<Interface>,
+    packages: Items<Package>,
+    names: Items<(PackageName, PackageId)>,
+) -> Result<(), AllocError>
+    requires { HasDistinctKeys (graph.old.package_names ++ names) }
+    ensures ok { OnOk result (graph.new ≡ record graph.old { interfaces = graph.old.interfaces ++ interfaces; packages = graph.old.packages ++ packages; package_names = graph.old.package_names ++ names }) }
+    ensures grown { Grown graph.old graph.new }
+{
+    graph.interfaces.append(interfaces)?;
+    graph.packages.append(packages)?;
+    append_names(&mut graph.package_names, names)
+}
+
+/// Adds names of packages with their ids. Where there is no memory some of them may be there.
 fn append_names(
     names: &mut Table<PackageName, PackageId>,
     coming: Items<(PackageName, PackageId)>,

@@ -1,5 +1,6 @@
 //! Another graph goes into a graph.
-ghost use Rattle.std.specs.Prelude.{◌≡◌, ◌⊎◌, ℕ, IfErr, IfOk, List, OnOk};
+ghost use Rattle.std.specs.Prelude.{◌≡◌, ◌⊎◌, ℕ, IfErr, IfOk, List, OnErr, OnOk};
+ghost use Rattle.wit_elaboration.specs.Elaboration.{graph_uses};
 ghost use Rattle.wit_elaboration.specs.Valid.{IsValid};
 ghost use Rattle.wit_graph_data.specs.declared.error_kind.ResolveErrorKind.{ResolveErrorKind};
 ghost use Rattle.wit_graph_data.specs.declared.error_kind.ResolveErrorKind.TheVariants.{OutOfMemory};
@@ -7,6 +8,9 @@ ghost use Rattle.wit_merge_match.specs.Differing.{merge_of_graphs_by};
 ghost use Rattle.wit_merge_match.specs.steps.Matched.{AreMatches, merge_remap_of};
 ghost use Rattle.wit_merge_spec.specs.United.{merge_remap as ids_of, joined_graph, united};
 ghost use Rattle.wit_merge_spec.specs.Cause.{IsMergeCause, MergeReturnsBorrow};
+ghost use Rattle.wit_merge_spec.specs.steps.Leaving.{LeavesGraph};
+ghost use Rattle.wit_remap.specs.Grown.{Begins, Grown};
+ghost use Rattle.wit_merge.specs.steps.Behind.{IsComing};
 ghost use Rattle.wit_merge.specs.steps.UnionSteps.{DoAgree};
 ghost use Rattle.wit_merge.specs.Remapped.{remap_of};
 
@@ -21,7 +25,9 @@ use std::alloc::{AllocError, Global};
 use wit_elaboration::Elaborator;
 use wit_graph_data::{Graph, ResolveResult};
 use wit_link_spec::{NewIds, Values};
-use wit_merge_laws::laws::unions_stay_valid;
+use wit_merge_laws::laws::{
+    joined_is_grown, nothing_new_is_cyclic, unions_grow, unions_stay_valid, uses_grow,
+};
 use wit_merge_match::{Matches, MergeRemap, find_matches, find_remap};
 use wit_remap::Remap;
 use wit_unite_common::check_and_elaborate;
@@ -140,7 +146,28 @@ pub fn append_union(
     other: &Graph,
     matches: &Matches,
     offset: u32,
-) -> ResolveResult<Remap> {
+) -> ResolveResult<Remap>
+    requires valid { IsValid graph.old }
+    requires other { IsValid other.now }
+    requires agree { DoAgree (merge_of_graphs_by graph.old other.now offset) }
+    requires matches { AreMatches graph.old other.now matches.now }
+    requires leaves { LeavesGraph (merge_of_graphs_by graph.old other.now offset) }
+    requires uses { elaborator.old ≡ graph_uses graph.old }
+    ensures graph { OnOk result (graph.new ≡ united (merge_of_graphs_by graph.old other.now offset)) }
+    ensures remap { IfOk result (λ remap. remap ≡ remap_of (ids_of (merge_of_graphs_by graph.old other.now offset))) }
+    ensures valid { IsValid graph.new }
+    ensures uses { elaborator.new ≡ graph_uses graph.new }
+    ensures err { OnErr result (graph.new ≡ graph.old) }
+    ensures grown { Grown graph.old graph.new }
+    ensures rows { Begins elaborator.old elaborator.new }
+    ensures cause { IfErr result (λ e. (e ≡ OutOfMemory) ⊎ IsMergeCause (merge_of_graphs_by graph.old other.now offset) e) }
+    ensures refuses { (e : ResolveErrorKind) → IsMergeCause (merge_of_graphs_by graph.old other.now offset) e → OnOk result ⊥ }
+{
+    joined_is_grown();
+    uses_grow();
+    nothing_new_is_cyclic();
+    unions_grow();
+    unions_stay_valid();
     let merge_remap = find_remap(alloc, graph, other, matches)?;
     let coming = what_comes(alloc, graph, other, matches, &merge_remap, offset)?;
     append(alloc, graph, elaborator, coming)?;
@@ -155,7 +182,14 @@ fn what_comes(
     matches: &Matches,
     merge_remap: &MergeRemap,
     offset: u32,
-) -> Result<Coming, AllocError> {
+) -> Result<Coming, AllocError>
+    requires valid { IsValid graph.now }
+    requires other { IsValid other.now }
+    requires agree { DoAgree (merge_of_graphs_by graph.now other.now offset) }
+    requires matches { AreMatches graph.now other.now matches.now }
+    requires merge_remap { merge_remap.now ≡ merge_remap_of (merge_of_graphs_by graph.now other.now offset) }
+    ensures { IfOk result (IsComing (merge_of_graphs_by graph.now other.now offset)) }
+{
     let Values {
         new_ids: value_ids,
         owns,
