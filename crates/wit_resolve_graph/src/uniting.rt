@@ -78,7 +78,15 @@ fn append_union_kept(
     let mark = Mark::of(graph);
     let rows = kept.elaborator.interfaces();
     let met = kept.met.len();
-    let remap = append_union(alloc, graph, &mut kept.elaborator, other, matches, offset)?;
+    let remap = append_union(
+        alloc,
+        graph,
+        &mut kept.elaborator,
+        &mut kept.met,
+        other,
+        matches,
+        offset,
+    )?;
     kept.follow(alloc, graph, mark, rows, met)?;
     Ok(remap)
 }
