@@ -1,4 +1,9 @@
 //! What comes of another graph behind what a graph has.
+ghost use Rattle.std.specs.Prelude.{◌≡◌, IfOk};
+ghost use Rattle.wit_link_spec.specs.ValueRemap.{owns as owns_of};
+ghost use Rattle.wit_merge_spec.specs.United.{remap_of_merge};
+ghost use Rattle.wit_merge.specs.steps.Behind.{IsComing};
+ghost use Rattle.wit_merge.specs.steps.UnionSteps.{CanUnite, merging_of};
 
 use crate::interfaces::moved_interfaces;
 use crate::packages::{moved_names, moved_packages};
@@ -25,7 +30,11 @@ pub(crate) fn moved_things(
     alloc: Global,
     plan: &UnionPlan<'_>,
     owns: Items<TypeDef>,
-) -> Result<Coming, AllocError> {
+) -> Result<Coming, AllocError>
+    requires ready { CanUnite plan.now }
+    requires owns { owns ≡ owns_of (remap_of_merge (merging_of plan.now)) }
+    ensures { IfOk result (IsComing (merging_of plan.now)) }
+{
     let types = moved_types(alloc, plan, owns)?;
     let interfaces = moved_interfaces(alloc, plan)?;
     let worlds = moved_worlds(alloc, plan)?;

@@ -1,7 +1,7 @@
 //! The interfaces of two graphs as one.
-ghost use Rattle.std.specs.Prelude.{◌≡◌, ◌++◌, IfOk, OnOk};
+ghost use Rattle.std.specs.Prelude.{◌≡◌, ◌++◌, IfOk, OnOk, map};
 ghost use Rattle.wit_remap_spec.specs.Image.{function_image, interface_image};
-ghost use Rattle.wit_merge_spec.specs.United.{merge_maps, joined_graph};
+ghost use Rattle.wit_merge_spec.specs.United.{merge_maps, joined_graph, moved_interfaces};
 ghost use Rattle.wit_merge.specs.steps.UnionSteps.{FunctionMoves, FunctionsMove, brought_matched, functions_image, CanUnite, KnowsCounterparts, merging_of};
 ghost use Rattle.wit_values.specs.Table.{HasDistinctKeys};
 
@@ -111,7 +111,10 @@ pub(crate) fn joined_interfaces(
 pub(crate) fn moved_interfaces(
     alloc: Global,
     plan: &UnionPlan<'_>,
-) -> Result<Items<Interface>, AllocError> {
+) -> Result<Items<Interface>, AllocError>
+    requires { CanUnite plan.now }
+    ensures { IfOk result (λ interfaces. interfaces ≡ map (interface_image (merge_maps (merging_of plan.now))) (moved_interfaces (merging_of plan.now))) }
+{
     move_all(
         alloc,
         plan,

@@ -1,7 +1,9 @@
 //! The packages of two graphs as one.
-ghost use Rattle.std.specs.Prelude.{◌≡◌, ◌++◌, IfOk, OnOk};
+ghost use Rattle.std.specs.Prelude.{◌≡◌, ◌++◌, IfOk, OnOk, map};
 ghost use Rattle.wit_values.specs.Table.{HasDistinctKeys};
-ghost use Rattle.wit_merge_spec.specs.United.{joined_graph};
+ghost use Rattle.wit_link_spec.specs.Selected.{selected};
+ghost use Rattle.wit_merge_spec.specs.United.{joined_graph, moves_package, package_image};
+ghost use Rattle.wit_merge.specs.steps.Behind.{new_names};
 ghost use Rattle.wit_merge.specs.steps.UnionSteps.{moved_names, CanUnite, KnowsCounterparts, merging_of};
 
 use crate::names::{moves, push_moved};
@@ -108,7 +110,10 @@ pub(crate) fn joined_names(
 pub(crate) fn moved_packages(
     alloc: Global,
     plan: &UnionPlan<'_>,
-) -> Result<Items<Package>, AllocError> {
+) -> Result<Items<Package>, AllocError>
+    requires { CanUnite plan.now }
+    ensures { IfOk result (λ packages. packages ≡ map (package_image (merging_of plan.now)) (selected (moves_package (merging_of plan.now)) plan.now.other.now.packages)) }
+{
     move_all(alloc, plan, &plan.matches.packages, &plan.other.packages)
 }
 
@@ -116,7 +121,10 @@ pub(crate) fn moved_packages(
 pub(crate) fn moved_names(
     alloc: Global,
     plan: &UnionPlan<'_>,
-) -> Result<Items<(PackageName, PackageId)>, AllocError> {
+) -> Result<Items<(PackageName, PackageId)>, AllocError>
+    requires { CanUnite plan.now }
+    ensures { IfOk result (λ names. names ≡ new_names (merging_of plan.now)) }
+{
     let mut names = Items::new(alloc);
     for (name, id) in plan.other.package_names.iter() {
         if moves(&plan.matches.packages, id.index()) {

@@ -1,11 +1,14 @@
 //! Functions that move and return a borrow.
-ghost use Rattle.std.specs.Prelude.{◌≡◌, ◌⊎◌, ℕ, List, None, Contains, IfErr, IfOk, OnOk};
+ghost use Rattle.std.specs.Prelude.{[], ◌∷◌, ◌≡◌, ◌⊎◌, ℕ, List, None, Contains, IfErr, IfOk, OnOk};
 ghost use Rattle.wit_graph_data.specs.declared.cause.Cause.TheVariants as cause;
 ghost use Rattle.wit_graph_data.specs.declared.error_kind.ResolveErrorKind.TheVariants.{OutOfMemory, Semantic};
+ghost use Rattle.wit_digraph.specs.Relation.{IsAcyclic};
+ghost use Rattle.wit_data.specs.Kind.{type_references};
 ghost use Rattle.wit_link_spec.specs.CauseText.{borrow_text};
 ghost use Rattle.wit_merge_spec.specs.United.{moved_functions, joined_graph};
 ghost use Rattle.wit_merge_spec.specs.Cause.{MergeReturnsBorrow};
 ghost use Rattle.wit_link_resources.specs.steps.Borrows.{AreFreeTypes};
+ghost use Rattle.wit_merge.specs.steps.Behind.{AreReturned, ReturnNoBorrow, ReturnsBorrow, functions_of};
 ghost use Rattle.wit_merge.specs.steps.UnionSteps.{CanUnite, IsBorrowError, ReturnsFree, merging_of};
 
 use crate::functions::{moved_functions, push_all, push_world};
@@ -87,7 +90,12 @@ pub(crate) fn check_returned(
     types: &[TypeDef],
     interfaces: &Items<Interface>,
     worlds: &Items<World>,
-) -> ResolveResult<()> {
+) -> ResolveResult<()>
+    requires acyclic { IsAcyclic (type_references types.now) }
+    requires returned { AreReturned types.now (functions_of interfaces.now worlds.now) }
+    ensures none { OnOk result (ReturnNoBorrow types.now (functions_of interfaces.now worlds.now)) }
+    ensures cause { IfErr result (λ kind. (kind ≡ OutOfMemory) ⊎ ReturnsBorrow types.now (functions_of interfaces.now worlds.now) kind) }
+{
     let mut functions = Vec::new(alloc);
     for interface in interfaces.as_slice() {
         push_all(&mut functions, &interface.functions)?;
@@ -108,7 +116,14 @@ fn check_returns(
     types: &[TypeDef],
     free: &mut IndexSet<usize>,
     function: &Function,
-) -> ResolveResult<()> {
+) -> ResolveResult<()>
+    requires acyclic { IsAcyclic (type_references types.now) }
+    requires returned { AreReturned types.now (function.now ∷ []) }
+    requires free { AreFreeTypes types.now free.old.keys }
+    ensures none { OnOk result (ReturnNoBorrow types.now (function.now ∷ [])) }
+    ensures free { OnOk result (AreFreeTypes types.now free.new.keys) }
+    ensures cause { IfErr result (λ kind. (kind ≡ OutOfMemory) ⊎ ReturnsBorrow types.now (function.now ∷ []) kind) }
+{
     let Some(id) = result_type(function) else {
         return Ok(());
     };

@@ -2,7 +2,7 @@
 ghost use Rattle.std.specs.Prelude.{◌≡◌, IfOk};
 ghost use Rattle.wit_merge_spec.specs.United.{joined_graph, remap_of_merge};
 ghost use Rattle.wit_merge.specs.steps.UnionSteps.{CanUnite, KnowsCounterparts, merging_of};
-ghost use Rattle.wit_link_spec.specs.ValueRemap.{owns as owns_of};
+ghost use Rattle.wit_link_spec.specs.ValueRemap.{owns as owns_of, types_behind};
 
 use crate::parts::{Part, joined_list, move_all};
 use crate::stabilities::join_stability;
@@ -69,7 +69,11 @@ pub(crate) fn moved_types(
     alloc: Global,
     plan: &UnionPlan<'_>,
     owns: Items<TypeDef>,
-) -> Result<Items<TypeDef>, AllocError> {
+) -> Result<Items<TypeDef>, AllocError>
+    requires ready { CanUnite plan.now }
+    requires owns { owns ≡ owns_of (remap_of_merge (merging_of plan.now)) }
+    ensures { IfOk result (λ types. types ≡ types_behind (remap_of_merge (merging_of plan.now))) }
+{
     let mut types = move_all(alloc, plan, &plan.matches.types, &plan.other.types)?;
     types.append(owns)?;
     Ok(types)

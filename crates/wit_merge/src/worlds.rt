@@ -3,6 +3,7 @@ ghost use Rattle.std.specs.Prelude.{◌≡◌, IfOk, None, get_or, map};
 ghost use Rattle.std.specs.Option.{option_copied};
 ghost use Rattle.wit_values.specs.Table.{HasDistinctKeys};
 ghost use Rattle.wit_merge_spec.specs.United.{joined_graph};
+ghost use Rattle.wit_merge_spec.specs.steps.Leaving.{new_worlds};
 ghost use Rattle.wit_merge.specs.steps.UnionSteps.{entry_joined, stability_joined, stability_of, stability_under, CanUnite, KnowsCounterparts, merging_of};
 
 use crate::parts::{Part, joined_list, move_all};
@@ -146,9 +147,9 @@ pub(crate) fn joined_worlds(
 }
 
 /// The worlds that move.
-pub(crate) fn moved_worlds(
-    alloc: Global,
-    plan: &UnionPlan<'_>,
-) -> Result<Items<World>, AllocError> {
+pub(crate) fn moved_worlds(alloc: Global, plan: &UnionPlan<'_>) -> Result<Items<World>, AllocError>
+    requires { CanUnite plan.now }
+    ensures { IfOk result (λ worlds. worlds ≡ new_worlds (merging_of plan.now)) }
+{
     move_all(alloc, plan, &plan.matches.worlds, &plan.other.worlds)
 }

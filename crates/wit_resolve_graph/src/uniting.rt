@@ -7,7 +7,10 @@ ghost use Rattle.wit_graph_data.specs.declared.error_kind.ResolveErrorKind.TheVa
 ghost use Rattle.wit_merge_spec.specs.Cause.{IsMergeCause};
 ghost use Rattle.wit_merge_spec.specs.United as moved;
 ghost use Rattle.wit_merge_spec.specs.United.{united};
+ghost use Rattle.wit_merge_match.specs.steps.Matched.{AreMatches};
+ghost use Rattle.wit_merge_spec.specs.steps.Leaving.{LeavesGraph};
 ghost use Rattle.wit_merge.specs.Remapped.{remap_of};
+ghost use Rattle.wit_merge.specs.steps.UnionSteps.{DoAgree};
 ghost use Rattle.wit_resolve_graph.specs.State.{AreKept};
 
 use crate::kept::Kept;
@@ -59,11 +62,31 @@ fn append_union_kept(
     other: &Graph,
     matches: &Matches,
     offset: u32,
-) -> ResolveResult<Remap> {
+) -> ResolveResult<Remap>
+    requires kept { AreKept graph.old kept.old }
+    requires other { IsValid other.now }
+    requires agree { DoAgree (merge_of_graphs_by graph.old other.now offset) }
+    requires matches { AreMatches graph.old other.now matches.now }
+    requires leaves { LeavesGraph (merge_of_graphs_by graph.old other.now offset) }
+    ensures graph { OnOk result (graph.new ≡ united (merge_of_graphs_by graph.old other.now offset)) }
+    ensures remap { IfOk result (λ remap. remap ≡ remap_of (moved.merge_remap (merge_of_graphs_by graph.old other.now offset))) }
+    ensures kept { AreKept graph.new kept.new }
+    ensures err { OnErr result (graph.new ≡ graph.old) }
+    ensures cause { IfErr result (λ kind. (kind ≡ OutOfMemory) ⊎ IsMergeCause (merge_of_graphs_by graph.old other.now offset) kind) }
+    ensures refuses { (kind : ResolveErrorKind) → IsMergeCause (merge_of_graphs_by graph.old other.now offset) kind → OnOk result ⊥ }
+{
     let mark = Mark::of(graph);
     let rows = kept.elaborator.interfaces();
     let met = kept.met.len();
-    let remap = append_union(alloc, graph, &mut kept.elaborator, other, matches, offset)?;
+    let remap = append_union(
+        alloc,
+        graph,
+        &mut kept.elaborator,
+        &mut kept.met,
+        other,
+        matches,
+        offset,
+    )?;
     kept.follow(alloc, graph, mark, rows, met)?;
     Ok(remap)
 }
