@@ -29,12 +29,16 @@ pub(crate) fn merge_kept_by_track(
     ensures cause { IfErr result (λ kind. (kind ≡ OutOfMemory) ⊎ IsTrackCause rule graph.old world kind) }
     ensures refuses { (kind : ResolveErrorKind) → IsTrackCause rule graph.old world kind → OnOk result ⊥ }
 {
-    match find_semver_merge(alloc, graph, world, rule)? {
-        SemverMerge::Imports(imports) => place_imports(graph, world, imports),
+    let merge = find_semver_merge(alloc, graph, world, rule)?;
+    match merge {
+        SemverMerge::Imports(imports) => {
+            place_imports(graph, world, imports);
+            Ok(())
+        }
         SemverMerge::Graph(merged) => {
             *kept = Kept::of(alloc, &merged)?;
             *graph = merged;
+            Ok(())
         }
     }
-    Ok(())
 }

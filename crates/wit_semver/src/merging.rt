@@ -128,9 +128,15 @@ pub fn merge_by_track(
     ensures cause { IfErr result (λ e. (e ≡ OutOfMemory) ⊎ IsTrackCause rule graph.old world e) }
     ensures refuses { (e : ResolveErrorKind) → IsTrackCause rule graph.old world e → OnOk result ⊥ }
 {
-    match find_semver_merge(alloc, graph, world, rule)? {
-        SemverMerge::Imports(imports) => place_imports(graph, world, imports),
-        SemverMerge::Graph(merged) => *graph = merged,
+    let merge = find_semver_merge(alloc, graph, world, rule)?;
+    match merge {
+        SemverMerge::Imports(imports) => {
+            place_imports(graph, world, imports);
+            Ok(())
+        }
+        SemverMerge::Graph(merged) => {
+            *graph = merged;
+            Ok(())
+        }
     }
-    Ok(())
 }

@@ -1,6 +1,6 @@
 -- A canonical world that lists only some of its imports: where what these need is among them, so is what the exports need,
 -- and elaboration adds nothing to them.
-use Rattle.std.proofs.Common.{◌≡◌, ◌∙◌, ◌<◌, inl, inr, ℕ, Bool, true, false, List, [], ◌∷◌, ◌++◌, append_assoc, filter, map, length, refl, sym, ap, subst, Contains, All, nat_eq}
+use Rattle.std.proofs.Common.{◌≡◌, ◌∙◌, ◌<◌, inl, inr, ℕ, Bool, true, false, List, [], ◌∷◌, ◌++◌, Option, None, Some, append_assoc, filter, map, length, refl, sym, ap, subst, Contains, All, nat_eq}
 use Rattle.std.specs.List.{flat_map, list_any}
 use Rattle.std.specs.Map.{keys_of}
 use Rattle.std.proofs.lemmas.Bool.{cases_Bool}
@@ -10,11 +10,15 @@ use Rattle.wit_digraph.specs.facts.MemberFacts.{Contains-flat_map_cases, Contain
 use Rattle.wit_digraph.specs.facts.PostOrderFacts.{Reaches-from_post_order, UsesFirst-append, UsesFirst-IsPath}
 use Rattle.wit_digraph.specs.PostOrder.{UsesFirst, post_order}
 use Rattle.wit_digraph.specs.Relation.{IsAcyclic, direct}
+use Rattle.wit_data.specs.Function.{resource_of}
+use Rattle.wit_data.specs.Uses.{type_interface_dep}
 use Rattle.wit_data.specs.declared.types.TypeDef.{TypeDef}
+use Rattle.wit_data.specs.declared.world.WorldItem.{WorldItem}
 use Rattle.wit_data.specs.declared.world.WorldKey.{WorldKey}
+use Rattle.wit_data.specs.declared.world.WorldItem.TheVariants as item
 use Rattle.wit_data.specs.declared.world.WorldKey.TheVariants.{Name, Interface}
 use Rattle.wit_elaboration.specs.Elaborated.{dependencies_before, dependency_of, elaborated_imports, export_imports, import_with_needs, inherited_by_import, without_span}
-use Rattle.wit_elaboration.specs.Entries.{Entry, FreeFunction, Instance, ResourceFunction, Role, TypeDefinition, TypeUse, by_class, elaboration_class, fresh_entries, key_interface, of_class, role_of, same_key}
+use Rattle.wit_elaboration.specs.Entries.{Entry, by_class, elaboration_class, fresh_entries, function_role, key_interface, of_class, role_of, same_key, type_role}
 use Rattle.wit_elaboration.specs.Imported.{is_exported}
 use Rattle.wit_elaboration.specs.Sound.{IsRoleInRange}
 use Rattle.wit_elaboration.specs.facts.Filters.{Contains-filter, filter-fail, filter-flat_map, filter-pass}
@@ -75,22 +79,29 @@ module _ (types : List TypeDef) (uses : List (List ℕ)) (acyclic : IsAcyclic us
               (λ f j there. needs f j (subst (λ (l : List Entry). Contains l f) (sym is) there)) (λ f j there. left f j (Contains-there e f es there)))
         ]
 
-  -- what an entry needs is listed, where what it stands on is, and each after what it uses
-  needs_listed : (role : Role) (s : List ℕ) (j : ℕ) → IsRoleInRange (length uses) role → All (Contains s) (stands_on uses role) → UsesFirst uses [] s → Contains (dependencies_before uses role) j → Contains s j
-  needs_listed (Instance i) s j inside on first has =
+  -- what an item needs is listed, where what it stands on is, and each after what it uses
+  nothing_needed : (o : Option ℕ) (j : ℕ) → Contains (dependencies_before uses (function_role o)) j → ⊥
+  nothing_needed None j has = Contains-nil has
+  nothing_needed (Some r) j has = Contains-nil has
+
+  use_listed : (o : Option ℕ) (s : List ℕ) (j : ℕ) → IsRoleInRange (length uses) (type_role o) → All (Contains s) (stands_on uses (type_role o)) → UsesFirst uses [] s → Contains (dependencies_before uses (type_role o)) j → Contains s j
+  use_listed None s j inside on first has = absurd (Contains-nil has)
+  use_listed (Some i) s j inside on first has =
+      let path = Reaches-from_post_order uses acyclic i inside j has in
+      UsesFirst-IsPath uses s i path.0 j first (All-contains (Contains s) (i ∷ []) i on (Contains-here i [])) path.1
+
+  needs_listed : (held : WorldItem) (s : List ℕ) (j : ℕ) → IsRoleInRange (length uses) (role_of types held) → All (Contains s) (stands_on uses (role_of types held)) → UsesFirst uses [] s
+      → Contains (dependencies_before uses (role_of types held)) j → Contains s j
+  needs_listed (item.Interface i stability docs span external_id) s j inside on first has =
       let part = Contains-flat_map_cases (post_order uses) (direct uses i) j has in
       let path = Reaches-from_post_order uses acyclic part.0 (All-contains (λ x. x < length uses) (direct uses i) part.0 (acyclic.in_range i) part.1.0) j part.1.1 in
       UsesFirst-IsPath uses s part.0 path.0 j first (All-contains (Contains s) (direct uses i) part.0 on part.1.0) path.1
-  needs_listed (TypeUse i) s j inside on first has =
-      let path = Reaches-from_post_order uses acyclic i inside j has in
-      UsesFirst-IsPath uses s i path.0 j first (All-contains (Contains s) (i ∷ []) i on (Contains-here i [])) path.1
-  needs_listed TypeDefinition s j inside on first has = absurd (Contains-nil has)
-  needs_listed FreeFunction s j inside on first has = absurd (Contains-nil has)
-  needs_listed ResourceFunction s j inside on first has = absurd (Contains-nil has)
+  needs_listed (item.Function f) s j inside on first has = absurd (nothing_needed (resource_of f.kind) j has)
+  needs_listed (item.Type_ t span) s j inside on first has = use_listed (type_interface_dep types t) s j inside on first has
 
-  listed_more : (s : List ℕ) (k : WorldKey) (role : Role) → UsesFirst uses [] s → All (Contains s) (stands_on uses role) → ((i : ℕ) → k ≡ Interface i → role ≡ Instance i) → UsesFirst uses [] (s ++ key_interface k)
-  listed_more s (Name n) role first on own = rw append-nil first
-  listed_more s (Interface i) role first on own = UsesFirst-append uses s (i ∷ []) [] first (subst (λ it. All (Contains s) (stands_on uses it)) (own i refl) on, tt)
+  listed_more : (s : List ℕ) (k : WorldKey) → UsesFirst uses [] s → ((i : ℕ) → k ≡ Interface i → All (Contains s) (direct uses i)) → UsesFirst uses [] (s ++ key_interface k)
+  listed_more s (Name n) first on = rw append-nil first
+  listed_more s (Interface i) first on = UsesFirst-append uses s (i ∷ []) [] first (on i refl, tt)
 
   -- imports that stand after what they use, as elaboration leaves them, get nothing more
   nothing_added : (es : List Entry) (seen : List WorldKey) → AllNew seen es → DependenciesFirst types uses (interfaces_of_keys seen) es → UsesFirst uses [] (interfaces_of_keys seen) → AreOwn types es
@@ -102,11 +113,11 @@ module _ (types : List TypeDef) (uses : List (List ℕ)) (acyclic : IsAcyclic us
       let skip : fresh_entries seen (deps ++ ((e.0, without_span e.1) ∷ rest)) ≡ fresh_entries seen ((e.0, without_span e.1) ∷ rest) =
       fresh_entries-all_known seen deps ((e.0, without_span e.1) ∷ rest) (λ f has.
       let part = Contains-deps (inherited_by_import types e.1) (dependencies_before uses (role_of types e.1)) f has in
-      let known = id_known part.0 seen (needs_listed (role_of types e.1) (interfaces_of_keys seen) part.0 (inside e (Contains-here e es)) first.0 listed part.1.0) in
+      let known = id_known part.0 seen (needs_listed e.1 (interfaces_of_keys seen) part.0 (inside e (Contains-here e es)) first.0 listed part.1.0) in
       subst (λ (z : Entry). list_any (same_key z.0) seen ≡ true) part.1.1 known) in
       let more : fresh_entries (seen ++ e.0 ∷ []) rest ≡ es =
       nothing_added es (seen ++ e.0 ∷ []) new.1 (rw ids-push first.1)
-      (rw ids-push (listed_more (interfaces_of_keys seen) e.0 (role_of types e.1) listed first.0 (λ i. own e i (Contains-here e es))))
+      (rw ids-push (listed_more (interfaces_of_keys seen) e.0 listed (λ i under. subst (λ role. All (Contains (interfaces_of_keys seen)) (stands_on uses role)) (own e i (Contains-here e es) under) first.0)))
       (λ f i has. own f i (Contains-there e f es has)) (λ f has. inside f (Contains-there e f es has)) (λ f has. settled f (Contains-there e f es has)) in
       rw (append_assoc deps ((e.0, without_span e.1) ∷ []) rest, skip, settled e (Contains-here e es), fresh_entries-new seen e rest new.0, more) refl
 

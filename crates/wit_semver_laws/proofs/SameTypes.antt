@@ -1,6 +1,6 @@
 -- Semver merging where each type names what it named: all uses stay, so every world is its own elaboration yet, the named one
 -- with what it keeps of its imports; and nothing that is asked of the new graph can be against it.
-use Rattle.std.proofs.Common.{◌≡◌, ◌∙◌, ◌+◌, arith, inl, inr, ℕ, suc, Bool, true, false, not, List, [], ◌∷◌, ◌++◌, map, length, Some, slice_get, slice_set, refl, sym, ap, subst, Contains}
+use Rattle.std.proofs.Common.{◌≡◌, ◌∙◌, ◌+◌, arith, inl, inr, ℕ, suc, Bool, true, false, not, List, [], ◌∷◌, ◌++◌, map, length, Option, None, Some, slice_get, slice_set, refl, sym, ap, subst, Contains}
 use Rattle.std.specs.List.{AllByRecursion, enumerate_from, flat_map, list_any}
 use Rattle.std.specs.Map.{keys_of}
 use Rattle.std.specs.Option.{option_map_or}
@@ -13,9 +13,11 @@ use Rattle.wit_digraph.specs.facts.MemberFacts.{Contains-cons_cases, Contains-fl
 use Rattle.wit_digraph.specs.Relation.{IsAcyclic, direct}
 use Rattle.wit_data.specs.Each.{Each}
 use Rattle.wit_data.specs.Entries.{IsImport}
+use Rattle.wit_data.specs.Function.{resource_of}
 use Rattle.wit_data.specs.Kind.{type_references}
-use Rattle.wit_data.specs.Uses.{interface_uses, uses_of}
+use Rattle.wit_data.specs.Uses.{interface_uses, type_interface_dep, uses_of}
 use Rattle.wit_data.specs.declared.interface.Interface.{Interface}
+use Rattle.wit_data.specs.declared.stability.Stability.TheVariants as stability
 use Rattle.wit_data.specs.declared.types.TypeDef.{TypeDef}
 use Rattle.wit_data.specs.declared.world.World.{World}
 use Rattle.wit_data.specs.declared.world.WorldItem.{WorldItem}
@@ -25,7 +27,7 @@ use Rattle.wit_data.specs.declared.world.WorldKey.TheVariants as key
 use Rattle.wit_elaboration.specs.AllElaborated.{all_elaborated, graph_package_uses}
 use Rattle.wit_elaboration.specs.Elaborated.{Elaborated, dependency_of, elaborated_exports, elaborated_imports, export_imports, import_steps, import_with_needs, inherited_by_export, with_elaborated_lists, without_span}
 use Rattle.wit_elaboration.specs.Elaboration.{graph_uses}
-use Rattle.wit_elaboration.specs.Entries.{Entry, FreeFunction, Instance, ResourceFunction, Role, TypeDefinition, TypeUse, by_class, fresh_entries, item_interface, key_interface, keyed_interfaces, role_of}
+use Rattle.wit_elaboration.specs.Entries.{Entry, by_class, fresh_entries, function_role, item_interface, key_interface, keyed_interfaces, role_of, type_role}
 use Rattle.wit_elaboration.specs.Imported.{HasTransitiveConflict, is_exported}
 use Rattle.wit_elaboration.specs.Sound.{HasSoundEntries, IsRoleInRange}
 use Rattle.wit_elaboration.specs.Valid.{IsValid}
@@ -84,22 +86,39 @@ without_span_twice (item.Function f) = refl
 without_span_twice (item.Type_ t span) = refl
 
 -- under the key of an interface stands that interface
-own_role : (interfaces : List Interface) (types : List TypeDef) (w : ℕ) (k : WorldKey) (held : WorldItem) (i : ℕ) → k ≡ key.Interface i → IsImport interfaces types w k held → role_of types held ≡ Instance i
+abbrev instance_of : ℕ → WorldItem
+instance_of i = item.Interface i stability.Unknown (record { contents = None }) None None
+
+own_role : (interfaces : List Interface) (types : List TypeDef) (w : ℕ) (k : WorldKey) (held : WorldItem) (i : ℕ) → k ≡ key.Interface i → IsImport interfaces types w k held → role_of types held ≡ role_of types (instance_of i)
 own_role interfaces types w (key.Name name) held i same is = cc
-own_role interfaces types w (key.Interface f) (item.Interface id stability docs span external_id) i same is = let one : f ≡ i = cc in ap (λ (x : ℕ). Instance x) (is.0 ∙ one)
+own_role interfaces types w (key.Interface f) (item.Interface id stability docs span external_id) i same is = let one : f ≡ i = cc in ap (λ (x : ℕ). role_of types (instance_of x)) (is.0 ∙ one)
 own_role interfaces types w (key.Interface f) (item.Function fn) i same is = absurd is
 own_role interfaces types w (key.Interface f) (item.Type_ t span) i same is = absurd is
 
 -- what an entry stands on is where its imports begin, or is used by such
-stands_within : (uses : List (List ℕ)) (Kept : ℕ → Type 0) (k : WorldKey) (role : Role) (j : ℕ) → ((r : ℕ) → Contains (roots_of uses k role) r → Kept r) → ((i j : ℕ) → Kept i → Contains (direct uses i) j → Kept j)
-    → Contains (stands_on uses role) j → Kept j
-stands_within uses Kept (key.Interface f) (Instance i) j begins closed on = closed i j (begins i (Contains-here i [])) on
-stands_within uses Kept (key.Name name) (Instance i) j begins closed on = begins j on
-stands_within uses Kept (key.Interface f) (TypeUse i) j begins closed on = begins j on
-stands_within uses Kept (key.Name name) (TypeUse i) j begins closed on = begins j on
-stands_within uses Kept k TypeDefinition j begins closed on = absurd (Contains-nil on)
-stands_within uses Kept k FreeFunction j begins closed on = absurd (Contains-nil on)
-stands_within uses Kept k ResourceFunction j begins closed on = absurd (Contains-nil on)
+function_stands : (uses : List (List ℕ)) (o : Option ℕ) (j : ℕ) → Contains (stands_on uses (function_role o)) j → ⊥
+function_stands uses None j on = Contains-nil on
+function_stands uses (Some r) j on = Contains-nil on
+
+use_begins : (uses : List (List ℕ)) (o : Option ℕ) (k : WorldKey) (j : ℕ) → Contains (stands_on uses (type_role o)) j → Contains (roots_of uses k (type_role o)) j
+use_begins uses None k j on = absurd (Contains-nil on)
+use_begins uses (Some i) (key.Name name) j on = on
+use_begins uses (Some i) (key.Interface f) j on = on
+
+stands_within : (types : List TypeDef) (uses : List (List ℕ)) (Kept : ℕ → Type 0) (k : WorldKey) (held : WorldItem) (j : ℕ) → ((r : ℕ) → Contains (roots_of uses k (role_of types held)) r → Kept r)
+    → ((i j : ℕ) → Kept i → Contains (direct uses i) j → Kept j) → Contains (stands_on uses (role_of types held)) j → Kept j
+stands_within types uses Kept (key.Interface f) (item.Interface i stability docs span external_id) j begins closed on = closed i j (begins i (Contains-here i [])) on
+stands_within types uses Kept (key.Name name) (item.Interface i stability docs span external_id) j begins closed on = begins j on
+stands_within types uses Kept k (item.Function f) j begins closed on = absurd (function_stands uses (resource_of f.kind) j on)
+stands_within types uses Kept k (item.Type_ t span) j begins closed on = begins j (use_begins uses (type_interface_dep types t) k j on)
+
+-- a key that is an interface names it
+under_key : (k : WorldKey) (i : ℕ) → k ≡ key.Interface i → Contains (key_interface k) i
+under_key k i is = subst (λ (x : WorldKey). Contains (key_interface x) i) (sym is) (Contains-here i [])
+
+-- the key of an entry is among the keys
+has_key : (es : List Entry) (e : Entry) (k : WorldKey) → Contains es e → e.0 ≡ k → Contains (keys_of es) k
+has_key es e k has is = subst (Contains (keys_of es)) is (Contains-map (λ (z : Entry). z.0) es e has)
 
 -- the interface of a key that passes a test passes it
 key_passes : (test : ℕ → Bool) (k : WorldKey) (j : ℕ) → list_any test (key_interface k) ≡ true → Contains (key_interface k) j → test j ≡ true
@@ -206,16 +225,17 @@ module _ (laws : LawsOfElaboration) (order : ImportsKeepOrder) (u : Upgrade) (va
       let dep = Contains-deps carried (import_steps uses (is_exported old.exports) i.0) e i.1.1 in
       let among = fresh_entries_all [] (made (kept_imports u)) e (Contains-append_right (flat_map (import_with_needs types uses) (by_class types (kept_imports u))) (flat_map (export_imports uses (is_exported old.exports)) old.exports) e has) in
       let found = Contains-keys (fresh_entries [] (made (kept_imports u))) e.0 among in
-      let under : found.0.0 ≡ key.Interface dep.0 = found.1.1 ∙ sym (ap (λ (z : Entry). z.0) dep.1.1) in
+      let named : key.Interface dep.0 ≡ e.0 = ap (λ (z : Entry). z.0) dep.1.1 in
+      let under : found.0.0 ≡ key.Interface dep.0 = ◌∙◌ {a = found.0.0} found.1.1 (sym named) in
       let kept = passed laws.least u valid w there complete dep.0 (all_kept dep.0
       (Contains-flat_map (λ (z : Entry). key_interface z.0) done.imports found.0 dep.0 (in_by_class types (fresh_entries [] (made (kept_imports u))) found.0 found.1.0)
-      (subst (λ (k : WorldKey). Contains (key_interface k) dep.0) (sym under) (Contains-here dep.0 [])))) in
+      (under_key found.0.0 dep.0 under))) in
       let entry = kept_into laws.least u valid w there complete dep.0 kept in
-      subst (Contains (keys_of (kept_imports u))) (entry.2 ∙ ap (λ (z : Entry). z.0) dep.1.1) (Contains-map (λ (z : Entry). z.0) (kept_imports u) entry.0 entry.1)
+      has_key (kept_imports u) entry.0 e.0 entry.1 (◌∙◌ {a = entry.0.0} entry.2 named)
 
   are_closed : AreClosed types uses acyclic Kept (λ (e : Entry). not (is_replaced_entry u e)) old.imports old.exports
   are_closed = record {
-    needs = λ e j has on. stands_within uses Kept e.0 (role_of types e.1) j (λ r root. holds.roots r (Contains-flat_map (λ (e : Entry). roots_of uses e.0 (role_of types e.1)) (kept_imports u) e r has root)) holds.closed on;
+    needs = λ e j has on. stands_within types uses Kept e.0 e.1 j (λ r root. holds.roots r (Contains-flat_map (λ (e : Entry). roots_of uses e.0 (role_of types e.1)) (kept_imports u) e r has root)) holds.closed on;
     left = λ e j has goes under kept.
         false≢true (sym (passed laws.least u valid w there complete j kept).stays ∙ key_passes (is_replaced u) e.0 j (not_false (is_replaced_entry u e) goes) under);
     exported = exports_need;
