@@ -1,10 +1,11 @@
 -- What becomes of a table of worlds whose world comes last under its new name.
-use Rattle.std.proofs.Common.{◌≡◌, ◌≢◌, ◌∙◌, inl, inr, ℕ, Bool, true, false, not, cond, List, [], ◌∷◌, ◌++◌, Option, None, Some, IsSomeAnd, filter, map, slice_get, slice_set, zero, suc, refl, sym, ap, subst, Contains, option_to_list}
+use Rattle.std.proofs.Common.{◌≡◌, ◌≢◌, ◌∙◌, inl, inr, ℕ, Bool, true, false, not, cond, List, [], ◌∷◌, ◌++◌, Option, None, Some, IsSome, IsSomeAnd, Result, Ok, Err, OnErr, ◌<◌, length, filter, map, slice_get, slice_set, zero, suc, refl, sym, ap, subst, Contains, option_to_list}
 use Rattle.std.specs.Prelude.{nat_eq, bytes_eq}
 use Rattle.std.specs.Cmp.Lexicographic.{nat_list_eq_equiv}
 use Rattle.std.specs.List.{IsDistinct}
 use Rattle.std.specs.Map.{keys_of, lookup, remove_entry}
 use Rattle.std.proofs.lemmas.Bool.{eqb-false}
+use Rattle.std.proofs.lemmas.Option.{slice_get_within}
 use Rattle.std.proofs.lemmas.Map.Views.{Contains-from_lookup, lookup-from_Contains}
 use Rattle.std.proofs.lemmas.Slice.Eq.{bytes_eq-Decides}
 use Rattle.wit_values.specs.Names.{moved_last}
@@ -45,10 +46,10 @@ module _ (w : ℕ) where
     -- without the world is without the one entry that has its old name
     pub without_world : (es : Worlds) → HasDistinctKeys es → Contains es (old, w) → ((e : List ℕ × ℕ) → Contains es e → e.1 ≡ w → e.0 ≡ old) → filter other es ≡ remove_entry (bytes_eq old) es
     without_world [] distinct has once = refl
-    without_world (e ∷ es) distinct has once = by (bytes_eq old e.0) refl
+    without_world (e ∷ es) distinct has once = by (bytes_eq old e.0) refl (λ behind. without_world es (tail_distinct e es distinct) behind (λ d among. once d (Contains-there e d es among)))
       where
-        by : (b : Bool) → bytes_eq old e.0 ≡ b → filter other (e ∷ es) ≡ remove_entry (bytes_eq old) (e ∷ es)
-        by true is =
+        by : (b : Bool) → bytes_eq old e.0 ≡ b → (Contains es (old, w) → filter other es ≡ remove_entry (bytes_eq old) es) → filter other (e ∷ es) ≡ remove_entry (bytes_eq old) (e ∷ es)
+        by true is rest =
             let own : e ≡ (old, w) = same_entry (e ∷ es) distinct e (old, w) (Contains-here e es) has (sym ((bytes_eq-Decides old e.0).0 is)) in
             let gone : other e ≡ false = is_own (nat_eq e.1 w) e.1 refl (ap (λ (p : List ℕ × ℕ). p.1) own) in
             (λ j. cond (gone j) (e ∷ filter other es) (filter other es))
@@ -56,27 +57,28 @@ module _ (w : ℕ) where
             let named : d.0 ≡ old = once d (Contains-there e d es among) same in
             head_apart e es distinct d among (ap (λ (p : List ℕ × ℕ). p.0) own ∙ sym named))
             ∙ sym (λ j. cond (is j) es (e ∷ remove_entry (bytes_eq old) es))
-        by false is =
+        by false is rest =
             let apart : e.1 ≡ w → ⊥ = λ same. let named = once e (Contains-here e es) same in let equal : bytes_eq old e.0 ≡ true = (bytes_eq-Decides old e.0).1 (sym named) in cc in
             let behind : Contains es (old, w) = elim (Contains-cons_cases e (old, w) es has) [
               | inl same ↦ absurd (apart (ap (λ (p : List ℕ × ℕ). p.1) same))
               | inr there ↦ there
             ] in
             (λ j. cond (is_other e.1 w apart j) (e ∷ filter other es) (filter other es))
-            ∙ ap (λ l. e ∷ l) (without_world es (tail_distinct e es distinct) behind (λ d among. once d (Contains-there e d es among)))
+            ∙ ap (λ l. e ∷ l) (rest behind)
             ∙ sym (λ j. cond (is j) es (e ∷ remove_entry (bytes_eq old) es))
 
     -- what is taken out before the last leaves the last
     taken_before : (es : Worlds) (last : List ℕ × ℕ) (v : ℕ) → lookup (bytes_eq old) es ≡ Some v → remove_entry (bytes_eq old) (es ++ last ∷ []) ≡ remove_entry (bytes_eq old) es ++ last ∷ []
     taken_before [] last v found = cc
-    taken_before (e ∷ es) last v found = by (bytes_eq old e.0) refl
+    taken_before (e ∷ es) last v found = by (bytes_eq old e.0) refl (taken_before es last v)
       where
-        by : (b : Bool) → bytes_eq old e.0 ≡ b → remove_entry (bytes_eq old) (e ∷ es ++ last ∷ []) ≡ remove_entry (bytes_eq old) (e ∷ es) ++ last ∷ []
-        by true is = (λ j. cond (is j) (es ++ last ∷ []) (e ∷ remove_entry (bytes_eq old) (es ++ last ∷ []))) ∙ sym (λ j. cond (is j) es (e ∷ remove_entry (bytes_eq old) es) ++ last ∷ [])
-        by false is =
+        by : (b : Bool) → bytes_eq old e.0 ≡ b → (lookup (bytes_eq old) es ≡ Some v → remove_entry (bytes_eq old) (es ++ last ∷ []) ≡ remove_entry (bytes_eq old) es ++ last ∷ [])
+            → remove_entry (bytes_eq old) (e ∷ es ++ last ∷ []) ≡ remove_entry (bytes_eq old) (e ∷ es) ++ last ∷ []
+        by true is rest = (λ j. cond (is j) (es ++ last ∷ []) (e ∷ remove_entry (bytes_eq old) (es ++ last ∷ []))) ∙ sym (λ j. cond (is j) es (e ∷ remove_entry (bytes_eq old) es) ++ last ∷ [])
+        by false is rest =
             let behind : lookup (bytes_eq old) es ≡ Some v = sym (λ j. cond (is j) (Some e.1) (lookup (bytes_eq old) es)) ∙ found in
             (λ j. cond (is j) (es ++ last ∷ []) (e ∷ remove_entry (bytes_eq old) (es ++ last ∷ [])))
-            ∙ ap (λ l. e ∷ l) (taken_before es last v behind)
+            ∙ ap (λ l. e ∷ l) (rest behind)
             ∙ sym (λ j. cond (is j) es (e ∷ remove_entry (bytes_eq old) es) ++ last ∷ [])
 
     module _ (es : Worlds) (test : IsDistinct bytes_eq (keys_of es)) (distinct : HasDistinctKeys es) (has : Contains es (old, w)) (once : Each (λ (e : List ℕ × ℕ). e.1 ≡ w → e.0 ≡ old) es) where
@@ -136,3 +138,30 @@ pub set_same : {X : Type 0} (xs : List X) (i : ℕ) (x : X) → slice_get xs i �
 set_same [] i x at = refl
 set_same (y ∷ xs) zero x at = let same : y ≡ x = cc in ap (λ z. z ∷ xs) (sym same)
 set_same (y ∷ xs) (suc i) x at = ap (λ l. y ∷ l) (set_same xs i x at)
+
+-- ---- the package of a world
+
+-- what is so of what stands at a place
+pub holds_at : {X : Type 0} (P : X → Type 0) (xs : List X) (i : ℕ) (x : X) → SomeAt xs i P → slice_get xs i ≡ Some x → P x
+holds_at P xs i x some at = let found = found_at P xs i some in subst P (same_at xs i i found.0 x refl found.1 at) found.2
+
+is_some_of : {X : Type 0} (P : X → Type 0) (o : Option X) → IsSomeAnd o P → IsSome o
+is_some_of P None h = absurd h
+is_some_of P (Some x) h = refl
+
+module _ (g : Graph) (tables : HasTables g.packages g.interfaces g.worlds) (w : ℕ) (current : World) (there : slice_get g.worlds w ≡ Some current) where
+  -- a world has one
+  pub has_package : IsSome current.package
+  has_package = is_some_of (λ p. SomeAt g.packages p (λ (home : Package). Contains home.worlds (current.name, w))) current.package (tables.worlds_listed w current there)
+
+  -- which is there
+  pub home_is_there : (p : ℕ) → current.package ≡ Some p → p < length g.packages
+  home_is_there p is =
+      let listed = subst (λ (o : Option ℕ). IsSomeAnd o (λ q. SomeAt g.packages q (λ (h : Package). Contains h.worlds (current.name, w)))) is (tables.worlds_listed w current there) in
+      let found = found_at (λ (h : Package). Contains h.worlds (current.name, w)) g.packages p listed in
+      slice_get_within g.packages p found.0 found.1
+
+-- what is so anyway is so after an error
+pub on_err : {T E P : Type 0} (r : Result T E) → P → OnErr r P
+on_err (Ok x) h = tt
+on_err (Err e) h = h

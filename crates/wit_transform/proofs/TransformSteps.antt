@@ -1,5 +1,5 @@
 -- From the steps of a turn to what it makes of a graph, and to its reasons.
-use Rattle.std.proofs.Common.{◌≡◌, ◌∙◌, ◌⊎◌, inl, inr, ℕ, ◌<◌, Bool, true, false, List, [], ◌++◌, Option, None, Some, IsSome, IsSomeAnd, length, slice_get, refl, sym, ap, subst, arith}
+use Rattle.std.proofs.Common.{◌≡◌, ◌∙◌, ◌⊎◌, inl, inr, ℕ, ◌<◌, Bool, true, false, List, [], ◌++◌, Option, None, Some, IsSomeAnd, length, slice_get, refl, sym, ap, subst, arith}
 use Rattle.std.specs.Option.{option_map_or}
 use Rattle.std.proofs.lemmas.Option.{slice_get_within}
 use Rattle.wit_data.specs.declared.world.World.{World}
@@ -20,26 +20,8 @@ use Rattle.wit_transform.specs.Transformed.{ExportizeCause, ExportsAreInConflict
 
 -- ---- the world and its package
 
-pub within_of : (g : Graph) (w : ℕ) → HasPackageAt g w → w < length g.worlds
-within_of g w has =
-    let found = found_at (λ (world : World). IsSomeAnd world.package (λ p. p < length g.packages)) g.worlds w has in
-    slice_get_within g.worlds w found.0 found.1
-
-some_only : (P : ℕ → Type 0) (o : Option ℕ) → IsSomeAnd o P → IsSome o
-some_only P None h = absurd h
-some_only P (Some p) h = refl
-
 some_made : (P : ℕ → Type 0) (o : Option ℕ) (p : ℕ) → o ≡ Some p → P p → IsSomeAnd o P
 some_made P o p is h = subst (λ (x : Option ℕ). IsSomeAnd x P) (sym is) h
-
-module _ (g : Graph) (w : ℕ) (has : HasPackageAt g w) (current : World) (there : slice_get g.worlds w ≡ Some current) where
-  in_range : IsSomeAnd current.package (λ p. p < length g.packages)
-  in_range =
-      let found = found_at (λ (world : World). IsSomeAnd world.package (λ p. p < length g.packages)) g.worlds w has in
-      subst (λ (world : World). IsSomeAnd world.package (λ p. p < length g.packages)) (same_at g.worlds w w found.0 current refl found.1 there) found.2
-
-  pub has_package : IsSome current.package
-  has_package = some_only (λ p. p < length g.packages) current.package in_range
 
 -- in a valid graph it has one
 pub has_home : (g : Graph) → IsValid g → (w : ℕ) → w < length g.worlds → HasPackageAt g w

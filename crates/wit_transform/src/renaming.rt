@@ -56,6 +56,7 @@ pub(crate) fn rename_last(
     ensures ok { OnOk result (home.new ≡ record home.old { worlds = put_last home.old.worlds world name.now }) }
     ensures err { OnErr result (home.new ≡ home.old) }
 {
+    home.worlds.keys_differ();
     if name == old_name {
         home.worlds.move_last(old_name);
         return Ok(());
