@@ -16,10 +16,10 @@ use Rattle.wit_data.specs.declared.world.World.{World}
 use Rattle.wit_elaboration.specs.Valid.{HasTables}
 use Rattle.wit_graph_data.specs.declared.graph.Graph.{Graph}
 use Rattle.wit_graph_data.specs.declared.graph.Package.{Package}
-use Rattle.wit_digraph.specs.facts.MemberFacts.{Contains-cons_cases, Contains-here, Contains-nil, Contains-there}
+use Rattle.wit_digraph.specs.facts.MemberFacts.{Contains-cons_cases, Contains-here, Contains-there}
 use Rattle.wit_graph_theory.specs.facts.ListFacts.{found_at, place_of, same_at}
 use Rattle.wit_transform.specs.facts.Distinct.{head_apart, same_entry, tail_distinct}
-use Rattle.wit_transform.specs.facts.Looked.{differs, is_other}
+use Rattle.wit_transform.specs.facts.Looked.{is_other}
 use Rattle.wit_transform.specs.Transformed.{NameIsFreeAt, NameIsTakenIn, put_last, with_renamed}
 
 -- entries of a table of worlds

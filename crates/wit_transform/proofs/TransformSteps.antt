@@ -11,7 +11,7 @@ use Rattle.wit_elaboration.specs.Valid.{IsValid}
 use Rattle.wit_graph_data.specs.declared.graph.Graph.{Graph}
 use Rattle.wit_graph_data.specs.declared.error_kind.ResolveErrorKind.{ResolveErrorKind}
 use Rattle.wit_graph_data.specs.declared.error_kind.ResolveErrorKind.TheVariants.{PackageNotFound, WorldNotFound, InterfaceNotFound, InvalidTransitiveDependency, DuplicatePackage, PackageCycle, ItemShadowing, StabilityMismatch, Semantic, OffsetOverflow, OutOfMemory}
-use Rattle.wit_graph_theory.specs.facts.ListFacts.{found_at, get_at, same_at, some_at}
+use Rattle.wit_graph_theory.specs.facts.ListFacts.{get_at, same_at, some_at}
 use Rattle.wit_transform.proofs.Accepted.{home_at, under_labels}
 use Rattle.wit_transform.specs.facts.ListsFrom.{exportized_comes, importized_comes}
 use Rattle.wit_transform.proofs.Refusals.{no_types}

@@ -1,6 +1,6 @@
 -- Turned worlds: a world whose exports become its imports, or whose imports become its exports.
 -- Source: `importize` and `exportize` of wit-parser 0.263.0.
-use Rattle.std.specs.Prelude.{ℕ, ◌≡◌, Bool, true, false, not, List, [], ◌∷◌, ◌++◌, Option, Some, None, codes, filter, filter_map, map, nat_eq, slice_get, slice_set, take, Contains, if◌then◌else◌, zip, ◌≢◌, ◌<◌, length, IsSomeAnd, option_map}
+use Rattle.std.specs.Prelude.{ℕ, ◌≡◌, Bool, true, false, not, List, [], ◌∷◌, ◌++◌, Option, Some, None, codes, filter, filter_map, map, nat_eq, slice_get, slice_set, take, Contains, if◌then◌else◌, zip, ◌≢◌, ◌<◌, length, IsSomeAnd}
 use Rattle.std.specs.Map.{keys_of}
 use Rattle.std.specs.Option.{option_map_or}
 use Rattle.wit_data.specs.declared.world.World.{World}

@@ -1,9 +1,9 @@
 -- What is looked up in tables whose keys differ, and that a key which is to be added is new.
-use Rattle.std.proofs.Common.{◌≡◌, ◌≢◌, ◌∙◌, inl, inr, ℕ, ◌+◌, ◌<◌, ◌≤◌, zero, suc, Bool, true, false, not, List, [], ◌∷◌, ◌++◌, cond, length, take, filter, filter_map, Option, Some, None, IsSome, is_some, slice_get, refl, sym, ap, subst, append_assoc, arith, add-one, if◌then◌else◌, Contains}
+use Rattle.std.proofs.Common.{◌≡◌, ◌≢◌, ◌∙◌, inl, inr, ℕ, ◌+◌, ◌<◌, ◌≤◌, zero, suc, Bool, true, false, not, List, [], ◌∷◌, ◌++◌, cond, length, take, filter, Option, Some, None, IsSome, is_some, slice_get, refl, sym, ap, subst, append_assoc, arith, add-one, if◌then◌else◌, Contains}
 use Rattle.std.specs.Prelude.{◌↔◌, IsTrue, nat_eq, bytes_eq}
 use Rattle.std.specs.Cmp.{IsEquivalence}
 use Rattle.std.specs.Cmp.Lexicographic.{nat_list_eq_equiv}
-use Rattle.std.specs.List.{IsDistinct, cons_option}
+use Rattle.std.specs.List.{IsDistinct}
 use Rattle.std.specs.Map.{keys_of, lookup}
 use Rattle.std.proofs.lemmas.Bool.{eqb-false, ne_eqb}
 use Rattle.std.proofs.lemmas.List.{append-nil}
