@@ -1,5 +1,6 @@
 mod Accepted
 mod Computed
+mod CopiesStay
 mod KeysAre
 mod Mismatches
 mod NamesAre

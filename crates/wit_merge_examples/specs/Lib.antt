@@ -1,3 +1,4 @@
+pub mod Copies
 pub mod Graphs
 pub mod NamesHeld
 pub mod Pairs

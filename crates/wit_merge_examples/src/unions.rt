@@ -1,4 +1,5 @@
 //! What merging two graphs makes.
+ghost use Rattle.wit_merge_examples.specs.Copies.{ExamplesOfCopies};
 ghost use Rattle.wit_merge_examples.specs.Unions.{ExamplesOfMatches, ExamplesOfUnions};
 
 /// Things that are matched, and where all things go.
@@ -9,4 +10,9 @@ pub fn examples_of_matches()
 /// Whole graphs that are made of two, and what they aren't.
 pub fn examples_of_unions()
     ensures { ExamplesOfUnions }
+{}
+
+/// What stays as it is with an empty graph and with a copy, and a copy that is refused.
+pub fn examples_of_copies()
+    ensures { ExamplesOfCopies }
 {}
