@@ -15,6 +15,8 @@ mod NamesStay
 mod Numbered
 mod Outcome
 mod Positions
+mod Returned
 mod Returning
 mod SameImages
 mod UnitedIs
+mod WorldsBehind

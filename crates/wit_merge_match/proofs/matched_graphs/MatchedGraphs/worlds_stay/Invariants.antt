@@ -2,7 +2,7 @@ use Rattle.wit_merge_match.specs.Differing.{merging_of}
 use Rattle.wit_merge_match.specs.steps.Leaving.{WorldLeaves}
 use Rattle.wit_merge_match.proofs.NothingChanges.{LeaveBelow}
 use Rattle.wit_merge_spec.specs.Matches.{counterpart_world}
-use Rattle.wit_merge_match.proofs.leaving.MatchedGraphs.worlds_stay.Given as goal
+use Rattle.wit_merge_match.proofs.matched_graphs.MatchedGraphs.worlds_stay.Given as goal
 
 -- those with which the first ones are matched stay
 abbrev pub invariant-loop-index : goal.invariant-loop-index
