@@ -1,12 +1,14 @@
 -- A merge that leaves what the graph has as it is: what comes stands behind it.
-use Rattle.std.specs.Prelude.{◌≡◌, ℕ, List, ◌++◌, map, filter}
+use Rattle.std.specs.Prelude.{◌≡◌, ℕ, List, ◌++◌, map, filter, flat_map}
 use Rattle.std.specs.List.{enumerate_from}
 use Rattle.wit_names.specs.declared.package_name.PackageName.{PackageName}
+use Rattle.wit_data.specs.declared.function.Function.{Function}
+use Rattle.wit_data.specs.declared.interface.Interface.{Interface}
 use Rattle.wit_data.specs.declared.world.World.{World}
 use Rattle.wit_graph_data.specs.declared.graph.Graph.{Graph}
 use Rattle.wit_remap_spec.specs.Image.{interface_image, world_image}
 use Rattle.wit_link_spec.specs.Selected.{selected}
-use Rattle.wit_link_spec.specs.ValueRemap.{types_behind}
+use Rattle.wit_link_spec.specs.ValueRemap.{types_behind, world_functions}
 use Rattle.wit_merge_spec.specs.Matches.{GraphMerge}
 use Rattle.wit_merge_spec.specs.United.{joined_graph, joined_interface, joined_package, joined_type, joined_world, merge_maps, merged_package, moved_interfaces, moved_worlds, moves_package, package_image, remap_of_merge}
 
@@ -20,6 +22,11 @@ pub record LeavesGraph (m : GraphMerge) : Type 0 where
 -- the worlds that move, where they go
 abbrev pub new_worlds : GraphMerge → List World
 new_worlds m = map (λ (e : ℕ × World). world_image (merge_maps m) e.0 e.1) (moved_worlds m)
+
+-- their functions, behind those of the interfaces that move
+abbrev pub new_functions : GraphMerge → List Function
+new_functions m =
+    flat_map (λ (x : Interface). map (λ (e : List ℕ × Function). e.1) x.functions) (map (interface_image (merge_maps m)) (moved_interfaces m)) ++ flat_map world_functions (new_worlds m)
 
 -- the graph with what comes behind it, with the lists of worlds as they were listed
 abbrev pub grown_graph : GraphMerge → Graph
