@@ -9,7 +9,6 @@ mod Left
 mod MatchedThings
 mod MergeComes
 mod Movable
-mod MovedFunctions
 mod MovedNames
 mod NamesStay
 mod Numbered

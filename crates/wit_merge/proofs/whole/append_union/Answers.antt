@@ -16,27 +16,27 @@ use Rattle.wit_merge.proofs.whole.append_union.Goals as goal
 pub append-requires-clause-can : goal.append-requires-clause-can
 append-requires-clause-can c =
     let m = merge_of_graphs_by c.args.graph.now c.args.other.now c.args.offset in
-    can_append m c.requires.valid c.requires.other c.requires.agree.one c.requires.leaves c.in_ok-coming.coming c.in_ok-coming.ensures.comes c.joined_is_grown.ensures c.uses_grow.ensures c.nothing_new_is_cyclic.ensures
+    can_append m c.requires.valid c.requires.other c.requires.agree.one c.requires.leaves c.in_ok-coming.coming c.in_ok-coming.ensures.comes c.joined_is_grown.ensures c.functions_come.ensures c.uses_grow.ensures c.nothing_new_is_cyclic.ensures c.new_worlds_are_sound.ensures
 
 pub returns-clause-graph : goal.returns-clause-graph
 returns-clause-graph c =
     let m = merge_of_graphs_by c.args.graph.now c.args.other.now c.args.offset in
     c.in_ok-append.ensures.ok
-    ∙ is_union m c.requires.valid c.requires.other c.requires.agree.one c.requires.leaves c.in_ok-coming.coming c.in_ok-coming.ensures.comes c.joined_is_grown.ensures c.unions_grow.ensures
+    ∙ is_union m c.requires.valid c.requires.other c.requires.agree.one c.requires.leaves c.in_ok-coming.coming c.in_ok-coming.ensures.comes c.joined_is_grown.ensures c.functions_come.ensures c.unions_grow.ensures
 
 pub returns-clause-refuses : goal.returns-clause-refuses
 returns-clause-refuses c =
     let m = merge_of_graphs_by c.args.graph.now c.args.other.now c.args.offset in
-    is_accepted m c.requires.valid c.requires.other c.requires.agree.one c.requires.leaves c.in_ok-coming.coming c.in_ok-coming.ensures.comes c.joined_is_grown.ensures c.unions_grow.ensures c.requires.agree c.in_ok-append.ensures.fine
+    is_accepted m c.requires.valid c.requires.other c.requires.agree.one c.requires.leaves c.in_ok-coming.coming c.in_ok-coming.ensures.comes c.joined_is_grown.ensures c.functions_come.ensures c.accepted_growth.ensures c.requires.agree c.in_ok-append.ensures.fine
 
 pub returns-clause-valid : goal.returns-clause-valid
 returns-clause-valid c =
     let m = merge_of_graphs_by c.args.graph.now c.args.other.now c.args.offset in
     let accepted =
-    is_accepted m c.requires.valid c.requires.other c.requires.agree.one c.requires.leaves c.in_ok-coming.coming c.in_ok-coming.ensures.comes c.joined_is_grown.ensures c.unions_grow.ensures c.requires.agree c.in_ok-append.ensures.fine in
+    is_accepted m c.requires.valid c.requires.other c.requires.agree.one c.requires.leaves c.in_ok-coming.coming c.in_ok-coming.ensures.comes c.joined_is_grown.ensures c.functions_come.ensures c.accepted_growth.ensures c.requires.agree c.in_ok-append.ensures.fine in
     let is =
     c.in_ok-append.ensures.ok
-    ∙ is_union m c.requires.valid c.requires.other c.requires.agree.one c.requires.leaves c.in_ok-coming.coming c.in_ok-coming.ensures.comes c.joined_is_grown.ensures c.unions_grow.ensures in
+    ∙ is_union m c.requires.valid c.requires.other c.requires.agree.one c.requires.leaves c.in_ok-coming.coming c.in_ok-coming.ensures.comes c.joined_is_grown.ensures c.functions_come.ensures c.unions_grow.ensures in
     subst IsValid (sym is) (c.unions_stay_valid.ensures m c.requires.valid c.requires.other accepted)
 
 pub returns-clause-uses : goal.returns-clause-uses
@@ -46,10 +46,10 @@ pub returns-clause-met : goal.returns-clause-met
 returns-clause-met c =
     let m = merge_of_graphs_by c.args.graph.now c.args.other.now c.args.offset in
     let accepted =
-    is_accepted m c.requires.valid c.requires.other c.requires.agree.one c.requires.leaves c.in_ok-coming.coming c.in_ok-coming.ensures.comes c.joined_is_grown.ensures c.unions_grow.ensures c.requires.agree c.in_ok-append.ensures.fine in
+    is_accepted m c.requires.valid c.requires.other c.requires.agree.one c.requires.leaves c.in_ok-coming.coming c.in_ok-coming.ensures.comes c.joined_is_grown.ensures c.functions_come.ensures c.accepted_growth.ensures c.requires.agree c.in_ok-append.ensures.fine in
     let is =
     c.in_ok-append.ensures.ok
-    ∙ is_union m c.requires.valid c.requires.other c.requires.agree.one c.requires.leaves c.in_ok-coming.coming c.in_ok-coming.ensures.comes c.joined_is_grown.ensures c.unions_grow.ensures in
+    ∙ is_union m c.requires.valid c.requires.other c.requires.agree.one c.requires.leaves c.in_ok-coming.coming c.in_ok-coming.ensures.comes c.joined_is_grown.ensures c.functions_come.ensures c.unions_grow.ensures in
     let valid = subst IsValid (sym is) (c.unions_stay_valid.ensures m c.requires.valid c.requires.other accepted) in
     right_stays c.args.graph.now.types c.append.new.graph.types c.what_comes.new.met c.requires.valid.no_cycles.types valid.no_cycles.types c.append.ensures.grown.types c.in_ok-coming.ensures.met
 
@@ -63,7 +63,7 @@ returns-in_err-append-clause-cause c =
     (elim c.in_err-append.ensures.cause [
       | inl memory ↦ inl memory
       | inr cause ↦
-          inr (is_told m c.requires.valid c.requires.other c.requires.agree.one c.requires.leaves c.in_ok-coming.coming c.in_ok-coming.ensures.comes c.joined_is_grown.ensures c.unions_grow.ensures c.in_err-append.field-0.0 cause)
+          inr (is_told m c.requires.valid c.requires.other c.requires.agree.one c.requires.leaves c.in_ok-coming.coming c.in_ok-coming.ensures.comes c.joined_is_grown.ensures c.functions_come.ensures c.unions_grow.ensures c.in_err-append.field-0.0 cause)
     ]))
 
 pub returns-in_err-append-clause-valid : goal.returns-in_err-append-clause-valid
