@@ -1,6 +1,6 @@
 //! Whether a merge leaves what a graph has as it is: each thing of it that is matched gets no stability that it lacks, no
 //! type, no function, no interface and no world.
-ghost use Rattle.std.specs.Prelude.{◌≡◌, ℕ, List, IsTrue, [], filter, not, is_some};
+ghost use Rattle.std.specs.Prelude.{◌≡◌, ℕ, List, IsTrue, [], None, filter, get_or, not, is_some};
 ghost use Rattle.std.specs.Map.{lookup};
 ghost use Rattle.std.specs.Option.{option_copied};
 ghost use Rattle.std.specs.Str.{bytes_eq};
@@ -276,7 +276,7 @@ fn all_worlds_matched(names: &Names<WorldId>, found: &Items<Option<WorldId>>) ->
 
 /// Whether a thing moves: it is matched with none.
 fn moves<T: Copy>(found: &Items<Option<T>>, index: usize) -> bool
-    ensures { result ≡ moves found.now index }
+    ensures { result ≡ not (is_some (get_or found.now index None)) }
 {
     match match_at(found, index) {
         Some(_) => false,
