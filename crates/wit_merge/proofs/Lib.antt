@@ -9,12 +9,13 @@ mod Left
 mod MatchedThings
 mod MergeComes
 mod Movable
-mod MovedFunctions
 mod MovedNames
 mod NamesStay
 mod Numbered
 mod Outcome
 mod Positions
+mod Returned
 mod Returning
 mod SameImages
 mod UnitedIs
+mod WorldsBehind

@@ -149,12 +149,13 @@ fn elaborated_world(
     ensures cause { IfErr result (IsConflictError graph.now world) }
     ensures same { elaborator.new ≡ elaborator.old }
 {
-    let mut world = world;
     let complete = elaborator.is_complete(graph, &world)?;
-    if !complete {
-        let lists = elaborator.lists_for(alloc, graph, &world)?;
-        world.imports = lists.imports;
-        world.exports = lists.exports;
+    if complete {
+        return Ok(world);
     }
+    let lists = elaborator.lists_for(alloc, graph, &world)?;
+    let mut world = world;
+    world.imports = lists.imports;
+    world.exports = lists.exports;
     Ok(world)
 }

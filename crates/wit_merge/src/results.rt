@@ -8,10 +8,10 @@ ghost use Rattle.wit_link_spec.specs.CauseText.{borrow_text};
 ghost use Rattle.wit_merge_spec.specs.United.{moved_functions, joined_graph};
 ghost use Rattle.wit_merge_spec.specs.Cause.{MergeReturnsBorrow};
 ghost use Rattle.wit_link_resources.specs.steps.Borrows.{AreFreeTypes};
-ghost use Rattle.wit_merge.specs.steps.Behind.{AreReturned, ReturnNoBorrow, ReturnsBorrow, functions_of};
+ghost use Rattle.wit_merge.specs.steps.Behind.{AreReturned, ReturnNoBorrow, ReturnsBorrow, functions_of as listed_functions};
 ghost use Rattle.wit_merge.specs.steps.UnionSteps.{CanUnite, IsBorrowError, ReturnsFree, merging_of};
 
-use crate::functions::{moved_functions, push_all, push_world};
+use crate::functions::{functions_of, moved_functions};
 use crate::union_plan::UnionPlan;
 use indexmap::IndexSet;
 use std::alloc::{AllocError, Global};
@@ -92,17 +92,11 @@ pub(crate) fn check_returned(
     worlds: &Items<World>,
 ) -> ResolveResult<()>
     requires acyclic { IsAcyclic (type_references types.now) }
-    requires returned { AreReturned types.now (functions_of interfaces.now worlds.now) }
-    ensures none { OnOk result (ReturnNoBorrow types.now (functions_of interfaces.now worlds.now)) }
-    ensures cause { IfErr result (λ kind. (kind ≡ OutOfMemory) ⊎ ReturnsBorrow types.now (functions_of interfaces.now worlds.now) kind) }
+    requires returned { AreReturned types.now (listed_functions interfaces.now worlds.now) }
+    ensures none { OnOk result (ReturnNoBorrow types.now (listed_functions interfaces.now worlds.now)) }
+    ensures cause { IfErr result (λ kind. (kind ≡ OutOfMemory) ⊎ ReturnsBorrow types.now (listed_functions interfaces.now worlds.now) kind) }
 {
-    let mut functions = Vec::new(alloc);
-    for interface in interfaces.as_slice() {
-        push_all(&mut functions, &interface.functions)?;
-    }
-    for world in worlds.as_slice() {
-        push_world(&mut functions, world)?;
-    }
+    let functions = functions_of(alloc, interfaces, worlds)?;
     let mut free = IndexSet::new(alloc);
     for function in &functions {
         check_returns(alloc, types, &mut free, function)?;

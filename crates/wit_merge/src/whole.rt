@@ -28,7 +28,8 @@ use wit_elaboration::Elaborator;
 use wit_graph_data::{Graph, ResolveResult};
 use wit_link_spec::{NewIds, Values};
 use wit_merge_laws::laws::{
-    joined_is_grown, nothing_new_is_cyclic, unions_grow, unions_stay_valid, uses_grow,
+    accepted_growth, functions_come, joined_is_grown, new_worlds_are_sound, nothing_new_is_cyclic,
+    unions_grow, unions_stay_valid, uses_grow,
 };
 use wit_merge_match::{Matches, MergeRemap, find_matches, find_remap};
 use wit_remap::Remap;
@@ -173,7 +174,10 @@ pub fn append_union(
     joined_is_grown();
     uses_grow();
     nothing_new_is_cyclic();
+    new_worlds_are_sound();
+    functions_come();
     unions_grow();
+    accepted_growth();
     unions_stay_valid();
     let merge_remap = find_remap(alloc, graph, other, matches)?;
     let coming = what_comes(alloc, graph, other, matches, &merge_remap, met, offset)?;

@@ -2,6 +2,7 @@ mod Next
 pub mod Apart
 pub mod Mapped
 pub mod Matched
+pub mod NoPairs
 pub mod Noted
 pub mod NothingChanges
 pub mod PairSteps

@@ -1,5 +1,5 @@
 -- A merge whose steps find that nothing of the graph changes leaves the graph as it is.
-use Rattle.std.proofs.Common.{◌≡◌, ◌∙◌, ℕ, suc, ◌+◌, ◌<◌, ◌≤◌, Bool, true, List, [], ◌∷◌, ◌++◌, filter, map, length, is_some, not, nat_eq, Option, None, Some, option_and_then, option_map, slice_get, unwrap_or, refl, sym, ap, subst, arith, below_more, Contains}
+use Rattle.std.proofs.Common.{◌≡◌, ◌∙◌, ℕ, suc, ◌+◌, ◌<◌, ◌≤◌, Bool, false, true, List, [], ◌∷◌, ◌++◌, filter, map, length, is_some, not, nat_eq, Option, None, Some, option_and_then, option_map, slice_get, unwrap_or, refl, sym, ap, subst, arith, below_more, Contains}
 use Rattle.std.specs.List.{enumerate_from}
 use Rattle.std.specs.Map.{lookup}
 use Rattle.std.specs.Option.{option_eq, option_map_or}
@@ -81,7 +81,7 @@ module _ {X : Type 0} (found : ℕ → Option ℕ) (others ours : List X) (union
     stay_from : (n : ℕ) (xs : List X) → ((k : ℕ) (x : X) → slice_get xs k ≡ Some x → slice_get ours (n + k) ≡ Some x) → map joined (enumerate_from n xs) ≡ xs
     stay_from n [] at = refl
     stay_from n (x ∷ xs) at =
-        λ j. one_stays n x (at 0 x refl) j ∷ stay_from (n + 1) xs (λ k y there. let next : n + suc k ≡ n + 1 + k = omega arith in subst (λ (i : ℕ). slice_get ours i ≡ Some y) next (at (suc k) y there)) j
+        λ j. one_stays n x (let here : n + 0 ≡ n = omega arith in subst (λ (i : ℕ). slice_get ours i ≡ Some x) here (at 0 x refl)) j ∷ stay_from (n + 1) xs (λ k y there. let next : n + suc k ≡ n + 1 + k = omega arith in subst (λ (i : ℕ). slice_get ours i ≡ Some y) next (at (suc k) y there)) j
 
     pub all_stay : map joined (enumerate_from 0 ours) ≡ ours
     all_stay = stay_from 0 ours (λ k x there. let same : k ≡ 0 + k = omega arith in subst (λ (i : ℕ). slice_get ours i ≡ Some x) same there)

@@ -1,6 +1,6 @@
 //! Whether a merge leaves what a graph has as it is: each thing of it that is matched gets no stability that it lacks, no
 //! type, no function, no interface and no world.
-ghost use Rattle.std.specs.Prelude.{◌≡◌, ℕ, List, IsTrue, [], filter, not, is_some};
+ghost use Rattle.std.specs.Prelude.{◌≡◌, ℕ, List, IsTrue, [], None, filter, get_or, not, is_some};
 ghost use Rattle.std.specs.Map.{lookup};
 ghost use Rattle.std.specs.Option.{option_copied};
 ghost use Rattle.std.specs.Str.{bytes_eq};
@@ -17,7 +17,8 @@ use crate::matched_graphs::MatchedGraphs;
 use crate::matches::Matches;
 use crate::tables::match_at;
 use wit_data::{
-    Function, Id, Interface, Items, Names, Stability, Table, World, WorldItem, WorldKey,
+    Function, Interface, InterfaceId, Items, Names, Stability, Table, TypeId, World, WorldId,
+    WorldItem, WorldKey,
 };
 use wit_graph_data::{Graph, Package};
 
@@ -101,7 +102,7 @@ impl<'a> MatchedGraphs<'a> {
         requires { AreKnown self.now }
         ensures { IsTrue result → InterfaceLeaves (merging_of self.now) from.now into.now }
     {
-        all_matched(&from.types, &self.matches.types)
+        all_types_matched(&from.types, &self.matches.types)
             && all_named(&from.functions, &into.functions)
             && joins_nothing(&from.stability, &into.stability)
     }
@@ -215,8 +216,8 @@ impl<'a> MatchedGraphs<'a> {
         requires { AreKnown self.now }
         ensures { IsTrue result → (into : Package) → PackageLeaves (merging_of self.now) from.now into }
     {
-        all_matched(&from.interfaces, &self.matches.interfaces)
-            && all_matched(&from.worlds, &self.matches.worlds)
+        all_interfaces_matched(&from.interfaces, &self.matches.interfaces)
+            && all_worlds_matched(&from.worlds, &self.matches.worlds)
     }
 }
 
@@ -237,25 +238,49 @@ fn stability_under_id<'a>(key: &WorldKey, item: &'a WorldItem) -> Option<&'a Sta
     }
 }
 
-/// Whether all that a table lists is matched.
-fn all_matched<S>(names: &Names<Id<S>>, found: &Items<Option<Id<S>>>) -> bool
+/// Whether all types that a table lists are matched.
+fn all_types_matched(names: &Names<TypeId>, found: &Items<Option<TypeId>>) -> bool
     ensures { IsTrue result → filter (λ (e : List ℕ × ℕ). moves found.now e.1) names.now ≡ [] }
 {
     for (_, id) in names.iter() {
-        if !is_matched(found, id) {
+        if moves(found, id.index()) {
             return false;
         }
     }
     true
 }
 
-/// Whether a thing is matched.
-fn is_matched<S>(found: &Items<Option<Id<S>>>, id: &Id<S>) -> bool
-    ensures { result ≡ not (moves found.now id.now) }
+/// Whether all interfaces that a table lists are matched.
+fn all_interfaces_matched(names: &Names<InterfaceId>, found: &Items<Option<InterfaceId>>) -> bool
+    ensures { IsTrue result → filter (λ (e : List ℕ × ℕ). moves found.now e.1) names.now ≡ [] }
 {
-    match found.get(id.index()) {
-        Some(Some(_)) => true,
-        _ => false,
+    for (_, id) in names.iter() {
+        if moves(found, id.index()) {
+            return false;
+        }
+    }
+    true
+}
+
+/// Whether all worlds that a table lists are matched.
+fn all_worlds_matched(names: &Names<WorldId>, found: &Items<Option<WorldId>>) -> bool
+    ensures { IsTrue result → filter (λ (e : List ℕ × ℕ). moves found.now e.1) names.now ≡ [] }
+{
+    for (_, id) in names.iter() {
+        if moves(found, id.index()) {
+            return false;
+        }
+    }
+    true
+}
+
+/// Whether a thing moves: it is matched with none.
+fn moves<T: Copy>(found: &Items<Option<T>>, index: usize) -> bool
+    ensures { result ≡ not (is_some (get_or found.now index None)) }
+{
+    match match_at(found, index) {
+        Some(_) => false,
+        None => true,
     }
 }
 
