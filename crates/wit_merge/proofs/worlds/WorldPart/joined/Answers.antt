@@ -8,7 +8,7 @@ use Rattle.wit_merge.proofs.worlds.WorldPart.joined.Goals as goal
 
 pub returns : goal.returns
 returns c = λ w.
-    let u = c.args.plan.now in
+    let u = c.args._plan.now in
     let m = merging_of u in
     let ready = c.requires.ready in
     let can = c.requires.can in
