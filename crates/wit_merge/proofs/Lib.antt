@@ -3,7 +3,6 @@ mod BroughtNames
 mod Chosen
 mod CounterpartSteps
 mod Elaborates
-mod GrownUnions
 mod IdTexts
 mod Left
 mod MatchedThings
@@ -14,8 +13,6 @@ mod NamesStay
 mod Numbered
 mod Outcome
 mod Positions
-mod Returned
 mod Returning
 mod SameImages
 mod UnitedIs
-mod WorldsBehind

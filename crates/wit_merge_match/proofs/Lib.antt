@@ -1,10 +1,8 @@
-mod Next
 pub mod Apart
 pub mod Mapped
 pub mod Matched
-pub mod NoPairs
+mod Next
 pub mod Noted
-pub mod NothingChanges
 pub mod PairSteps
 pub mod Passing
 pub mod Steps

@@ -1,4 +1,3 @@
-pub mod Leaving
 pub mod Matched
 pub mod Stabilities
 pub mod Structures
