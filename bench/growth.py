@@ -226,10 +226,79 @@ def merges(size):
     yield f"print foo:bar w{size // 2}"
 
 
-KINDS = {
-    it.__name__: it
-    for it in (chain, separate, worlds, aliases, nested, fields, includes, renames, resources, handed_on, groups, pushes, alias_pushes, tracks, merges)
-}
+def small_graph(number):
+    """One interface and one world of a package of their own."""
+    yield f"package p:q{number}"
+    yield "interface i"
+    yield "type t u32"
+    yield "world w"
+    yield "import i"
+    yield "push"
+
+
+def merges_one_by_one(size):
+    """That many graphs of one interface and one world each, merged one after another."""
+    for number in range(size):
+        yield "other"
+        yield from small_graph(number)
+        yield "merge"
+
+
+def small_into_big(size):
+    """A graph of that many packages, into which ten small ones go one after another."""
+    for number in range(size):
+        yield from small_graph(number)
+    for number in range(size, size + 10):
+        yield "other"
+        yield from small_graph(number)
+        yield "merge"
+
+
+def semver_by_world(size):
+    """That many worlds that import an interface in two versions, each merged by tracks."""
+    for version in ("1.0.0", "1.1.0"):
+        yield f"package d:d@{version}"
+        yield "interface i"
+        yield "type t u32"
+        yield "push"
+    yield "package p:q"
+    for number in range(size):
+        yield f"world w{number}"
+        yield "import d:d/i@1.0.0"
+        yield "import d:d/i@1.1.0"
+    yield "push"
+    for number in range(size):
+        yield f"semver p:q w{number}"
+
+
+def transformed(size, entry, command):
+    """That many worlds of one package with an entry, each transformed."""
+    yield "package p:q"
+    yield "interface i"
+    yield "type t u32"
+    for number in range(size):
+        yield f"world w{number}"
+        yield f"{entry} i"
+    yield "push"
+    for number in range(size):
+        yield f"{command} p:q w{number} x{number}"
+
+
+def importize_by_world(size):
+    """That many worlds of one package that each export an interface, importized one after another."""
+    yield from transformed(size, "export", "importize")
+
+
+def exportize_by_world(size):
+    """That many worlds of one package that each import an interface, exportized one after another."""
+    yield from transformed(size, "import", "exportize")
+
+
+# one command or a few, on much
+AT_ONCE = (chain, separate, worlds, aliases, nested, fields, includes, renames, resources, handed_on, groups, pushes, alias_pushes, tracks, merges)
+# many commands that each change little
+ONE_BY_ONE = (merges_one_by_one, small_into_big, semver_by_world, importize_by_world, exportize_by_world)
+KINDS = {it.__name__: it for it in (*AT_ONCE, *ONE_BY_ONE)}
 
 
 def adopt_children():

@@ -9,7 +9,7 @@ run at each size (10,000, where none is given) by turns, three times by each pro
 ten seconds); of each the run of the least time counts, and the least peak. The time is that of the processor, for the
 program and for what the system does for it; the peak is that of memory, in MiB. The table ends with the geometric mean
 of the ratios of time over the kinds in which the original is linear, the arithmetic mean of those of memory over all,
-and the greatest ratios. The last column says whether both print the same bytes; where they don't the status is 1.
+and the greatest ratios; the kinds of many commands (`ONE_BY_ONE`) have no part in these. The last column says whether both print the same bytes; where they don't the status is 1.
 
 It runs on Linux alone.
 """
@@ -19,10 +19,12 @@ import os
 import sys
 import tempfile
 
-from growth import KINDS, adopt_children, run, write_script
+from growth import KINDS, ONE_BY_ONE, adopt_children, run, write_script
 
 # in these the original takes more than linear time
 NOT_LINEAR = {"renames", "handed_on", "alias_pushes"}
+# these have no part in the means
+APART = {it.__name__ for it in ONE_BY_ONE}
 
 
 def difference(one, other):
@@ -63,9 +65,10 @@ def main():
         for kind, size in itertools.product(kinds or KINDS, sizes or [10000]):
             script = write_script(folder, kind, size)
             ((time, of_time), (peak, of_peak)), told = measure(ours, original, script, folder)
-            if kind not in NOT_LINEAR:
+            if kind not in NOT_LINEAR | APART:
                 times.append(time / of_time)
-            peaks.append(peak / of_peak)
+            if kind not in APART:
+                peaks.append(peak / of_peak)
             differ += told != "same"
             row = [kind, f"{size:,}", f"{time:.3f}", f"{of_time:.3f}", f"{time / of_time:.2f}"]
             row += [f"{peak:.1f}", f"{of_peak:.1f}", f"{peak / of_peak:.2f}", told]

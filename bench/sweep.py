@@ -15,8 +15,10 @@ and the features are as before, and so are the files, or those that came with th
 that the program prints is as without refusals. In the last round, in which nothing is refused, the whole output is as
 stored, and the call isn't answered by 28. A call that takes no memory asks for none, with each request refused.
 
-Scripts. In the round of number N the Nth request of the whole run is refused. One command prints `refused 28 out of
-memory`, and the others what they print where that command isn't there; or nothing is printed, with status 1.
+Scripts. Without refusals a script prints what is stored, with status 1 where that is the line of one that isn't
+understood, else 0. In the round of number N the Nth request of the whole run is refused. One command prints `refused 28
+out of memory`, and the others what they print where that command isn't there, with status 0; or nothing is printed, with
+status 1.
 
 `--planted` plants the wrong bodies of `bench/planted` in a copy of the repository and ends with status 1 where the
 sweep of the calls doesn't tell one of them. No proof lets them pass, so `BUILD FOLDER OUT` is a command that builds the
@@ -39,6 +41,8 @@ from model.scripts import COMMANDS, SILENT
 BENCH = os.path.dirname(os.path.abspath(__file__))
 TOP = os.path.dirname(BENCH)
 WANT = "refused 28 out of memory"
+# All that a script prints which isn't understood.
+NOT_UNDERSTOOD = re.compile(r"line \d+: not understood\n")
 # A parse that says that it has no memory is answered by 28 with ample memory, too.
 WITHOUT_MEMORY = "push_source whose parse has no memory"
 
@@ -244,10 +248,12 @@ def answers_of(commands, text):
 class Script:
     """The rounds of one script."""
 
-    def __init__(self, program, script):
+    def __init__(self, program, script, stored):
         self.program, self.script = program, script
         self.plain = program.run(script)
         self.faults = list(self.plain.faults())
+        if (self.plain.status, self.plain.out) != (1 if NOT_UNDERSTOOD.fullmatch(stored) else 0, stored):
+            self.faults.append(f"without refusals: status {self.plain.status}, prints\n{self.plain.out}")
         self.may = {(1, "")}
         if self.plain.status == 0:
             self.may.update((0, it) for it in self.refused(commands_of(script)))
@@ -321,7 +327,8 @@ class Sweep:
     def scripts(self, path):
         program, scripts = self.program(path), cases_of(f"{TOP}/crates/witgraph_cases/stdin")
         for name, case in scripts.items():
-            self.add(f"script {name}", Script(program, case.partition("---\n")[0]))
+            script, _, stored = case.partition("---\n")
+            self.add(f"script {name}", Script(program, script, stored))
         self.tell(f"{len(scripts)} scripts more")
 
     def tell(self, what):

@@ -1,4 +1,4 @@
--- A graph as JSON, in the layout in which `wasm-tools component wit --json` prints it, which generators of bindings read.
+-- A graph as JSON, in the layout of `wasm-tools component wit --json`, which generators of bindings read.
 -- What that layout leaves out (the names of packages as a table, spans, external ids, the docs of entries of worlds) isn't there.
 -- Source: the serialized form of wit-parser 0.263.0's `Resolve`.
 use Rattle.std.specs.Prelude.{ℕ, List, ◌++◌, codes}

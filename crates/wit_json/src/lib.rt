@@ -1,5 +1,4 @@
-//! A graph as JSON, in the layout in which `wasm-tools component wit --json` prints it, so that generators of bindings
-//! which read that read this.
+//! A graph as JSON, in the layout of `wasm-tools component wit --json`, for generators of bindings that read that.
 #![tactic(auto)]
 
 mod functions;

@@ -1,3 +1,4 @@
+mod Alone
 mod NameOrders
 mod Orders
 mod Refusals

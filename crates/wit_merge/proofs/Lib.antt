@@ -3,11 +3,13 @@ mod BroughtNames
 mod Chosen
 mod CounterpartSteps
 mod Elaborates
+mod GrownUnions
 mod IdTexts
 mod Left
 mod MatchedThings
 mod MergeComes
 mod Movable
+mod MovedFunctions
 mod MovedNames
 mod NamesStay
 mod Numbered

@@ -93,7 +93,7 @@ fn push_missing<'a>(
 }
 
 /// Adds all of some functions.
-fn push_all<'a>(
+pub(crate) fn push_all<'a>(
     functions: &mut Vec<&'a Function>,
     named: &'a Names<Function>,
 ) -> Result<(), AllocError>
@@ -122,7 +122,10 @@ fn push_worlds<'a>(
 }
 
 /// Adds those of a world.
-fn push_world<'a>(functions: &mut Vec<&'a Function>, world: &'a World) -> Result<(), AllocError>
+pub(crate) fn push_world<'a>(
+    functions: &mut Vec<&'a Function>,
+    world: &'a World,
+) -> Result<(), AllocError>
     ensures { OnOk result (seen functions.new.items ≡ seen functions.old.items ++ world_functions world.now) }
 {
     push_entries(functions, &world.imports)?;

@@ -9,12 +9,17 @@ pub mod FeaturesTold
 pub mod FoundBack
 pub mod FunctionsBack
 pub mod FunctionsThere
+pub mod GrownFunctions
+pub mod GrownPackages
+pub mod GrownUses
+pub mod GrownWorlds
 pub mod InterfacesStand
 pub mod JoinedGood
 pub mod KeptFacts
 pub mod LabelSorts
 pub mod LabelsStay
 pub mod LeadsStay
+pub mod Leaves
 pub mod ListedStand
 pub mod LoneWorlds
 pub mod MatchFacts

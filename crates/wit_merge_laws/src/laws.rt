@@ -1,6 +1,7 @@
 //! Laws of merging: the contract of each function is what is proved.
 ghost use Rattle.wit_merge_laws.specs.laws.BorrowLaws.{MergesMakeNoBorrow};
 ghost use Rattle.wit_merge_laws.specs.laws.CopyLaws.{AcceptedCopiesChangeNothing, CopiesGoToThemselves, EmptyBecomesAlike, EmptyKeepsIds};
+ghost use Rattle.wit_merge_laws.specs.laws.GrowingLaws.{BorrowsCome, FunctionsCome, GrowthIsAccepted, JoinedIsGrown, LeftByMatches, NewWorldsAreSound, NothingNewIsCyclic, OldWorldsStay, UnionsGrow, UsesGrow};
 ghost use Rattle.wit_merge_laws.specs.laws.MergingLaws.{NothingComes, SharedWorldsKeepImports, UnionsHaveBothNames, UnionsStayValid};
 ghost use Rattle.wit_merge_laws.specs.laws.OrderLaws.{AgreementIsSymmetric, EitherOrderElaborates, MergesAreAlike, MergingIsOrderFree, ResourcesStay};
 
@@ -93,6 +94,64 @@ pub fn copies_go_to_themselves()
 /// Where no cause holds against the merge of a valid graph with a copy of it, the graph keeps its names and its worlds.
 pub fn accepted_copies_change_nothing()
     ensures { AcceptedCopiesChangeNothing }
+{
+    laws_of_elaboration();
+}
+
+/// A merge in which what is matched leaves its counterpart as it is leaves all that the graph has as it is.
+pub fn left_by_matches()
+    ensures { LeftByMatches }
+{}
+
+/// Then what comes stands behind what was there.
+pub fn joined_is_grown()
+    ensures { JoinedIsGrown }
+{}
+
+/// Then the interfaces that were there use what they used.
+pub fn uses_grow()
+    ensures { UsesGrow }
+{}
+
+/// Then no type refers to itself, no interface uses itself and no package depends on itself, where both graphs are valid
+/// and agree.
+pub fn nothing_new_is_cyclic()
+    ensures { NothingNewIsCyclic }
+{}
+
+/// Then each world that was there is its own elaboration, and in no conflict.
+pub fn old_worlds_stay()
+    ensures { OldWorldsStay }
+{
+    laws_of_elaboration();
+}
+
+/// A world that comes can be elaborated, where both graphs are valid and agree.
+pub fn new_worlds_are_sound()
+    ensures { NewWorldsAreSound }
+{}
+
+/// Then the functions that move are those of the interfaces and of the worlds that come.
+pub fn functions_come()
+    ensures { FunctionsCome }
+{}
+
+/// Then a merge refuses a result that holds a borrow exactly where one of these functions returns one.
+pub fn borrows_come()
+    ensures { BorrowsCome }
+{}
+
+/// Then only the worlds that come are elaborated, and only they can be in conflict.
+pub fn unions_grow()
+    ensures { UnionsGrow }
+{
+    laws_of_elaboration();
+}
+
+/// Then no cause holds where stabilities can be joined and spans be moved, no function that comes returns a borrow, and no
+/// world that comes is in conflict.
+pub fn accepted_growth()
+    ensures { GrowthIsAccepted }
 {
     laws_of_elaboration();
 }

@@ -3,3 +3,4 @@ pub mod Matches
 pub mod MismatchText
 pub mod United
 pub mod facts
+pub mod steps

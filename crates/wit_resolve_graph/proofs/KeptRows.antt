@@ -1,10 +1,11 @@
--- What is kept beside a graph, after a transformation of a world and after packages came.
+-- What is kept beside a graph, after a transformation of a world, after its imports are merged and after packages came.
 use Rattle.std.proofs.Common.{◌≡◌, ◌∙◌, ℕ, List, [], Bool, Contains, Option, None, Some, length, take, slice_get, OnOk, OnErr, Result, Ok, Err, refl, sym, ap, subst}
 use Rattle.std.specs.Option.{option_map_or}
 use Rattle.wit_digraph.specs.facts.MemberFacts.{Contains-nil}
 use Rattle.wit_data.specs.declared.types.TypeDef.{TypeDef}
 use Rattle.wit_data.specs.declared.world.World.{World}
 use Rattle.wit_elaboration.specs.Elaboration.{graph_uses}
+use Rattle.wit_elaboration.specs.Entries.{Entry}
 use Rattle.wit_elaboration.specs.Valid.{IsValid}
 use Rattle.wit_graph_data.specs.declared.graph.Graph.{Graph}
 use Rattle.wit_remap.specs.Grown.{Begins, Grown, cut_at, mark_of}
@@ -14,6 +15,7 @@ use Rattle.wit_queries.specs.ValidBits.{AreValidBits, AreValidBitsOf}
 use Rattle.wit_queries.specs.facts.ValidBitsFacts.{flags_stay}
 use Rattle.wit_transform.specs.Transformed.{WorldLists, transformed, transformed_at}
 use Rattle.wit_link.specs.Appending.{KnowsLeads}
+use Rattle.wit_semver.specs.steps.Replacing.{with_imports}
 use Rattle.wit_resolve_graph.specs.State.{AreKept}
 use Rattle.wit_resolve_graph.specs.declared.kept.Kept.{Kept}
 
@@ -29,22 +31,27 @@ transformed_leaves g w turn = of (slice_get g.worlds w)
     of None = record { uses = refl; types = refl }
     of (Some world) = record { uses = refl; types = refl }
 
--- what was kept of a graph is of another with the same types and uses
-same_kept : (g new : Graph) (kept : Kept) → AreKept g kept → IsValid new → LeavesTypes g new → AreKept new kept
-same_kept g new kept of valid leaves = record {
-  valid = valid;
-  uses = of.uses ∙ sym leaves.uses;
-  met = subst (λ (types : List TypeDef). KnowsLeads types kept.met) (sym leaves.types) of.met;
-  bits = subst (λ (types : List TypeDef). AreValidBitsOf types kept.valid_bits) (sym leaves.types) of.bits;
-}
+-- what was kept of a graph is of another with the same types and uses, whose adjacency lists stay
+module _ (g new : Graph) (kept : Kept) (uses : List (List ℕ)) (same_uses : uses ≡ kept.elaborator) (of : AreKept g kept) (valid : IsValid new) where
+  same_kept : LeavesTypes g new → AreKept new (record kept { elaborator = uses })
+  same_kept leaves = record {
+    valid = valid;
+    uses = same_uses ∙ of.uses ∙ sym leaves.uses;
+    met = subst (λ (types : List TypeDef). KnowsLeads types kept.met) (sym leaves.types) of.met;
+    bits = subst (λ (types : List TypeDef). AreValidBitsOf types kept.valid_bits) (sym leaves.types) of.bits;
+  }
 
--- and so where it is transformed or the turn is refused
-pub kept_after : {T E P : Type 0} (r : Result T E) (g new : Graph) (kept : Kept) → AreKept g kept → IsValid new → OnOk r P → (P → LeavesTypes g new) → OnErr r (new ≡ g) → AreKept new kept
-kept_after (Ok x) g new kept of valid told leaves same = same_kept g new kept of valid (leaves told)
-kept_after (Err e) g new kept of valid told leaves same = same_kept g new kept of valid (record { uses = ap graph_uses same; types = ap (λ (h : Graph). h.types) same })
+  -- and so where it is transformed or the turn is refused
+  pub kept_after : {T E P : Type 0} (r : Result T E) → OnOk r P → (P → LeavesTypes g new) → OnErr r (new ≡ g) → AreKept new (record kept { elaborator = uses })
+  kept_after (Ok x) told leaves same = same_kept (leaves told)
+  kept_after (Err e) told leaves same = same_kept (record { uses = ap graph_uses same; types = ap (λ (h : Graph). h.types) same })
 
-pub kept_transformed : {T E : Type 0} (r : Result T E) (g new : Graph) (kept : Kept) (w : ℕ) (turn : World → WorldLists) → AreKept g kept → IsValid new → OnOk r (new ≡ transformed g w turn) → OnErr r (new ≡ g) → AreKept new kept
-kept_transformed r g new kept w turn of valid ok = kept_after r g new kept of valid ok (λ is. subst (λ (h : Graph). LeavesTypes g h) (sym is) (transformed_leaves g w turn))
+  pub kept_transformed : {T E : Type 0} (r : Result T E) (w : ℕ) (turn : World → WorldLists) → OnOk r (new ≡ transformed g w turn) → OnErr r (new ≡ g) → AreKept new (record kept { elaborator = uses })
+  kept_transformed r w turn ok = kept_after r ok (λ is. subst (λ (h : Graph). LeavesTypes g h) (sym is) (transformed_leaves g w turn))
+
+-- a world that lists other imports leaves them, too
+pub kept_imports : (g : Graph) (w : ℕ) (imports : List Entry) (kept : Kept) → AreKept g kept → IsValid (with_imports g w imports) → AreKept (with_imports g w imports) kept
+kept_imports g w imports kept of valid = same_kept g (with_imports g w imports) kept of valid (record { uses = refl; types = refl })
 
 -- where no types were met nothing is known
 pub none_met : (types : List TypeDef) (met : List (ℕ × Bool)) → met ≡ [] → KnowsLeads types met

@@ -22,6 +22,7 @@ mod core_names;
 mod groups;
 mod kept;
 pub mod laws;
+mod merged_imports;
 mod push_source;
 mod queries;
 mod resolve;

@@ -21,6 +21,7 @@ ghost use Rattle.wit_transform.specs.Transformed.{AreAnswers, Exportizes, IsExpo
 
 use crate::groups::{add_packages, place_groups};
 use crate::kept::{Kept, append_kept};
+use crate::merged_imports::merge_kept_by_track;
 use crate::uniting::unite_kept;
 use std::alloc::{AllocError, Global};
 use std::marker::Model;
@@ -32,8 +33,7 @@ use wit_data::{
 use wit_graph_data::{Features, Graph, Package, ResolveErrorKind, ResolveResult};
 use wit_link::Remap;
 use wit_selection::select_world;
-use wit_semver::merged_by_track;
-use wit_transform::{exportize, exportize_answered, importize};
+use wit_transform::{exportize_answered_with, exportize_with, importize_with};
 use wit_validity::is_valid;
 use wit_values::try_clone_four;
 
@@ -414,7 +414,13 @@ impl Resolve {
         ensures cause { IfErr result (λ kind. (kind ≡ OutOfMemory) ⊎ IsImportizeCause self.old.graph world (option_map string_bytes out) kind) }
         ensures refuses { (kind : ResolveErrorKind) → IsImportizeCause self.old.graph world (option_map string_bytes out) kind → OnOk result ⊥ }
     {
-        importize(alloc, &mut self.graph, world, out)
+        importize_with(
+            alloc,
+            &mut self.graph,
+            &mut self.kept.elaborator,
+            world,
+            out,
+        )
     }
 
     /// Makes the imports of a world of this graph its exports, those for which the filter answers true, or all without
@@ -439,7 +445,14 @@ impl Resolve {
         ensures cause { IfErr result (λ kind. (kind ≡ OutOfMemory) ⊎ RefusesExportize F.Fn filter self.old.graph world (option_map string_bytes out) kind) }
         ensures refuses { ((answers : List Bool) → AreAnswers F.Fn filter (imports_at self.old.graph world) answers → (kind : ResolveErrorKind) × IsExportizeCause self.old.graph world answers (option_map string_bytes out) kind) → OnOk result ⊥ }
     {
-        exportize(alloc, &mut self.graph, world, out, filter)
+        exportize_with(
+            alloc,
+            &mut self.graph,
+            &mut self.kept.elaborator,
+            world,
+            out,
+            filter,
+        )
     }
 
     /// As `exportize`, with the answers of a filter: one for each import, in order.
@@ -457,7 +470,14 @@ impl Resolve {
         ensures cause { IfErr result (λ kind. (kind ≡ OutOfMemory) ⊎ IsExportizeCause self.old.graph world answers.now (option_map string_bytes out) kind) }
         ensures refuses { (kind : ResolveErrorKind) → IsExportizeCause self.old.graph world answers.now (option_map string_bytes out) kind → OnOk result ⊥ }
     {
-        exportize_answered(alloc, &mut self.graph, world, out, answers)
+        exportize_answered_with(
+            alloc,
+            &mut self.graph,
+            &mut self.kept.elaborator,
+            world,
+            out,
+            answers,
+        )
     }
 
     /// Merges the imports of a world of this graph by tracks, with the rule that is in force: see
@@ -476,11 +496,13 @@ impl Resolve {
         ensures cause { IfErr result (λ kind. (kind ≡ OutOfMemory) ⊎ IsTrackCause self.old.track_rule self.old.graph world kind) }
         ensures refuses { (kind : ResolveErrorKind) → IsTrackCause self.old.track_rule self.old.graph world kind → OnOk result ⊥ }
     {
-        let merged = merged_by_track(alloc, &self.graph, world, self.track_rule)?;
-        let kept = Kept::of(alloc, &merged)?;
-        self.graph = merged;
-        self.kept = kept;
-        Ok(())
+        merge_kept_by_track(
+            alloc,
+            &mut self.graph,
+            &mut self.kept,
+            world,
+            self.track_rule,
+        )
     }
 }
 

@@ -1,8 +1,9 @@
 //! What a line of a package says by its tokens alone.
-ghost use Rattle.std.specs.Prelude.{map};
+ghost use Rattle.std.specs.Prelude.{◌≡◌, map};
 ghost use Rattle.wit_script_lines.specs.steps.ReadResult.{IsRead};
 ghost use Rattle.wit_script_lines.specs.PackageLine.{each_of, entry_by, entry_tokens, include_line_of, named_line_of, package_line_by, record_line_of, rename_of, signed_line_of, type_line_of, use_line_of, use_line_with};
 ghost use Rattle.wit_script_lines.specs.Token.{split_at};
+ghost use Rattle.wit_script_lines.specs.steps.LineWords.{line_word, word_text};
 
 use crate::fault::LineFault;
 use crate::signature::{Signature, TypedName, read_signature, read_typed_names};
@@ -59,35 +60,73 @@ pub enum PackageLine {
     },
 }
 
+/// The first token of a line of a package.
+#[derive(Clone, Copy)]
+pub enum LineWord {
+    Interface,
+    World,
+    Type_,
+    Record,
+    Resource,
+    Use,
+    Function,
+    Import,
+    Export,
+    ImportFunction,
+    ExportFunction,
+    Include,
+}
+
+/// The word that a token is, or None where no line of a package begins with it. Those with which most
+/// lines begin come first.
+pub fn line_word(token: &str) -> Option<LineWord>
+    ensures { result ≡ line_word token.now }
+{
+    match token {
+        "use" => Some(LineWord::Use),
+        "type" => Some(LineWord::Type_),
+        "func" => Some(LineWord::Function),
+        "interface" => Some(LineWord::Interface),
+        "import" => Some(LineWord::Import),
+        "export" => Some(LineWord::Export),
+        "world" => Some(LineWord::World),
+        "record" => Some(LineWord::Record),
+        "resource" => Some(LineWord::Resource),
+        "include" => Some(LineWord::Include),
+        "import-func" => Some(LineWord::ImportFunction),
+        "export-func" => Some(LineWord::ExportFunction),
+        _ => None,
+    }
+}
+
 /// What a line of a package says by its first token and its arguments without the gate. Not understood
-/// where no line of a package begins so or takes these arguments. Else only want of memory is an error.
+/// where no line of a package takes these arguments. Else only want of memory is an error.
 pub fn read_package_line(
     alloc: Global,
-    word: &str,
+    word: LineWord,
     arguments: &[&str],
 ) -> Result<PackageLine, LineFault>
-    ensures { IsRead (package_line_by word.now (map (λ t. t.now) arguments.now)) result }
+    ensures { IsRead (package_line_by (word_text word) (map (λ t. t.now) arguments.now)) result }
 {
     match word {
-        "interface" => Ok(PackageLine::Interface(named_line(alloc, arguments)?)),
-        "world" => Ok(PackageLine::World(named_line(alloc, arguments)?)),
-        "type" => type_line(alloc, arguments),
-        "record" => record_line(alloc, arguments),
-        "resource" => Ok(PackageLine::Resource(named_line(alloc, arguments)?)),
-        "use" => use_line(alloc, arguments),
-        "func" => Ok(PackageLine::Function(signed_line(alloc, arguments)?)),
-        "import" => {
+        LineWord::Interface => Ok(PackageLine::Interface(named_line(alloc, arguments)?)),
+        LineWord::World => Ok(PackageLine::World(named_line(alloc, arguments)?)),
+        LineWord::Type_ => type_line(alloc, arguments),
+        LineWord::Record => record_line(alloc, arguments),
+        LineWord::Resource => Ok(PackageLine::Resource(named_line(alloc, arguments)?)),
+        LineWord::Use => use_line(alloc, arguments),
+        LineWord::Function => Ok(PackageLine::Function(signed_line(alloc, arguments)?)),
+        LineWord::Import => {
             let (label, path) = entry_line(alloc, arguments)?;
             Ok(PackageLine::Import { label, path })
         }
-        "export" => {
+        LineWord::Export => {
             let (label, path) = entry_line(alloc, arguments)?;
             Ok(PackageLine::Export { label, path })
         }
-        "import-func" => Ok(PackageLine::ImportFunction(signed_line(alloc, arguments)?)),
-        "export-func" => Ok(PackageLine::ExportFunction(signed_line(alloc, arguments)?)),
-        "include" => include_line(alloc, arguments),
-        _ => Err(LineFault::NotUnderstood),
+        LineWord::ImportFunction => Ok(PackageLine::ImportFunction(signed_line(alloc, arguments)?)),
+        LineWord::ExportFunction => Ok(PackageLine::ExportFunction(signed_line(alloc, arguments)?)),
+        LineWord::Include => include_line(alloc, arguments),
     }
 }
 

@@ -24,6 +24,20 @@ pub struct Signature {
     pub answer: Option<TypeText>,
 }
 
+impl Signature {
+    /// Its name, its parameters and its result.
+    pub fn into_parts(self) -> (Text, Items<TypedName>, Option<TypeText>)
+        ensures { result ≡ (self.name, self.params, self.answer) }
+    {
+        let Signature {
+            name,
+            params,
+            answer,
+        } = self;
+        (name, params, answer)
+    }
+}
+
 /// As the derived one: each field is let go. A call of it costs the check less than a derived one,
 /// which is checked again wherever a value is let go.
 impl Drop for Signature {

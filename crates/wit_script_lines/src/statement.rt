@@ -1,12 +1,13 @@
 //! What a line of a script says by its tokens alone.
 ghost use Rattle.std.specs.Prelude.{map};
+ghost use Rattle.wit_script_lines.specs.steps.LineWords.{word_text};
 ghost use Rattle.wit_script_lines.specs.steps.ReadResult.{IsRead};
 ghost use Rattle.wit_script_lines.specs.Statement.{gated_line_by, package_statement_of, push_statement_of, statement_by, statement_of};
 
 use crate::fault::LineFault;
 use crate::gate::{read_gate, ungated};
 use crate::line::{is_comment, tokens};
-use crate::package_line::{PackageLine, read_package_line};
+use crate::package_line::{LineWord, PackageLine, line_word, read_package_line};
 use crate::request::{Request, is_request, read_request};
 use crate::token::read_package_name;
 use std::alloc::Global;
@@ -46,19 +47,22 @@ pub fn read_line(alloc: Global, line: &str) -> Result<Option<Statement>, LineFau
 fn read_statement(alloc: Global, word: &str, arguments: &[&str]) -> Result<Statement, LineFault>
     ensures { IsRead (statement_by word.now (map (λ t. t.now) arguments.now)) result }
 {
+    if let Some(word) = line_word(word) {
+        return gated_line(alloc, word, arguments);
+    }
     if is_request(word) {
         return Ok(Statement::Request(read_request(alloc, word, arguments)?));
     }
     match word {
         "package" => package_statement(alloc, arguments),
         "push" => push_statement(arguments),
-        _ => gated_line(alloc, word, arguments),
+        _ => Err(LineFault::NotUnderstood),
     }
 }
 
 /// A line of a package, with its gate.
-fn gated_line(alloc: Global, word: &str, arguments: &[&str]) -> Result<Statement, LineFault>
-    ensures { IsRead (gated_line_by word.now (map (λ t. t.now) arguments.now)) result }
+fn gated_line(alloc: Global, word: LineWord, arguments: &[&str]) -> Result<Statement, LineFault>
+    ensures { IsRead (gated_line_by (word_text word) (map (λ t. t.now) arguments.now)) result }
 {
     let gate = read_gate(alloc, arguments)?;
     let said = read_package_line(alloc, word, ungated(arguments))?;

@@ -69,19 +69,14 @@ impl Draft {
             PackageLine::Interface(name) => self.add_interface(alloc, name, here),
             PackageLine::World(name) => self.add_world(alloc, name, here),
             PackageLine::Type_ { name, ty } => self.add_type_line(alloc, name, &ty, here),
-            PackageLine::Record { name, fields } => self.add_record(
-                alloc,
-                name,
-                fields.as_slice(),
-                here,
-            ),
+            PackageLine::Record { name, fields } => self.add_record(alloc, name, fields, here),
             PackageLine::Resource(name) => self.add_named(alloc, name, TypeDefKind::Resource, here),
             PackageLine::Use { path, name, new } => self.add_use(alloc, &path, &name, new, here),
-            PackageLine::Function(said) => self.add_function_line(alloc, &said, here),
+            PackageLine::Function(said) => self.add_function_line(alloc, said, here),
             PackageLine::Import { label, path } => self.add_import_line(label, &path, here),
             PackageLine::Export { label, path } => self.add_export_line(label, &path, here),
-            PackageLine::ImportFunction(said) => self.add_imported_function(alloc, &said, here),
-            PackageLine::ExportFunction(said) => self.add_exported_function(alloc, &said, here),
+            PackageLine::ImportFunction(said) => self.add_imported_function(alloc, said, here),
+            PackageLine::ExportFunction(said) => self.add_exported_function(alloc, said, here),
             PackageLine::Include { path, names } => self.add_include_line(&path, names, here),
         }
     }
@@ -105,10 +100,10 @@ impl Draft {
         &mut self,
         alloc: Global,
         name: Text,
-        fields: &[TypedName],
+        fields: Items<TypedName>,
         here: &LineContext,
     ) -> Result<(), LineFault>
-        ensures { DraftResult (with_record self.old name fields.now here.now) result self.new }
+        ensures { DraftResult (with_record self.old name fields here.now) result self.new }
     {
         let fields = self.make_fields(alloc, fields, here)?;
         self.add_named(alloc, name, TypeDefKind::Record { fields }, here)
@@ -135,10 +130,10 @@ impl Draft {
     fn add_function_line(
         &mut self,
         alloc: Global,
-        said: &Signature,
+        said: Signature,
         here: &LineContext,
     ) -> Result<(), LineFault>
-        ensures { DraftResult (with_function_line self.old said.now here.now) result self.new }
+        ensures { DraftResult (with_function_line self.old said here.now) result self.new }
     {
         let function = self.make_function(alloc, said, here)?;
         self.add_function(alloc, function)
@@ -184,10 +179,10 @@ impl Draft {
     fn add_imported_function(
         &mut self,
         alloc: Global,
-        said: &Signature,
+        said: Signature,
         here: &LineContext,
     ) -> Result<(), LineFault>
-        ensures { DraftResult (with_imported_function self.old said.now here.now) result self.new }
+        ensures { DraftResult (with_imported_function self.old said here.now) result self.new }
     {
         let function = self.make_function(alloc, said, here)?;
         let key = WorldKey::Name(function.name.try_clone()?);
@@ -198,10 +193,10 @@ impl Draft {
     fn add_exported_function(
         &mut self,
         alloc: Global,
-        said: &Signature,
+        said: Signature,
         here: &LineContext,
     ) -> Result<(), LineFault>
-        ensures { DraftResult (with_exported_function self.old said.now here.now) result self.new }
+        ensures { DraftResult (with_exported_function self.old said here.now) result self.new }
     {
         let function = self.make_function(alloc, said, here)?;
         let key = WorldKey::Name(function.name.try_clone()?);

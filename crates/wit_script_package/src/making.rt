@@ -177,13 +177,13 @@ impl Draft {
     fn make_field(
         &mut self,
         alloc: Global,
-        field: &TypedName,
+        field: TypedName,
         here: &LineContext,
     ) -> Result<Field, LineFault>
-        ensures { Makes (field_made here.now field.now self.old) result self.new }
+        ensures { Makes (field_made here.now field self.old) result self.new }
     {
-        let ty = self.make_type(alloc, &field.ty, here)?;
-        let name = field.name.try_clone()?;
+        let TypedName { name, ty } = field;
+        let ty = self.make_type(alloc, &ty, here)?;
         Ok(Field {
             name,
             ty,
@@ -198,13 +198,14 @@ impl Draft {
     pub fn make_fields(
         &mut self,
         alloc: Global,
-        fields: &[TypedName],
+        fields: Items<TypedName>,
         here: &LineContext,
     ) -> Result<Items<Field>, LineFault>
-        ensures { Makes (each_made (field_made here.now) fields.now self.old) result self.new }
+        ensures { Makes (each_made (field_made here.now) fields self.old) result self.new }
     {
         let mut made = Items::new(alloc);
-        for field in fields {
+        made.reserve(fields.len())?;
+        for field in fields.into_vec() {
             match self.make_field(alloc, field, here) {
                 Ok(field) => made.push(field)?,
                 Err(fault) => return Err(fault),
@@ -217,13 +218,13 @@ impl Draft {
     fn make_param(
         &mut self,
         alloc: Global,
-        param: &TypedName,
+        param: TypedName,
         here: &LineContext,
     ) -> Result<Param, LineFault>
-        ensures { Makes (param_made here.now param.now self.old) result self.new }
+        ensures { Makes (param_made here.now param self.old) result self.new }
     {
-        let ty = self.make_type(alloc, &param.ty, here)?;
-        let name = param.name.try_clone()?;
+        let TypedName { name, ty } = param;
+        let ty = self.make_type(alloc, &ty, here)?;
         Ok(Param {
             name,
             ty,
@@ -235,13 +236,14 @@ impl Draft {
     fn make_params(
         &mut self,
         alloc: Global,
-        params: &[TypedName],
+        params: Items<TypedName>,
         here: &LineContext,
     ) -> Result<Items<Param>, LineFault>
-        ensures { Makes (each_made (param_made here.now) params.now self.old) result self.new }
+        ensures { Makes (each_made (param_made here.now) params self.old) result self.new }
     {
         let mut made = Items::new(alloc);
-        for param in params {
+        made.reserve(params.len())?;
+        for param in params.into_vec() {
             match self.make_param(alloc, param, here) {
                 Ok(param) => made.push(param)?,
                 Err(fault) => return Err(fault),
@@ -269,15 +271,15 @@ impl Draft {
     fn make_by(
         &mut self,
         alloc: Global,
-        said: &Signature,
+        said: Signature,
         here: &LineContext,
         kind: FunctionKind,
     ) -> Result<Function, LineFault>
-        ensures { Makes (function_by self.old said.now here.now kind) result self.new }
+        ensures { Makes (function_by self.old said here.now kind) result self.new }
     {
-        let params = self.make_params(alloc, said.params.as_slice(), here)?;
-        let result_ = self.make_answer(alloc, &said.answer, here)?;
-        let name = said.name.try_clone()?;
+        let (name, params, answer) = said.into_parts();
+        let params = self.make_params(alloc, params, here)?;
+        let result_ = self.make_answer(alloc, &answer, here)?;
         Ok(function_with(name, kind, params, result_, here)?)
     }
 
@@ -287,10 +289,10 @@ impl Draft {
     pub fn make_function(
         &mut self,
         alloc: Global,
-        said: &Signature,
+        said: Signature,
         here: &LineContext,
     ) -> Result<Function, LineFault>
-        ensures { Makes (function_made self.old said.now here.now) result self.new }
+        ensures { Makes (function_made self.old said here.now) result self.new }
     {
         let kind = self.function_kind_of(alloc, said.name.as_str())?;
         self.make_by(alloc, said, here, kind)

@@ -175,7 +175,7 @@ module _ (u : Upgrade) (valid : IsValid u.graph) (t : ℕ) (def : TypeDef) (at :
       (λ t' is. by_use_into t' (transformed_from u valid t def t' at is))
 
 module _ (u : Upgrade) (valid : IsValid u.graph) (targets : List (Option ℕ)) (filled : IsFilled (used_target u) (rewritable_types u) (length u.graph.types) targets) where
-  target_is : (t : ℕ) (def : TypeDef) → slice_get u.graph.types t ≡ Some def → get_or targets t None ≡ new_target u t def
+  pub target_is : (t : ℕ) (def : TypeDef) → slice_get u.graph.types t ≡ Some def → get_or targets t None ≡ new_target u t def
   target_is t def at =
       filled.1 t
       ∙ ap (λ (o : Option (List ℕ)). if list_any (nat_eq t) (rewritable_types u) then option_and_then (λ f. option_and_then (interface_type u.graph.interfaces (newest u f)) o) (replaced_use u t) else None) (ap (option_and_then (target_name u.graph.types)) at)

@@ -13,4 +13,4 @@ mod targets;
 mod tracks;
 mod upgrade_plan;
 
-pub use crate::merging::{merge_by_track, merged_by_track};
+pub use crate::merging::{SemverMerge, find_semver_merge, merge_by_track, place_imports};

@@ -1,32 +1,50 @@
 //! Imports of a world merged by tracks.
-ghost use Rattle.std.specs.Prelude.{◌≡◌, ◌⊎◌, ◌<◌, IfErr, IfOk, OnErr, OnOk, length};
+ghost use Rattle.std.specs.Prelude.{◌≡◌, ◌⊎◌, ◌<◌, IfErr, IfOk, OnErr, OnOk, is_some, length};
+ghost use Rattle.std.specs.List.{list_any};
 ghost use Rattle.wit_elaboration.specs.Valid.{IsValid};
 ghost use Rattle.wit_graph_data.specs.declared.error_kind.ResolveErrorKind.{ResolveErrorKind};
 ghost use Rattle.wit_graph_data.specs.declared.error_kind.ResolveErrorKind.TheVariants.{OutOfMemory};
 ghost use Rattle.wit_semver_spec.specs.Rewritten.{rewritten, IsTrackCause};
-ghost use Rattle.wit_semver.specs.steps.Replacing.{HasNewEntries};
+ghost use Rattle.wit_semver.specs.steps.Merging.{semver_merged};
+ghost use Rattle.wit_semver.specs.steps.Replacing.{AreNewEntries, with_imports};
 
 use crate::kept_imports::types_of_entries;
 use crate::new_entries::with_new_entries;
 use crate::upgrade_plan::UpgradePlan;
 use std::alloc::Global;
-use wit_data::{TrackRule, WorldId};
+use wit_data::{Items, Table, TrackRule, TypeId, WorldId, WorldItem, WorldKey};
 use wit_graph_data::{Graph, ResolveResult};
-use wit_semver_laws::laws::rewritten_stay_valid;
+use wit_semver_laws::laws::{rewritten_stay_valid, same_types_keep_worlds};
 use wit_unite_common::check_and_elaborate;
 
-/// A copy of a graph in which a world lists its replaced imports no more, and what its other entries use
-/// of replaced interfaces they use of the newest. Refused where the newest lacks what is used, or a
-/// function isn't the same there (25).
-fn world_with_new_entries(
+/// What a world lists after its imports are merged, and what each type of the graph names then, None where that stays.
+#[derive(Drop)]
+struct NewEntries {
+    imports: Table<WorldKey, WorldItem>,
+    targets: Items<Option<TypeId>>,
+}
+
+/// What merging the imports of a world by tracks changes of a graph, made beside it.
+#[derive(Drop)]
+pub enum SemverMerge {
+    /// Each type names what it named, so all stays but the imports of the world, of which these are left.
+    Imports(Table<WorldKey, WorldItem>),
+    /// Some types name others, so any world may have to import others: the whole graph.
+    Graph(Graph),
+}
+
+/// What a world lists that has its replaced imports no more, and what types name then: what its other entries use of
+/// replaced interfaces they use of the newest. Refused where the newest lacks what is used, or a function isn't the
+/// same there (25).
+fn new_entries(
     alloc: Global,
     graph: &Graph,
     world: WorldId,
     rule: TrackRule,
-) -> ResolveResult<Graph>
+) -> ResolveResult<NewEntries>
     requires valid { IsValid graph.now }
     requires world { world < length graph.now.worlds }
-    ensures ok { IfOk result (λ made. HasNewEntries rule graph.now world made) }
+    ensures ok { IfOk result (λ entries. AreNewEntries rule graph.now world entries.imports entries.targets) }
     ensures cause { IfErr result (λ e. (e ≡ OutOfMemory) ⊎ IsTrackCause rule graph.now world e) }
 {
     let current = graph.worlds.at(world.index());
@@ -35,40 +53,65 @@ fn world_with_new_entries(
     let imports = plan.kept_imports(alloc)?;
     let rewritable_types = types_of_entries(alloc, graph, &imports, &current.exports)?;
     let targets = plan.new_targets(alloc, &rewritable_types)?;
-    Ok(with_new_entries(alloc, graph, world, imports, &targets)?)
+    Ok(NewEntries { imports, targets })
 }
 
-/// A copy of a valid graph in which the imports of a world of it are merged by a rule of tracks: of the interfaces
-/// that the world imports under their own keys the greatest version on each track is left, what its other entries use
-/// of the others they use of the greatest, and all worlds are elaborated. The copy is valid, and each thing has the
-/// id that it had.
+/// Whether some type is to name another one.
+fn is_any_retargeted(targets: &Items<Option<TypeId>>) -> bool
+    ensures { result ≡ list_any is_some targets.now }
+{
+    targets.iter().any(|target| target.is_some())
+}
+
+/// What a valid graph becomes where the imports of a world of it are merged by a rule of tracks, made beside it: of the
+/// interfaces that the world imports under their own keys the greatest version on each track is left, what its other
+/// entries use of the others they use of the greatest, and all worlds are elaborated. With it the graph is valid, and
+/// each thing has the id that it had.
+///
+/// Where no type names another one than before, nothing is elaborated, since every world is its own elaboration yet, so
+/// it costs what the world holds. Else it costs a copy of the graph.
 ///
 /// Refused where the greatest lacks a type that is used, or disagrees in a function (25), where a type would refer to
 /// itself (23), an interface use itself (22) or a package depend on itself (6), where the exports of some world are
 /// in conflict (4), and for memory (28).
 ///
 /// Source: `merge_world_imports_based_on_semver` of wit-parser 0.263.0.
-pub fn merged_by_track(
+pub fn find_semver_merge(
     alloc: Global,
     graph: &Graph,
     world: WorldId,
     rule: TrackRule,
-) -> ResolveResult<Graph>
+) -> ResolveResult<SemverMerge>
     requires valid { IsValid graph.now }
     requires world { world < length graph.now.worlds }
-    ensures ok { IfOk result (λ merged. merged ≡ rewritten rule graph.now world) }
-    ensures valid { IfOk result IsValid }
+    ensures ok { IfOk result (λ merge. semver_merged graph.now world merge ≡ rewritten rule graph.now world) }
+    ensures valid { IfOk result (λ merge. IsValid (semver_merged graph.now world merge)) }
     ensures cause { IfErr result (λ e. (e ≡ OutOfMemory) ⊎ IsTrackCause rule graph.now world e) }
     ensures refuses { (e : ResolveErrorKind) → IsTrackCause rule graph.now world e → OnOk result ⊥ }
 {
     rewritten_stay_valid();
-    let mut merged = world_with_new_entries(alloc, graph, world, rule)?;
+    same_types_keep_worlds();
+    let entries = new_entries(alloc, graph, world, rule)?;
+    let NewEntries { imports, targets } = entries;
+    if !is_any_retargeted(&targets) {
+        return Ok(SemverMerge::Imports(imports));
+    }
+    let mut merged = with_new_entries(alloc, graph, world, imports, &targets)?;
     check_and_elaborate(alloc, &mut merged)?;
-    Ok(merged)
+    Ok(SemverMerge::Graph(merged))
 }
 
-/// Merges the imports of a world of a valid graph by a rule of tracks, in place: see `merged_by_track`, which leaves the
-/// graph as it is. After a refusal the graph is as before.
+/// Puts imports in the place of those of a world. It takes no memory.
+pub fn place_imports(graph: &mut Graph, world: WorldId, imports: Table<WorldKey, WorldItem>)
+    requires world { world < length graph.old.worlds }
+    ensures { graph.new ≡ with_imports graph.old world imports }
+{
+    let current = graph.worlds.at_mut(world.index());
+    current.imports = imports;
+}
+
+/// Merges the imports of a world of a valid graph by a rule of tracks, in place: see `find_semver_merge`, which leaves
+/// the graph as it is. After a refusal the graph is as before.
 ///
 /// Source: `merge_world_imports_based_on_semver` of wit-parser 0.263.0.
 pub fn merge_by_track(
@@ -85,6 +128,15 @@ pub fn merge_by_track(
     ensures cause { IfErr result (λ e. (e ≡ OutOfMemory) ⊎ IsTrackCause rule graph.old world e) }
     ensures refuses { (e : ResolveErrorKind) → IsTrackCause rule graph.old world e → OnOk result ⊥ }
 {
-    *graph = merged_by_track(alloc, graph, world, rule)?;
-    Ok(())
+    let merge = find_semver_merge(alloc, graph, world, rule)?;
+    match merge {
+        SemverMerge::Imports(imports) => {
+            place_imports(graph, world, imports);
+            Ok(())
+        }
+        SemverMerge::Graph(merged) => {
+            *graph = merged;
+            Ok(())
+        }
+    }
 }

@@ -1,8 +1,10 @@
 pub mod EachElaborated
+mod FewerImports
 pub mod Kept
 pub mod KeptLabels
 pub mod ListedUses
 mod MergedAgain
 pub mod NewestNamed
+mod SameTypes
 pub mod ValidRewriting
 pub mod WorldsGood

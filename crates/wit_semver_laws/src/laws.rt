@@ -1,6 +1,7 @@
 //! Laws of semver merging: the contract of each function is what is proved.
-ghost use Rattle.wit_semver_laws.specs.laws.TrackLaws.{AliasesKeepNames, AliasesNameNewest, ExportsAreKept, KeysAreExact, LabelsAreKept, NewestIsGreatest, OneOnEachTrack, RewrittenKeep, RewrittenStayValid, SemverMergesOnce, WorldsAreElaborated};
+ghost use Rattle.wit_semver_laws.specs.laws.TrackLaws.{AliasesKeepNames, AliasesNameNewest, ExportsAreKept, KeysAreExact, LabelsAreKept, NewestIsGreatest, OneOnEachTrack, RewrittenKeep, RewrittenStayValid, SameTypesKeepWorlds, SemverMergesOnce, WorldsAreElaborated};
 
+use wit_elaboration::laws::imports_keep_order;
 use wit_graph_theory::laws::laws_of_elaboration;
 
 /// What stands for a replaced interface is the greatest import on its track.
@@ -44,6 +45,15 @@ pub fn rewritten_stay_valid()
     laws_of_elaboration();
 }
 
+/// Where each type of a valid graph names what it named and no function disagrees, no cause holds against semver merging,
+/// and all stays but the imports of the world, of which the replaced go.
+pub fn same_types_keep_worlds()
+    ensures { SameTypesKeepWorlds }
+{
+    laws_of_elaboration();
+    imports_keep_order();
+}
+
 /// After semver merging each world is the elaboration of its list: of the named one its list less the replaced, of
 /// each other its former one.
 pub fn worlds_are_elaborated()
@@ -58,6 +68,7 @@ pub fn semver_merges_once()
     ensures { SemverMergesOnce }
 {
     laws_of_elaboration();
+    imports_keep_order();
 }
 
 /// Everything of a graph is there after semver merging at its id; of types only what aliases name may have changed.

@@ -57,8 +57,11 @@ fn laws_of_merging_can_be_named(_rt: HostRuntime) {
     of_unions::merges_make_no_borrow();
     of_unions::merging_is_order_free();
     of_unions::nothing_comes();
+    of_unions::nothing_new_is_cyclic();
+    of_unions::old_worlds_stay();
     of_unions::resources_stay();
     of_unions::shared_worlds_keep_imports();
+    of_unions::unions_grow();
     of_unions::unions_have_both_names();
     of_unions::unions_stay_valid();
 }
@@ -79,6 +82,7 @@ fn laws_of_changed_worlds_can_be_named(_rt: HostRuntime) {
     of_unions::one_on_each_track();
     of_unions::rewritten_keep();
     of_unions::rewritten_stay_valid();
+    of_unions::same_types_keep_worlds();
     of_unions::semver_merges_once();
     of_unions::worlds_are_elaborated();
 }

@@ -2,6 +2,7 @@ pub mod Accepted
 pub mod Answering
 pub mod NamedInterfaces
 pub mod Refusals
+pub mod TableSteps
 pub mod TransformExamples
 pub mod TransformSteps
 pub mod TransformedBack

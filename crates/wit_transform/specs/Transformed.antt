@@ -105,13 +105,9 @@ transformed g w lists = option_map_or (λ (world : World). transformed_at g w wo
 
 -- ---- parts of it
 
--- the packages, of which package p has this table of worlds
-abbrev pub with_table : List Package → ℕ → List (List ℕ × ℕ) → List Package
-with_table packages p table = option_map_or (λ (home : Package). slice_set packages p (record home { worlds = table })) (slice_get packages p) packages
-
--- the graph with another world at a place, and with this table of worlds in package p
-abbrev pub with_world : Graph → ℕ → World → ℕ → List (List ℕ × ℕ) → Graph
-with_world g w world p table = record g { worlds = slice_set g.worlds w world; packages = with_table g.packages p table }
+-- the graph with this world in the place of world w, and last in the table of its package
+abbrev pub with_world : Graph → ℕ → World → Graph
+with_world g w world = record g { worlds = slice_set g.worlds w world; packages = with_renamed g.packages world.package w world.name }
 
 -- Why a transformation of a world is refused. After a refusal by 19, 20 or 21 there is no transformed world, so no
 -- conflict (4) is a reason beside these. Of what the new exports refuse the first is told; else, of several reasons any

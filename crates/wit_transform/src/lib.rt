@@ -6,4 +6,7 @@ mod new_lists;
 mod renaming;
 mod transformations;
 
-pub use crate::transformations::{exportize, exportize_answered, importize};
+pub use crate::transformations::{
+    exportize, exportize_answered, exportize_answered_with, exportize_with, importize,
+    importize_with,
+};

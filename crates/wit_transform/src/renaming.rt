@@ -1,12 +1,11 @@
 //! The new name of a transformed world, and the table of its package.
-ghost use Rattle.std.specs.Prelude.{◌≡◌, ◌↔◌, ◌++◌, ◌∷◌, [], IfOk, IsTrue, None, OnOk, filter, nat_eq, not, string_bytes};
-ghost use Rattle.std.specs.Map.{lookup};
+ghost use Rattle.std.specs.Prelude.{◌≡◌, ◌↔◌, Contains, IfOk, IsTrue, OnErr, OnOk, nat_eq, not, string_bytes};
 ghost use Rattle.std.specs.Option.{option_map};
-ghost use Rattle.std.specs.Str.{bytes_eq};
+ghost use Rattle.wit_data.specs.Each.{Each};
 ghost use Rattle.wit_transform.specs.Transformed.{NameIsTakenIn, new_name, put_last};
 
 use std::alloc::{AllocError, Global};
-use wit_data::{Names, Text, WorldId};
+use wit_data::{Text, WorldId};
 use wit_graph_data::Package;
 
 /// The new name of a world: the one that is given, or else its old one with a suffix.
@@ -42,47 +41,26 @@ pub(crate) fn is_taken(home: &Package, world: WorldId, name: &str) -> bool
     }
 }
 
-/// Adds a world at the end of a table, under a name that is new there.
-fn push_world(
+/// Puts a world of a package last in its table, under a new name, which no other world has. The table has
+/// the world once, under its old name. The others aren't copied; where there is no memory all is as before.
+pub(crate) fn rename_last(
     alloc: Global,
-    table: &mut Names<WorldId>,
+    home: &mut Package,
+    world: WorldId,
+    old_name: &str,
     name: &str,
-    world: WorldId,
 ) -> Result<(), AllocError>
-    requires { lookup (bytes_eq name.now) table.old ≡ None }
-    ensures { OnOk result (table.new ≡ table.old ++ (name.now, world) ∷ []) }
+    requires listed { Contains home.old.worlds (old_name.now, world) }
+    requires once { Each (λ e. e.1 ≡ world → e.0 ≡ old_name.now) home.old.worlds }
+    requires free { ¬ (NameIsTakenIn home.old world name.now) }
+    ensures ok { OnOk result (home.new ≡ record home.old { worlds = put_last home.old.worlds world name.now }) }
+    ensures err { OnErr result (home.new ≡ home.old) }
 {
-    table.push(String::from_str(alloc, name)?, world)
-}
-
-/// Copies of the other worlds of a table.
-fn others(
-    alloc: Global,
-    table: &Names<WorldId>,
-    world: WorldId,
-) -> Result<Names<WorldId>, AllocError>
-    ensures { IfOk result (λ others. others ≡ filter (λ e. not (nat_eq e.1 world)) table.now) }
-{
-    let mut others = Names::new(alloc);
-    for (name, id) in table.iter() {
-        if is_other(*id, world) {
-            push_world(alloc, &mut others, name, *id)?;
-        }
+    if name == old_name {
+        home.worlds.move_last(old_name);
+        return Ok(());
     }
-    Ok(others)
-}
-
-/// A package's table with a world last, under its new name, which no other world has.
-pub(crate) fn with_last(
-    alloc: Global,
-    home: &Package,
-    world: WorldId,
-    name: &Text,
-) -> Result<Names<WorldId>, AllocError>
-    requires { ¬ (NameIsTakenIn home.now world name.now) }
-    ensures { IfOk result (λ table. table ≡ put_last home.now.worlds world name.now) }
-{
-    let mut table = others(alloc, &home.worlds, world)?;
-    push_world(alloc, &mut table, name.as_str(), world)?;
-    Ok(table)
+    home.worlds.push(String::from_str(alloc, name)?, world)?;
+    let _ = home.worlds.shift_remove(old_name);
+    Ok(())
 }

@@ -1,24 +1,25 @@
 //! Turning a world of a graph.
 //!
-//! Everything is made aside, from the graph as it is, and put in its place at the end: the transformed world
-//! and the table of its package. All else stays.
+//! The transformed world is made aside, from the graph as it is. At the end it is put in its place, and last in
+//! the table of its package, where its old entry goes. All else stays.
 ghost use Rattle.std.specs.Prelude.{◌≡◌, ◌⊎◌, ◌<◌, Bool, IfErr, IfOk, IfSome, IsSome, List, OnErr, OnOk, Some, length, slice_get, string_bytes};
 ghost use Rattle.std.specs.Option.{option_map};
 ghost use Rattle.wit_elaboration.specs.Elaboration.{elaborated_world, IsConflictError, graph_uses};
 ghost use Rattle.wit_elaboration.specs.Imported.{HasTransitiveConflict};
 ghost use Rattle.wit_elaboration.specs.Sound.{HasSoundEntries};
-ghost use Rattle.wit_elaboration.specs.Valid.{IsValid};
+ghost use Rattle.wit_elaboration.specs.Valid.{HasTables, IsValid};
 ghost use Rattle.wit_graph_data.specs.declared.error_kind.ResolveErrorKind.{ResolveErrorKind};
 ghost use Rattle.wit_graph_data.specs.declared.error_kind.ResolveErrorKind.TheVariants.{OutOfMemory};
+ghost use Rattle.wit_data.specs.Each.{SomeAt};
 ghost use Rattle.wit_data.specs.declared.world.World.{World};
 ghost use Rattle.wit_digraph.specs.Relation.{IsAcyclic};
 ghost use Rattle.wit_transform.specs.Transformed.{AreAnswers, Exportizes, ExportsAreInConflict, HasNameTakenAt, HasPackageAt, IsExportizeCause, IsImportizeCause, MayAnswer, MayGive, NameIsFreeAt, RefusesExportize, imports_at, exportized, importized, listed_world, new_name, transformed, with_world};
 
 use crate::laws::{exportized_stay_valid, importized_stay_valid};
 use crate::new_lists::{exportized_lists, importized_lists, name_taken};
-use crate::renaming::{is_taken, renamed, with_last};
+use crate::renaming::{is_taken, rename_last, renamed};
 use std::alloc::{AllocError, Global};
-use wit_data::{Items, Names, PackageId, Table, Text, World, WorldId, WorldItem, WorldKey};
+use wit_data::{Items, PackageId, Table, Text, World, WorldId, WorldItem, WorldKey};
 use wit_elaboration::{Elaborator, Lists};
 use wit_graph_data::{Graph, ResolveResult};
 use wit_values::try_clone_three;
@@ -78,38 +79,41 @@ fn with_lists(world: &World, name: Text, lists: Lists) -> Result<World, AllocErr
 }
 
 /// The elaboration of a world over the types and interfaces of a graph.
-fn elaborated(alloc: Global, graph: &Graph, world: World) -> ResolveResult<World>
+fn elaborated(
+    alloc: Global,
+    graph: &Graph,
+    elaborator: &mut Elaborator,
+    world: World,
+) -> ResolveResult<World>
+    requires uses { elaborator.old ≡ graph_uses graph.now }
     requires acyclic { IsAcyclic (graph_uses graph.now) }
     requires listed { HasSoundEntries graph.now.types (length graph.now.interfaces) world.imports world.exports }
     ensures ok { IfOk result (λ new. new ≡ elaborated_world graph.now world) }
     ensures no_conflict { OnOk result (HasTransitiveConflict (graph_uses graph.now) world.exports → ⊥) }
     ensures cause { IfErr result (IsConflictError graph.now world) }
+    ensures same { elaborator.new ≡ elaborator.old }
 {
     let mut world = world;
-    let types = graph.types.as_slice();
-    let interfaces = graph.interfaces.as_slice();
-    let mut elaborator = Elaborator::new(alloc, types, interfaces)?;
     let lists = elaborator.lists_for(alloc, graph, &world)?;
     world.imports = lists.imports;
     world.exports = lists.exports;
     Ok(world)
 }
 
-/// Puts a world in the place of another, and a table of worlds in that of its package.
-fn put(
-    graph: &mut Graph,
-    world: WorldId,
-    transformed: World,
-    home: PackageId,
-    table: Names<WorldId>,
-)
-    requires world { world < length graph.old.worlds }
-    requires home { home < length graph.old.packages }
-    ensures { graph.new ≡ with_world graph.old world transformed home table }
+/// Puts a world in the place of another of its package, and last in the table there. Where there is no
+/// memory the graph is as before.
+fn put(alloc: Global, graph: &mut Graph, world: WorldId, new: World) -> Result<(), AllocError>
+    requires home { SomeAt graph.old.worlds world (λ current. current.package ≡ new.package) }
+    requires tables { HasTables graph.old.packages graph.old.interfaces graph.old.worlds }
+    requires free { NameIsFreeAt graph.old world new.name }
+    ensures ok { OnOk result (graph.new ≡ with_world graph.old world new) }
+    ensures err { OnErr result (graph.new ≡ graph.old) }
 {
-    graph.worlds.set(world.index(), transformed);
-    let home = graph.packages.at_mut(home.index());
-    home.worlds = table;
+    let current = graph.worlds.at(world.index());
+    let home = graph.packages.at_mut(home_of(&new).index());
+    rename_last(alloc, home, world, current.name.as_str(), new.name.as_str())?;
+    graph.worlds.set(world.index(), new);
+    Ok(())
 }
 
 /// Turns a world, whose new name is free and whose lists are in order. Refused for a conflict of the
@@ -117,11 +121,14 @@ fn put(
 fn transform(
     alloc: Global,
     graph: &mut Graph,
+    elaborator: &mut Elaborator,
     world: WorldId,
     name: Text,
     lists: Lists,
 ) -> ResolveResult<()>
-    requires world { HasPackageAt graph.old world }
+    requires uses { elaborator.old ≡ graph_uses graph.old }
+    requires world { world < length graph.old.worlds }
+    requires tables { HasTables graph.old.packages graph.old.interfaces graph.old.worlds }
     requires acyclic { IsAcyclic (graph_uses graph.old) }
     requires listed { HasSoundEntries graph.old.types (length graph.old.interfaces) lists.imports lists.exports }
     requires free { NameIsFreeAt graph.old world name }
@@ -129,19 +136,19 @@ fn transform(
     ensures no_conflict { OnOk result (HasTransitiveConflict (graph_uses graph.old) lists.exports → ⊥) }
     ensures err { OnErr result (graph.new ≡ graph.old) }
     ensures cause { IfErr result (λ e. (e ≡ OutOfMemory) ⊎ ExportsAreInConflict graph.old world lists.exports e) }
+    ensures same { elaborator.new ≡ elaborator.old }
 {
-    let current = graph.worlds.at(world.index());
-    let home = home_of(current);
-    let listed = with_lists(current, name, lists)?;
-    let transformed = elaborated(alloc, graph, listed)?;
-    let table = with_last(
-        alloc,
-        graph.packages.at(home.index()),
-        world,
-        &transformed.name,
-    )?;
-    put(graph, world, transformed, home, table);
+    let listed = with_lists(graph.worlds.at(world.index()), name, lists)?;
+    let transformed = elaborated(alloc, graph, elaborator, listed)?;
+    put(alloc, graph, world, transformed)?;
     Ok(())
+}
+
+/// What elaborates worlds of a graph. It goes over all types of the graph.
+fn elaborator_of(alloc: Global, graph: &Graph) -> Result<Elaborator, AllocError>
+    ensures { IfOk result (λ elaborator. elaborator ≡ graph_uses graph.now) }
+{
+    Elaborator::new(alloc, graph.types.as_slice(), graph.interfaces.as_slice())
 }
 
 /// Turns a world of a valid graph into one that imports what it exported: of its imports the types
@@ -166,10 +173,35 @@ pub fn importize(
     ensures cause { IfErr result (λ e. (e ≡ OutOfMemory) ⊎ IsImportizeCause graph.old world (option_map string_bytes out) e) }
     ensures refuses { (e : ResolveErrorKind) → IsImportizeCause graph.old world (option_map string_bytes out) e → OnOk result ⊥ }
 {
+    let mut elaborator = elaborator_of(alloc, graph)?;
+    importize_with(alloc, graph, &mut elaborator, world, out)
+}
+
+/// As `importize`, with an elaborator of the graph, which stays one of it: so a transformation costs what
+/// the world has and reaches.
+///
+/// Source: `importize` of wit-parser 0.263.0.
+pub fn importize_with(
+    alloc: Global,
+    graph: &mut Graph,
+    elaborator: &mut Elaborator,
+    world: WorldId,
+    out: Option<String>,
+) -> ResolveResult<()>
+    requires valid { IsValid graph.old }
+    requires uses { elaborator.old ≡ graph_uses graph.old }
+    requires world { world < length graph.old.worlds }
+    ensures ok { OnOk result (graph.new ≡ transformed graph.old world (importized (option_map string_bytes out))) }
+    ensures valid { IsValid graph.new }
+    ensures err { OnErr result (graph.new ≡ graph.old) }
+    ensures cause { IfErr result (λ e. (e ≡ OutOfMemory) ⊎ IsImportizeCause graph.old world (option_map string_bytes out) e) }
+    ensures refuses { (e : ResolveErrorKind) → IsImportizeCause graph.old world (option_map string_bytes out) e → OnOk result ⊥ }
+    ensures same { elaborator.new ≡ elaborator.old }
+{
     importized_stay_valid();
     let name = free_name(alloc, graph, world, out, "-importized")?;
     let lists = importized_lists(alloc, graph.worlds.at(world.index()))?;
-    transform(alloc, graph, world, name, lists)?;
+    transform(alloc, graph, elaborator, world, name, lists)?;
     Ok(())
 }
 
@@ -236,10 +268,36 @@ pub fn exportize_answered(
     ensures cause { IfErr result (λ e. (e ≡ OutOfMemory) ⊎ IsExportizeCause graph.old world answers.now (option_map string_bytes out) e) }
     ensures refuses { (e : ResolveErrorKind) → IsExportizeCause graph.old world answers.now (option_map string_bytes out) e → OnOk result ⊥ }
 {
+    let mut elaborator = elaborator_of(alloc, graph)?;
+    exportize_answered_with(alloc, graph, &mut elaborator, world, out, answers)
+}
+
+/// As `exportize_answered`, with an elaborator of the graph, which stays one of it.
+///
+/// Source: `exportize` of wit-parser 0.263.0.
+pub fn exportize_answered_with(
+    alloc: Global,
+    graph: &mut Graph,
+    elaborator: &mut Elaborator,
+    world: WorldId,
+    out: Option<String>,
+    answers: &Items<bool>,
+) -> ResolveResult<()>
+    requires valid { IsValid graph.old }
+    requires uses { elaborator.old ≡ graph_uses graph.old }
+    requires world { world < length graph.old.worlds }
+    requires answers { length answers.now ≡ length (imports_at graph.old world) }
+    ensures ok { OnOk result (graph.new ≡ transformed graph.old world (exportized answers.now (option_map string_bytes out))) }
+    ensures valid { IsValid graph.new }
+    ensures err { OnErr result (graph.new ≡ graph.old) }
+    ensures cause { IfErr result (λ e. (e ≡ OutOfMemory) ⊎ IsExportizeCause graph.old world answers.now (option_map string_bytes out) e) }
+    ensures refuses { (e : ResolveErrorKind) → IsExportizeCause graph.old world answers.now (option_map string_bytes out) e → OnOk result ⊥ }
+    ensures same { elaborator.new ≡ elaborator.old }
+{
     exportized_stay_valid();
     let name = free_name(alloc, graph, world, out, "-exportized")?;
     let lists = exportized_lists(alloc, graph.worlds.at(world.index()), answers)?;
-    transform(alloc, graph, world, name, lists)?;
+    transform(alloc, graph, elaborator, world, name, lists)?;
     Ok(())
 }
 
@@ -269,8 +327,35 @@ pub fn exportize<F: Fn(&WorldKey, &WorldItem) -> bool + Drop>(
     ensures cause { IfErr result (λ e. (e ≡ OutOfMemory) ⊎ RefusesExportize F.Fn filter graph.old world (option_map string_bytes out) e) }
     ensures refuses { ((answers : List Bool) → AreAnswers F.Fn filter (imports_at graph.old world) answers → (e : ResolveErrorKind) × IsExportizeCause graph.old world answers (option_map string_bytes out) e) → OnOk result ⊥ }
 {
+    let mut elaborator = elaborator_of(alloc, graph)?;
+    exportize_with(alloc, graph, &mut elaborator, world, out, filter)
+}
+
+/// As `exportize`, with an elaborator of the graph, which stays one of it: so a transformation costs what
+/// the world has and reaches.
+///
+/// Source: `exportize` of wit-parser 0.263.0.
+pub fn exportize_with<F: Fn(&WorldKey, &WorldItem) -> bool + Drop>(
+    alloc: Global,
+    graph: &mut Graph,
+    elaborator: &mut Elaborator,
+    world: WorldId,
+    out: Option<String>,
+    filter: Option<F>,
+) -> ResolveResult<()>
+    requires valid { IsValid graph.old }
+    requires uses { elaborator.old ≡ graph_uses graph.old }
+    requires world { world < length graph.old.worlds }
+    requires filter { IfSome filter (λ f. F.IsAlwaysCallable f) }
+    ensures ok { OnOk result (Exportizes F.Fn filter graph.old world (option_map string_bytes out) graph.new) }
+    ensures valid { IsValid graph.new }
+    ensures err { OnErr result (graph.new ≡ graph.old) }
+    ensures cause { IfErr result (λ e. (e ≡ OutOfMemory) ⊎ RefusesExportize F.Fn filter graph.old world (option_map string_bytes out) e) }
+    ensures refuses { ((answers : List Bool) → AreAnswers F.Fn filter (imports_at graph.old world) answers → (e : ResolveErrorKind) × IsExportizeCause graph.old world answers (option_map string_bytes out) e) → OnOk result ⊥ }
+    ensures same { elaborator.new ≡ elaborator.old }
+{
     let answers = answers_of(alloc, &graph.worlds.at(world.index()).imports, &filter)?;
     drop(filter);
-    exportize_answered(alloc, graph, world, out, &answers)?;
+    exportize_answered_with(alloc, graph, elaborator, world, out, &answers)?;
     Ok(())
 }

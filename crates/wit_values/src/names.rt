@@ -1,12 +1,12 @@
 //! A table under texts, which contracts see as the list of its pairs, and which is asked by a `&str`.
 ghost use Rattle.std.specs.Prelude.{◌≡◌, ◌++◌, ◌∷◌, [], ◌<◌, ◌^◌, ◌↔◌, ℕ, length, None, Some, slice_get, IfOk, OnOk, OnErr, string_bytes, is_some, IsTrue, take};
-ghost use Rattle.std.specs.Map.{lookup, keys_of};
+ghost use Rattle.std.specs.Map.{lookup, keys_of, remove_entry};
 ghost use Rattle.std.specs.Str.{bytes_eq};
 ghost use Rattle.std.specs.Option.{option_copied};
 ghost use Rattle.std.specs.List.{IsDistinct};
 ghost use Rattle.std.specs.Iterator.{at_most};
 ghost use Rattle.std.specs.Map.Iter.{ShowsInOrder, TakesFirst};
-ghost use Rattle.wit_values.specs.Names.{named, deref_named};
+ghost use Rattle.wit_values.specs.Names.{named, deref_named, moved_last};
 ghost use Rattle.wit_values.specs.Table.{HasDistinctKeys};
 
 use crate::try_clone::TryClone;
@@ -131,6 +131,26 @@ impl<V> Names<V> {
     {
         self.inner.insert(key, value)?;
         Ok(())
+    }
+
+    /// Takes out the pair under a name and answers its value, or None where the name isn't there.
+    /// The others keep their order: those behind it move up. It takes no memory.
+    pub fn shift_remove(&mut self, key: &str) -> Option<V>
+        ensures value { result ≡ lookup (bytes_eq key.now) self.old }
+        ensures others { self.new ≡ remove_entry (bytes_eq key.now) self.old }
+    {
+        self.inner.shift_remove(key)
+    }
+
+    /// Moves the pair under a name to the end; those behind it move up. Where the name isn't there
+    /// nothing changes. It takes no memory.
+    pub fn move_last(&mut self, key: &str)
+        ensures { self.new ≡ moved_last key.now self.old }
+    {
+        match self.inner.get_index_of(key) {
+            Some(index) => self.inner.move_index(index, self.inner.len() - 1),
+            None => {}
+        }
     }
 
     /// Gives back memory that no pair takes.

@@ -1,7 +1,10 @@
 //! Tests of what no clause says of whole scripts and of a `Resolve`: that calls succeed where memory is ample,
-//! and readers and writers that fail. What a script shows is a case of `witgraph_cases`.
+//! readers and writers that fail, and what the calls for other languages tell. What a script shows is a case of
+//! `witgraph_cases`.
 #![tactic(auto)]
 
+#[cfg(test)]
+mod calls;
 #[cfg(test)]
 mod core_names;
 #[cfg(test)]

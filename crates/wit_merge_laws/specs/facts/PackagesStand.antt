@@ -272,14 +272,14 @@ module _ (m : GraphMerge) (valid : IsValid m.graph) (valid_other : IsValid m.oth
     unmatched table home name home_is =
         ap (option_and_then (λ p'. option_and_then (λ (there : Package). lookup (bytes_eq name) (table there)) (slice_get m.graph.packages p'))) (some_by (counterpart_package m) home p home_is ∙ none_there (counterpart_package m p) moves)
 
-    interface_moves : (i : ℕ) (name : List ℕ) → IsInterfaceOf m.other.interfaces p name i → moves_interface m i ≡ true
+    pub interface_moves : (i : ℕ) (name : List ℕ) → IsInterfaceOf m.other.interfaces p name i → moves_interface m i ≡ true
     interface_moves i name is =
         let found = found_at (λ (interface : Interface). (interface.name ≡ Some name) × (interface.package ≡ Some p)) m.other.interfaces i is in
         ap (λ (o : Option ℕ). not (is_some o))
         (some_by (λ (interface : Interface). counterpart_interface_by m i interface.package interface.name) (slice_get m.other.interfaces i) found.0 found.1
         ∙ (ap (λ (n : Option (List ℕ)). counterpart_interface_by m i found.0.package n) found.2.0 ∙ unmatched (λ (there : Package). there.interfaces) found.0.package name found.2.1))
 
-    world_moves : (w : ℕ) (name : List ℕ) → IsWorldOf m.other.worlds p name w → moves_world m w ≡ true
+    pub world_moves : (w : ℕ) (name : List ℕ) → IsWorldOf m.other.worlds p name w → moves_world m w ≡ true
     world_moves w name is =
         let found = found_at (λ (world : World). (world.name ≡ name) × (world.package ≡ Some p)) m.other.worlds w is in
         ap (λ (o : Option ℕ). not (is_some o))

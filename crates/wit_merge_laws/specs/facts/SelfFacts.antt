@@ -79,7 +79,7 @@ none_pass p [] none = refl
 none_pass p (x ∷ xs) none = ap (λ (b : Bool). cond b (x ∷ filter p xs) (filter p xs)) (none 0 x refl) ∙ none_pass p xs (λ i y at. none (suc i) y at)
 
 -- what brings nothing joins nothing
-nothing_behind : {X Y : Type 0} (f : Y → X) (xs : List X) (ys : List Y) → ys ≡ [] → xs ++ map f ys ≡ xs
+pub nothing_behind : {X Y : Type 0} (f : Y → X) (xs : List X) (ys : List Y) → ys ≡ [] → xs ++ map f ys ≡ xs
 nothing_behind f xs ys none = ap (λ l. xs ++ map f l) none ∙ append-nil xs
 
 -- a change that leaves each numbered element as it is
@@ -96,7 +96,7 @@ numbered_same {X} f n (x ∷ xs) same = λ i. first i ∷ numbered_same f (n + 1
     next : (k : ℕ) → n + 1 + k ≡ n + suc k
     next k = omega arith
 
-all_same : {X : Type 0} (f : ℕ × X → X) (xs : List X) → EachAt (λ k x. f (k, x) ≡ x) xs → map f (enumerate_from 0 xs) ≡ xs
+pub all_same : {X : Type 0} (f : ℕ × X → X) (xs : List X) → EachAt (λ k x. f (k, x) ≡ x) xs → map f (enumerate_from 0 xs) ≡ xs
 all_same {X} f xs same = numbered_same f 0 xs (λ k x at. ap (λ (j : ℕ). f (j, x)) (zero_and k) ∙ same k x at)
   where
     zero_and : (k : ℕ) → 0 + k ≡ k

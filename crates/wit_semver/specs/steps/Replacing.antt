@@ -11,7 +11,7 @@ use Rattle.wit_data.specs.declared.world.World.{World}
 use Rattle.wit_elaboration.specs.Entries.{Entry}
 use Rattle.wit_graph_data.specs.declared.graph.Graph.{Graph}
 use Rattle.wit_remap_spec.specs.FunctionMismatch.{HaveFunctionMismatch}
-use Rattle.wit_semver_spec.specs.Rewritten.{interface_type, retargeted, with_new_entries_at, Upgrade, Versioned, both, is_below, is_replaced, newest, track_key, versioned, Disagrees, IsComplete, disagreement_text, missing_text, target_name, upgrade_message}
+use Rattle.wit_semver_spec.specs.Rewritten.{interface_type, kept_imports, retargeted, rewritable_types, Upgrade, Versioned, both, is_below, is_replaced, newest, track_key, versioned, Disagrees, IsComplete, disagreement_text, missing_text, target_name, upgrade_message}
 use Rattle.wit_semver.specs.contracts.tracks.TrackKeyPartialEq.TheImpl.{eq-value}
 use Rattle.wit_semver.specs.declared.tracks.TrackKey.{TrackKey}
 use Rattle.wit_semver.specs.declared.tracks.VersionedInterface.{VersionedInterface}
@@ -120,16 +120,21 @@ pub record DisagreesAt (u : Upgrade) (f : ℕ) (message : List ℕ) : Type 0 whe
 abbrev pub with_targets : List TypeDef → List (Option ℕ) → List TypeDef
 with_targets types targets = map (λ (e : ℕ × TypeDef). retargeted e.1 (get_or targets e.0 None)) (enumerate_from 0 types)
 
--- and the world at a place with these imports
-abbrev pub with_lists : Graph → ℕ → List Entry → List (Option ℕ) → Graph
-with_lists g w imports targets =
-    record g { types = with_targets g.types targets; worlds = option_map_or (λ (world : World). slice_set g.worlds w (record world { imports = imports })) (slice_get g.worlds w) g.worlds }
+-- the world at a place with these imports
+abbrev pub with_imports : Graph → ℕ → List Entry → Graph
+with_imports g w imports =
+    record g { worlds = option_map_or (λ (world : World). slice_set g.worlds w (record world { imports = imports })) (slice_get g.worlds w) g.worlds }
 
--- nothing of what reads the graph as it was holds against merging the imports of the world at a place, and it is listed
--- anew
-pub record HasNewEntries (rule : TrackRule) (g : Graph) (w : ℕ) (made : Graph) : Type 0 where
+-- and such types
+abbrev pub with_lists : Graph → ℕ → List Entry → List (Option ℕ) → Graph
+with_lists g w imports targets = record (with_imports g w imports) { types = with_targets g.types targets }
+
+-- nothing of what reads the graph as it was holds against merging the imports of the world at a place, and this is what
+-- it lists then and what types name then
+pub record AreNewEntries (rule : TrackRule) (g : Graph) (w : ℕ) (imports : List Entry) (targets : List (Option ℕ)) : Type 0 where
   pub world : World
   pub there : slice_get g.worlds w ≡ Some world
   pub complete : IsComplete (upgrade rule g world)
   pub agree : (message : List ℕ) → Disagrees (upgrade rule g world) message → ⊥
-  pub is : made ≡ with_new_entries_at (upgrade rule g world) w
+  pub imports_are : imports ≡ kept_imports (upgrade rule g world)
+  pub targets_are : IsFilled (used_target (upgrade rule g world)) (rewritable_types (upgrade rule g world)) (length g.types) targets

@@ -1,5 +1,5 @@
 -- Laws of semver merging, by whatever rule of tracks.
-use Rattle.std.specs.Prelude.{◌≡◌, ◌↔◌, ℕ, true, false, List, Some, slice_get, Contains}
+use Rattle.std.specs.Prelude.{◌≡◌, ◌↔◌, ℕ, true, false, List, None, Some, slice_get, slice_set, Contains}
 use Rattle.std.specs.Map.{keys_of}
 use Rattle.std.specs.declared.cmp.Ordering.TheVariants.{Greater}
 use Rattle.wit_values.specs.Version.{version_cmp}
@@ -15,7 +15,7 @@ use Rattle.wit_elaboration.specs.Entries.{keyed_interfaces}
 use Rattle.wit_elaboration.specs.laws.KeptByElaboration.{labelled}
 use Rattle.wit_elaboration.specs.Valid.{IsValid}
 use Rattle.wit_graph_data.specs.declared.graph.Graph.{Graph}
-use Rattle.wit_semver_spec.specs.Rewritten.{interface_type, rewritable_types, rewritten, with_new_entries, Upgrade, Versioned, are_on_one_track, imported, is_replaced, newest, versioned, SemverMergeIsAccepted, target_name}
+use Rattle.wit_semver_spec.specs.Rewritten.{Disagrees, IsComplete, interface_type, listed_world, new_target, rewritable_types, rewritten, with_new_entries, Upgrade, Versioned, are_on_one_track, imported, is_replaced, newest, versioned, SemverMergeIsAccepted, target_name}
 use Rattle.wit_semver_spec.specs.laws.Unchanged.{SameButLists, SameButTarget}
 
 -- what stands for a replaced interface is an import on its track, which stays, and no import there is of a greater
@@ -70,6 +70,16 @@ RewrittenStayValid = (rule : TrackRule) (g : Graph) (w : ℕ) (old : World) → 
 abbrev pub SemverMergesOnce : Type 0
 SemverMergesOnce = (rule : TrackRule) (g : Graph) (w : ℕ) (old : World) → IsValid g → slice_get g.worlds w ≡ Some old → SemverMergeIsAccepted rule g w
     → SemverMergeIsAccepted rule (rewritten rule g w) w × (rewritten rule (rewritten rule g w) w ≡ rewritten rule g w)
+
+-- each type names what it named
+abbrev pub RetargetsNone : Upgrade → Type 0
+RetargetsNone u = EachAt (λ t (def : TypeDef). new_target u t def ≡ None) u.graph.types
+
+-- where it does, and no function disagrees, no cause holds, and of a valid graph all stays but the imports of the world: the
+-- replaced go
+abbrev pub SameTypesKeepWorlds : Type 0
+SameTypesKeepWorlds = (u : Upgrade) (w : ℕ) → IsValid u.graph → slice_get u.graph.worlds w ≡ Some u.world → RetargetsNone u → IsComplete u → ((message : List ℕ) → Disagrees u message → ⊥)
+    → SemverMergeIsAccepted u.rule u.graph w × (rewritten u.rule u.graph w ≡ record u.graph { worlds = slice_set u.graph.worlds w (listed_world u) })
 
 -- everything of a graph is in another at its id: types as they were but for what aliases name, worlds but for their
 -- lists, interfaces, packages and their names as they were

@@ -91,22 +91,6 @@ taken_none es name w distinct none = (
   λ taken. let there = lookup-from_Contains nat_list_eq_equiv name taken.0 es distinct taken.1 in let never : None ≡ Some taken.0 = sym none ∙ there in cc,
 )
 
--- the others of a table
-pub other_is_new : (es : List (List ℕ × ℕ)) (i : ℕ) (k : List ℕ) (v w : ℕ) → IsDistinct bytes_eq (keys_of es) → slice_get es i ≡ Some (k, v)
-    → lookup (bytes_eq k) (filter (λ (e : List ℕ × ℕ). not (nat_eq e.1 w)) (take i es)) ≡ None
-other_is_new es i k v w distinct at =
-    new_at nat_list_eq_equiv name_faithful es i k v distinct at (filter (λ (e : List ℕ × ℕ). not (nat_eq e.1 w)) (take i es))
-    (λ e has. (Contains-filter (λ (e : List ℕ × ℕ). not (nat_eq e.1 w)) (take i es) e has).0)
-
--- a name that no other world has is new among them
-pub last_is_new : (es : List (List ℕ × ℕ)) (name : List ℕ) (w : ℕ) → ((x : ℕ) × Contains es (name, x) × (x ≢ w) → ⊥)
-    → lookup (bytes_eq name) (filter (λ (e : List ℕ × ℕ). not (nat_eq e.1 w)) es) ≡ None
-last_is_new es name w free =
-    absent nat_list_eq_equiv name_faithful (filter (λ (e : List ℕ × ℕ). not (nat_eq e.1 w)) es) name (λ has.
-    let entry = entry_of_key (filter (λ (e : List ℕ × ℕ). not (nat_eq e.1 w)) es) name has in
-    let parts = Contains-filter (λ (e : List ℕ × ℕ). not (nat_eq e.1 w)) es entry.0 entry.1 in
-    free (entry.0.1, subst (λ (k : List ℕ). Contains es (k, entry.0.1)) entry.2 parts.0, differs entry.0.1 w parts.1))
-
 -- ---- filters that grow
 
 module _ {X : Type 0} (p : X → Bool) where

@@ -19,7 +19,6 @@ joined_graph-requires-clause-ready c =
       matches = c.requires.matches;
       merge_remap = c.requires.merge_remap;
       values = (c.in_ok-value_ids.ensures c.args.offset).0;
-      counterparts = rw c.len.ensures at c.in_ok-counterparts.ensures;
       fits = all_fit (merge_of_graphs_by c.args.graph.now c.args.other.now c.args.offset) small agree.spans;
     }
 
@@ -34,7 +33,6 @@ check_results-requires-clause-ready c =
       matches = c.requires.matches;
       merge_remap = c.requires.merge_remap;
       values = (c.in_ok-value_ids.ensures c.args.offset).0;
-      counterparts = rw c.len.ensures at c.in_ok-counterparts.ensures;
       fits = all_fit (merge_of_graphs_by c.args.graph.now c.args.other.now c.args.offset) small agree.spans;
     }
 

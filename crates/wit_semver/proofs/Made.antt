@@ -1,0 +1,74 @@
+-- What is made beside a graph, where new entries are found: the imports of the world alone where no type names another one,
+-- and else the graph that has them.
+use Rattle.std.proofs.Common.{◌≡◌, ◌∙◌, ◌⊎◌, inl, inr, ℕ, zero, suc, false, List, [], ◌∷◌, Option, None, Some, get_or, is_some, slice_get, slice_set, refl, sym, ap, subst}
+use Rattle.std.specs.List.{list_any}
+use Rattle.std.specs.Option.{option_map_or}
+use Rattle.wit_names.specs.declared.track.TrackRule.{TrackRule}
+use Rattle.wit_data.specs.declared.world.World.{World}
+use Rattle.wit_elaboration.specs.AllElaborated.{all_elaborated}
+use Rattle.wit_elaboration.specs.Entries.{Entry}
+use Rattle.wit_elaboration.specs.Valid.{IsValid}
+use Rattle.wit_graph_data.specs.declared.graph.Graph.{Graph}
+use Rattle.wit_graph_data.specs.declared.error_kind.ResolveErrorKind.{ResolveErrorKind}
+use Rattle.wit_graph_data.specs.declared.error_kind.ResolveErrorKind.TheVariants.{OutOfMemory}
+use Rattle.wit_semver_spec.specs.Rewritten.{IsTrackCause, SemverMergeIsAccepted, Upgrade, listed_world, new_target, rewritten, with_new_entries_at}
+use Rattle.wit_semver_laws.specs.laws.TrackLaws.{RetargetsNone, RewrittenStayValid, SameTypesKeepWorlds}
+use Rattle.wit_unite_common.specs.steps.Reasons.{CanBeElaborated, ElaborationCause}
+use Rattle.wit_semver.specs.steps.Replacing.{AreNewEntries, upgrade, with_imports, with_lists}
+use Rattle.wit_semver.proofs.Elaborates.{accepted_from, can_settle, cause_from, rewritten_from}
+use Rattle.wit_semver.proofs.NewEntries.{relisted_is, target_is}
+
+-- where no place has a value, none is read
+none_read : (targets : List (Option ℕ)) (t : ℕ) → list_any is_some targets ≡ false → get_or targets t None ≡ None
+none_read [] t off = refl
+none_read (Some new ∷ targets) t off = cc
+none_read (None ∷ targets) zero off = refl
+none_read (None ∷ targets) (suc t) off = none_read targets t off
+
+module _ (rule : TrackRule) (g : Graph) (w : ℕ) (imports : List Entry) (targets : List (Option ℕ)) (valid : IsValid g) (stay_valid : RewrittenStayValid) (found : AreNewEntries rule g w imports targets) where
+  abbrev u : Upgrade
+  u = upgrade rule g found.world
+
+  -- with it the graph is valid, where nothing holds against it
+  valid_by : (new : Graph) → new ≡ rewritten rule g w → SemverMergeIsAccepted rule g w → IsValid new
+  valid_by new is accepted = subst IsValid (sym is) (stay_valid rule g w found.world valid found.there accepted)
+
+  -- ---- where each type names what it named
+
+  module _ (same : SameTypesKeepWorlds) (off : list_any is_some targets ≡ false) where
+    retargets_none : RetargetsNone u
+    retargets_none t def at = sym (target_is u valid targets found.targets_are t def at) ∙ none_read targets t off
+
+    pub kept_accepted : SemverMergeIsAccepted rule g w
+    kept_accepted = (same u w valid found.there retargets_none found.complete found.agree).0
+
+    pub kept_is : with_imports g w imports ≡ rewritten rule g w
+    kept_is =
+        ap (λ (o : Option World). record g { worlds = option_map_or (λ (world : World). slice_set g.worlds w (record world { imports = imports })) o g.worlds }) found.there
+        ∙ ap (λ (es : List Entry). record g { worlds = slice_set g.worlds w (record found.world { imports = es }) }) found.imports_are
+        ∙ sym (same u w valid found.there retargets_none found.complete found.agree).1
+
+    pub kept_valid : IsValid (with_imports g w imports)
+    kept_valid = valid_by (with_imports g w imports) kept_is kept_accepted
+
+  -- ---- the graph that has its new entries
+
+  module _ (made : Graph) (is : made ≡ with_lists g w imports targets) where
+    made_is : made ≡ with_new_entries_at u w
+    made_is = is ∙ ap (λ (es : List Entry). with_lists g w es targets) found.imports_are ∙ relisted_is u valid targets found.targets_are w found.there
+
+    pub can_be_elaborated : CanBeElaborated made
+    can_be_elaborated = subst CanBeElaborated (sym made_is) (can_settle u valid w found.there)
+
+    pub refused : (e : ResolveErrorKind) → (e ≡ OutOfMemory) ⊎ ElaborationCause made e → (e ≡ OutOfMemory) ⊎ IsTrackCause rule g w e
+    refused e (inl memory) = inl memory
+    refused e (inr told) = inr (found.world, found.there, cause_from u w found.complete e (subst (λ (x : Graph). ElaborationCause x e) made_is told))
+
+    pub accepted : ((e : ResolveErrorKind) → ElaborationCause made e → ⊥) → SemverMergeIsAccepted rule g w
+    accepted none = accepted_from rule g w found.world found.there found.complete found.agree (λ e told. none e (subst (λ (x : Graph). ElaborationCause x e) (sym made_is) told))
+
+    pub elaborated_is : all_elaborated made ≡ rewritten rule g w
+    elaborated_is = rewritten_from rule g w found.world found.there made made_is
+
+    pub elaborated_valid : (new : Graph) → new ≡ all_elaborated made → ((e : ResolveErrorKind) → ElaborationCause made e → ⊥) → IsValid new
+    elaborated_valid new is none = valid_by new (is ∙ elaborated_is) (accepted none)

@@ -1,0 +1,1 @@
+use Rattle.wit_transform.proofs.transformations.put.Goals as goal

@@ -1,0 +1,89 @@
+//! The calls that are offered to other languages: what they tell with ample memory, with too small an output, and of an
+//! input that is no text.
+use crate::fixtures::assert_text;
+use std::alloc::Global;
+use std::process::Abort;
+use witgraph_calls::{execute, explain};
+
+/// Which of the two calls.
+#[derive(Clone, Copy)]
+enum Call {
+    Execute,
+    Explain,
+}
+
+/// The status of a call whose output has so much room, what it needs, and the output after it, which was dots.
+fn told(rt: &impl Abort, alloc: Global, call: Call, input: &[u8], room: usize) -> String {
+    let mut output = Vec::new(alloc);
+    for _byte in 0..room {
+        output.push(b'.').expect(rt, "memory");
+    }
+    let mut needed = 77;
+    let status = match call {
+        Call::Execute => execute(alloc, input, &mut output, &mut needed),
+        Call::Explain => explain(alloc, input, &mut output, &mut needed),
+    };
+    let output = String::from_utf8(output).expect(rt, "a text");
+    format!(in alloc; "{status} {needed} {output}").expect(rt, "memory")
+}
+
+/// The calls, each with its input, the room of its output, and what is told.
+const CALLS: [(Call, &[u8], usize, &str); 17] = [
+    (
+        Call::Execute,
+        b"package a:b\npush\n",
+        14,
+        "0 11 pushed a:b\n...",
+    ),
+    (
+        Call::Execute,
+        b"package a:b\npush\n",
+        11,
+        "0 11 pushed a:b\n",
+    ),
+    (Call::Execute, b"package a:b\npush\n", 10, "2 11 .........."),
+    (Call::Execute, b"", 2, "0 0 .."),
+    (Call::Execute, b"push", 24, "1 23 line 1: not understood\n."),
+    (Call::Execute, b"push", 23, "1 23 line 1: not understood\n"),
+    (Call::Execute, b"push", 3, "2 23 ..."),
+    (Call::Execute, b"push\xff", 3, "3 0 ..."),
+    (Call::Execute, b"\xff", 0, "3 0 "),
+    (
+        Call::Explain,
+        b"package a:b\npush\nselect a:b\n",
+        54,
+        "0 53 refused 26 The main package `a:b` contains no worlds\n.",
+    ),
+    (
+        Call::Explain,
+        b"package a:b\npush\nselect a:b\n",
+        3,
+        "2 53 ...",
+    ),
+    (
+        Call::Explain,
+        b"package p:q\n\
+        interface i @unstable=f\n\
+        world w\n\
+        import i\n\
+        push\n",
+        160,
+        "0 160 refused 11 found a reference to a interface which is excluded due to its feature not being activated\n\
+        \x20    --> p:q:4:1\n\
+        \x20     |\n\
+        \x20   4 | import i\n\
+        \x20     | ^-------\n",
+    ),
+    (Call::Explain, b"package a:b\npush\n", 3, "0 0 ..."),
+    (Call::Explain, b"push", 24, "1 23 line 1: not understood\n."),
+    (Call::Explain, b"push", 22, "2 23 ......................"),
+    (Call::Explain, b"push\xff", 3, "3 0 ..."),
+    (Call::Explain, b"\xff", 0, "3 0 "),
+];
+
+#[test]
+fn calls_tell_what_they_write_and_need(rt: HostRuntime) {
+    for &(call, input, room, wanted) in &CALLS {
+        assert_text(&rt, told(&rt, rt.alloc(), call, input, room), wanted);
+    }
+}
