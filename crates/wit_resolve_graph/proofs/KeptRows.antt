@@ -51,7 +51,7 @@ module _ (g new : Graph) (kept : Kept) (uses : List (List ℕ)) (same_uses : use
 
 -- a world that lists other imports leaves them, too
 pub kept_imports : (g : Graph) (w : ℕ) (imports : List Entry) (kept : Kept) → AreKept g kept → IsValid (with_imports g w imports) → AreKept (with_imports g w imports) kept
-kept_imports g w imports kept of valid = same_kept g (with_imports g w imports) kept of valid (record { uses = refl; types = refl })
+kept_imports g w imports kept of valid = same_kept g (with_imports g w imports) kept kept.elaborator refl of valid (record { uses = refl; types = refl })
 
 -- where no types were met nothing is known
 pub none_met : (types : List TypeDef) (met : List (ℕ × Bool)) → met ≡ [] → KnowsLeads types met

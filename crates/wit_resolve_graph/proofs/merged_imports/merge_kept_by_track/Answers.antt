@@ -1,4 +1,4 @@
-use Rattle.std.proofs.Common.{◌≡◌, ◌∙◌, sym, ap, subst}
+use Rattle.std.proofs.Common.{◌∙◌, sym, ap, subst}
 use Rattle.wit_elaboration.specs.Valid.{IsValid}
 use Rattle.wit_graph_data.specs.declared.graph.Graph.{Graph}
 use Rattle.wit_semver.specs.declared.merging.SemverMerge.{SemverMerge}
@@ -19,5 +19,5 @@ returns-in-Imports-clause-kept c =
     (kept_imports c.args.graph.now c.args.world c.in-Imports.imports c.args.kept.now c.requires.kept
     (subst (λ (m : SemverMerge). IsValid (semver_merged c.args.graph.now c.args.world m)) c.in-Imports.is c.in_ok-merge.ensures.valid))
 
-pub returns-in-Graph-clause-graph : goal.returns-in-Graph-clause-graph
-returns-in-Graph-clause-graph c = sym (ap (semver_merged c.args.graph.now c.args.world) c.in-Graph.is) ∙ c.in_ok-merge.ensures.ok
+pub returns-in_ok-kept-in-Graph-clause-graph : goal.returns-in_ok-kept-in-Graph-clause-graph
+returns-in_ok-kept-in-Graph-clause-graph c = sym (ap (semver_merged c.args.graph.now c.args.world) c.in-Graph.is) ∙ c.in_ok-merge.ensures.ok
