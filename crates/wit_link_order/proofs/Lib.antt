@@ -1,4 +1,3 @@
-mod Alone
 mod NameOrders
 mod Orders
 mod Refusals

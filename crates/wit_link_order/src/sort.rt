@@ -1,9 +1,9 @@
 //! The order of packages that are added together.
-ghost use Rattle.std.specs.Prelude.{◌≡◌, ◌⊎◌, ℕ, IfErr, IfOk, IsTrue, List, OnOk};
+ghost use Rattle.std.specs.Prelude.{◌≡◌, ◌⊎◌, ℕ, IfErr, IfOk, List, OnOk};
 ghost use Rattle.wit_graph_data.specs.declared.error_kind.ResolveErrorKind.{ResolveErrorKind};
 ghost use Rattle.wit_graph_data.specs.declared.error_kind.ResolveErrorKind.TheVariants.{OutOfMemory};
 ghost use Rattle.wit_link_order.specs.GroupOrder.{AreSorted, HaveSpans, IsSortCause};
-ghost use Rattle.wit_link_order.specs.steps.GroupOrderSteps.{IsAlone, IsOrdered};
+ghost use Rattle.wit_link_order.specs.steps.GroupOrderSteps.{IsOrdered};
 
 use crate::depends::uses_of_group;
 use crate::name_order::{indices_by_name, package_indices_by_name};
@@ -31,22 +31,8 @@ pub fn sort_groups(
     ensures cause { IfErr result (λ kind. (kind ≡ OutOfMemory) ⊎ IsSortCause unresolved kind) }
     ensures refuses { (kind : ResolveErrorKind) → IsSortCause unresolved kind → OnOk result ⊥ }
 {
-    if is_alone(&unresolved) {
-        return Ok(unresolved);
-    }
     let order = group_order(alloc, &unresolved)?;
     Ok(in_order(alloc, unresolved, order.as_slice())?)
-}
-
-/// Whether there is one package alone, which doesn't name things of itself: it is in order then.
-fn is_alone(unresolved: &Items<(UnresolvedPackage, u32)>) -> bool
-    ensures { IsTrue result → IsAlone unresolved.now }
-{
-    if unresolved.len() != 1 {
-        return false;
-    }
-    let (package, _) = unresolved.at(0);
-    !package.foreign_deps.contains_key(&package.name)
 }
 
 /// The indices of the packages in that order.

@@ -1,5 +1,5 @@
 -- What the steps of sorting answer, for the contracts of this crate's own functions.
-use Rattle.std.specs.Prelude.{◌≡◌, ◌⊎◌, ℕ, ◌<◌, List, [], ◌∷◌, map, None, Some, slice_get, IsPermutation, IsSorted, filter_map}
+use Rattle.std.specs.Prelude.{◌≡◌, ◌⊎◌, ℕ, ◌<◌, List, map, Some, slice_get, IsPermutation, IsSorted, filter_map}
 use Rattle.std.specs.List.{enumerate_from}
 use Rattle.std.specs.Map.{keys_of, lookup, values_of}
 use Rattle.wit_digraph.specs.Relation.{IsAcyclic}
@@ -53,7 +53,3 @@ pub record IsOrdered (unresolved : List Unresolved) (order : List ℕ) : Type 0 
   pub is : IsGroupOrder unresolved order
   pub acyclic : IsAcyclic (group_uses unresolved)
   pub differ : (i j : ℕ) (name : PackageName) → i < j → slice_get (names_of unresolved) i ≡ Some name → slice_get (names_of unresolved) j ≡ Some name → ⊥
-
--- one package, which doesn't name things of itself
-abbrev pub IsAlone : List Unresolved → Type 0
-IsAlone unresolved = (p : Unresolved) × (unresolved ≡ p ∷ []) × (lookup (same_package p.0.name) p.0.foreign_deps ≡ None)

@@ -1,7 +1,6 @@
-use Rattle.std.proofs.Common.{◌≡◌, List, [], ◌∷◌, ℕ, subst, slice_get, Some}
+use Rattle.std.proofs.Common.{◌≡◌, List, ℕ, subst, slice_get, Some}
 use Rattle.std.specs.List.{AllZip}
 use Rattle.wit_link_order.specs.GroupOrder.{Unresolved}
-use Rattle.wit_link_order.proofs.Alone.{alone-ordered, alone-sorted}
 use Rattle.wit_link_order.proofs.Orders.{order-below, order-once}
 use Rattle.wit_link_order.proofs.Refusals.{no-cause}
 use Rattle.wit_link_order.proofs.sort.sort_groups.Goals as goal
@@ -23,9 +22,3 @@ returns-clause-ok c = (
 
 pub returns-clause-refuses : goal.returns-clause-refuses
 returns-clause-refuses c = λ kind cause. no-cause c.args.unresolved c.in_ok-order.order kind c.in_ok-order.ensures.ok cause
-
-pub returns-then-is_alone-clause-ok : goal.returns-then-is_alone-clause-ok
-returns-then-is_alone-clause-ok c = (0 ∷ [], alone-sorted c.args.unresolved (c.is_alone.ensures c.if-is_alone.true))
-
-pub returns-then-is_alone-clause-refuses : goal.returns-then-is_alone-clause-refuses
-returns-then-is_alone-clause-refuses c = λ kind cause. no-cause c.args.unresolved (0 ∷ []) kind (alone-ordered c.args.unresolved (c.is_alone.ensures c.if-is_alone.true)) cause
