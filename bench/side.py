@@ -9,7 +9,8 @@ run at each size (10,000, where none is given) by turns, three times by each pro
 ten seconds); of each the run of the least time counts, and the least peak. The time is that of the processor, for the
 program and for what the system does for it; the peak is that of memory, in MiB. The table ends with the geometric mean
 of the ratios of time over the kinds in which the original is linear, the arithmetic mean of those of memory over all,
-and the greatest ratios; the kinds of many commands (`ONE_BY_ONE`) have no part in these. The last column says whether both print the same bytes; where they don't the status is 1.
+and the greatest ratios; the kinds of many commands (`ONE_BY_ONE`) have no part in these. The last column says whether
+both print the same bytes; where they don't the status is 1.
 
 It runs on Linux alone.
 """

@@ -7,6 +7,5 @@ mod renaming;
 mod transformations;
 
 pub use crate::transformations::{
-    exportize, exportize_answered, exportize_answered_with, exportize_with, importize,
-    importize_with,
+    exportize, exportize_answered_with, exportize_with, importize, importize_with,
 };

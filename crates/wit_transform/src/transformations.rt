@@ -248,31 +248,8 @@ fn answers_of<F: Fn(&WorldKey, &WorldItem) -> bool>(
     Ok(answers)
 }
 
-/// As `exportize`, with the answers of a filter: one for each import, in order. The refusals are those
+/// As `exportize_with`, with the answers of a filter: one for each import, in order. The refusals are those
 /// of `exportize`; the graph is as before then.
-///
-/// Source: `exportize` of wit-parser 0.263.0.
-pub fn exportize_answered(
-    alloc: Global,
-    graph: &mut Graph,
-    world: WorldId,
-    out: Option<String>,
-    answers: &Items<bool>,
-) -> ResolveResult<()>
-    requires valid { IsValid graph.old }
-    requires world { world < length graph.old.worlds }
-    requires answers { length answers.now ≡ length (imports_at graph.old world) }
-    ensures ok { OnOk result (graph.new ≡ transformed graph.old world (exportized answers.now (option_map string_bytes out))) }
-    ensures valid { IsValid graph.new }
-    ensures err { OnErr result (graph.new ≡ graph.old) }
-    ensures cause { IfErr result (λ e. (e ≡ OutOfMemory) ⊎ IsExportizeCause graph.old world answers.now (option_map string_bytes out) e) }
-    ensures refuses { (e : ResolveErrorKind) → IsExportizeCause graph.old world answers.now (option_map string_bytes out) e → OnOk result ⊥ }
-{
-    let mut elaborator = elaborator_of(alloc, graph)?;
-    exportize_answered_with(alloc, graph, &mut elaborator, world, out, answers)
-}
-
-/// As `exportize_answered`, with an elaborator of the graph, which stays one of it.
 ///
 /// Source: `exportize` of wit-parser 0.263.0.
 pub fn exportize_answered_with(

@@ -5,7 +5,7 @@ use Rattle.wit_semver.specs.declared.merging.SemverMerge.{SemverMerge}
 use Rattle.wit_semver.specs.declared.merging.SemverMerge.TheVariants.{Imports, Graph as Whole}
 use Rattle.wit_semver.specs.steps.Replacing.{with_imports}
 
--- the graph after a semver merge of the world at a place
+-- the graph after a semver merge of world w
 abbrev pub semver_merged : Graph → ℕ → SemverMerge → Graph
 semver_merged g w (Imports imports) = with_imports g w imports
 semver_merged g w (Whole merged) = merged

@@ -120,7 +120,7 @@ pub record DisagreesAt (u : Upgrade) (f : ℕ) (message : List ℕ) : Type 0 whe
 abbrev pub with_targets : List TypeDef → List (Option ℕ) → List TypeDef
 with_targets types targets = map (λ (e : ℕ × TypeDef). retargeted e.1 (get_or targets e.0 None)) (enumerate_from 0 types)
 
--- the world at a place with these imports
+-- the graph, of which world w lists these imports
 abbrev pub with_imports : Graph → ℕ → List Entry → Graph
 with_imports g w imports =
     record g { worlds = option_map_or (λ (world : World). slice_set g.worlds w (record world { imports = imports })) (slice_get g.worlds w) g.worlds }
@@ -129,7 +129,7 @@ with_imports g w imports =
 abbrev pub with_lists : Graph → ℕ → List Entry → List (Option ℕ) → Graph
 with_lists g w imports targets = record (with_imports g w imports) { types = with_targets g.types targets }
 
--- nothing of what reads the graph as it was holds against merging the imports of the world at a place, and this is what
+-- nothing of what reads the graph as it was holds against merging the imports of world w, and this is what
 -- it lists then and what types name then
 pub record AreNewEntries (rule : TrackRule) (g : Graph) (w : ℕ) (imports : List Entry) (targets : List (Option ℕ)) : Type 0 where
   pub world : World
