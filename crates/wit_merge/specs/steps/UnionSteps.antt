@@ -65,8 +65,11 @@ pub record CanUnite (u : UnionPlan) : Type 0 where
   pub matches : AreMatches u.graph.now u.other.now u.matches.now
   pub merge_remap : u.merge_remap.now ≡ merge_remap_of (merging_of u)
   pub values : u.values.now ≡ value_ids (merging_of u)
-  pub counterparts : u.counterparts.now ≡ firsts_from 0 u.matches.now.interfaces (length u.graph.now.interfaces)
   pub fits : PartsFit u.offset u.other.now.types u.other.now.interfaces u.other.now.worlds
+
+-- with which interface of the other graph each one of the graph is matched
+abbrev pub KnowsCounterparts : UnionPlan → List (Option ℕ) → Type 0
+KnowsCounterparts u counterparts = counterparts ≡ firsts_from 0 u.matches.now.interfaces (length u.graph.now.interfaces)
 
 -- nothing differs that has to agree, all stabilities can be joined, and all spans can be moved
 pub record DoAgree (m : GraphMerge) : Type 0 where
