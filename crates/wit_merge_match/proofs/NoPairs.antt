@@ -6,7 +6,7 @@ use Rattle.std.specs.Option.{option_map_or}
 use Rattle.wit_data.specs.declared.interface.Interface.{Interface}
 use Rattle.wit_data.specs.declared.world.World.{World}
 use Rattle.wit_graph_data.specs.declared.graph.Package.{Package}
-use Rattle.wit_merge_spec.specs.Matches.{GraphMerge, TypePair, common_entries, common_types, counterpart_interface, counterpart_world, in_package_order, interface_pairs, type_pairs, world_pairs}
+use Rattle.wit_merge_spec.specs.Matches.{GraphMerge, common_entries, common_types, counterpart_interface, counterpart_world, in_package_order, interface_pairs, type_pairs, world_pairs}
 use Rattle.wit_merge_spec.specs.MismatchText.{part_links}
 use Rattle.wit_merge_match.specs.steps.Structures.{interface_part, world_part}
 

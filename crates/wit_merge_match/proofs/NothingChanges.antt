@@ -1,5 +1,5 @@
 -- A merge whose steps find that nothing of the graph changes leaves the graph as it is.
-use Rattle.std.proofs.Common.{◌≡◌, ◌∙◌, ℕ, suc, ◌+◌, ◌<◌, ◌≤◌, Bool, false, true, List, [], ◌∷◌, ◌++◌, filter, map, length, is_some, not, nat_eq, Option, None, Some, option_and_then, option_map, slice_get, unwrap_or, refl, sym, ap, subst, arith, below_more, Contains}
+use Rattle.std.proofs.Common.{◌≡◌, ◌∙◌, ℕ, suc, ◌+◌, ◌<◌, ◌≤◌, Bool, false, true, List, [], ◌∷◌, ◌++◌, filter, map, length, nat_eq, Option, None, Some, option_and_then, option_map, slice_get, unwrap_or, refl, sym, ap, subst, arith, below_more, Contains}
 use Rattle.std.specs.List.{enumerate_from}
 use Rattle.std.specs.Map.{lookup}
 use Rattle.std.specs.Option.{option_eq, option_map_or}
@@ -25,7 +25,7 @@ use Rattle.wit_elaboration.specs.facts.Filters.{Contains-filter}
 use Rattle.wit_elaboration.specs.facts.SoundFacts.{named_within}
 use Rattle.wit_graph_data.specs.declared.graph.Graph.{Graph}
 use Rattle.wit_graph_data.specs.declared.graph.Package.{Package}
-use Rattle.wit_graph_theory.specs.facts.ListFacts.{Contains-map_cases, contained_at, place_of}
+use Rattle.wit_graph_theory.specs.facts.ListFacts.{Contains-map_cases, place_of}
 use Rattle.wit_graph_theory.specs.facts.OptionFacts.{some_parts}
 use Rattle.wit_graph_theory.specs.facts.PackagesAcyclic.{numbered_from}
 use Rattle.wit_link_spec.specs.Include.{joined_entry, joined_item, joined_stability}

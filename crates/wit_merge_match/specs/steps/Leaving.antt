@@ -1,6 +1,6 @@
 -- What a merge leaves as it is, at one place of the lists of two graphs: the words of the steps that ask whether it changes
 -- nothing of the graph.
-use Rattle.std.specs.Prelude.{◌≡◌, ℕ, List, [], Option, None, Some, Contains, filter, is_some, not, option_and_then, slice_get}
+use Rattle.std.specs.Prelude.{◌≡◌, ℕ, List, [], Option, None, Some, Contains, filter, option_and_then, slice_get}
 use Rattle.std.specs.List.{IsDistinct}
 use Rattle.std.specs.Map.{keys_of}
 use Rattle.wit_data.specs.Entries.{Entry}

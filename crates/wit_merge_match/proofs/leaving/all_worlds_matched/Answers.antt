@@ -1,4 +1,4 @@
-use Rattle.std.proofs.Common.{◌≡◌, ◌∙◌, ℕ, Bool, false, List, ap, filter, sym}
+use Rattle.std.proofs.Common.{◌∙◌, ℕ, Bool, List, ap, filter, sym}
 use Rattle.std.proofs.lemmas.Map.Iter.{rest_all, rest_more}
 use Rattle.wit_elaboration.specs.facts.Filters.{filter-fail}
 use Rattle.wit_values.specs.Names.{deref_named}

@@ -1,4 +1,4 @@
-use Rattle.std.proofs.Common.{◌≡◌, ◌∙◌, ◌<◌, ◌≤◌, ℕ, inl, inr, None, arith, below_more, get_or, length, sym}
+use Rattle.std.proofs.Common.{◌≡◌, ◌∙◌, ℕ, None, arith, below_more, get_or, sym}
 use Rattle.wit_merge_match.proofs.NoPairs.{none_past}
 use Rattle.wit_merge_match.proofs.structures.any_matched.Goals as goal
 
