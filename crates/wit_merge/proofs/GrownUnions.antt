@@ -1,6 +1,6 @@
 -- What comes of another graph can be put behind a graph that it leaves as it is; what is then told is what the definitions of
 -- a merge say.
-use Rattle.std.proofs.Common.{◌≡◌, ◌∙◌, ◌⊎◌, ◌<◌, inl, inr, ℕ, List, ◌++◌, length, map, take, sym, ap, subst, Contains}
+use Rattle.std.proofs.Common.{◌≡◌, ◌∙◌, ◌<◌, inl, inr, List, ◌++◌, length, map, take, sym, ap, subst, Contains}
 use Rattle.wit_values.specs.Table.{HasDistinctKeys}
 use Rattle.wit_digraph.specs.Relation.{IsAcyclic}
 use Rattle.wit_data.specs.Kind.{named_option, type_references}
@@ -20,11 +20,11 @@ use Rattle.wit_link_spec.specs.Reasons.{HoldsBorrow}
 use Rattle.wit_merge_spec.specs.Cause.{HasNoMismatch, IsMergeCause, MergeIsAccepted, MergeReturnsBorrow, borrow_in_result_15}
 use Rattle.wit_merge_spec.specs.Matches.{GraphMerge}
 use Rattle.wit_merge_spec.specs.United.{joined_graph, merge_maps, moved_functions, united}
-use Rattle.wit_merge_spec.specs.steps.Leaving.{LeavesGraph, grown_graph, new_functions, new_worlds}
+use Rattle.wit_merge_spec.specs.steps.Leaving.{LeavesGraph, grown_graph, new_worlds}
 use Rattle.wit_merge_laws.specs.facts.PackagesStand.{good_names}
 use Rattle.wit_merge_laws.specs.laws.GrowingLaws.{FunctionsCome, GrowsAlone, GrowthIsAccepted, JoinedIsGrown, NewWorldsAreSound, NothingNewIsCyclic, UnionsGrow, UsesGrow}
 use Rattle.wit_merge.specs.declared.coming.Coming.{Coming}
-use Rattle.wit_merge.specs.steps.Behind.{AreListed, AreReturned, CanAppend, IsAppendCause, IsComing, IsFine, functions_of, with_coming, with_elaborated}
+use Rattle.wit_merge.specs.steps.Behind.{AreReturned, CanAppend, IsAppendCause, IsComing, IsFine, functions_of, with_coming, with_elaborated}
 use Rattle.wit_merge.specs.steps.UnionSteps.{DoAgree}
 use Rattle.wit_merge.proofs.Returning.{image_returned_there}
 

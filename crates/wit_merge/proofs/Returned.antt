@@ -1,5 +1,5 @@
 -- What is told of the results of one function is told of those of all.
-use Rattle.std.proofs.Common.{◌≡◌, inl, inr, ℕ, ◌<◌, List, [], ◌∷◌, length, option_to_list, Option, None, Some, sym, ap, subst, ◌∙◌, Contains}
+use Rattle.std.proofs.Common.{◌≡◌, inl, inr, ℕ, List, [], ◌∷◌, option_to_list, Option, Some, sym, ap, subst, ◌∙◌, Contains}
 use Rattle.wit_digraph.specs.facts.MemberFacts.{Contains-cons_cases, Contains-here, Contains-nil}
 use Rattle.wit_data.specs.Kind.{named_option}
 use Rattle.wit_data.specs.declared.function.Function.{Function}

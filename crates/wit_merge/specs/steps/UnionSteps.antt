@@ -15,7 +15,7 @@ use Rattle.wit_link_spec.specs.Reasons.{HoldsBorrow}
 use Rattle.wit_link_spec.specs.ValueRemap.{value_id}
 use Rattle.wit_remap.specs.steps.Fits.{PartsFit, Fits, FunctionFits, InterfaceFits, TypeFits, WorldFits}
 use Rattle.wit_merge_spec.specs.Matches.{GraphMerge}
-use Rattle.wit_merge_spec.specs.United.{merge_maps, remap_of_merge, joined_graph, with_interface, with_package, merged_package, moves_interface, moves_package, moves_world}
+use Rattle.wit_merge_spec.specs.United.{merge_maps, remap_of_merge, joined_graph, with_interface, with_package, moves_interface, moves_world}
 use Rattle.wit_merge_spec.specs.Cause.{HasNoMismatch, MergeOverflows, MergeReturnsBorrow, StabilitiesMismatch}
 use Rattle.wit_merge_match.specs.steps.Matched.{AreMatches, merge_remap_of, moves}
 use Rattle.wit_merge.specs.declared.union_plan.UnionPlan.{UnionPlan}
@@ -23,7 +23,6 @@ use Rattle.std.specs.Map.{lookup}
 use Rattle.wit_values.specs.Table.{HasDistinctKeys}
 use Rattle.wit_data.specs.Entries.{Entry}
 use Rattle.wit_data.specs.declared.interface.Interface.{Interface}
-use Rattle.wit_names.specs.declared.package_name.PackageName.{PackageName}
 use Rattle.wit_data.specs.declared.types.TypeDef.{TypeDef}
 use Rattle.wit_data.specs.declared.types.TypeOwner.{TypeOwner}
 use Rattle.wit_data.specs.declared.world.World.{World}

@@ -1,4 +1,4 @@
-use Rattle.std.proofs.Common.{◌∙◌, ℕ, Bool, ap, map, sym}
+use Rattle.std.proofs.Common.{◌∙◌, ℕ, Bool, ap, map}
 use Rattle.std.proofs.lemmas.Result.{IfOk-weaker}
 use Rattle.wit_data.specs.declared.interface.Interface.{Interface}
 use Rattle.wit_remap_spec.specs.Image.{interface_image}

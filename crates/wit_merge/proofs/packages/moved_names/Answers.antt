@@ -1,4 +1,4 @@
-use Rattle.std.proofs.Common.{◌≡◌, ◌∙◌, ◌++◌, ℕ, List, Option, None, ap, is_some, not, subst, sym, Contains}
+use Rattle.std.proofs.Common.{◌≡◌, ◌∙◌, ◌++◌, ℕ, List, Option, ap, is_some, not, subst, sym, Contains}
 use Rattle.wit_digraph.specs.facts.MemberFacts.{Contains-here, Contains-there}
 use Rattle.wit_names.specs.declared.package_name.PackageName.{PackageName}
 use Rattle.wit_graph_data.specs.declared.graph.Package.{Package}
