@@ -2,9 +2,11 @@
 //! beside the crate, so that it doesn't wait for them.
 #![tactic(auto)]
 
+ghost use Rattle.wit_json_examples.specs.Details.{ExamplesOfDetails, ExamplesOfWholes};
 ghost use Rattle.wit_json_examples.specs.Gates.{ExamplesOfGates};
 ghost use Rattle.wit_json_examples.specs.Functions.{ExamplesOfFunctions};
 ghost use Rattle.wit_json_examples.specs.Graphs.{ExamplesOfGraphs};
+ghost use Rattle.wit_json_examples.specs.Refusals.{ExamplesOfRefusals};
 ghost use Rattle.wit_json_examples.specs.Types.{ExamplesOfKinds, ExamplesOfTypes};
 ghost use Rattle.wit_json_examples.specs.Worlds.{ExamplesOfInterfaces, ExamplesOfWorlds};
 
@@ -41,4 +43,19 @@ pub fn examples_of_worlds()
 /// Packages and whole graphs.
 pub fn examples_of_graphs()
     ensures { ExamplesOfGraphs }
+{}
+
+/// What the layout leaves out.
+pub fn examples_of_details()
+    ensures { ExamplesOfDetails }
+{}
+
+/// Features, files, and a graph with all that stands beside it.
+pub fn examples_of_wholes()
+    ensures { ExamplesOfWholes }
+{}
+
+/// Refusals.
+pub fn examples_of_refusals()
+    ensures { ExamplesOfRefusals }
 {}
