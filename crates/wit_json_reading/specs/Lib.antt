@@ -7,5 +7,6 @@ pub mod Types
 pub mod Functions
 pub mod Worlds
 pub mod Packages
+pub mod Groups
 pub mod Documents
 pub mod Messages

@@ -28,6 +28,9 @@ expected_text expected.Handle = codes "a handle"
 expected_text expected.Entry = codes "an entry of a world"
 expected_text expected.PackageName = codes "the name of a package"
 expected_text expected.ForeignItem = codes "an interface or a world of another package"
+expected_text expected.Source = codes "a file that ends before position 4294967296"
+expected_text expected.Boolean = codes "true or false"
+expected_text expected.Command = codes "a command"
 
 -- a step of a path
 abbrev pub step_text : Step → List ℕ

@@ -1,4 +1,4 @@
--- What unresolved packages and their groups are read from. Each list of a package is a member, and ids are indices in these.
+-- What unresolved packages are read from. Each list of a package is a member, and ids are indices in these.
 use Rattle.std.specs.Prelude.{ℕ, ◌==◌, ◌^◌, List, [], ◌∷◌, ◌++◌, Option, Some, None, Result, Ok, Err, codes, if◌then◌else◌, bytes_eq, is_some, nat_lt}
 use Rattle.std.specs.List.{after_first, before_first, list_any}
 use Rattle.std.specs.Map.{lookup}
@@ -8,13 +8,11 @@ use Rattle.semver.specs.Parse.{version_parts}
 use Rattle.wit_values.specs.Version.{Parts}
 use Rattle.wit_names.specs.PackageName.{same_package}
 use Rattle.wit_names.specs.declared.package_name.PackageName.{PackageName}
-use Rattle.wit_sources.specs.SourceMap.{Sources, end_after, with_file}
 use Rattle.wit_data.specs.Foreign.{ForeignItem}
 use Rattle.wit_data.specs.declared.stability.Stability.{Stability}
 use Rattle.wit_data.specs.declared.unresolved.AstItem.{AstItem}
 use Rattle.wit_data.specs.declared.unresolved.AstItem.TheVariants as item
 use Rattle.wit_data.specs.declared.unresolved.UnresolvedPackage.{UnresolvedPackage}
-use Rattle.wit_data.specs.declared.unresolved.UnresolvedPackageGroup.{UnresolvedPackageGroup}
 use Rattle.wit_json_reading.specs.Gates.{docs_of, gate_of, place_of, span_of}
 use Rattle.wit_json_reading.specs.Objects.{pair_of, variant_of}
 use Rattle.wit_json_reading.specs.Reading.{Reading, ◌>>=◌, instead_of, list_of, only, optional, required, under}

@@ -1,5 +1,5 @@
 -- Small values, and what they read as.
-use Rattle.std.specs.Prelude.{◌≡◌, ℕ, ◌+◌, ◌-◌, ◌*◌, ◌^◌, List, [], ◌∷◌, Option, Some, None, Result, Ok, Err, if◌then◌else◌, nat_lt}
+use Rattle.std.specs.Prelude.{◌≡◌, ℕ, ◌+◌, ◌-◌, ◌*◌, ◌^◌, Bool, List, [], ◌∷◌, Option, Some, None, Result, Ok, Err, if◌then◌else◌, nat_lt}
 use Rattle.std.specs.Char.{is_ascii_digit}
 use Rattle.json.specs.Json.{Json}
 use Rattle.json.specs.Json as json
@@ -12,6 +12,11 @@ use Rattle.wit_json_reading.specs.declared.fault.Expected.TheVariants as expecte
 abbrev pub text_of : Json → Reading (List ℕ)
 text_of (json.string text) = Ok text
 text_of _ = instead_of expected.Text
+
+-- `true` or `false`
+abbrev pub boolean_of : Json → Reading Bool
+boolean_of (json.boolean b) = Ok b
+boolean_of _ = instead_of expected.Boolean
 
 -- ---- versions
 

@@ -60,6 +60,12 @@ pub enum Expected {
     PackageName,
     /// An interface or a world of another package.
     ForeignItem,
+    /// A file that ends before position 4294967296 of the files in a row.
+    Source,
+    /// `true` or `false`.
+    Boolean,
+    /// A command.
+    Command,
 }
 
 /// Where a JSON value isn't as it is read, and what was to stand there.
@@ -91,7 +97,7 @@ impl From<AllocError> for ReadError {
 }
 
 /// The fault of a value that isn't what is expected.
-pub(crate) fn instead_of<T>(alloc: Global, expected: Expected) -> Result<T, ReadError>
+pub fn instead_of<T>(alloc: Global, expected: Expected) -> Result<T, ReadError>
     ensures { Reads result (instead_of expected) }
 {
     let path = Items::new(alloc);
@@ -99,7 +105,7 @@ pub(crate) fn instead_of<T>(alloc: Global, expected: Expected) -> Result<T, Read
 }
 
 /// What was read of a member, as a part of its object.
-pub(crate) fn in_member<T: Drop>(
+pub fn in_member<T: Drop>(
     alloc: Global,
     read: Result<T, ReadError>,
     name: &str,
@@ -117,7 +123,7 @@ pub(crate) fn in_member<T: Drop>(
 }
 
 /// What was read of an item, as a part of its list.
-pub(crate) fn in_item<T: Drop>(read: Result<T, ReadError>, index: usize) -> Result<T, ReadError>
+pub fn in_item<T: Drop>(read: Result<T, ReadError>, index: usize) -> Result<T, ReadError>
     ensures { (reading : Reading T) → Reads read reading → Reads result (under (Item index) reading) }
 {
     match read {

@@ -5,6 +5,7 @@ mod documents;
 mod fault;
 mod functions;
 mod gates;
+mod groups;
 mod messages;
 mod objects;
 mod packages;
@@ -15,5 +16,6 @@ mod values;
 mod worlds;
 
 pub use crate::documents::{offset_of, read_text};
-pub use crate::fault::{Expected, Fault, ReadError, Step};
-pub use crate::reader::ReadJson;
+pub use crate::fault::{Expected, Fault, ReadError, Step, in_item, in_member, instead_of};
+pub use crate::objects::{alone, one_member, pair};
+pub use crate::reader::{ReadJson, list, only, optional, required};

@@ -32,6 +32,9 @@ impl fmt::Display for Expected {
             Expected::Entry => "an entry of a world",
             Expected::PackageName => "the name of a package",
             Expected::ForeignItem => "an interface or a world of another package",
+            Expected::Source => "a file that ends before position 4294967296",
+            Expected::Boolean => "true or false",
+            Expected::Command => "a command",
         };
         f.write_str(text)
     }

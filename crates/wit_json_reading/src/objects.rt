@@ -11,7 +11,7 @@ use json::Value;
 use std::alloc::Global;
 
 /// The one member of an object that has no other.
-pub(crate) fn one_member<'v, 'a>(value: &'v Value<'a>) -> Option<(&'a str, &'v Value<'a>)>
+pub fn one_member<'v, 'a>(value: &'v Value<'a>) -> Option<(&'a str, &'v Value<'a>)>
     ensures { option_map (λ member. (member.0.now, value_view member.1.now)) result ≡ one_member (value_view value.now) }
 {
     let Value::Object(members) = value else {
@@ -25,7 +25,7 @@ pub(crate) fn one_member<'v, 'a>(value: &'v Value<'a>) -> Option<(&'a str, &'v V
 }
 
 /// What an object of one member alone has under its name.
-pub(crate) fn alone<T: ReadJson + Drop>(
+pub fn alone<T: ReadJson + Drop>(
     alloc: Global,
     value: &Value<'_>,
     name: &str,
@@ -50,7 +50,7 @@ fn two_items<'v, 'a>(value: &'v Value<'a>) -> Option<(&'v Value<'a>, &'v Value<'
 }
 
 /// A list of two values.
-pub(crate) fn pair<A: ReadJson + Drop, B: ReadJson + Drop>(
+pub fn pair<A: ReadJson + Drop, B: ReadJson + Drop>(
     alloc: Global,
     value: &Value<'_>,
 ) -> Result<(A, B), ReadError>

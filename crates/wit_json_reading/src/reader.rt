@@ -21,7 +21,7 @@ pub trait ReadJson: Sized {
 }
 
 /// The member of a name, which has to be there.
-pub(crate) fn required<T: ReadJson + Drop>(
+pub fn required<T: ReadJson + Drop>(
     alloc: Global,
     value: &Value<'_>,
     name: &str,
@@ -35,7 +35,7 @@ pub(crate) fn required<T: ReadJson + Drop>(
 }
 
 /// The member of a name, where it is there.
-pub(crate) fn optional<T: ReadJson + Drop>(
+pub fn optional<T: ReadJson + Drop>(
     alloc: Global,
     value: &Value<'_>,
     name: &str,
@@ -49,7 +49,7 @@ pub(crate) fn optional<T: ReadJson + Drop>(
 }
 
 /// Finds the first member whose name isn't known, or stands for the second time.
-pub(crate) fn only(alloc: Global, value: &Value<'_>, known: &[&str]) -> Result<(), ReadError>
+pub fn only(alloc: Global, value: &Value<'_>, known: &[&str]) -> Result<(), ReadError>
     ensures { Reads result (only (map (λ name. name.now) known.now) (value_view value.now)) }
 {
     let Value::Object(members) = value else {
@@ -82,7 +82,7 @@ fn is_one_of(names: &[&str], name: &str) -> bool
 }
 
 /// A list.
-pub(crate) fn list<T: ReadJson + Drop>(
+pub fn list<T: ReadJson + Drop>(
     alloc: Global,
     value: &Value<'_>,
 ) -> Result<Items<T>, ReadError>

@@ -4,7 +4,7 @@ ghost use Rattle.std.specs.Option.{SomeIff};
 ghost use Rattle.json.specs.Value.{value_view};
 ghost use Rattle.semver.specs.Parse.{version_parts};
 ghost use Rattle.wit_json_reading.specs.Reading.{Reads, list_of};
-ghost use Rattle.wit_json_reading.specs.Values.{decimal_of, nullable, number_of, small_number_of, text_of, version_in, version_of};
+ghost use Rattle.wit_json_reading.specs.Values.{boolean_of, decimal_of, nullable, number_of, small_number_of, text_of, version_in, version_of};
 
 use crate::fault::{Expected, ReadError, instead_of};
 use crate::reader::{ReadJson, list};
@@ -20,6 +20,17 @@ impl ReadJson for Text {
         match value.as_str() {
             Some(text) => Ok(Text::try_from_str(alloc, text)?),
             None => instead_of(alloc, Expected::Text),
+        }
+    }
+}
+
+impl ReadJson for bool {
+    ghost reading = { boolean_of };
+
+    fn read_json(alloc: Global, value: &Value<'_>) -> Result<bool, ReadError> {
+        match value.as_bool() {
+            Some(value) => Ok(value),
+            None => instead_of(alloc, Expected::Boolean),
         }
     }
 }
