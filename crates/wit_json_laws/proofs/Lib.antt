@@ -1,0 +1,7 @@
+mod Slots
+mod Steps
+mod Small
+mod Types
+mod Functions
+mod Worlds
+mod Packages

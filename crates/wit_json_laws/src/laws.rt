@@ -1,0 +1,7 @@
+//! What is written reads back: the contract of each function is what is proved.
+ghost use Rattle.wit_json_laws.specs.laws.ReadBack.{PackagesReadBack};
+
+/// What is written of an unresolved package reads as that package, each of its ids, spans, gates and foreign names.
+pub fn packages_read_back()
+    ensures { PackagesReadBack }
+{}
