@@ -5,3 +5,4 @@ mod Types
 mod Functions
 mod Worlds
 mod Packages
+mod Plain
