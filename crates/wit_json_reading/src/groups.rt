@@ -57,8 +57,9 @@ impl ReadJson for SourceMap {
             return instead_of(alloc, Expected::List);
         };
         let mut sources = SourceMap::new(alloc);
-        for index in 0..items.len() {
-            sources = in_item(with_value(alloc, sources, &items[index]), index)?;
+        for item in items {
+            let index = sources.len();
+            sources = in_item(with_value(alloc, sources, item), index)?;
         }
         Ok(sources)
     }
