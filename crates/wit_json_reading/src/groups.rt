@@ -22,11 +22,7 @@ fn source(alloc: Global, value: &Value<'_>) -> Result<(Text, Text), ReadError>
 }
 
 /// The sources with the file that a value is at their end.
-fn with_value(
-    alloc: Global,
-    sources: SourceMap,
-    value: &Value<'_>,
-) -> Result<SourceMap, ReadError>
+fn with_value(alloc: Global, sources: SourceMap, value: &Value<'_>) -> Result<SourceMap, ReadError>
     ensures { Reads result (source_behind sources (value_view value.now)) }
 {
     let (path, text) = source(alloc, value)?;
