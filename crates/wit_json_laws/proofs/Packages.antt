@@ -18,9 +18,13 @@ use Rattle.wit_names.specs.declared.package_name.PackageName.{PackageName}
 use Rattle.wit_data.specs.Each.{Each}
 use Rattle.wit_data.specs.Foreign.{ForeignItem}
 use Rattle.wit_data.specs.declared.stability.Stability.{Stability}
+use Rattle.wit_data.specs.declared.interface.Interface.{Interface}
+use Rattle.wit_data.specs.declared.stability.Docs.{Docs}
+use Rattle.wit_data.specs.declared.types.TypeDef.{TypeDef}
 use Rattle.wit_data.specs.declared.unresolved.AstItem.{AstItem}
 use Rattle.wit_data.specs.declared.unresolved.AstItem.TheVariants as ast
 use Rattle.wit_data.specs.declared.unresolved.UnresolvedPackage.{UnresolvedPackage}
+use Rattle.wit_data.specs.declared.world.World.{World}
 use Rattle.wit_json.specs.Details.{json_of_range, json_of_span}
 use Rattle.wit_json.specs.Gates.{json_of_docs}
 use Rattle.wit_json.specs.Graph.{json_of_package_name}
@@ -41,7 +45,7 @@ use Rattle.wit_json_reading.specs.declared.fault.Expected.TheVariants as expecte
 use Rattle.wit_json_reading.specs.declared.fault.Step.TheVariants as step
 use Rattle.wit_json_laws.proofs.Slots.{Slot, found, get_slot, only_slots, slots}
 use Rattle.wit_json_laws.proofs.Small.{reads_docs, reads_gate, reads_number, reads_span, reads_span_member}
-use Rattle.wit_json_laws.proofs.Steps.{is_new, reads_list, reads_named, reads_pair, reads_required, reads_variant, then}
+use Rattle.wit_json_laws.proofs.Steps.{all_11, is_new, reads_list, reads_named, reads_pair, reads_required, reads_variant, followed}
 use Rattle.wit_json_laws.proofs.Types.{reads_type_def}
 use Rattle.wit_json_laws.proofs.Worlds.{reads_interface, reads_world}
 
@@ -60,7 +64,7 @@ module _ (mark : ℕ) where
   marked_at [] rest none own = ap (λ (b : Bool). cond (not b) (1 + prefix_len (λ x. not (is_mark x)) rest) 0) own
   marked_at (x ∷ xs) rest none own =
       let parts = neither (is_mark x) (list_any is_mark xs) none in
-      ap (λ (b : Bool). cond (not b) (1 + prefix_len (λ y. not (is_mark y)) (xs ++ mark ∷ rest)) 0) parts.0 ∙ ap (λ (n : ℕ). 1 + n) (marked_at xs rest parts.1 own)
+      ap (λ (b : Bool). cond (not b) (1 + prefix_len (λ y. not (is_mark y)) (xs ++ mark ∷ rest)) 0) parts.0 ∙ ap (λ (n : ℕ). 1 + n) (marked_at xs rest parts.1 own) ∙ omega arith
 
   taken : (xs rest : List ℕ) → take (length xs) (xs ++ mark ∷ rest) ≡ xs
   taken [] rest = refl
@@ -68,7 +72,9 @@ module _ (mark : ℕ) where
 
   dropped : (xs rest : List ℕ) → drop (length xs + 1) (xs ++ mark ∷ rest) ≡ rest
   dropped [] rest = refl
-  dropped (x ∷ xs) rest = dropped xs rest
+  dropped (x ∷ xs) rest =
+      let next : suc (length xs) + 1 ≡ suc (length xs + 1) = omega arith in
+      ap (λ (n : ℕ). drop n (x ∷ (xs ++ mark ∷ rest))) next ∙ dropped xs rest
 
   has_mark : (xs rest : List ℕ) → is_mark mark ≡ true → list_any is_mark (xs ++ mark ∷ rest) ≡ true
   has_mark [] rest own = ap (λ (b : Bool). b || list_any is_mark rest) own
@@ -88,7 +94,7 @@ module _ (mark : ℕ) where
   no_mark [] none = refl
   no_mark (x ∷ xs) none =
       let parts = neither (is_mark x) (list_any is_mark xs) none in
-      ap (λ (b : Bool). cond (not b) (1 + prefix_len (λ y. not (is_mark y)) xs) 0) parts.0 ∙ ap (λ (n : ℕ). 1 + n) (no_mark xs parts.1)
+      ap (λ (b : Bool). cond (not b) (1 + prefix_len (λ y. not (is_mark y)) xs) 0) parts.0 ∙ ap (λ (n : ℕ). 1 + n) (no_mark xs parts.1) ∙ omega arith
 
   all_taken : (xs : List ℕ) → take (length xs) xs ≡ xs
   all_taken [] = refl
@@ -118,7 +124,7 @@ own_part own (Some version) none = front 64 own (parts_text version) none refl
 reads_name_in : (namespace own : List ℕ) (version : Option Parts) → list_any (λ b. b == 64) own ≡ false → IfSome version IsValid
     → name_in namespace (own ++ version_suffix version) ≡ Ok (a_name namespace own version)
 reads_name_in namespace own version none valid =
-    then (version_behind (own ++ version_suffix version)) _ version (Ok (a_name namespace own version)) (reads_behind own version none valid)
+    followed (version_behind (own ++ version_suffix version)) _ version (Ok (a_name namespace own version)) (reads_behind own version none valid)
         (ap (λ (it : List ℕ). Ok (a_name namespace it version)) (own_part own version none))
 
 pub reads_package_name : (name : PackageName) → IsWritableName name → package_name_in (package_name_text name) ≡ Ok name
@@ -140,9 +146,9 @@ reads_ast_item : (it : AstItem) → IsWritableAstItem it → ast_item_of (json_o
 unfolding ast_item_of
 reads_ast_item (ast.Interface id) fits =
     reads_variant ast_item_by expected.ForeignItem (codes "interface") (json_of_number id) (ast.Interface id)
-        (then (number_of (json_of_number id)) _ id (Ok (ast.Interface id)) (reads_number id fits) refl)
+        (followed (number_of (json_of_number id)) _ id (Ok (ast.Interface id)) (reads_number id fits) refl)
 reads_ast_item (ast.World id) fits =
-    reads_variant ast_item_by expected.ForeignItem (codes "world") (json_of_number id) (ast.World id) (then (number_of (json_of_number id)) _ id (Ok (ast.World id)) (reads_number id fits) refl)
+    reads_variant ast_item_by expected.ForeignItem (codes "world") (json_of_number id) (ast.World id) (followed (number_of (json_of_number id)) _ id (Ok (ast.World id)) (reads_number id fits) refl)
 
 reads_foreign_item : (named : AstItem × List Stability) → IsWritableAstItem named.0 → Each IsWritableGate named.1 → foreign_item_of (json_of_foreign_item named) ≡ Ok named
 reads_foreign_item named fits gates =
@@ -163,8 +169,8 @@ one_dep : (e : Dep) (before : List Dep) → IsWritableName e.0 → AreWritableIt
     → dep_of (package_name_text e.0) (object_under_names json_of_foreign_item e.1) before ≡ Ok (before ++ e ∷ [])
 one_dep e before name items new =
     let text = package_name_text e.0 in
-    then (under (step.Member text) (package_name_in text)) _ e.0 (Ok (before ++ e ∷ [])) (ap (under (step.Member text)) (reads_package_name e.0 name))
-    (then (under (step.Member text) (named_of foreign_item_of (object_under_names json_of_foreign_item e.1))) _ e.1 (Ok (before ++ e ∷ []))
+    followed (under (step.Member text) (package_name_in text)) _ e.0 (Ok (before ++ e ∷ [])) (ap (under (step.Member text)) (reads_package_name e.0 name))
+    (followed (under (step.Member text) (named_of foreign_item_of (object_under_names json_of_foreign_item e.1))) _ e.1 (Ok (before ++ e ∷ []))
         (ap (under (step.Member text)) (reads_foreign_items e.1 items))
         (ap (λ (b : Bool). if b then under (step.Member text) (instead_of expected.NoSecondMember) else Ok (before ++ e ∷ [])) new))
 
@@ -174,7 +180,7 @@ reads_deps_from before [] distinct names items = ap Ok (sym (append-nil before))
 reads_deps_from before (e ∷ es) distinct names items =
     let new : is_some (lookup (same_package e.0) before) ≡ false = is_new same_name before es e distinct in
     let longer : (before ++ e ∷ []) ++ es ≡ before ++ e ∷ es = append_assoc before (e ∷ []) es in
-    then (dep_of (package_name_text e.0) (object_under_names json_of_foreign_item e.1) before) _ (before ++ e ∷ []) (Ok (before ++ e ∷ es)) (one_dep e before (names 0 e refl) (items 0 e refl) new)
+    followed (dep_of (package_name_text e.0) (object_under_names json_of_foreign_item e.1) before) _ (before ++ e ∷ []) (Ok (before ++ e ∷ es)) (one_dep e before (names 0 e refl) (items 0 e refl) new)
         (reads_deps_from (before ++ e ∷ []) es (subst (λ (all : List Dep). HasDistinctKeys all) (sym longer) distinct) (λ i y at. names (suc i) y at) (λ i y at. items (suc i) y at) ∙ ap Ok longer)
 
 reads_deps : (es : List Dep) → HasDistinctKeys es → Each (λ (e : Dep). IsWritableName e.0) es → Each (λ (e : Dep). AreWritableItems e.1) es → deps_of (json_of_deps es) ≡ Ok es
@@ -195,32 +201,39 @@ packages_read_back p fits =
         ∷ (codes "foreign-dep-spans", Some (written.list_of json_of_span p.foreign_dep_spans)) ∷ (codes "unknown-type-spans", Some (written.list_of json_of_span p.unknown_type_spans))
         ∷ (codes "required-resources", Some (written.list_of resource p.required_resource_types)) ∷ [] in
     let j = slots ss in
-    let r : Reading UnresolvedPackage = Ok p in
-    then _ _ tt r (only_slots package_names ss refl)
-    (then _ _ p.name r (reads_required package_name_of (codes "name") j (json_of_package_name p.name) p.name (get_slot (codes "name") ss) (reads_name_value p.name fits.name))
-    (then _ _ p.package_name_span r (reads_span_member p.package_name_span j fits.span (get_slot (codes "span") ss))
-    (then _ _ p.docs r (reads_docs p.docs j (get_slot (codes "docs") ss))
-    (then _ _ p.worlds r
+    all_11 (λ (_ : Unit {0}) (name : PackageName) (span : Option (ℕ × ℕ)) (docs : Docs) (worlds : List World) (interfaces : List Interface) (types : List TypeDef) (deps : List Dep)
+        (dep_spans unknown_spans : List (Option (ℕ × ℕ))) (resources : List (ℕ × Option (ℕ × ℕ))).
+        let it : UnresolvedPackage = record {
+          name = name;
+          package_name_span = span;
+          docs = docs;
+          worlds = worlds;
+          interfaces = interfaces;
+          types = types;
+          foreign_deps = deps;
+          foreign_dep_spans = dep_spans;
+          unknown_type_spans = unknown_spans;
+          required_resource_types = resources;
+        } in
+        it)
+        (only_slots package_names ss refl)
+        (reads_required package_name_of (codes "name") j (json_of_package_name p.name) p.name (get_slot (codes "name") ss) (reads_name_value p.name fits.name))
+        (reads_span_member p.package_name_span j fits.span (get_slot (codes "span") ss))
+        (reads_docs p.docs j (get_slot (codes "docs") ss))
         (reads_required (list_of world_of) (codes "worlds") j (written.list_of whole_world p.worlds) p.worlds (get_slot (codes "worlds") ss)
             (reads_list world_of whole_world p.worlds (λ i w at. reads_world w (fits.worlds i w at))))
-    (then _ _ p.interfaces r
         (reads_required (list_of interface_of) (codes "interfaces") j (written.list_of whole_interface p.interfaces) p.interfaces (get_slot (codes "interfaces") ss)
             (reads_list interface_of whole_interface p.interfaces (λ n i at. reads_interface i (fits.interfaces n i at))))
-    (then _ _ p.types r
         (reads_required (list_of type_def_of) (codes "types") j (written.list_of whole_type p.types) p.types (get_slot (codes "types") ss)
             (reads_list type_def_of whole_type p.types (λ i def at. reads_type_def def (fits.types i def at))))
-    (then _ _ p.foreign_deps r
         (reads_required deps_of (codes "foreign-deps") j (json_of_deps p.foreign_deps) p.foreign_deps (get_slot (codes "foreign-deps") ss)
             (reads_deps p.foreign_deps fits.packages_differ fits.packages fits.items))
-    (then _ _ p.foreign_dep_spans r
         (reads_required (list_of place_of) (codes "foreign-dep-spans") j (written.list_of json_of_span p.foreign_dep_spans) p.foreign_dep_spans (get_slot (codes "foreign-dep-spans") ss)
             (reads_list place_of json_of_span p.foreign_dep_spans (λ i span at. reads_span span (fits.dep_spans i span at))))
-    (then _ _ p.unknown_type_spans r
         (reads_required (list_of place_of) (codes "unknown-type-spans") j (written.list_of json_of_span p.unknown_type_spans) p.unknown_type_spans (get_slot (codes "unknown-type-spans") ss)
             (reads_list place_of json_of_span p.unknown_type_spans (λ i span at. reads_span span (fits.unknown_spans i span at))))
-    (then _ _ p.required_resource_types r
         (reads_required (list_of (pair_of number_of place_of)) (codes "required-resources") j (written.list_of resource p.required_resource_types) p.required_resource_types
             (get_slot (codes "required-resources") ss)
             (reads_list (pair_of number_of place_of) resource p.required_resource_types
                 (λ i it at. reads_pair number_of place_of (json_of_number it.0) (json_of_span it.1) it.0 it.1 (reads_number it.0 (fits.resources i it at).0)
-                    (reads_span it.1 (fits.resources i it at).1)))) refl))))))))))
+                    (reads_span it.1 (fits.resources i it at).1))))

@@ -1,7 +1,7 @@
 -- What is written is a text of JSON: its numbers are numbers, and it nests less than a reader allows.
-use Rattle.std.proofs.Common.{◌≡◌, ◌∙◌, ℕ, zero, suc, ◌<◌, ◌≤◌, ◌^◌, max, List, [], ◌∷◌, ◌++◌, map, Option, Some, None, Ok, refl, ap, codes, arith, ⊤}
+use Rattle.std.proofs.Common.{◌≡◌, ◌∙◌, ℕ, zero, suc, ◌<◌, ◌≤◌, ◌^◌, max, List, [], ◌∷◌, ◌++◌, map, Option, Some, None, Ok, refl, sym, subst, ap, codes, arith}
 use Rattle.std.specs.Option.{option_map}
-use Rattle.std.specs.Prelude.{IfSome}
+use Rattle.std.specs.Prelude.{IfSome, ⊤}
 use Rattle.json.specs.Json.{Json, Members, document, max_depth}
 use Rattle.json.specs.Json as json
 use Rattle.json.specs.Tree.{HasNumbers, ItemsHaveNumbers, MembersHaveNumbers, depth, items_depth, members_depth}
@@ -54,7 +54,7 @@ use Rattle.wit_json_laws.specs.laws.ReadBack.{TextsReadBack}
 use Rattle.wit_json_reading.specs.Documents.{if_document}
 use Rattle.wit_json_reading.specs.Packages.{package_of}
 use Rattle.wit_json_laws.proofs.Packages.{packages_read_back}
-use Rattle.wit_json_laws.proofs.Slots.{Slot, slot_members, slots}
+use Rattle.wit_json_laws.proofs.Slots.{Slot, joined, members_are, slots}
 
 -- numbers are numbers, and arrays and objects nest no deeper than d
 record IsPlain (d : ℕ) (j : Json) : Type 0 where
@@ -119,21 +119,16 @@ one_slot : (d : ℕ) (name : List ℕ) (o : Option Json) (ms : List Member) → 
 one_slot d name None ms plain others = others
 one_slot d name (Some j) ms plain others = one_member d name j ms plain others
 
-last_slot : (d : ℕ) (name : List ℕ) (o : Option Json) → IfSome o (IsPlain d) → ArePlain d (optional name o)
-last_slot d name None plain = no_members d
-last_slot d name (Some j) plain = one_member d name j [] plain (no_members d)
-
 abbrev Holds : ℕ → List Slot → Type 0
 Holds d [] = ⊤
 Holds d (s ∷ ss) = IfSome s.1 (IsPlain d) × Holds d ss
 
-plain_members : (d : ℕ) (ss : List Slot) → Holds d ss → ArePlain d (slot_members ss)
+plain_members : (d : ℕ) (ss : List Slot) → Holds d ss → ArePlain d (joined ss)
 plain_members d [] plain = no_members d
-plain_members d (s ∷ []) plain = last_slot d s.0 s.1 plain.0
-plain_members d (s ∷ t ∷ ss) plain = one_slot d s.0 s.1 (slot_members (t ∷ ss)) plain.0 (plain_members d (t ∷ ss) plain.1)
+plain_members d (s ∷ ss) plain = one_slot d s.0 s.1 (joined ss) plain.0 (plain_members d ss plain.1)
 
 plain_slots : (d : ℕ) (ss : List Slot) → Holds d ss → IsPlain (suc d) (slots ss)
-plain_slots d ss plain = plain_object d (slot_members ss) (plain_members d ss plain)
+plain_slots d ss plain = subst (λ (ms : List Member). IsPlain (suc d) (object ms)) (sym (members_are ss)) (plain_object d (joined ss) (plain_members d ss plain))
 
 plain_tagged : (d : ℕ) (name : List ℕ) (j : Json) → IsPlain d j → IsPlain (suc d) (tagged name j)
 plain_tagged d name j plain = plain_object d ((name, j) ∷ []) (one_member d name j [] plain (no_members d))

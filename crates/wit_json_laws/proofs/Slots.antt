@@ -1,5 +1,5 @@
 -- Objects whose members have names of their own, each of which is there or left out.
-use Rattle.std.proofs.Common.{◌≡◌, ◌∙◌, ℕ, Bool, true, false, cond, not, ◌&&◌, ◌||◌, List, [], ◌∷◌, ◌++◌, map, Option, Some, None, Result, Ok, Err, refl, sym, ap, bytes_eq, if◌then◌else◌, arith}
+use Rattle.std.proofs.Common.{◌≡◌, ◌∙◌, ℕ, Bool, true, false, cond, not, ◌&&◌, ◌||◌, List, [], ◌∷◌, ◌++◌, map, Option, Some, None, Result, Ok, Err, refl, sym, ap, bytes_eq, if◌then◌else◌, arith, append-nil, append_assoc}
 use Rattle.std.specs.List.{list_any}
 use Rattle.json.specs.Find.{get, get_member, later_or}
 use Rattle.json.specs.Json.{Json, Members}
@@ -13,13 +13,30 @@ use Rattle.wit_json_reading.specs.declared.fault.Step.TheVariants as step
 abbrev pub Slot : Type 0
 Slot = List ℕ × Option Json
 
+abbrev more_members : List Member → List Slot → List Member
+more_members ms [] = ms
+more_members ms (s ∷ ss) = more_members (ms ++ optional s.0 s.1) ss
+
+-- one after another, as a writer's definition puts them together
 abbrev pub slot_members : List Slot → List Member
 slot_members [] = []
-slot_members (s ∷ []) = optional s.0 s.1
-slot_members (s ∷ t ∷ ss) = optional s.0 s.1 ++ slot_members (t ∷ ss)
+slot_members (s ∷ ss) = more_members (optional s.0 s.1) ss
 
 abbrev pub slots : List Slot → Json
 slots ss = object (slot_members ss)
+
+-- the same, from the first on
+abbrev pub joined : List Slot → List Member
+joined [] = []
+joined (s ∷ ss) = optional s.0 s.1 ++ joined ss
+
+more_are : (ms : List Member) (ss : List Slot) → more_members ms ss ≡ ms ++ joined ss
+more_are ms [] = sym (append-nil ms)
+more_are ms (s ∷ ss) = more_are (ms ++ optional s.0 s.1) ss ∙ append_assoc ms (optional s.0 s.1) (joined ss)
+
+pub members_are : (ss : List Slot) → slot_members ss ≡ joined ss
+members_are [] = refl
+members_are (s ∷ ss) = more_are (optional s.0 s.1) ss
 
 -- ---- the names
 
@@ -62,11 +79,6 @@ one_name : (known earlier : List (List ℕ)) (name : List ℕ) (j : Json) (ms : 
     → names_from known (earlier ++ name ∷ []) ms ≡ Ok tt → names_from known earlier (json.member name j ms) ≡ Ok tt
 one_name known earlier name j ms first there others = rw first (rw there others)
 
-last_name : (known earlier : List (List ℕ)) (name : List ℕ) (o : Option Json) → list_any (bytes_eq name) earlier ≡ false → list_any (bytes_eq name) known ≡ true
-    → names_from known earlier (members_of (optional name o)) ≡ Ok tt
-last_name known earlier name None first there = refl
-last_name known earlier name (Some j) first there = one_name known earlier name j json.no_members first there refl
-
 next_name : (known earlier all : List (List ℕ)) (name : List ℕ) (o : Option Json) (ms : List Member) → list_any (bytes_eq name) earlier ≡ false → list_any (bytes_eq name) known ≡ true
     → AreAmong earlier all → ((some : List (List ℕ)) → AreAmong some (name ∷ all) → names_from known some (members_of ms) ≡ Ok tt)
     → names_from known earlier (members_of (optional name o ++ ms)) ≡ Ok tt
@@ -74,21 +86,16 @@ next_name known earlier all name None ms first there among others = others earli
 next_name known earlier all name (Some j) ms first there among others =
     one_name known earlier name j (members_of ms) first there (others (earlier ++ name ∷ []) (more_among earlier all name among))
 
-names_fit : (known earlier all : List (List ℕ)) (ss : List Slot) → fit known all ss ≡ true → AreAmong earlier all → names_from known earlier (members_of (slot_members ss)) ≡ Ok tt
+names_fit : (known earlier all : List (List ℕ)) (ss : List Slot) → fit known all ss ≡ true → AreAmong earlier all → names_from known earlier (members_of (joined ss)) ≡ Ok tt
 names_fit known earlier all [] fits among = refl
-names_fit known earlier all (s ∷ []) fits among =
+names_fit known earlier all (s ∷ ss) fits among =
     let parts = both (not (list_any (bytes_eq s.0) all)) _ fits in
     let more = both (list_any (bytes_eq s.0) known) _ parts.1 in
-    last_name known earlier s.0 s.1 (among s.0 (negated _ parts.0)) more.0
-names_fit known earlier all (s ∷ t ∷ ss) fits among =
-    let parts = both (not (list_any (bytes_eq s.0) all)) _ fits in
-    let more = both (list_any (bytes_eq s.0) known) _ parts.1 in
-    next_name known earlier all s.0 s.1 (slot_members (t ∷ ss)) (among s.0 (negated _ parts.0)) more.0 among
-        (λ some inside. names_fit known some (s.0 ∷ all) (t ∷ ss) more.1 inside)
+    next_name known earlier all s.0 s.1 (joined ss) (among s.0 (negated _ parts.0)) more.0 among (λ some inside. names_fit known some (s.0 ∷ all) ss more.1 inside)
 
 -- no member is unknown, and none stands twice
 pub only_slots : (known : List (List ℕ)) (ss : List Slot) → fit known [] ss ≡ true → only known (slots ss) ≡ Ok tt
-only_slots known ss fits = names_fit known [] [] ss fits (λ name none. none)
+only_slots known ss fits = ap (λ (ms : List Member). only known (object ms)) (members_are ss) ∙ names_fit known [] [] ss fits (λ name none. none)
 
 -- ---- the values
 
@@ -100,18 +107,6 @@ or_none (Some j) = refl
 abbrev pub found : List ℕ → List Slot → Option Json
 found name [] = None
 found name (s ∷ ss) = if bytes_eq s.0 name then later_or (found name ss) s.1 else found name ss
-
-last_found : (name key : List ℕ) (o : Option Json) → get_member name (members_of (optional key o)) ≡ (if bytes_eq key name then later_or None o else None)
-last_found name key None = by (bytes_eq key name)
-  where
-    by : (b : Bool) → None ≡ (if b then None else None)
-    by true = refl
-    by false = refl
-last_found name key (Some j) = by (bytes_eq key name)
-  where
-    by : (b : Bool) → cond b (Some j) None ≡ (if b then Some j else None)
-    by true = refl
-    by false = refl
 
 next_found : (name key : List ℕ) (o later : Option Json) (ms : List Member) → get_member name (members_of ms) ≡ later
     → get_member name (members_of (optional key o ++ ms)) ≡ (if bytes_eq key name then later_or later o else later)
@@ -126,7 +121,9 @@ next_found name key (Some j) later ms rest = by (bytes_eq key name)
     by true = ap (λ (o : Option Json). later_or o (Some j)) rest
     by false = or_none (get_member name (members_of ms)) ∙ rest
 
+get_joined : (name : List ℕ) (ss : List Slot) → get_member name (members_of (joined ss)) ≡ found name ss
+get_joined name [] = refl
+get_joined name (s ∷ ss) = next_found name s.0 s.1 (found name ss) (joined ss) (get_joined name ss)
+
 pub get_slot : (name : List ℕ) (ss : List Slot) → get name (slots ss) ≡ found name ss
-get_slot name [] = refl
-get_slot name (s ∷ []) = last_found name s.0 s.1
-get_slot name (s ∷ t ∷ ss) = next_found name s.0 s.1 (found name (t ∷ ss)) (slot_members (t ∷ ss)) (get_slot name (t ∷ ss))
+get_slot name ss = ap (λ (ms : List Member). get name (object ms)) (members_are ss) ∙ get_joined name ss

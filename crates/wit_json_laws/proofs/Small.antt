@@ -24,8 +24,8 @@ use Rattle.wit_json_reading.specs.Gates.{contents_of, docs_of, gate_of, gate_by,
 use Rattle.wit_json_reading.specs.Reading.{Reading, ◌>>=◌, instead_of, only, optional, required, under}
 use Rattle.wit_json_reading.specs.Values.{decimal_after, decimal_of, number_below, number_of, or_number, small_number_of, text_of, version_in, version_of}
 use Rattle.wit_json_reading.specs.declared.fault.Expected.TheVariants as expected
-use Rattle.wit_json_laws.proofs.Slots.{found, get_slot, only_slots, slots}
-use Rattle.wit_json_laws.proofs.Steps.{reads_alone, reads_optional, reads_pair, reads_required, reads_variant, then}
+use Rattle.wit_json_laws.proofs.Slots.{Slot, found, get_slot, only_slots, slots}
+use Rattle.wit_json_laws.proofs.Steps.{all_1, all_3, reads_alone, reads_optional, reads_pair, reads_required, reads_variant, followed}
 
 -- ---- numbers
 
@@ -47,7 +47,7 @@ digit_behind k (c ∷ cs) d m small read = by (is_ascii_digit c) read (λ rest. 
     by false h others = cc
 
 one_digit : (n : ℕ) → n < 10 → decimal_after 0 ((48 + n) ∷ []) ≡ Some n
-one_digit n small = digit_behind 0 [] n 0 small refl
+one_digit n small = digit_behind 0 [] n 0 small refl ∙ ap Some (omega arith)
 
 next_digit : (n : ℕ) (ds : List ℕ) → 10 ≤ n → decimal_after 0 ds ≡ Some (n / 10) → decimal_after 0 (ds ++ (48 + n % 10) ∷ []) ≡ Some n
 next_digit n ds large read = digit_behind 0 ds (n % 10) (n / 10) (omega arith) read ∙ ap Some (omega arith)
@@ -65,7 +65,7 @@ reads_number n fits = ap or_number (ap (number_below (2 ^ 64)) (number_read n fi
 pub reads_small : (n : ℕ) → n < 2 ^ 32 → small_number_of (json_of_number n) ≡ Ok n
 unfolding small_number_of
 reads_small n fits =
-    then (number_of (json_of_number n)) _ n (Ok n) (reads_number n (omega arith)) (ap (λ (b : Bool). if b then Ok n else instead_of expected.SmallNumber) (is_below n (2 ^ 32) fits))
+    followed (number_of (json_of_number n)) _ n (Ok n) (reads_number n (omega arith)) (ap (λ (b : Bool). if b then Ok n else instead_of expected.SmallNumber) (is_below n (2 ^ 32) fits))
 
 -- ---- versions
 
@@ -89,7 +89,7 @@ reads_range : (a b : ℕ) → a ≤ b → b < 2 ^ 32 → range_of (pair (json_of
 unfolding range_of
 reads_range a b ordered fits =
     let in_order : nat_le a b ≡ true = grind arith in
-    then _ _ (a, b) (Ok (Some (a, b))) (reads_pair small_number_of small_number_of (json_of_number a) (json_of_number b) a b (reads_small a (omega arith)) (reads_small b fits))
+    followed _ (λ (r : ℕ × ℕ). if nat_le r.0 r.1 then Ok (Some r) else instead_of expected.Span) (a, b) (Ok (Some (a, b))) (reads_pair small_number_of small_number_of (json_of_number a) (json_of_number b) a b (reads_small a (omega arith)) (reads_small b fits))
         (ap (λ (o : Bool). if o then Ok (Some (a, b)) else instead_of expected.Span) in_order)
 
 pub reads_span : (span : Option (ℕ × ℕ)) → IsWritableSpan span → place_of (json_of_span span) ≡ Ok span
@@ -106,27 +106,27 @@ reads_ranges (Some range) fits = reads_range range.0 range.1 fits.0 fits.1
 pub reads_span_member : (span : Option (ℕ × ℕ)) (j : Json) → IsWritableSpan span → get (codes "span") j ≡ option_map json_of_range span → span_of j ≡ Ok span
 unfolding span_of place_of
 reads_span_member None j fits there =
-    then (optional place_of (codes "span") j) _ None (Ok None) (reads_optional place_of json_of_span (codes "span") j None there tt) refl
+    followed (optional place_of (codes "span") j) _ None (Ok None) (reads_optional place_of json_of_span (codes "span") j None there tt) refl
 reads_span_member (Some range) j fits there =
-    then (optional place_of (codes "span") j) _ (Some (Some range)) (Ok (Some range))
+    followed (optional place_of (codes "span") j) _ (Some (Some range)) (Ok (Some range))
         (reads_optional place_of json_of_span (codes "span") j (Some (Some range)) there (reads_range range.0 range.1 fits.0 fits.1)) refl
 
 -- ---- docs
 
-docs_from : Option (List ℕ) → Docs
+abbrev docs_from : Option (List ℕ) → Docs
 docs_from contents = record { contents = contents }
 
 reads_contents : (text : List ℕ) → contents_of (tagged (codes "contents") (json_of_text text)) ≡ Ok (docs_from (Some text))
 unfolding contents_of
 reads_contents text =
-    then _ _ text (Ok (docs_from (Some text))) (reads_alone text_of (codes "contents") (json_of_text text) text refl refl refl) refl
+    all_1 (λ (text : List ℕ). docs_from (Some text)) (reads_alone text_of (codes "contents") (json_of_text text) text refl refl refl)
 
 reads_docs_from : (contents : Option (List ℕ)) (j : Json) → get (codes "docs") j ≡ json_of_docs (docs_from contents) → docs_of j ≡ Ok (docs_from contents)
 unfolding docs_of
 reads_docs_from None j there =
-    then (optional contents_of (codes "docs") j) _ None (Ok (docs_from None)) (reads_optional contents_of (λ (d : Docs). json.null) (codes "docs") j None there tt) refl
+    followed (optional contents_of (codes "docs") j) _ None (Ok (docs_from None)) (reads_optional contents_of (λ (d : Docs). json.null) (codes "docs") j None there tt) refl
 reads_docs_from (Some text) j there =
-    then (optional contents_of (codes "docs") j) _ (Some (docs_from (Some text))) (Ok (docs_from (Some text)))
+    followed (optional contents_of (codes "docs") j) _ (Some (docs_from (Some text))) (Ok (docs_from (Some text)))
         (reads_optional contents_of (λ (d : Docs). tagged (codes "contents") (json_of_text text)) (codes "docs") j (Some (docs_from (Some text))) there (reads_contents text)) refl
 
 -- the docs of an item, which may be left out
@@ -139,37 +139,41 @@ reads_stable : (since : Parts) (deprecated : Option Parts) → IsValid since →
     → stable_of (slots ((codes "since", Some (json_of_version since)) ∷ (codes "deprecated", option_map json_of_version deprecated) ∷ [])) ≡ Ok (Stable since deprecated)
 unfolding stable_of
 reads_stable since deprecated valid valid_too =
-    let j = slots ((codes "since", Some (json_of_version since)) ∷ (codes "deprecated", option_map json_of_version deprecated) ∷ []) in
-    then _ _ tt (Ok (Stable since deprecated)) (only_slots (codes "since" ∷ codes "deprecated" ∷ []) _ refl)
-    (then _ _ since (Ok (Stable since deprecated)) (reads_required version_of (codes "since") j (json_of_version since) since (get_slot (codes "since") _) (reads_version since valid))
-    (then _ _ deprecated (Ok (Stable since deprecated))
-        (reads_optional version_of json_of_version (codes "deprecated") j deprecated (get_slot (codes "deprecated") _) (reads_versions deprecated valid_too)) refl))
+    let ss : List Slot = (codes "since", Some (json_of_version since)) ∷ (codes "deprecated", option_map json_of_version deprecated) ∷ [] in
+    let j = slots ss in
+    all_3 (λ (_ : Unit {0}) (since : Parts) (deprecated : Option Parts). Stable since deprecated)
+        (only_slots (codes "since" ∷ codes "deprecated" ∷ []) ss refl)
+        (reads_required version_of (codes "since") j (json_of_version since) since (get_slot (codes "since") ss) (reads_version since valid))
+        (reads_optional version_of json_of_version (codes "deprecated") j deprecated (get_slot (codes "deprecated") ss) (reads_versions deprecated valid_too))
 
 reads_unstable : (feature : List ℕ) (deprecated : Option Parts) → IfSome deprecated IsValid
     → unstable_of (slots ((codes "feature", Some (json_of_text feature)) ∷ (codes "deprecated", option_map json_of_version deprecated) ∷ [])) ≡ Ok (Unstable feature deprecated)
 unfolding unstable_of
 reads_unstable feature deprecated valid =
-    let j = slots ((codes "feature", Some (json_of_text feature)) ∷ (codes "deprecated", option_map json_of_version deprecated) ∷ []) in
-    then _ _ tt (Ok (Unstable feature deprecated)) (only_slots (codes "feature" ∷ codes "deprecated" ∷ []) _ refl)
-    (then _ _ feature (Ok (Unstable feature deprecated)) (reads_required text_of (codes "feature") j (json_of_text feature) feature (get_slot (codes "feature") _) refl)
-    (then _ _ deprecated (Ok (Unstable feature deprecated))
-        (reads_optional version_of json_of_version (codes "deprecated") j deprecated (get_slot (codes "deprecated") _) (reads_versions deprecated valid)) refl))
+    let ss : List Slot = (codes "feature", Some (json_of_text feature)) ∷ (codes "deprecated", option_map json_of_version deprecated) ∷ [] in
+    let j = slots ss in
+    all_3 (λ (_ : Unit {0}) (feature : List ℕ) (deprecated : Option Parts). Unstable feature deprecated)
+        (only_slots (codes "feature" ∷ codes "deprecated" ∷ []) ss refl)
+        (reads_required text_of (codes "feature") j (json_of_text feature) feature (get_slot (codes "feature") ss) refl)
+        (reads_optional version_of json_of_version (codes "deprecated") j deprecated (get_slot (codes "deprecated") ss) (reads_versions deprecated valid))
 
 -- a gate, `null` where there is none
 pub reads_gate : (gate : Stability) → IsWritableGate gate → gate_of (json_of_gate gate) ≡ Ok gate
 unfolding gate_of
 reads_gate Unknown fits = refl
-reads_gate (Stable since deprecated) fits = reads_variant gate_by expected.Gate (codes "stable") _ (Stable since deprecated) (reads_stable since deprecated fits.0 fits.1)
-reads_gate (Unstable feature deprecated) fits = reads_variant gate_by expected.Gate (codes "unstable") _ (Unstable feature deprecated) (reads_unstable feature deprecated fits)
+reads_gate (Stable since deprecated) fits = reads_variant gate_by expected.Gate (codes "stable")
+        (slots ((codes "since", Some (json_of_version since)) ∷ (codes "deprecated", option_map json_of_version deprecated) ∷ [])) (Stable since deprecated) (reads_stable since deprecated fits.0 fits.1)
+reads_gate (Unstable feature deprecated) fits = reads_variant gate_by expected.Gate (codes "unstable")
+        (slots ((codes "feature", Some (json_of_text feature)) ∷ (codes "deprecated", option_map json_of_version deprecated) ∷ [])) (Unstable feature deprecated) (reads_unstable feature deprecated fits)
 
 -- the gate of an item, which may be left out
 pub reads_stability : (gate : Stability) (j : Json) → IsWritableGate gate → get (codes "stability") j ≡ json_of_stability gate → stability_of j ≡ Ok gate
 unfolding stability_of
 reads_stability Unknown j fits there =
-    then (optional gate_of (codes "stability") j) _ None (Ok Unknown) (reads_optional gate_of json_of_gate (codes "stability") j None there tt) refl
+    followed (optional gate_of (codes "stability") j) _ None (Ok Unknown) (reads_optional gate_of json_of_gate (codes "stability") j None there tt) refl
 reads_stability (Stable since deprecated) j fits there =
     let gate = Stable since deprecated in
-    then (optional gate_of (codes "stability") j) _ (Some gate) (Ok gate) (reads_optional gate_of json_of_gate (codes "stability") j (Some gate) there (reads_gate gate fits)) refl
+    followed (optional gate_of (codes "stability") j) _ (Some gate) (Ok gate) (reads_optional gate_of json_of_gate (codes "stability") j (Some gate) there (reads_gate gate fits)) refl
 reads_stability (Unstable feature deprecated) j fits there =
     let gate = Unstable feature deprecated in
-    then (optional gate_of (codes "stability") j) _ (Some gate) (Ok gate) (reads_optional gate_of json_of_gate (codes "stability") j (Some gate) there (reads_gate gate fits)) refl
+    followed (optional gate_of (codes "stability") j) _ (Some gate) (Ok gate) (reads_optional gate_of json_of_gate (codes "stability") j (Some gate) there (reads_gate gate fits)) refl

@@ -31,13 +31,13 @@ use Rattle.wit_json_reading.specs.Functions.{function_of}
 use Rattle.wit_json_reading.specs.Reading.{Reading, ◌>>=◌, instead_of, list_of, under}
 use Rattle.wit_json_reading.specs.Tables.{named_of}
 use Rattle.wit_json_reading.specs.Values.{nullable, number_of, text_of}
-use Rattle.wit_json_reading.specs.Worlds.{entries_from, entries_of, include_name_of, include_of, interface_entry_of, interface_names, interface_of, item_by, item_of, key_of, placed_type_of, with_entry, world_names, world_of}
+use Rattle.wit_json_reading.specs.Worlds.{entries_from, entries_of, include_name_of, include_of, interface_entry_of, interface_names, interface_of, item_by, item_of, key_of, placed_type_of, with_entry, with_member, world_names, world_of}
 use Rattle.wit_json_reading.specs.declared.fault.Expected.TheVariants as expected
 use Rattle.wit_json_reading.specs.declared.fault.Step.TheVariants as step
 use Rattle.wit_json_laws.proofs.Functions.{reads_function}
 use Rattle.wit_json_laws.proofs.Slots.{Slot, found, get_slot, only_slots, slots}
 use Rattle.wit_json_laws.proofs.Small.{reads_docs, reads_number, reads_span_member, reads_stability, reads_texts}
-use Rattle.wit_json_laws.proofs.Steps.{is_new, reads_list, reads_named, reads_optional, reads_required, reads_variant, then}
+use Rattle.wit_json_laws.proofs.Steps.{all_3, all_5, all_6, all_7, all_8, is_new, reads_list, reads_named, reads_optional, reads_required, reads_variant, followed}
 use Rattle.wit_json_laws.proofs.Types.{reads_name}
 
 -- ---- interfaces
@@ -57,18 +57,17 @@ reads_alone_interface i fits =
         ∷ (codes "functions", Some (object_under_names whole_function i.functions)) ∷ (codes "docs", json_of_docs i.docs) ∷ (codes "stability", json_of_stability i.stability)
         ∷ (codes "span", option_map json_of_range i.span) ∷ [] in
     let j = slots ss in
-    let r : Reading Interface = Ok (alone i) in
-    then _ _ tt r (only_slots interface_names ss refl)
-    (then _ _ i.name r (reads_required (nullable text_of) (codes "name") j (null_or json_of_text i.name) i.name (get_slot (codes "name") ss) (reads_name i.name))
-    (then _ _ i.types r
+    all_7 (λ (_ : Unit {0}) (name : Option (List ℕ)) (types : List (List ℕ × ℕ)) (functions : List (List ℕ × Function)) (docs : Docs) (stability : Stability) (span : Option (ℕ × ℕ)).
+        let it : Interface = record { name = name; types = types; functions = functions; docs = docs; stability = stability; «package» = None; span = span } in it)
+        (only_slots interface_names ss refl)
+        (reads_required (nullable text_of) (codes "name") j (null_or json_of_text i.name) i.name (get_slot (codes "name") ss) (reads_name i.name))
         (reads_required (named_of number_of) (codes "types") j (object_under_names json_of_number i.types) i.types (get_slot (codes "types") ss)
             (reads_named number_of json_of_number i.types fits.types_differ (λ n e at. reads_number e.1 (fits.types n e at))))
-    (then _ _ i.functions r
         (reads_required (named_of function_of) (codes "functions") j (object_under_names whole_function i.functions) i.functions (get_slot (codes "functions") ss)
             (reads_named function_of whole_function i.functions fits.functions_differ (λ n e at. reads_function e.1 (fits.functions n e at))))
-    (then _ _ i.docs r (reads_docs i.docs j (get_slot (codes "docs") ss))
-    (then _ _ i.stability r (reads_stability i.stability j fits.gate (get_slot (codes "stability") ss))
-    (then _ _ i.span r (reads_span_member i.span j fits.span (get_slot (codes "span") ss)) refl))))))
+        (reads_docs i.docs j (get_slot (codes "docs") ss))
+        (reads_stability i.stability j fits.gate (get_slot (codes "stability") ss))
+        (reads_span_member i.span j fits.span (get_slot (codes "span") ss))
 
 pub reads_interface : (interface : Interface) → IsWritableInterface interface → interface_of (whole_interface interface) ≡ Ok interface
 reads_interface interface fits = reads_alone_interface interface fits ∙ ap Ok (is_alone interface fits.unplaced)
@@ -83,33 +82,34 @@ reads_interface_entry id stability docs span external_id fits gate place =
         (codes "id", Some (json_of_number id)) ∷ (codes "stability", json_of_stability stability) ∷ (codes "docs", json_of_docs docs) ∷ (codes "span", option_map json_of_range span)
         ∷ (codes "external-id", option_map json_of_text external_id) ∷ [] in
     let j = slots ss in
-    let r : Reading WorldItem = Ok (item.Interface id stability docs span external_id) in
-    then _ _ tt r (only_slots (codes "id" ∷ codes "stability" ∷ codes "docs" ∷ codes "span" ∷ codes "external-id" ∷ []) ss refl)
-    (then _ _ id r (reads_required number_of (codes "id") j (json_of_number id) id (get_slot (codes "id") ss) (reads_number id fits))
-    (then _ _ stability r (reads_stability stability j gate (get_slot (codes "stability") ss))
-    (then _ _ docs r (reads_docs docs j (get_slot (codes "docs") ss))
-    (then _ _ span r (reads_span_member span j place (get_slot (codes "span") ss))
-    (then _ _ external_id r (reads_optional text_of json_of_text (codes "external-id") j external_id (get_slot (codes "external-id") ss) (reads_texts external_id)) refl)))))
+    all_6 (λ (_ : Unit {0}) (id : ℕ) (stability : Stability) (docs : Docs) (span : Option (ℕ × ℕ)) (external_id : Option (List ℕ)). item.Interface id stability docs span external_id)
+        (only_slots (codes "id" ∷ codes "stability" ∷ codes "docs" ∷ codes "span" ∷ codes "external-id" ∷ []) ss refl)
+        (reads_required number_of (codes "id") j (json_of_number id) id (get_slot (codes "id") ss) (reads_number id fits))
+        (reads_stability stability j gate (get_slot (codes "stability") ss))
+        (reads_docs docs j (get_slot (codes "docs") ss))
+        (reads_span_member span j place (get_slot (codes "span") ss))
+        (reads_optional text_of json_of_text (codes "external-id") j external_id (get_slot (codes "external-id") ss) (reads_texts external_id))
 
 reads_placed_type : (id : ℕ) (range : ℕ × ℕ) → IsWritableId id → IsWritableSpan (Some range) → placed_type_of (whole_type_entry id (Some range)) ≡ Ok (item.Type_ id (Some range))
 unfolding placed_type_of
 reads_placed_type id range fits place =
     let ss : List Slot = (codes "id", Some (json_of_number id)) ∷ (codes "span", Some (json_of_range range)) ∷ [] in
     let j = slots ss in
-    let r : Reading WorldItem = Ok (item.Type_ id (Some range)) in
-    then _ _ tt r (only_slots (codes "id" ∷ codes "span" ∷ []) ss refl)
-    (then _ _ id r (reads_required number_of (codes "id") j (json_of_number id) id (get_slot (codes "id") ss) (reads_number id fits))
-    (then _ _ (Some range) r (reads_span_member (Some range) j place (get_slot (codes "span") ss)) refl))
+    all_3 (λ (_ : Unit {0}) (id : ℕ) (span : Option (ℕ × ℕ)). item.Type_ id span)
+        (only_slots (codes "id" ∷ codes "span" ∷ []) ss refl)
+        (reads_required number_of (codes "id") j (json_of_number id) id (get_slot (codes "id") ss) (reads_number id fits))
+        (reads_span_member (Some range) j place (get_slot (codes "span") ss))
 
 reads_item : (it : WorldItem) → IsWritableItem it → item_of (whole_item it) ≡ Ok it
 unfolding item_of
 reads_item (item.Interface id stability docs span external_id) fits =
-    reads_variant item_by expected.Entry (codes "interface") _ (item.Interface id stability docs span external_id) (reads_interface_entry id stability docs span external_id fits.0 fits.1 fits.2)
+    reads_variant item_by expected.Entry (codes "interface") (whole_interface_entry id stability docs span external_id) (item.Interface id stability docs span external_id)
+        (reads_interface_entry id stability docs span external_id fits.0 fits.1 fits.2)
 reads_item (item.Function f) fits =
-    reads_variant item_by expected.Entry (codes "function") (whole_function f) (item.Function f) (then (function_of (whole_function f)) _ f (Ok (item.Function f)) (reads_function f fits) refl)
+    reads_variant item_by expected.Entry (codes "function") (whole_function f) (item.Function f) (followed (function_of (whole_function f)) _ f (Ok (item.Function f)) (reads_function f fits) refl)
 reads_item (item.Type_ id None) fits =
-    reads_variant item_by expected.Entry (codes "type") (json_of_number id) (item.Type_ id None) (then (number_of (json_of_number id)) _ id (Ok (item.Type_ id None)) (reads_number id fits.0) refl)
-reads_item (item.Type_ id (Some range)) fits = reads_variant item_by expected.Entry (codes "type") _ (item.Type_ id (Some range)) (reads_placed_type id range fits.0 fits.1)
+    reads_variant item_by expected.Entry (codes "type") (json_of_number id) (item.Type_ id None) (followed (number_of (json_of_number id)) _ id (Ok (item.Type_ id None)) (reads_number id fits.0) refl)
+reads_item (item.Type_ id (Some range)) fits = reads_variant item_by expected.Entry (codes "type") (whole_type_entry id (Some range)) (item.Type_ id (Some range)) (reads_placed_type id range fits.0 fits.1)
 
 -- ---- keys
 
@@ -148,8 +148,8 @@ reads_entries before (e ∷ es) distinct fit items =
     let new : is_some (lookup (same_key e.0) before) ≡ false = is_new (λ a b. (key_is a b).0) before es e distinct in
     let longer : (before ++ e ∷ []) ++ es ≡ before ++ e ∷ es = append_assoc before (e ∷ []) es in
     let named : key_of (entry_name e.0) e.1 ≡ e.0 = reads_key e.0 e.1 (fit 0 e refl) in
-    then _ _ (before ++ e ∷ []) (Ok (before ++ e ∷ es))
-        (then (under (step.Member (entry_name e.0)) (item_of (whole_item e.1))) _ e.1 (Ok (before ++ e ∷ [])) (ap (under (step.Member (entry_name e.0))) (reads_item e.1 (items 0 e refl)))
+    followed (with_member (entry_name e.0) (whole_item e.1) before) (λ more. entries_from more (members_of (map member_of es))) (before ++ e ∷ []) (Ok (before ++ e ∷ es))
+        (followed (under (step.Member (entry_name e.0)) (item_of (whole_item e.1))) _ e.1 (Ok (before ++ e ∷ [])) (ap (under (step.Member (entry_name e.0))) (reads_item e.1 (items 0 e refl)))
             (one_entry (entry_name e.0) e.1 e.0 before named new))
         (reads_entries (before ++ e ∷ []) es (subst (λ (all : List (WorldKey × WorldItem)). HasDistinctKeys all) (sym longer) distinct) (λ i y at. fit (suc i) y at) (λ i y at. items (suc i) y at)
         ∙ ap Ok longer)
@@ -164,9 +164,10 @@ unfolding include_name_of
 reads_include_name n =
     let ss : List Slot = (codes "name", Some (json_of_text n.name)) ∷ (codes "as", Some (json_of_text n.as_)) ∷ [] in
     let j = slots ss in
-    then _ _ tt (Ok n) (only_slots (codes "name" ∷ codes "as" ∷ []) ss refl)
-    (then _ _ n.name (Ok n) (reads_required text_of (codes "name") j (json_of_text n.name) n.name (get_slot (codes "name") ss) refl)
-    (then _ _ n.as_ (Ok n) (reads_required text_of (codes "as") j (json_of_text n.as_) n.as_ (get_slot (codes "as") ss) refl) refl))
+    all_3 (λ (_ : Unit {0}) (name as_ : List ℕ). let it : IncludeName = record { name = name; as_ = as_ } in it)
+        (only_slots (codes "name" ∷ codes "as" ∷ []) ss refl)
+        (reads_required text_of (codes "name") j (json_of_text n.name) n.name (get_slot (codes "name") ss) refl)
+        (reads_required text_of (codes "as") j (json_of_text n.as_) n.as_ (get_slot (codes "as") ss) refl)
 
 reads_include : (include : WorldInclude) → IsWritableInclude include → include_of (json_of_include include) ≡ Ok include
 unfolding include_of
@@ -175,13 +176,13 @@ reads_include i fits =
         (codes "id", Some (json_of_number i.id)) ∷ (codes "names", Some (written.list_of json_of_include_name i.names)) ∷ (codes "stability", json_of_stability i.stability)
         ∷ (codes "span", option_map json_of_range i.span) ∷ [] in
     let j = slots ss in
-    then _ _ tt (Ok i) (only_slots (codes "id" ∷ codes "names" ∷ codes "stability" ∷ codes "span" ∷ []) ss refl)
-    (then _ _ i.id (Ok i) (reads_required number_of (codes "id") j (json_of_number i.id) i.id (get_slot (codes "id") ss) (reads_number i.id fits.id))
-    (then _ _ i.names (Ok i)
+    all_5 (λ (_ : Unit {0}) (id : ℕ) (names : List IncludeName) (stability : Stability) (span : Option (ℕ × ℕ)). let it : WorldInclude = record { stability = stability; id = id; names = names; span = span } in it)
+        (only_slots (codes "id" ∷ codes "names" ∷ codes "stability" ∷ codes "span" ∷ []) ss refl)
+        (reads_required number_of (codes "id") j (json_of_number i.id) i.id (get_slot (codes "id") ss) (reads_number i.id fits.id))
         (reads_required (list_of include_name_of) (codes "names") j (written.list_of json_of_include_name i.names) i.names (get_slot (codes "names") ss)
             (reads_list include_name_of json_of_include_name i.names (λ n name at. reads_include_name name)))
-    (then _ _ i.stability (Ok i) (reads_stability i.stability j fits.gate (get_slot (codes "stability") ss))
-    (then _ _ i.span (Ok i) (reads_span_member i.span j fits.span (get_slot (codes "span") ss)) refl))))
+        (reads_stability i.stability j fits.gate (get_slot (codes "stability") ss))
+        (reads_span_member i.span j fits.span (get_slot (codes "span") ss))
 
 -- a world without its package
 abbrev alone_world : World → World
@@ -198,17 +199,17 @@ reads_alone_world w fits =
         ∷ (codes "includes", Some (written.list_of json_of_include w.includes)) ∷ (codes "docs", json_of_docs w.docs) ∷ (codes "stability", json_of_stability w.stability)
         ∷ (codes "span", option_map json_of_range w.span) ∷ [] in
     let j = slots ss in
-    let r : Reading World = Ok (alone_world w) in
-    then _ _ tt r (only_slots world_names ss refl)
-    (then _ _ w.name r (reads_required text_of (codes "name") j (json_of_text w.name) w.name (get_slot (codes "name") ss) refl)
-    (then _ _ w.imports r (reads_required entries_of (codes "imports") j (whole_entries w.imports) w.imports (get_slot (codes "imports") ss) (reads_world_entries w.imports fits.imports))
-    (then _ _ w.exports r (reads_required entries_of (codes "exports") j (whole_entries w.exports) w.exports (get_slot (codes "exports") ss) (reads_world_entries w.exports fits.exports))
-    (then _ _ w.includes r
+    all_8 (λ (_ : Unit {0}) (name : List ℕ) (imports exports : List (WorldKey × WorldItem)) (includes : List WorldInclude) (docs : Docs) (stability : Stability) (span : Option (ℕ × ℕ)).
+        let it : World = record { name = name; imports = imports; exports = exports; docs = docs; stability = stability; «package» = None; includes = includes; span = span } in it)
+        (only_slots world_names ss refl)
+        (reads_required text_of (codes "name") j (json_of_text w.name) w.name (get_slot (codes "name") ss) refl)
+        (reads_required entries_of (codes "imports") j (whole_entries w.imports) w.imports (get_slot (codes "imports") ss) (reads_world_entries w.imports fits.imports))
+        (reads_required entries_of (codes "exports") j (whole_entries w.exports) w.exports (get_slot (codes "exports") ss) (reads_world_entries w.exports fits.exports))
         (reads_required (list_of include_of) (codes "includes") j (written.list_of json_of_include w.includes) w.includes (get_slot (codes "includes") ss)
             (reads_list include_of json_of_include w.includes (λ n i at. reads_include i (fits.includes n i at))))
-    (then _ _ w.docs r (reads_docs w.docs j (get_slot (codes "docs") ss))
-    (then _ _ w.stability r (reads_stability w.stability j fits.gate (get_slot (codes "stability") ss))
-    (then _ _ w.span r (reads_span_member w.span j fits.span (get_slot (codes "span") ss)) refl)))))))
+        (reads_docs w.docs j (get_slot (codes "docs") ss))
+        (reads_stability w.stability j fits.gate (get_slot (codes "stability") ss))
+        (reads_span_member w.span j fits.span (get_slot (codes "span") ss))
 
 pub reads_world : (world : World) → IsWritableWorld world → world_of (whole_world world) ≡ Ok world
 reads_world world fits = reads_alone_world world fits ∙ ap Ok (is_alone_world world fits.unplaced)

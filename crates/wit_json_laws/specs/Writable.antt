@@ -1,7 +1,7 @@
 -- Of what JSON says all: numbers have the bits of their types, versions are of SemVer 2.0.0, keys differ, and no name
 -- holds the mark that ends it. All that a reader of WIT brings is so, but for the label of an interface that is called
 -- as the key of that interface is.
-use Rattle.std.specs.Prelude.{◌≡◌, ℕ, ◌×◌, ◌<◌, ◌≤◌, ◌^◌, ◌==◌, List, Option, None, IfSome, false, ⊤, ⊥}
+use Rattle.std.specs.Prelude.{◌≡◌, ℕ, ◌<◌, ◌≤◌, ◌^◌, ◌==◌, List, Option, None, IfSome, false, ⊤}
 use Rattle.std.specs.List.{list_any}
 use Rattle.semver.specs.Grammar.{IsValid}
 use Rattle.wit_values.specs.Table.{HasDistinctKeys}
@@ -183,10 +183,10 @@ IsWritableAstItem (ast.Interface id) = IsWritableId id
 IsWritableAstItem (ast.World id) = IsWritableId id
 
 -- what is named of another package
-pub record AreWritableItems (items : List ForeignItem) : Type 0 where
-  pub differ : HasDistinctKeys items
-  pub items : Each (λ (e : ForeignItem). IsWritableAstItem e.1.0) items
-  pub gates : Each (λ (e : ForeignItem). Each IsWritableGate e.1.1) items
+pub record AreWritableItems (named : List ForeignItem) : Type 0 where
+  pub differ : HasDistinctKeys named
+  pub items : Each (λ (e : ForeignItem). IsWritableAstItem e.1.0) named
+  pub gates : Each (λ (e : ForeignItem). Each IsWritableGate e.1.1) named
 
 pub record IsWritablePackage (p : UnresolvedPackage) : Type 0 where
   pub name : IsWritableName p.name
