@@ -1,5 +1,5 @@
 -- What the layout leaves out, and the whole with it.
-use Rattle.std.specs.Prelude.{◌≡◌, ◌≢◌, ℕ, List, [], ◌∷◌, Option, Some, None, codes, false, true}
+use Rattle.std.specs.Prelude.{◌≡◌, ◌≢◌, ℕ, [], ◌∷◌, Option, Some, None, codes, false, true}
 use Rattle.wit_sources.specs.SourceMap.{Sources}
 use Rattle.wit_data.specs.New.{new_function, new_interface, new_interface_entry, new_type, new_world}
 use Rattle.wit_data.specs.declared.function.Function.{Function}

@@ -1,5 +1,5 @@
 -- What types and functions are read from, each as its text.
-use Rattle.std.specs.Prelude.{◌≡◌, ℕ, List, [], ◌∷◌, Option, Some, None, Ok, codes}
+use Rattle.std.specs.Prelude.{◌≡◌, ℕ, List, [], ◌∷◌, Some, None, Ok, codes}
 use Rattle.wit_data.specs.New.{new_function, new_type}
 use Rattle.wit_data.specs.declared.function.Function.{Function}
 use Rattle.wit_data.specs.declared.function.FunctionKind.{FunctionKind}
@@ -8,11 +8,9 @@ use Rattle.wit_data.specs.declared.types.Handle.TheVariants.{Borrow, Own}
 use Rattle.wit_data.specs.declared.types.TypeDef.{TypeDef}
 use Rattle.wit_data.specs.declared.types.TypeDefKind.{TypeDefKind}
 use Rattle.wit_data.specs.declared.types.TypeDefKind.TheVariants as kind
-use Rattle.wit_data.specs.declared.types.TypeOwner.{TypeOwner}
 use Rattle.wit_data.specs.declared.types.TypeOwner.TheVariants as owner
 use Rattle.wit_data.specs.declared.types.Type_.{Type_}
 use Rattle.wit_data.specs.declared.types.Type_.TheVariants as type
-use Rattle.wit_json_examples.specs.Gates.{docs_of}
 use Rattle.wit_json_examples.specs.ReadValues.{fault_at, to}
 use Rattle.wit_json_examples.specs.Types.{a_field, a_flag, empty_case, full_case, red}
 use Rattle.wit_json_reading.specs.Documents.{reading_of}

@@ -1,10 +1,8 @@
 -- What interfaces, worlds and packages are read from, each as its text.
-use Rattle.std.specs.Prelude.{◌≡◌, ℕ, List, [], ◌∷◌, Option, Some, None, Ok, codes}
-use Rattle.wit_sources.specs.SourceMap.{Sources}
+use Rattle.std.specs.Prelude.{◌≡◌, ℕ, List, [], ◌∷◌, Some, None, Ok, codes}
 use Rattle.wit_names.specs.declared.package_name.PackageName.{PackageName}
 use Rattle.wit_data.specs.Foreign.{ForeignItem}
-use Rattle.wit_data.specs.New.{new_function, new_interface, new_world}
-use Rattle.wit_data.specs.declared.function.FunctionKind.TheVariants as function
+use Rattle.wit_data.specs.New.{new_interface, new_world}
 use Rattle.wit_data.specs.declared.interface.Interface.{Interface}
 use Rattle.wit_data.specs.declared.stability.Stability.TheVariants.{Stable, Unknown}
 use Rattle.wit_data.specs.declared.unresolved.AstItem.TheVariants as ast

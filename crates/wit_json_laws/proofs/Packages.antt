@@ -1,18 +1,17 @@
 -- Unresolved packages read back.
-use Rattle.std.proofs.Common.{◌≡◌, ◌∙◌, ℕ, zero, suc, ◌+◌, ◌==◌, ◌||◌, Bool, true, false, cond, not, List, [], ◌∷◌, ◌++◌, map, length, take, drop, Option, Some, None, Result, Ok, Err, refl, sym, ap, subst, codes, if◌then◌else◌, append-nil, append_assoc, slice_get, arith}
+use Rattle.std.proofs.Common.{◌≡◌, ◌∙◌, ℕ, suc, ◌+◌, ◌==◌, ◌||◌, Bool, true, false, cond, not, List, [], ◌∷◌, ◌++◌, map, length, take, drop, Option, Some, None, Ok, refl, sym, ap, subst, codes, if◌then◌else◌, append-nil, append_assoc, arith}
 use Rattle.std.specs.List.{after_first, before_first, list_any, position_or_len, prefix_len}
 use Rattle.std.specs.Map.{lookup}
 use Rattle.std.specs.Option.{option_map}
 use Rattle.std.specs.Prelude.{IfSome, is_some}
 use Rattle.json.specs.Json.{Json}
-use Rattle.json.specs.Json as json
 use Rattle.semver.specs.Grammar.{IsValid}
 use Rattle.semver.specs.Identifiers.{parts_text}
 use Rattle.semver.specs.Parse.{version_parts}
 use Rattle.semver.proofs.Grammar.{version_parts-complete}
 use Rattle.wit_values.specs.Table.{HasDistinctKeys}
 use Rattle.wit_values.specs.Version.{Parts}
-use Rattle.wit_names.specs.PackageName.{HasValidVersion, package_name_text, same_package, version_suffix}
+use Rattle.wit_names.specs.PackageName.{package_name_text, same_package, version_suffix}
 use Rattle.wit_names.specs.facts.PackageNameFacts.{same_name}
 use Rattle.wit_names.specs.declared.package_name.PackageName.{PackageName}
 use Rattle.wit_data.specs.Each.{Each}
@@ -28,22 +27,22 @@ use Rattle.wit_data.specs.declared.world.World.{World}
 use Rattle.wit_json.specs.Details.{json_of_range, json_of_span}
 use Rattle.wit_json.specs.Gates.{json_of_docs}
 use Rattle.wit_json.specs.Graph.{json_of_package_name}
-use Rattle.wit_json.specs.Unresolved.{json_of_ast_item, json_of_deps, json_of_foreign_item, json_of_gate, json_of_unresolved, whole_interface, whole_type, whole_world}
+use Rattle.wit_json.specs.Unresolved.{json_of_ast_item, json_of_deps, json_of_foreign_item, json_of_gate, whole_interface, whole_type, whole_world}
 use Rattle.wit_json.specs.Values as written
 use Rattle.wit_json.specs.Values.{json_of_number, members_of, object_under_names, pair, tagged}
-use Rattle.wit_json_laws.specs.Writable.{AreWritableItems, IsWritableAstItem, IsWritableGate, IsWritableId, IsWritableName, IsWritablePackage, IsWritableSpan}
+use Rattle.wit_json_laws.specs.Writable.{AreWritableItems, IsWritableAstItem, IsWritableGate, IsWritableName}
 use Rattle.wit_json_laws.specs.laws.ReadBack.{PackagesReadBack}
 use Rattle.wit_json_reading.specs.Gates.{gate_of, place_of}
 use Rattle.wit_json_reading.specs.Objects.{pair_of}
-use Rattle.wit_json_reading.specs.Packages.{ast_item_by, ast_item_of, dep_of, deps_from, deps_of, foreign_item_of, name_in, package_name_in, package_name_of, package_names, package_of, version_behind, with_dep}
-use Rattle.wit_json_reading.specs.Reading.{Reading, ◌>>=◌, instead_of, list_of, under}
+use Rattle.wit_json_reading.specs.Packages.{ast_item_by, ast_item_of, dep_of, deps_from, deps_of, foreign_item_of, name_in, package_name_in, package_name_of, package_names, package_of, version_behind}
+use Rattle.wit_json_reading.specs.Reading.{◌>>=◌, instead_of, list_of, under}
 use Rattle.wit_json_reading.specs.Tables.{named_of}
 use Rattle.wit_json_reading.specs.Types.{type_def_of}
 use Rattle.wit_json_reading.specs.Values.{number_of, version_in}
 use Rattle.wit_json_reading.specs.Worlds.{interface_of, world_of}
 use Rattle.wit_json_reading.specs.declared.fault.Expected.TheVariants as expected
 use Rattle.wit_json_reading.specs.declared.fault.Step.TheVariants as step
-use Rattle.wit_json_laws.proofs.Slots.{Slot, found, get_slot, only_slots, slots}
+use Rattle.wit_json_laws.proofs.Slots.{Slot, get_slot, only_slots, slots}
 use Rattle.wit_json_laws.proofs.Small.{reads_docs, reads_gate, reads_number, reads_span, reads_span_member}
 use Rattle.wit_json_laws.proofs.Steps.{all_11, is_new, reads_list, reads_named, reads_pair, reads_required, reads_variant, followed}
 use Rattle.wit_json_laws.proofs.Types.{reads_type_def}
@@ -125,7 +124,7 @@ reads_name_in : (namespace own : List ℕ) (version : Option Parts) → list_any
     → name_in namespace (own ++ version_suffix version) ≡ Ok (a_name namespace own version)
 reads_name_in namespace own version none valid =
     followed (version_behind (own ++ version_suffix version)) _ version (Ok (a_name namespace own version)) (reads_behind own version none valid)
-        (ap (λ (it : List ℕ). Ok (a_name namespace it version)) (own_part own version none))
+    (ap (λ (it : List ℕ). Ok (a_name namespace it version)) (own_part own version none))
 
 pub reads_package_name : (name : PackageName) → IsWritableName name → package_name_in (package_name_text name) ≡ Ok name
 unfolding package_name_in
@@ -146,14 +145,14 @@ reads_ast_item : (it : AstItem) → IsWritableAstItem it → ast_item_of (json_o
 unfolding ast_item_of
 reads_ast_item (ast.Interface id) fits =
     reads_variant ast_item_by expected.ForeignItem (codes "interface") (json_of_number id) (ast.Interface id)
-        (followed (number_of (json_of_number id)) _ id (Ok (ast.Interface id)) (reads_number id fits) refl)
+    (followed (number_of (json_of_number id)) _ id (Ok (ast.Interface id)) (reads_number id fits) refl)
 reads_ast_item (ast.World id) fits =
     reads_variant ast_item_by expected.ForeignItem (codes "world") (json_of_number id) (ast.World id) (followed (number_of (json_of_number id)) _ id (Ok (ast.World id)) (reads_number id fits) refl)
 
 reads_foreign_item : (named : AstItem × List Stability) → IsWritableAstItem named.0 → Each IsWritableGate named.1 → foreign_item_of (json_of_foreign_item named) ≡ Ok named
 reads_foreign_item named fits gates =
     reads_pair ast_item_of (list_of gate_of) (json_of_ast_item named.0) (written.list_of json_of_gate named.1) named.0 named.1 (reads_ast_item named.0 fits)
-        (reads_list gate_of json_of_gate named.1 (λ i gate at. reads_gate gate (gates i gate at)))
+    (reads_list gate_of json_of_gate named.1 (λ i gate at. reads_gate gate (gates i gate at)))
 
 reads_foreign_items : (items : List ForeignItem) → AreWritableItems items → named_of foreign_item_of (object_under_names json_of_foreign_item items) ≡ Ok items
 reads_foreign_items items fits =
@@ -171,8 +170,8 @@ one_dep e before name items new =
     let text = package_name_text e.0 in
     followed (under (step.Member text) (package_name_in text)) _ e.0 (Ok (before ++ e ∷ [])) (ap (under (step.Member text)) (reads_package_name e.0 name))
     (followed (under (step.Member text) (named_of foreign_item_of (object_under_names json_of_foreign_item e.1))) _ e.1 (Ok (before ++ e ∷ []))
-        (ap (under (step.Member text)) (reads_foreign_items e.1 items))
-        (ap (λ (b : Bool). if b then under (step.Member text) (instead_of expected.NoSecondMember) else Ok (before ++ e ∷ [])) new))
+    (ap (under (step.Member text)) (reads_foreign_items e.1 items))
+    (ap (λ (b : Bool). if b then under (step.Member text) (instead_of expected.NoSecondMember) else Ok (before ++ e ∷ [])) new))
 
 reads_deps_from : (before es : List Dep) → HasDistinctKeys (before ++ es) → Each (λ (e : Dep). IsWritableName e.0) es → Each (λ (e : Dep). AreWritableItems e.1) es
     → deps_from before (members_of (map member_of es)) ≡ Ok (before ++ es)
@@ -181,7 +180,7 @@ reads_deps_from before (e ∷ es) distinct names items =
     let new : is_some (lookup (same_package e.0) before) ≡ false = is_new same_name before es e distinct in
     let longer : (before ++ e ∷ []) ++ es ≡ before ++ e ∷ es = append_assoc before (e ∷ []) es in
     followed (dep_of (package_name_text e.0) (object_under_names json_of_foreign_item e.1) before) _ (before ++ e ∷ []) (Ok (before ++ e ∷ es)) (one_dep e before (names 0 e refl) (items 0 e refl) new)
-        (reads_deps_from (before ++ e ∷ []) es (subst (λ (all : List Dep). HasDistinctKeys all) (sym longer) distinct) (λ i y at. names (suc i) y at) (λ i y at. items (suc i) y at) ∙ ap Ok longer)
+    (reads_deps_from (before ++ e ∷ []) es (subst (λ (all : List Dep). HasDistinctKeys all) (sym longer) distinct) (λ i y at. names (suc i) y at) (λ i y at. items (suc i) y at) ∙ ap Ok longer)
 
 reads_deps : (es : List Dep) → HasDistinctKeys es → Each (λ (e : Dep). IsWritableName e.0) es → Each (λ (e : Dep). AreWritableItems e.1) es → deps_of (json_of_deps es) ≡ Ok es
 reads_deps es distinct names items = reads_deps_from [] es distinct names items
@@ -195,45 +194,45 @@ pub packages_read_back : PackagesReadBack
 unfolding package_of
 packages_read_back p fits =
     let ss : List Slot =
-        (codes "name", Some (json_of_package_name p.name)) ∷ (codes "span", option_map json_of_range p.package_name_span) ∷ (codes "docs", json_of_docs p.docs)
-        ∷ (codes "worlds", Some (written.list_of whole_world p.worlds)) ∷ (codes "interfaces", Some (written.list_of whole_interface p.interfaces))
-        ∷ (codes "types", Some (written.list_of whole_type p.types)) ∷ (codes "foreign-deps", Some (json_of_deps p.foreign_deps))
-        ∷ (codes "foreign-dep-spans", Some (written.list_of json_of_span p.foreign_dep_spans)) ∷ (codes "unknown-type-spans", Some (written.list_of json_of_span p.unknown_type_spans))
-        ∷ (codes "required-resources", Some (written.list_of resource p.required_resource_types)) ∷ [] in
+    (codes "name", Some (json_of_package_name p.name)) ∷ (codes "span", option_map json_of_range p.package_name_span) ∷ (codes "docs", json_of_docs p.docs)
+    ∷ (codes "worlds", Some (written.list_of whole_world p.worlds)) ∷ (codes "interfaces", Some (written.list_of whole_interface p.interfaces))
+    ∷ (codes "types", Some (written.list_of whole_type p.types)) ∷ (codes "foreign-deps", Some (json_of_deps p.foreign_deps))
+    ∷ (codes "foreign-dep-spans", Some (written.list_of json_of_span p.foreign_dep_spans)) ∷ (codes "unknown-type-spans", Some (written.list_of json_of_span p.unknown_type_spans))
+    ∷ (codes "required-resources", Some (written.list_of resource p.required_resource_types)) ∷ [] in
     let j = slots ss in
     all_11 (λ (_ : Unit {0}) (name : PackageName) (span : Option (ℕ × ℕ)) (docs : Docs) (worlds : List World) (interfaces : List Interface) (types : List TypeDef) (deps : List Dep)
-        (dep_spans unknown_spans : List (Option (ℕ × ℕ))) (resources : List (ℕ × Option (ℕ × ℕ))).
-        let it : UnresolvedPackage = record {
-          name = name;
-          package_name_span = span;
-          docs = docs;
-          worlds = worlds;
-          interfaces = interfaces;
-          types = types;
-          foreign_deps = deps;
-          foreign_dep_spans = dep_spans;
-          unknown_type_spans = unknown_spans;
-          required_resource_types = resources;
-        } in
-        it)
-        (only_slots package_names ss refl)
-        (reads_required package_name_of (codes "name") j (json_of_package_name p.name) p.name (get_slot (codes "name") ss) (reads_name_value p.name fits.name))
-        (reads_span_member p.package_name_span j fits.span (get_slot (codes "span") ss))
-        (reads_docs p.docs j (get_slot (codes "docs") ss))
-        (reads_required (list_of world_of) (codes "worlds") j (written.list_of whole_world p.worlds) p.worlds (get_slot (codes "worlds") ss)
-            (reads_list world_of whole_world p.worlds (λ i w at. reads_world w (fits.worlds i w at))))
-        (reads_required (list_of interface_of) (codes "interfaces") j (written.list_of whole_interface p.interfaces) p.interfaces (get_slot (codes "interfaces") ss)
-            (reads_list interface_of whole_interface p.interfaces (λ n i at. reads_interface i (fits.interfaces n i at))))
-        (reads_required (list_of type_def_of) (codes "types") j (written.list_of whole_type p.types) p.types (get_slot (codes "types") ss)
-            (reads_list type_def_of whole_type p.types (λ i def at. reads_type_def def (fits.types i def at))))
-        (reads_required deps_of (codes "foreign-deps") j (json_of_deps p.foreign_deps) p.foreign_deps (get_slot (codes "foreign-deps") ss)
-            (reads_deps p.foreign_deps fits.packages_differ fits.packages fits.items))
-        (reads_required (list_of place_of) (codes "foreign-dep-spans") j (written.list_of json_of_span p.foreign_dep_spans) p.foreign_dep_spans (get_slot (codes "foreign-dep-spans") ss)
-            (reads_list place_of json_of_span p.foreign_dep_spans (λ i span at. reads_span span (fits.dep_spans i span at))))
-        (reads_required (list_of place_of) (codes "unknown-type-spans") j (written.list_of json_of_span p.unknown_type_spans) p.unknown_type_spans (get_slot (codes "unknown-type-spans") ss)
-            (reads_list place_of json_of_span p.unknown_type_spans (λ i span at. reads_span span (fits.unknown_spans i span at))))
-        (reads_required (list_of (pair_of number_of place_of)) (codes "required-resources") j (written.list_of resource p.required_resource_types) p.required_resource_types
-            (get_slot (codes "required-resources") ss)
-            (reads_list (pair_of number_of place_of) resource p.required_resource_types
-                (λ i it at. reads_pair number_of place_of (json_of_number it.0) (json_of_span it.1) it.0 it.1 (reads_number it.0 (fits.resources i it at).0)
-                    (reads_span it.1 (fits.resources i it at).1))))
+    (dep_spans unknown_spans : List (Option (ℕ × ℕ))) (resources : List (ℕ × Option (ℕ × ℕ))).
+    let it : UnresolvedPackage = record {
+      name = name;
+      package_name_span = span;
+      docs = docs;
+      worlds = worlds;
+      interfaces = interfaces;
+      types = types;
+      foreign_deps = deps;
+      foreign_dep_spans = dep_spans;
+      unknown_type_spans = unknown_spans;
+      required_resource_types = resources;
+    } in
+    it)
+    (only_slots package_names ss refl)
+    (reads_required package_name_of (codes "name") j (json_of_package_name p.name) p.name (get_slot (codes "name") ss) (reads_name_value p.name fits.name))
+    (reads_span_member p.package_name_span j fits.span (get_slot (codes "span") ss))
+    (reads_docs p.docs j (get_slot (codes "docs") ss))
+    (reads_required (list_of world_of) (codes "worlds") j (written.list_of whole_world p.worlds) p.worlds (get_slot (codes "worlds") ss)
+    (reads_list world_of whole_world p.worlds (λ i w at. reads_world w (fits.worlds i w at))))
+    (reads_required (list_of interface_of) (codes "interfaces") j (written.list_of whole_interface p.interfaces) p.interfaces (get_slot (codes "interfaces") ss)
+    (reads_list interface_of whole_interface p.interfaces (λ n i at. reads_interface i (fits.interfaces n i at))))
+    (reads_required (list_of type_def_of) (codes "types") j (written.list_of whole_type p.types) p.types (get_slot (codes "types") ss)
+    (reads_list type_def_of whole_type p.types (λ i def at. reads_type_def def (fits.types i def at))))
+    (reads_required deps_of (codes "foreign-deps") j (json_of_deps p.foreign_deps) p.foreign_deps (get_slot (codes "foreign-deps") ss)
+    (reads_deps p.foreign_deps fits.packages_differ fits.packages fits.items))
+    (reads_required (list_of place_of) (codes "foreign-dep-spans") j (written.list_of json_of_span p.foreign_dep_spans) p.foreign_dep_spans (get_slot (codes "foreign-dep-spans") ss)
+    (reads_list place_of json_of_span p.foreign_dep_spans (λ i span at. reads_span span (fits.dep_spans i span at))))
+    (reads_required (list_of place_of) (codes "unknown-type-spans") j (written.list_of json_of_span p.unknown_type_spans) p.unknown_type_spans (get_slot (codes "unknown-type-spans") ss)
+    (reads_list place_of json_of_span p.unknown_type_spans (λ i span at. reads_span span (fits.unknown_spans i span at))))
+    (reads_required (list_of (pair_of number_of place_of)) (codes "required-resources") j (written.list_of resource p.required_resource_types) p.required_resource_types
+    (get_slot (codes "required-resources") ss)
+    (reads_list (pair_of number_of place_of) resource p.required_resource_types
+    (λ i it at. reads_pair number_of place_of (json_of_number it.0) (json_of_span it.1) it.0 it.1 (reads_number it.0 (fits.resources i it at).0)
+    (reads_span it.1 (fits.resources i it at).1))))

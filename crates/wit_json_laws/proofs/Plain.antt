@@ -1,5 +1,5 @@
 -- What is written is a text of JSON: its numbers are numbers, and it nests less than a reader allows.
-use Rattle.std.proofs.Common.{◌≡◌, ◌∙◌, ℕ, zero, suc, ◌<◌, ◌≤◌, ◌^◌, max, List, [], ◌∷◌, ◌++◌, map, Option, Some, None, Ok, refl, sym, subst, ap, codes, arith}
+use Rattle.std.proofs.Common.{◌∙◌, ℕ, suc, ◌<◌, ◌≤◌, ◌^◌, List, [], ◌∷◌, ◌++◌, map, Option, Some, None, refl, sym, subst, ap, codes, arith}
 use Rattle.std.specs.Option.{option_map}
 use Rattle.std.specs.Prelude.{IfSome, ⊤}
 use Rattle.json.specs.Json.{Json, Members, document, max_depth}
@@ -44,12 +44,12 @@ use Rattle.wit_data.specs.declared.world.WorldKey.{WorldKey}
 use Rattle.wit_json.specs.Details.{json_of_range, json_of_span}
 use Rattle.wit_json.specs.Functions.{json_of_function_kind}
 use Rattle.wit_json.specs.Gates.{json_of_docs, json_of_stability}
-use Rattle.wit_json.specs.Graph.{compact, json_of_package_name}
+use Rattle.wit_json.specs.Graph.{json_of_package_name}
 use Rattle.wit_json.specs.Types.{json_of_handle, json_of_owner, json_of_result, json_of_type}
-use Rattle.wit_json.specs.Unresolved.{json_of_ast_item, json_of_deps, json_of_foreign_item, json_of_gate, json_of_include, json_of_include_name, json_of_unresolved, whole_case, whole_entries, whole_enum_case, whole_field, whole_flag, whole_function, whole_interface, whole_interface_entry, whole_item, whole_kind, whole_param, whole_type, whole_world}
+use Rattle.wit_json.specs.Unresolved.{json_of_ast_item, json_of_deps, json_of_foreign_item, json_of_gate, json_of_include, json_of_include_name, json_of_unresolved, whole_case, whole_entries, whole_enum_case, whole_field, whole_flag, whole_function, whole_interface, whole_item, whole_kind, whole_param, whole_type, whole_world}
 use Rattle.wit_json.specs.Values as written
 use Rattle.wit_json.specs.Values.{Member, json_of_number, json_of_text, json_of_version, members_of, null_or, object, object_under_names, optional, pair, tagged}
-use Rattle.wit_json_laws.specs.Writable.{AreWritableEntries, AreWritableItems, IsWritableAstItem, IsWritableCase, IsWritableField, IsWritableFunction, IsWritableFunctionKind, IsWritableGate, IsWritableHandle, IsWritableInclude, IsWritableInterface, IsWritableItem, IsWritableKind, IsWritableOwner, IsWritablePackage, IsWritableParam, IsWritableSpan, IsWritableType, IsWritableTypeDef, IsWritableWorld}
+use Rattle.wit_json_laws.specs.Writable.{AreWritableEntries, AreWritableItems, IsWritableAstItem, IsWritableCase, IsWritableField, IsWritableFunction, IsWritableFunctionKind, IsWritableHandle, IsWritableInclude, IsWritableInterface, IsWritableItem, IsWritableKind, IsWritableOwner, IsWritablePackage, IsWritableParam, IsWritableSpan, IsWritableType, IsWritableTypeDef, IsWritableWorld}
 use Rattle.wit_json_laws.specs.laws.ReadBack.{TextsReadBack}
 use Rattle.wit_json_reading.specs.Documents.{if_document}
 use Rattle.wit_json_reading.specs.Packages.{package_of}
@@ -235,24 +235,24 @@ type_or_null d (Some ty) fits = plain_type d ty fits
 plain_field : (f : Field) → IsWritableField f → IsPlain 4 (whole_field f)
 plain_field f fits =
     plain_slots 3
-        ((codes "name", Some (json_of_text f.name)) ∷ (codes "type", Some (json_of_type f.ty)) ∷ (codes "docs", json_of_docs f.docs) ∷ (codes "span", option_map json_of_range f.span) ∷ [])
-        (plain_text 3 f.name, (plain_type 3 f.ty fits.0, (docs 2 f.docs, (spans 2 f.span fits.1, tt))))
+    ((codes "name", Some (json_of_text f.name)) ∷ (codes "type", Some (json_of_type f.ty)) ∷ (codes "docs", json_of_docs f.docs) ∷ (codes "span", option_map json_of_range f.span) ∷ [])
+    (plain_text 3 f.name, (plain_type 3 f.ty fits.0, (docs 2 f.docs, (spans 2 f.span fits.1, tt))))
 
 plain_case : (c : Case) → IsWritableCase c → IsPlain 4 (whole_case c)
 plain_case c fits =
     plain_slots 3
-        ((codes "name", Some (json_of_text c.name)) ∷ (codes "type", Some (null_or json_of_type c.ty)) ∷ (codes "docs", json_of_docs c.docs) ∷ (codes "span", option_map json_of_range c.span) ∷ [])
-        (plain_text 3 c.name, (type_or_null 3 c.ty fits.0, (docs 2 c.docs, (spans 2 c.span fits.1, tt))))
+    ((codes "name", Some (json_of_text c.name)) ∷ (codes "type", Some (null_or json_of_type c.ty)) ∷ (codes "docs", json_of_docs c.docs) ∷ (codes "span", option_map json_of_range c.span) ∷ [])
+    (plain_text 3 c.name, (type_or_null 3 c.ty fits.0, (docs 2 c.docs, (spans 2 c.span fits.1, tt))))
 
 plain_flag : (f : Flag) → IsWritableSpan f.span → IsPlain 4 (whole_flag f)
 plain_flag f fits =
     plain_slots 3 ((codes "name", Some (json_of_text f.name)) ∷ (codes "docs", json_of_docs f.docs) ∷ (codes "span", option_map json_of_range f.span) ∷ [])
-        (plain_text 3 f.name, (docs 2 f.docs, (spans 2 f.span fits, tt)))
+    (plain_text 3 f.name, (docs 2 f.docs, (spans 2 f.span fits, tt)))
 
 plain_enum_case : (c : EnumCase) → IsWritableSpan c.span → IsPlain 4 (whole_enum_case c)
 plain_enum_case c fits =
     plain_slots 3 ((codes "name", Some (json_of_text c.name)) ∷ (codes "docs", json_of_docs c.docs) ∷ (codes "span", option_map json_of_range c.span) ∷ [])
-        (plain_text 3 c.name, (docs 2 c.docs, (spans 2 c.span fits, tt)))
+    (plain_text 3 c.name, (docs 2 c.docs, (spans 2 c.span fits, tt)))
 
 plain_handle : (handle : Handle) → IsWritableHandle handle → IsPlain 6 (json_of_handle handle)
 plain_handle (Own id) fits = plain_tagged 5 (codes "own") (json_of_number id) (plain_number 5 id fits)
@@ -275,7 +275,7 @@ plain_kind (kind.Enum cases) fits = plain_tagged 6 (codes "enum") _ (plain_tagge
 plain_kind (kind.Option ty) fits = plain_tagged 6 (codes "option") (json_of_type ty) (plain_type 6 ty fits)
 plain_kind (kind.Result_ ok err) fits =
     plain_tagged 6 (codes "result") (json_of_result ok err)
-        (plain_slots 5 ((codes "ok", Some (null_or json_of_type ok)) ∷ (codes "err", Some (null_or json_of_type err)) ∷ []) (type_or_null 5 ok fits.0, (type_or_null 5 err fits.1, tt)))
+    (plain_slots 5 ((codes "ok", Some (null_or json_of_type ok)) ∷ (codes "err", Some (null_or json_of_type err)) ∷ []) (type_or_null 5 ok fits.0, (type_or_null 5 err fits.1, tt)))
 plain_kind (kind.List ty) fits = plain_tagged 6 (codes "list") (json_of_type ty) (plain_type 6 ty fits)
 plain_kind (kind.Map key value) fits = plain_tagged 6 (codes "map") _ (plain_pair 5 (json_of_type key) (json_of_type value) (plain_type 5 key fits.0) (plain_type 5 value fits.1))
 plain_kind (kind.FixedLengthList ty len) fits =
@@ -288,10 +288,10 @@ plain_kind kind.Unknown fits = plain_text 7 _
 plain_type_def : (def : TypeDef) → IsWritableTypeDef def → IsPlain 8 (whole_type def)
 plain_type_def def fits =
     plain_slots 7
-        ((codes "name", Some (null_or json_of_text def.name)) ∷ (codes "kind", Some (whole_kind def.kind)) ∷ (codes "owner", Some (json_of_owner def.owner))
-        ∷ (codes "docs", json_of_docs def.docs) ∷ (codes "stability", json_of_stability def.stability) ∷ (codes "span", option_map json_of_range def.span)
-        ∷ (codes "external-id", option_map json_of_text def.external_id) ∷ [])
-        (null_or_text 7 def.name, (plain_kind def.kind fits.kind, (plain_owner def.owner fits.owner, (docs 6 def.docs, (gates 5 def.stability, (spans 6 def.span fits.span, (texts 7 def.external_id, tt)))))))
+    ((codes "name", Some (null_or json_of_text def.name)) ∷ (codes "kind", Some (whole_kind def.kind)) ∷ (codes "owner", Some (json_of_owner def.owner))
+    ∷ (codes "docs", json_of_docs def.docs) ∷ (codes "stability", json_of_stability def.stability) ∷ (codes "span", option_map json_of_range def.span)
+    ∷ (codes "external-id", option_map json_of_text def.external_id) ∷ [])
+    (null_or_text 7 def.name, (plain_kind def.kind fits.kind, (plain_owner def.owner fits.owner, (docs 6 def.docs, (gates 5 def.stability, (spans 6 def.span fits.span, (texts 7 def.external_id, tt)))))))
 
 -- ---- functions
 
@@ -313,42 +313,55 @@ plain_function_kind (function.StaticSetter id) fits = plain_tagged 3 _ _ (plain_
 plain_param : (p : Param) → IsWritableParam p → IsPlain 3 (whole_param p)
 plain_param p fits =
     plain_slots 2 ((codes "name", Some (json_of_text p.name)) ∷ (codes "type", Some (json_of_type p.ty)) ∷ (codes "span", option_map json_of_range p.span) ∷ [])
-        (plain_text 2 p.name, (plain_type 2 p.ty fits.0, (spans 1 p.span fits.1, tt)))
+    (plain_text 2 p.name, (plain_type 2 p.ty fits.0, (spans 1 p.span fits.1, tt)))
 
 plain_function : (f : Function) → IsWritableFunction f → IsPlain 5 (whole_function f)
 plain_function f fits =
     plain_slots 4
-        ((codes "name", Some (json_of_text f.name)) ∷ (codes "kind", Some (json_of_function_kind f.kind)) ∷ (codes "params", Some (written.list_of whole_param f.params))
-        ∷ (codes "result", option_map json_of_type f.result_) ∷ (codes "docs", json_of_docs f.docs) ∷ (codes "stability", json_of_stability f.stability)
-        ∷ (codes "span", option_map json_of_range f.span) ∷ (codes "external-id", option_map json_of_text f.external_id) ∷ [])
-        (plain_text 4 f.name, (plain_function_kind f.kind fits.kind, (plain_list 3 whole_param f.params (λ i p at. plain_param p (fits.params i p at)),
-        (types 4 f.result_ fits.result_, (docs 3 f.docs, (gates 2 f.stability, (spans 3 f.span fits.span, (texts 4 f.external_id, tt))))))))
+    ((codes "name", Some (json_of_text f.name)) ∷ (codes "kind", Some (json_of_function_kind f.kind)) ∷ (codes "params", Some (written.list_of whole_param f.params))
+    ∷ (codes "result", option_map json_of_type f.result_) ∷ (codes "docs", json_of_docs f.docs) ∷ (codes "stability", json_of_stability f.stability)
+    ∷ (codes "span", option_map json_of_range f.span) ∷ (codes "external-id", option_map json_of_text f.external_id) ∷ []) (
+      plain_text 4 f.name,
+      (
+        plain_function_kind f.kind fits.kind,
+        (
+          plain_list 3 whole_param f.params (λ i p at. plain_param p (fits.params i p at)),
+          (types 4 f.result_ fits.result_, (docs 3 f.docs, (gates 2 f.stability, (spans 3 f.span fits.span, (texts 4 f.external_id, tt))))),
+        ),
+      ),
+    )
 
 -- ---- interfaces and worlds
 
 plain_interface : (interface : Interface) → IsWritableInterface interface → IsPlain 8 (whole_interface interface)
 plain_interface i fits =
     plain_slots 7
-        ((codes "name", Some (null_or json_of_text i.name)) ∷ (codes "types", Some (object_under_names json_of_number i.types))
-        ∷ (codes "functions", Some (object_under_names whole_function i.functions)) ∷ (codes "docs", json_of_docs i.docs) ∷ (codes "stability", json_of_stability i.stability)
-        ∷ (codes "span", option_map json_of_range i.span) ∷ [])
-        (null_or_text 7 i.name, (plain_table 6 (λ (e : List ℕ × ℕ). (e.0, json_of_number e.1)) i.types (λ n e at. plain_number 6 e.1 (fits.types n e at)),
-        (plain_table 6 (λ (e : List ℕ × Function). (e.0, whole_function e.1)) i.functions (λ n e at. up 6 (omega arith) (plain_function e.1 (fits.functions n e at))),
-        (docs 6 i.docs, (gates 5 i.stability, (spans 6 i.span fits.span, tt))))))
+    ((codes "name", Some (null_or json_of_text i.name)) ∷ (codes "types", Some (object_under_names json_of_number i.types))
+    ∷ (codes "functions", Some (object_under_names whole_function i.functions)) ∷ (codes "docs", json_of_docs i.docs) ∷ (codes "stability", json_of_stability i.stability)
+    ∷ (codes "span", option_map json_of_range i.span) ∷ []) (
+      null_or_text 7 i.name,
+      (
+        plain_table 6 (λ (e : List ℕ × ℕ). (e.0, json_of_number e.1)) i.types (λ n e at. plain_number 6 e.1 (fits.types n e at)),
+        (
+          plain_table 6 (λ (e : List ℕ × Function). (e.0, whole_function e.1)) i.functions (λ n e at. up 6 (omega arith) (plain_function e.1 (fits.functions n e at))),
+          (docs 6 i.docs, (gates 5 i.stability, (spans 6 i.span fits.span, tt))),
+        ),
+      ),
+    )
 
 plain_type_entry : (id : ℕ) (span : Option (ℕ × ℕ)) → id < 2 ^ 64 → IsWritableSpan span → IsPlain 6 (whole_item (item.Type_ id span))
 plain_type_entry id None fits place = plain_tagged 5 (codes "type") _ (plain_number 5 id fits)
 plain_type_entry id (Some r) fits place =
     plain_tagged 5 (codes "type") _
-        (plain_slots 4 ((codes "id", Some (json_of_number id)) ∷ (codes "span", Some (json_of_range r)) ∷ []) (plain_number 4 id fits, (range 3 r.0 r.1 place.0 place.1, tt)))
+    (plain_slots 4 ((codes "id", Some (json_of_number id)) ∷ (codes "span", Some (json_of_range r)) ∷ []) (plain_number 4 id fits, (range 3 r.0 r.1 place.0 place.1, tt)))
 
 plain_item : (it : WorldItem) → IsWritableItem it → IsPlain 6 (whole_item it)
 plain_item (item.Interface id stability docs_ span external_id) fits =
     plain_tagged 5 (codes "interface") _
-        (plain_slots 4
-            ((codes "id", Some (json_of_number id)) ∷ (codes "stability", json_of_stability stability) ∷ (codes "docs", json_of_docs docs_) ∷ (codes "span", option_map json_of_range span)
-            ∷ (codes "external-id", option_map json_of_text external_id) ∷ [])
-            (plain_number 4 id fits.0, (gates 2 stability, (docs 3 docs_, (spans 3 span fits.2, (texts 4 external_id, tt))))))
+    (plain_slots 4
+    ((codes "id", Some (json_of_number id)) ∷ (codes "stability", json_of_stability stability) ∷ (codes "docs", json_of_docs docs_) ∷ (codes "span", option_map json_of_range span)
+    ∷ (codes "external-id", option_map json_of_text external_id) ∷ [])
+    (plain_number 4 id fits.0, (gates 2 stability, (docs 3 docs_, (spans 3 span fits.2, (texts 4 external_id, tt))))))
 plain_item (item.Function f) fits = plain_tagged 5 (codes "function") (whole_function f) (plain_function f fits)
 plain_item (item.Type_ id span) fits = plain_type_entry id span fits.0 fits.1
 
@@ -361,18 +374,25 @@ plain_include_name n = plain_slots 4 ((codes "name", Some (json_of_text n.name))
 plain_include : (include : WorldInclude) → IsWritableInclude include → IsPlain 7 (json_of_include include)
 plain_include i fits =
     plain_slots 6
-        ((codes "id", Some (json_of_number i.id)) ∷ (codes "names", Some (written.list_of json_of_include_name i.names)) ∷ (codes "stability", json_of_stability i.stability)
-        ∷ (codes "span", option_map json_of_range i.span) ∷ [])
-        (plain_number 6 i.id fits.id, (plain_list 5 json_of_include_name i.names (λ n name at. plain_include_name name), (gates 4 i.stability, (spans 5 i.span fits.span, tt))))
+    ((codes "id", Some (json_of_number i.id)) ∷ (codes "names", Some (written.list_of json_of_include_name i.names)) ∷ (codes "stability", json_of_stability i.stability)
+    ∷ (codes "span", option_map json_of_range i.span) ∷ [])
+    (plain_number 6 i.id fits.id, (plain_list 5 json_of_include_name i.names (λ n name at. plain_include_name name), (gates 4 i.stability, (spans 5 i.span fits.span, tt))))
 
 plain_world : (world : World) → IsWritableWorld world → IsPlain 9 (whole_world world)
 plain_world w fits =
     plain_slots 8
-        ((codes "name", Some (json_of_text w.name)) ∷ (codes "imports", Some (whole_entries w.imports)) ∷ (codes "exports", Some (whole_entries w.exports))
-        ∷ (codes "includes", Some (written.list_of json_of_include w.includes)) ∷ (codes "docs", json_of_docs w.docs) ∷ (codes "stability", json_of_stability w.stability)
-        ∷ (codes "span", option_map json_of_range w.span) ∷ [])
-        (plain_text 8 w.name, (up 8 (omega arith) (plain_world_entries w.imports fits.imports), (up 8 (omega arith) (plain_world_entries w.exports fits.exports),
-        (plain_list 7 json_of_include w.includes (λ n i at. plain_include i (fits.includes n i at)), (docs 7 w.docs, (gates 6 w.stability, (spans 7 w.span fits.span, tt)))))))
+    ((codes "name", Some (json_of_text w.name)) ∷ (codes "imports", Some (whole_entries w.imports)) ∷ (codes "exports", Some (whole_entries w.exports))
+    ∷ (codes "includes", Some (written.list_of json_of_include w.includes)) ∷ (codes "docs", json_of_docs w.docs) ∷ (codes "stability", json_of_stability w.stability)
+    ∷ (codes "span", option_map json_of_range w.span) ∷ []) (
+      plain_text 8 w.name,
+      (
+        up 8 (omega arith) (plain_world_entries w.imports fits.imports),
+        (
+          up 8 (omega arith) (plain_world_entries w.exports fits.exports),
+          (plain_list 7 json_of_include w.includes (λ n i at. plain_include i (fits.includes n i at)), (docs 7 w.docs, (gates 6 w.stability, (spans 7 w.span fits.span, tt)))),
+        ),
+      ),
+    )
 
 -- ---- what is named of other packages
 
@@ -395,18 +415,42 @@ resource r = pair (json_of_number r.0) (json_of_span r.1)
 plain_unresolved : (p : UnresolvedPackage) → IsWritablePackage p → IsPlain 11 (json_of_unresolved p)
 plain_unresolved p fits =
     plain_slots 10
-        ((codes "name", Some (json_of_package_name p.name)) ∷ (codes "span", option_map json_of_range p.package_name_span) ∷ (codes "docs", json_of_docs p.docs)
-        ∷ (codes "worlds", Some (written.list_of whole_world p.worlds)) ∷ (codes "interfaces", Some (written.list_of whole_interface p.interfaces))
-        ∷ (codes "types", Some (written.list_of whole_type p.types)) ∷ (codes "foreign-deps", Some (json_of_deps p.foreign_deps))
-        ∷ (codes "foreign-dep-spans", Some (written.list_of json_of_span p.foreign_dep_spans)) ∷ (codes "unknown-type-spans", Some (written.list_of json_of_span p.unknown_type_spans))
-        ∷ (codes "required-resources", Some (written.list_of resource p.required_resource_types)) ∷ [])
-        (plain_text 10 _, (spans 9 p.package_name_span fits.span, (docs 9 p.docs, (plain_list 9 whole_world p.worlds (λ i w at. plain_world w (fits.worlds i w at)),
-        (plain_list 9 whole_interface p.interfaces (λ n i at. up 9 (omega arith) (plain_interface i (fits.interfaces n i at))),
-        (plain_list 9 whole_type p.types (λ i def at. up 9 (omega arith) (plain_type_def def (fits.types i def at))),
-        (up 10 (omega arith) (plain_deps p.foreign_deps fits.items), (plain_list 9 json_of_span p.foreign_dep_spans (λ i span at. place 8 span (fits.dep_spans i span at)),
-        (plain_list 9 json_of_span p.unknown_type_spans (λ i span at. place 8 span (fits.unknown_spans i span at)),
-        (plain_list 9 resource p.required_resource_types
-            (λ i r at. plain_pair 8 (json_of_number r.0) (json_of_span r.1) (plain_number 8 r.0 (fits.resources i r at).0) (place 7 r.1 (fits.resources i r at).1)), tt))))))))))
+    ((codes "name", Some (json_of_package_name p.name)) ∷ (codes "span", option_map json_of_range p.package_name_span) ∷ (codes "docs", json_of_docs p.docs)
+    ∷ (codes "worlds", Some (written.list_of whole_world p.worlds)) ∷ (codes "interfaces", Some (written.list_of whole_interface p.interfaces))
+    ∷ (codes "types", Some (written.list_of whole_type p.types)) ∷ (codes "foreign-deps", Some (json_of_deps p.foreign_deps))
+    ∷ (codes "foreign-dep-spans", Some (written.list_of json_of_span p.foreign_dep_spans)) ∷ (codes "unknown-type-spans", Some (written.list_of json_of_span p.unknown_type_spans))
+    ∷ (codes "required-resources", Some (written.list_of resource p.required_resource_types)) ∷ []) (
+      plain_text 10 _,
+      (
+        spans 9 p.package_name_span fits.span,
+        (
+          docs 9 p.docs,
+          (
+            plain_list 9 whole_world p.worlds (λ i w at. plain_world w (fits.worlds i w at)),
+            (
+              plain_list 9 whole_interface p.interfaces (λ n i at. up 9 (omega arith) (plain_interface i (fits.interfaces n i at))),
+              (
+                plain_list 9 whole_type p.types (λ i def at. up 9 (omega arith) (plain_type_def def (fits.types i def at))),
+                (
+                  up 10 (omega arith) (plain_deps p.foreign_deps fits.items),
+                  (
+                    plain_list 9 json_of_span p.foreign_dep_spans (λ i span at. place 8 span (fits.dep_spans i span at)),
+                    (
+                      plain_list 9 json_of_span p.unknown_type_spans (λ i span at. place 8 span (fits.unknown_spans i span at)),
+                      (
+                        plain_list 9 resource p.required_resource_types
+                            (λ i r at. plain_pair 8 (json_of_number r.0) (json_of_span r.1) (plain_number 8 r.0 (fits.resources i r at).0) (place 7 r.1 (fits.resources i r at).1)),
+                        tt,
+                      ),
+                    ),
+                  ),
+                ),
+              ),
+            ),
+          ),
+        ),
+      ),
+    )
 
 pub texts_read_back : TextsReadBack
 texts_read_back p fits =

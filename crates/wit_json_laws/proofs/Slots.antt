@@ -1,13 +1,11 @@
 -- Objects whose members have names of their own, each of which is there or left out.
-use Rattle.std.proofs.Common.{◌≡◌, ◌∙◌, ℕ, Bool, true, false, cond, not, ◌&&◌, ◌||◌, List, [], ◌∷◌, ◌++◌, map, Option, Some, None, Result, Ok, Err, refl, sym, ap, bytes_eq, if◌then◌else◌, arith, append-nil, append_assoc}
+use Rattle.std.proofs.Common.{◌≡◌, ◌∙◌, ℕ, Bool, true, false, cond, not, ◌&&◌, ◌||◌, List, [], ◌∷◌, ◌++◌, Option, Some, None, Ok, refl, sym, ap, bytes_eq, if◌then◌else◌, append-nil, append_assoc}
 use Rattle.std.specs.List.{list_any}
 use Rattle.json.specs.Find.{get, get_member, later_or}
 use Rattle.json.specs.Json.{Json, Members}
 use Rattle.json.specs.Json as json
 use Rattle.wit_json.specs.Values.{Member, members_of, object, optional}
-use Rattle.wit_json_reading.specs.Reading.{Reading, instead_of, names_from, only, under}
-use Rattle.wit_json_reading.specs.declared.fault.Expected.TheVariants as expected
-use Rattle.wit_json_reading.specs.declared.fault.Step.TheVariants as step
+use Rattle.wit_json_reading.specs.Reading.{names_from, only}
 
 -- a name, and the value where the member is there
 abbrev pub Slot : Type 0

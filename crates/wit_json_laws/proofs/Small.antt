@@ -1,15 +1,13 @@
 -- Numbers, versions, spans, docs and gates read back.
-use Rattle.std.proofs.Common.{◌≡◌, ◌∙◌, ℕ, zero, suc, ◌+◌, ◌-◌, ◌*◌, ◌/◌, ◌%◌, ◌<◌, ◌≤◌, ◌^◌, Bool, true, false, List, [], ◌∷◌, ◌++◌, Option, Some, None, Result, Ok, Err, refl, sym, ap, codes, decimal, if◌then◌else◌, nat_le, nat_lt, arith}
+use Rattle.std.proofs.Common.{◌≡◌, ◌∙◌, ℕ, ◌+◌, ◌-◌, ◌*◌, ◌/◌, ◌%◌, ◌<◌, ◌≤◌, ◌^◌, Bool, true, false, List, [], ◌∷◌, ◌++◌, Option, Some, None, Ok, refl, ap, codes, decimal, if◌then◌else◌, nat_le, nat_lt, arith}
 use Rattle.std.specs.Char.{is_ascii_digit}
 use Rattle.std.specs.Option.{option_map}
-use Rattle.std.specs.Prelude.{IfSome, unwrap_or}
+use Rattle.std.specs.Prelude.{IfSome}
 use Rattle.std.proofs.lemmas.Fmt.{decimal_by_steps}
 use Rattle.json.specs.Find.{get}
 use Rattle.json.specs.Json.{Json}
 use Rattle.json.specs.Json as json
 use Rattle.semver.specs.Grammar.{IsValid}
-use Rattle.semver.specs.Identifiers.{parts_text}
-use Rattle.semver.specs.Parse.{version_parts}
 use Rattle.semver.proofs.Grammar.{version_parts-complete}
 use Rattle.wit_values.specs.Version.{Parts}
 use Rattle.wit_data.specs.declared.stability.Docs.{Docs}
@@ -20,11 +18,11 @@ use Rattle.wit_json.specs.Gates.{json_of_docs, json_of_stability}
 use Rattle.wit_json.specs.Unresolved.{json_of_gate}
 use Rattle.wit_json.specs.Values.{json_of_number, json_of_text, json_of_version, pair, tagged}
 use Rattle.wit_json_laws.specs.Writable.{IsWritableGate, IsWritableSpan}
-use Rattle.wit_json_reading.specs.Gates.{contents_of, docs_of, gate_of, gate_by, no_docs, place_of, range_of, span_of, stability_of, stable_of, unstable_of}
-use Rattle.wit_json_reading.specs.Reading.{Reading, ◌>>=◌, instead_of, only, optional, required, under}
+use Rattle.wit_json_reading.specs.Gates.{contents_of, docs_of, gate_of, gate_by, place_of, range_of, span_of, stability_of, stable_of, unstable_of}
+use Rattle.wit_json_reading.specs.Reading.{instead_of, optional}
 use Rattle.wit_json_reading.specs.Values.{decimal_after, decimal_of, number_below, number_of, or_number, small_number_of, text_of, version_in, version_of}
 use Rattle.wit_json_reading.specs.declared.fault.Expected.TheVariants as expected
-use Rattle.wit_json_laws.proofs.Slots.{Slot, found, get_slot, only_slots, slots}
+use Rattle.wit_json_laws.proofs.Slots.{Slot, get_slot, only_slots, slots}
 use Rattle.wit_json_laws.proofs.Steps.{all_1, all_3, reads_alone, reads_optional, reads_pair, reads_required, reads_variant, followed}
 
 -- ---- numbers
@@ -90,7 +88,7 @@ unfolding range_of
 reads_range a b ordered fits =
     let in_order : nat_le a b ≡ true = grind arith in
     followed _ (λ (r : ℕ × ℕ). if nat_le r.0 r.1 then Ok (Some r) else instead_of expected.Span) (a, b) (Ok (Some (a, b))) (reads_pair small_number_of small_number_of (json_of_number a) (json_of_number b) a b (reads_small a (omega arith)) (reads_small b fits))
-        (ap (λ (o : Bool). if o then Ok (Some (a, b)) else instead_of expected.Span) in_order)
+    (ap (λ (o : Bool). if o then Ok (Some (a, b)) else instead_of expected.Span) in_order)
 
 pub reads_span : (span : Option (ℕ × ℕ)) → IsWritableSpan span → place_of (json_of_span span) ≡ Ok span
 unfolding place_of
@@ -109,7 +107,7 @@ reads_span_member None j fits there =
     followed (optional place_of (codes "span") j) _ None (Ok None) (reads_optional place_of json_of_span (codes "span") j None there tt) refl
 reads_span_member (Some range) j fits there =
     followed (optional place_of (codes "span") j) _ (Some (Some range)) (Ok (Some range))
-        (reads_optional place_of json_of_span (codes "span") j (Some (Some range)) there (reads_range range.0 range.1 fits.0 fits.1)) refl
+    (reads_optional place_of json_of_span (codes "span") j (Some (Some range)) there (reads_range range.0 range.1 fits.0 fits.1)) refl
 
 -- ---- docs
 
@@ -127,7 +125,7 @@ reads_docs_from None j there =
     followed (optional contents_of (codes "docs") j) _ None (Ok (docs_from None)) (reads_optional contents_of (λ (d : Docs). json.null) (codes "docs") j None there tt) refl
 reads_docs_from (Some text) j there =
     followed (optional contents_of (codes "docs") j) _ (Some (docs_from (Some text))) (Ok (docs_from (Some text)))
-        (reads_optional contents_of (λ (d : Docs). tagged (codes "contents") (json_of_text text)) (codes "docs") j (Some (docs_from (Some text))) there (reads_contents text)) refl
+    (reads_optional contents_of (λ (d : Docs). tagged (codes "contents") (json_of_text text)) (codes "docs") j (Some (docs_from (Some text))) there (reads_contents text)) refl
 
 -- the docs of an item, which may be left out
 pub reads_docs : (docs : Docs) (j : Json) → get (codes "docs") j ≡ json_of_docs docs → docs_of j ≡ Ok docs
@@ -142,9 +140,9 @@ reads_stable since deprecated valid valid_too =
     let ss : List Slot = (codes "since", Some (json_of_version since)) ∷ (codes "deprecated", option_map json_of_version deprecated) ∷ [] in
     let j = slots ss in
     all_3 (λ (_ : Unit {0}) (since : Parts) (deprecated : Option Parts). Stable since deprecated)
-        (only_slots (codes "since" ∷ codes "deprecated" ∷ []) ss refl)
-        (reads_required version_of (codes "since") j (json_of_version since) since (get_slot (codes "since") ss) (reads_version since valid))
-        (reads_optional version_of json_of_version (codes "deprecated") j deprecated (get_slot (codes "deprecated") ss) (reads_versions deprecated valid_too))
+    (only_slots (codes "since" ∷ codes "deprecated" ∷ []) ss refl)
+    (reads_required version_of (codes "since") j (json_of_version since) since (get_slot (codes "since") ss) (reads_version since valid))
+    (reads_optional version_of json_of_version (codes "deprecated") j deprecated (get_slot (codes "deprecated") ss) (reads_versions deprecated valid_too))
 
 reads_unstable : (feature : List ℕ) (deprecated : Option Parts) → IfSome deprecated IsValid
     → unstable_of (slots ((codes "feature", Some (json_of_text feature)) ∷ (codes "deprecated", option_map json_of_version deprecated) ∷ [])) ≡ Ok (Unstable feature deprecated)
@@ -153,18 +151,18 @@ reads_unstable feature deprecated valid =
     let ss : List Slot = (codes "feature", Some (json_of_text feature)) ∷ (codes "deprecated", option_map json_of_version deprecated) ∷ [] in
     let j = slots ss in
     all_3 (λ (_ : Unit {0}) (feature : List ℕ) (deprecated : Option Parts). Unstable feature deprecated)
-        (only_slots (codes "feature" ∷ codes "deprecated" ∷ []) ss refl)
-        (reads_required text_of (codes "feature") j (json_of_text feature) feature (get_slot (codes "feature") ss) refl)
-        (reads_optional version_of json_of_version (codes "deprecated") j deprecated (get_slot (codes "deprecated") ss) (reads_versions deprecated valid))
+    (only_slots (codes "feature" ∷ codes "deprecated" ∷ []) ss refl)
+    (reads_required text_of (codes "feature") j (json_of_text feature) feature (get_slot (codes "feature") ss) refl)
+    (reads_optional version_of json_of_version (codes "deprecated") j deprecated (get_slot (codes "deprecated") ss) (reads_versions deprecated valid))
 
 -- a gate, `null` where there is none
 pub reads_gate : (gate : Stability) → IsWritableGate gate → gate_of (json_of_gate gate) ≡ Ok gate
 unfolding gate_of
 reads_gate Unknown fits = refl
 reads_gate (Stable since deprecated) fits = reads_variant gate_by expected.Gate (codes "stable")
-        (slots ((codes "since", Some (json_of_version since)) ∷ (codes "deprecated", option_map json_of_version deprecated) ∷ [])) (Stable since deprecated) (reads_stable since deprecated fits.0 fits.1)
+    (slots ((codes "since", Some (json_of_version since)) ∷ (codes "deprecated", option_map json_of_version deprecated) ∷ [])) (Stable since deprecated) (reads_stable since deprecated fits.0 fits.1)
 reads_gate (Unstable feature deprecated) fits = reads_variant gate_by expected.Gate (codes "unstable")
-        (slots ((codes "feature", Some (json_of_text feature)) ∷ (codes "deprecated", option_map json_of_version deprecated) ∷ [])) (Unstable feature deprecated) (reads_unstable feature deprecated fits)
+    (slots ((codes "feature", Some (json_of_text feature)) ∷ (codes "deprecated", option_map json_of_version deprecated) ∷ [])) (Unstable feature deprecated) (reads_unstable feature deprecated fits)
 
 -- the gate of an item, which may be left out
 pub reads_stability : (gate : Stability) (j : Json) → IsWritableGate gate → get (codes "stability") j ≡ json_of_stability gate → stability_of j ≡ Ok gate

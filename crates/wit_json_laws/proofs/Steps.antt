@@ -1,13 +1,12 @@
 -- Readings that succeed, one step after another.
-use Rattle.std.proofs.Common.{◌≡◌, ◌∙◌, ℕ, zero, suc, Bool, true, false, cond, List, [], ◌∷◌, ◌++◌, map, length, Option, Some, None, Result, Ok, Err, refl, sym, ap, subst, bytes_eq, if◌then◌else◌, append_assoc, slice_get, arith, append-nil}
+use Rattle.std.proofs.Common.{◌≡◌, ◌∙◌, ℕ, suc, Bool, true, false, cond, List, [], ◌∷◌, ◌++◌, map, length, Option, Some, None, Ok, refl, sym, ap, subst, bytes_eq, append_assoc, slice_get, arith, append-nil}
 use Rattle.std.proofs.lemmas.Option.{slice_get_within}
 use Rattle.std.proofs.lemmas.Slice.Eq.{bytes_eq-Decides}
 use Rattle.std.specs.Option.{option_map}
 use Rattle.std.specs.Prelude.{IfSome, is_some}
 use Rattle.std.specs.Map.{lookup}
 use Rattle.json.specs.Find.{get}
-use Rattle.json.specs.Json.{Json, Members}
-use Rattle.json.specs.Json as json
+use Rattle.json.specs.Json.{Json}
 use Rattle.json.specs.Value.{items_of}
 use Rattle.wit_values.specs.Table.{HasDistinctKeys}
 use Rattle.wit_values.specs.facts.Lists.{slice_get-behind, slice_get-append}
@@ -17,7 +16,6 @@ use Rattle.wit_json.specs.Values as written
 use Rattle.wit_json_reading.specs.Objects.{alone, pair_of, variant_of}
 use Rattle.wit_json_reading.specs.Reading.{Reading, ◌>>=◌, has_to_be_there, if_there, items_from, list_of, only, optional, required, under}
 use Rattle.wit_json_reading.specs.Tables.{named_from, named_of}
-use Rattle.wit_json_reading.specs.Values.{nullable}
 use Rattle.wit_json_reading.specs.declared.fault.Expected.{Expected}
 use Rattle.wit_json_reading.specs.declared.fault.Step.TheVariants as step
 
@@ -109,7 +107,7 @@ module _ {A : Type 0} (f : Json → Reading A) (w : A → Json) where
   reads_items n [] each = refl
   reads_items n (x ∷ xs) each =
       followed (under (step.Item n) (f (w x))) _ x (Ok (x ∷ xs)) (ap (under (step.Item n)) (each 0 x refl))
-          (followed (items_from f (suc n) (items_of (map w xs))) _ xs (Ok (x ∷ xs)) (reads_items (suc n) xs (λ i y at. each (suc i) y at)) refl)
+      (followed (items_from f (suc n) (items_of (map w xs))) _ xs (Ok (x ∷ xs)) (reads_items (suc n) xs (λ i y at. each (suc i) y at)) refl)
 
   pub reads_list : (xs : List A) → Each (λ x. f (w x) ≡ Ok x) xs → list_of f (written.list_of w xs) ≡ Ok xs
   reads_list xs each = reads_items 0 xs each
@@ -138,7 +136,7 @@ module _ {K V : Type 0} {eq : K → K → Bool} (exact : (a b : K) → eq a b �
   pub is_new : (es fs : List (K × V)) (e : K × V) → HasDistinctKeys (es ++ e ∷ fs) → is_some (lookup (eq e.0) es) ≡ false
   is_new es fs e distinct =
       ap is_some (not_there es e.0 (λ i d at same. within es i d at
-          (distinct i (length es) d e (slice_get-append es (e ∷ fs) i d at) (slice_get-behind es fs e) (sym same))))
+      (distinct i (length es) d e (slice_get-append es (e ∷ fs) i d at) (slice_get-behind es fs e) (sym same))))
 
 module _ {A : Type 0} (f : Json → Reading A) (w : A → Json) where
   abbrev member_of : List ℕ × A → List ℕ × Json
@@ -151,7 +149,7 @@ module _ {A : Type 0} (f : Json → Reading A) (w : A → Json) where
       let new : is_some (lookup (bytes_eq e.0) before) ≡ false = is_new (λ a b. (bytes_eq-Decides a b).0) before es e distinct in
       let longer : (before ++ e ∷ []) ++ es ≡ before ++ e ∷ es = append_assoc before (e ∷ []) es in
       rw new (followed (under (step.Member e.0) (f (w e.1))) _ e.1 (Ok (before ++ e ∷ es)) (ap (under (step.Member e.0)) (each 0 e refl))
-          (reads_entries (before ++ e ∷ []) es (subst (λ (all : List (List ℕ × A)). HasDistinctKeys all) (sym longer) distinct) (λ i y at. each (suc i) y at) ∙ ap Ok longer))
+      (reads_entries (before ++ e ∷ []) es (subst (λ (all : List (List ℕ × A)). HasDistinctKeys all) (sym longer) distinct) (λ i y at. each (suc i) y at) ∙ ap Ok longer))
 
   pub reads_named : (es : List (List ℕ × A)) → HasDistinctKeys es → Each (λ (e : List ℕ × A). f (w e.1) ≡ Ok e.1) es → named_of f (object_under_names w es) ≡ Ok es
   reads_named es distinct each = reads_entries [] es distinct each

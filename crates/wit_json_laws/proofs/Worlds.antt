@@ -1,11 +1,10 @@
 -- Interfaces and worlds read back.
-use Rattle.std.proofs.Common.{◌≡◌, ◌∙◌, ℕ, suc, Bool, true, false, List, [], ◌∷◌, ◌++◌, map, Option, Some, None, Result, Ok, Err, refl, sym, ap, subst, codes, decimal, bytes_eq, if◌then◌else◌, append-nil, append_assoc, slice_get}
+use Rattle.std.proofs.Common.{◌≡◌, ◌∙◌, ℕ, suc, Bool, true, false, List, [], ◌∷◌, ◌++◌, map, Option, Some, None, Ok, refl, sym, ap, subst, codes, decimal, bytes_eq, if◌then◌else◌, append-nil, append_assoc}
 use Rattle.std.specs.Map.{lookup}
 use Rattle.std.specs.Option.{option_map}
 use Rattle.std.specs.Prelude.{is_some}
 use Rattle.std.proofs.lemmas.Slice.Eq.{bytes_eq-Decides}
 use Rattle.json.specs.Json.{Json}
-use Rattle.json.specs.Json as json
 use Rattle.wit_values.specs.Table.{HasDistinctKeys}
 use Rattle.wit_data.specs.Each.{Each}
 use Rattle.wit_data.specs.facts.WorldKeyFacts.{key_is, same_key}
@@ -28,14 +27,14 @@ use Rattle.wit_json.specs.Values.{json_of_number, json_of_text, members_of, null
 use Rattle.wit_json.specs.Worlds.{entry_name}
 use Rattle.wit_json_laws.specs.Writable.{AreWritableEntries, FitsKey, IsWritableGate, IsWritableId, IsWritableInclude, IsWritableInterface, IsWritableItem, IsWritableSpan, IsWritableWorld}
 use Rattle.wit_json_reading.specs.Functions.{function_of}
-use Rattle.wit_json_reading.specs.Reading.{Reading, ◌>>=◌, instead_of, list_of, under}
+use Rattle.wit_json_reading.specs.Reading.{instead_of, list_of, under}
 use Rattle.wit_json_reading.specs.Tables.{named_of}
 use Rattle.wit_json_reading.specs.Values.{nullable, number_of, text_of}
 use Rattle.wit_json_reading.specs.Worlds.{entries_from, entries_of, include_name_of, include_of, interface_entry_of, interface_names, interface_of, item_by, item_of, key_of, placed_type_of, with_entry, with_member, world_names, world_of}
 use Rattle.wit_json_reading.specs.declared.fault.Expected.TheVariants as expected
 use Rattle.wit_json_reading.specs.declared.fault.Step.TheVariants as step
 use Rattle.wit_json_laws.proofs.Functions.{reads_function}
-use Rattle.wit_json_laws.proofs.Slots.{Slot, found, get_slot, only_slots, slots}
+use Rattle.wit_json_laws.proofs.Slots.{Slot, get_slot, only_slots, slots}
 use Rattle.wit_json_laws.proofs.Small.{reads_docs, reads_number, reads_span_member, reads_stability, reads_texts}
 use Rattle.wit_json_laws.proofs.Steps.{all_3, all_5, all_6, all_7, all_8, is_new, reads_list, reads_named, reads_optional, reads_required, reads_variant, followed}
 use Rattle.wit_json_laws.proofs.Types.{reads_name}
@@ -53,21 +52,21 @@ reads_alone_interface : (interface : Interface) → IsWritableInterface interfac
 unfolding interface_of
 reads_alone_interface i fits =
     let ss : List Slot =
-        (codes "name", Some (null_or json_of_text i.name)) ∷ (codes "types", Some (object_under_names json_of_number i.types))
-        ∷ (codes "functions", Some (object_under_names whole_function i.functions)) ∷ (codes "docs", json_of_docs i.docs) ∷ (codes "stability", json_of_stability i.stability)
-        ∷ (codes "span", option_map json_of_range i.span) ∷ [] in
+    (codes "name", Some (null_or json_of_text i.name)) ∷ (codes "types", Some (object_under_names json_of_number i.types))
+    ∷ (codes "functions", Some (object_under_names whole_function i.functions)) ∷ (codes "docs", json_of_docs i.docs) ∷ (codes "stability", json_of_stability i.stability)
+    ∷ (codes "span", option_map json_of_range i.span) ∷ [] in
     let j = slots ss in
     all_7 (λ (_ : Unit {0}) (name : Option (List ℕ)) (types : List (List ℕ × ℕ)) (functions : List (List ℕ × Function)) (docs : Docs) (stability : Stability) (span : Option (ℕ × ℕ)).
-        let it : Interface = record { name = name; types = types; functions = functions; docs = docs; stability = stability; «package» = None; span = span } in it)
-        (only_slots interface_names ss refl)
-        (reads_required (nullable text_of) (codes "name") j (null_or json_of_text i.name) i.name (get_slot (codes "name") ss) (reads_name i.name))
-        (reads_required (named_of number_of) (codes "types") j (object_under_names json_of_number i.types) i.types (get_slot (codes "types") ss)
-            (reads_named number_of json_of_number i.types fits.types_differ (λ n e at. reads_number e.1 (fits.types n e at))))
-        (reads_required (named_of function_of) (codes "functions") j (object_under_names whole_function i.functions) i.functions (get_slot (codes "functions") ss)
-            (reads_named function_of whole_function i.functions fits.functions_differ (λ n e at. reads_function e.1 (fits.functions n e at))))
-        (reads_docs i.docs j (get_slot (codes "docs") ss))
-        (reads_stability i.stability j fits.gate (get_slot (codes "stability") ss))
-        (reads_span_member i.span j fits.span (get_slot (codes "span") ss))
+    let it : Interface = record { name = name; types = types; functions = functions; docs = docs; stability = stability; «package» = None; span = span } in it)
+    (only_slots interface_names ss refl)
+    (reads_required (nullable text_of) (codes "name") j (null_or json_of_text i.name) i.name (get_slot (codes "name") ss) (reads_name i.name))
+    (reads_required (named_of number_of) (codes "types") j (object_under_names json_of_number i.types) i.types (get_slot (codes "types") ss)
+    (reads_named number_of json_of_number i.types fits.types_differ (λ n e at. reads_number e.1 (fits.types n e at))))
+    (reads_required (named_of function_of) (codes "functions") j (object_under_names whole_function i.functions) i.functions (get_slot (codes "functions") ss)
+    (reads_named function_of whole_function i.functions fits.functions_differ (λ n e at. reads_function e.1 (fits.functions n e at))))
+    (reads_docs i.docs j (get_slot (codes "docs") ss))
+    (reads_stability i.stability j fits.gate (get_slot (codes "stability") ss))
+    (reads_span_member i.span j fits.span (get_slot (codes "span") ss))
 
 pub reads_interface : (interface : Interface) → IsWritableInterface interface → interface_of (whole_interface interface) ≡ Ok interface
 reads_interface interface fits = reads_alone_interface interface fits ∙ ap Ok (is_alone interface fits.unplaced)
@@ -79,16 +78,16 @@ reads_interface_entry : (id : ℕ) (stability : Stability) (docs : Docs) (span :
 unfolding interface_entry_of
 reads_interface_entry id stability docs span external_id fits gate place =
     let ss : List Slot =
-        (codes "id", Some (json_of_number id)) ∷ (codes "stability", json_of_stability stability) ∷ (codes "docs", json_of_docs docs) ∷ (codes "span", option_map json_of_range span)
-        ∷ (codes "external-id", option_map json_of_text external_id) ∷ [] in
+    (codes "id", Some (json_of_number id)) ∷ (codes "stability", json_of_stability stability) ∷ (codes "docs", json_of_docs docs) ∷ (codes "span", option_map json_of_range span)
+    ∷ (codes "external-id", option_map json_of_text external_id) ∷ [] in
     let j = slots ss in
     all_6 (λ (_ : Unit {0}) (id : ℕ) (stability : Stability) (docs : Docs) (span : Option (ℕ × ℕ)) (external_id : Option (List ℕ)). item.Interface id stability docs span external_id)
-        (only_slots (codes "id" ∷ codes "stability" ∷ codes "docs" ∷ codes "span" ∷ codes "external-id" ∷ []) ss refl)
-        (reads_required number_of (codes "id") j (json_of_number id) id (get_slot (codes "id") ss) (reads_number id fits))
-        (reads_stability stability j gate (get_slot (codes "stability") ss))
-        (reads_docs docs j (get_slot (codes "docs") ss))
-        (reads_span_member span j place (get_slot (codes "span") ss))
-        (reads_optional text_of json_of_text (codes "external-id") j external_id (get_slot (codes "external-id") ss) (reads_texts external_id))
+    (only_slots (codes "id" ∷ codes "stability" ∷ codes "docs" ∷ codes "span" ∷ codes "external-id" ∷ []) ss refl)
+    (reads_required number_of (codes "id") j (json_of_number id) id (get_slot (codes "id") ss) (reads_number id fits))
+    (reads_stability stability j gate (get_slot (codes "stability") ss))
+    (reads_docs docs j (get_slot (codes "docs") ss))
+    (reads_span_member span j place (get_slot (codes "span") ss))
+    (reads_optional text_of json_of_text (codes "external-id") j external_id (get_slot (codes "external-id") ss) (reads_texts external_id))
 
 reads_placed_type : (id : ℕ) (range : ℕ × ℕ) → IsWritableId id → IsWritableSpan (Some range) → placed_type_of (whole_type_entry id (Some range)) ≡ Ok (item.Type_ id (Some range))
 unfolding placed_type_of
@@ -96,15 +95,15 @@ reads_placed_type id range fits place =
     let ss : List Slot = (codes "id", Some (json_of_number id)) ∷ (codes "span", Some (json_of_range range)) ∷ [] in
     let j = slots ss in
     all_3 (λ (_ : Unit {0}) (id : ℕ) (span : Option (ℕ × ℕ)). item.Type_ id span)
-        (only_slots (codes "id" ∷ codes "span" ∷ []) ss refl)
-        (reads_required number_of (codes "id") j (json_of_number id) id (get_slot (codes "id") ss) (reads_number id fits))
-        (reads_span_member (Some range) j place (get_slot (codes "span") ss))
+    (only_slots (codes "id" ∷ codes "span" ∷ []) ss refl)
+    (reads_required number_of (codes "id") j (json_of_number id) id (get_slot (codes "id") ss) (reads_number id fits))
+    (reads_span_member (Some range) j place (get_slot (codes "span") ss))
 
 reads_item : (it : WorldItem) → IsWritableItem it → item_of (whole_item it) ≡ Ok it
 unfolding item_of
 reads_item (item.Interface id stability docs span external_id) fits =
     reads_variant item_by expected.Entry (codes "interface") (whole_interface_entry id stability docs span external_id) (item.Interface id stability docs span external_id)
-        (reads_interface_entry id stability docs span external_id fits.0 fits.1 fits.2)
+    (reads_interface_entry id stability docs span external_id fits.0 fits.1 fits.2)
 reads_item (item.Function f) fits =
     reads_variant item_by expected.Entry (codes "function") (whole_function f) (item.Function f) (followed (function_of (whole_function f)) _ f (Ok (item.Function f)) (reads_function f fits) refl)
 reads_item (item.Type_ id None) fits =
@@ -128,7 +127,7 @@ reads_key (key.Name label) (item.Function f) fits = refl
 reads_key (key.Name label) (item.Type_ id span) fits = refl
 reads_key (key.Interface id) (item.Interface other stability docs span external_id) fits =
     ap (λ (b : Bool). if b then key.Interface other else key.Name (codes "interface-" ++ decimal id))
-        ((bytes_eq-Decides (codes "interface-" ++ decimal id) (codes "interface-" ++ decimal other)).1 (ap (λ (n : ℕ). codes "interface-" ++ decimal n) fits)) ∙ ap key.Interface (sym fits)
+    ((bytes_eq-Decides (codes "interface-" ++ decimal id) (codes "interface-" ++ decimal other)).1 (ap (λ (n : ℕ). codes "interface-" ++ decimal n) fits)) ∙ ap key.Interface (sym fits)
 reads_key (key.Interface id) (item.Function f) fits = absurd fits
 reads_key (key.Interface id) (item.Type_ other span) fits = absurd fits
 
@@ -149,10 +148,10 @@ reads_entries before (e ∷ es) distinct fit items =
     let longer : (before ++ e ∷ []) ++ es ≡ before ++ e ∷ es = append_assoc before (e ∷ []) es in
     let named : key_of (entry_name e.0) e.1 ≡ e.0 = reads_key e.0 e.1 (fit 0 e refl) in
     followed (with_member (entry_name e.0) (whole_item e.1) before) (λ more. entries_from more (members_of (map member_of es))) (before ++ e ∷ []) (Ok (before ++ e ∷ es))
-        (followed (under (step.Member (entry_name e.0)) (item_of (whole_item e.1))) _ e.1 (Ok (before ++ e ∷ [])) (ap (under (step.Member (entry_name e.0))) (reads_item e.1 (items 0 e refl)))
-            (one_entry (entry_name e.0) e.1 e.0 before named new))
-        (reads_entries (before ++ e ∷ []) es (subst (λ (all : List (WorldKey × WorldItem)). HasDistinctKeys all) (sym longer) distinct) (λ i y at. fit (suc i) y at) (λ i y at. items (suc i) y at)
-        ∙ ap Ok longer)
+    (followed (under (step.Member (entry_name e.0)) (item_of (whole_item e.1))) _ e.1 (Ok (before ++ e ∷ [])) (ap (under (step.Member (entry_name e.0))) (reads_item e.1 (items 0 e refl)))
+    (one_entry (entry_name e.0) e.1 e.0 before named new))
+    (reads_entries (before ++ e ∷ []) es (subst (λ (all : List (WorldKey × WorldItem)). HasDistinctKeys all) (sym longer) distinct) (λ i y at. fit (suc i) y at) (λ i y at. items (suc i) y at)
+    ∙ ap Ok longer)
 
 reads_world_entries : (es : List (WorldKey × WorldItem)) → AreWritableEntries es → entries_of (whole_entries es) ≡ Ok es
 reads_world_entries es fits = reads_entries [] es fits.differ fits.fit fits.items
@@ -165,24 +164,24 @@ reads_include_name n =
     let ss : List Slot = (codes "name", Some (json_of_text n.name)) ∷ (codes "as", Some (json_of_text n.as_)) ∷ [] in
     let j = slots ss in
     all_3 (λ (_ : Unit {0}) (name as_ : List ℕ). let it : IncludeName = record { name = name; as_ = as_ } in it)
-        (only_slots (codes "name" ∷ codes "as" ∷ []) ss refl)
-        (reads_required text_of (codes "name") j (json_of_text n.name) n.name (get_slot (codes "name") ss) refl)
-        (reads_required text_of (codes "as") j (json_of_text n.as_) n.as_ (get_slot (codes "as") ss) refl)
+    (only_slots (codes "name" ∷ codes "as" ∷ []) ss refl)
+    (reads_required text_of (codes "name") j (json_of_text n.name) n.name (get_slot (codes "name") ss) refl)
+    (reads_required text_of (codes "as") j (json_of_text n.as_) n.as_ (get_slot (codes "as") ss) refl)
 
 reads_include : (include : WorldInclude) → IsWritableInclude include → include_of (json_of_include include) ≡ Ok include
 unfolding include_of
 reads_include i fits =
     let ss : List Slot =
-        (codes "id", Some (json_of_number i.id)) ∷ (codes "names", Some (written.list_of json_of_include_name i.names)) ∷ (codes "stability", json_of_stability i.stability)
-        ∷ (codes "span", option_map json_of_range i.span) ∷ [] in
+    (codes "id", Some (json_of_number i.id)) ∷ (codes "names", Some (written.list_of json_of_include_name i.names)) ∷ (codes "stability", json_of_stability i.stability)
+    ∷ (codes "span", option_map json_of_range i.span) ∷ [] in
     let j = slots ss in
     all_5 (λ (_ : Unit {0}) (id : ℕ) (names : List IncludeName) (stability : Stability) (span : Option (ℕ × ℕ)). let it : WorldInclude = record { stability = stability; id = id; names = names; span = span } in it)
-        (only_slots (codes "id" ∷ codes "names" ∷ codes "stability" ∷ codes "span" ∷ []) ss refl)
-        (reads_required number_of (codes "id") j (json_of_number i.id) i.id (get_slot (codes "id") ss) (reads_number i.id fits.id))
-        (reads_required (list_of include_name_of) (codes "names") j (written.list_of json_of_include_name i.names) i.names (get_slot (codes "names") ss)
-            (reads_list include_name_of json_of_include_name i.names (λ n name at. reads_include_name name)))
-        (reads_stability i.stability j fits.gate (get_slot (codes "stability") ss))
-        (reads_span_member i.span j fits.span (get_slot (codes "span") ss))
+    (only_slots (codes "id" ∷ codes "names" ∷ codes "stability" ∷ codes "span" ∷ []) ss refl)
+    (reads_required number_of (codes "id") j (json_of_number i.id) i.id (get_slot (codes "id") ss) (reads_number i.id fits.id))
+    (reads_required (list_of include_name_of) (codes "names") j (written.list_of json_of_include_name i.names) i.names (get_slot (codes "names") ss)
+    (reads_list include_name_of json_of_include_name i.names (λ n name at. reads_include_name name)))
+    (reads_stability i.stability j fits.gate (get_slot (codes "stability") ss))
+    (reads_span_member i.span j fits.span (get_slot (codes "span") ss))
 
 -- a world without its package
 abbrev alone_world : World → World
@@ -195,21 +194,21 @@ reads_alone_world : (world : World) → IsWritableWorld world → world_of (whol
 unfolding world_of
 reads_alone_world w fits =
     let ss : List Slot =
-        (codes "name", Some (json_of_text w.name)) ∷ (codes "imports", Some (whole_entries w.imports)) ∷ (codes "exports", Some (whole_entries w.exports))
-        ∷ (codes "includes", Some (written.list_of json_of_include w.includes)) ∷ (codes "docs", json_of_docs w.docs) ∷ (codes "stability", json_of_stability w.stability)
-        ∷ (codes "span", option_map json_of_range w.span) ∷ [] in
+    (codes "name", Some (json_of_text w.name)) ∷ (codes "imports", Some (whole_entries w.imports)) ∷ (codes "exports", Some (whole_entries w.exports))
+    ∷ (codes "includes", Some (written.list_of json_of_include w.includes)) ∷ (codes "docs", json_of_docs w.docs) ∷ (codes "stability", json_of_stability w.stability)
+    ∷ (codes "span", option_map json_of_range w.span) ∷ [] in
     let j = slots ss in
     all_8 (λ (_ : Unit {0}) (name : List ℕ) (imports exports : List (WorldKey × WorldItem)) (includes : List WorldInclude) (docs : Docs) (stability : Stability) (span : Option (ℕ × ℕ)).
-        let it : World = record { name = name; imports = imports; exports = exports; docs = docs; stability = stability; «package» = None; includes = includes; span = span } in it)
-        (only_slots world_names ss refl)
-        (reads_required text_of (codes "name") j (json_of_text w.name) w.name (get_slot (codes "name") ss) refl)
-        (reads_required entries_of (codes "imports") j (whole_entries w.imports) w.imports (get_slot (codes "imports") ss) (reads_world_entries w.imports fits.imports))
-        (reads_required entries_of (codes "exports") j (whole_entries w.exports) w.exports (get_slot (codes "exports") ss) (reads_world_entries w.exports fits.exports))
-        (reads_required (list_of include_of) (codes "includes") j (written.list_of json_of_include w.includes) w.includes (get_slot (codes "includes") ss)
-            (reads_list include_of json_of_include w.includes (λ n i at. reads_include i (fits.includes n i at))))
-        (reads_docs w.docs j (get_slot (codes "docs") ss))
-        (reads_stability w.stability j fits.gate (get_slot (codes "stability") ss))
-        (reads_span_member w.span j fits.span (get_slot (codes "span") ss))
+    let it : World = record { name = name; imports = imports; exports = exports; docs = docs; stability = stability; «package» = None; includes = includes; span = span } in it)
+    (only_slots world_names ss refl)
+    (reads_required text_of (codes "name") j (json_of_text w.name) w.name (get_slot (codes "name") ss) refl)
+    (reads_required entries_of (codes "imports") j (whole_entries w.imports) w.imports (get_slot (codes "imports") ss) (reads_world_entries w.imports fits.imports))
+    (reads_required entries_of (codes "exports") j (whole_entries w.exports) w.exports (get_slot (codes "exports") ss) (reads_world_entries w.exports fits.exports))
+    (reads_required (list_of include_of) (codes "includes") j (written.list_of json_of_include w.includes) w.includes (get_slot (codes "includes") ss)
+    (reads_list include_of json_of_include w.includes (λ n i at. reads_include i (fits.includes n i at))))
+    (reads_docs w.docs j (get_slot (codes "docs") ss))
+    (reads_stability w.stability j fits.gate (get_slot (codes "stability") ss))
+    (reads_span_member w.span j fits.span (get_slot (codes "span") ss))
 
 pub reads_world : (world : World) → IsWritableWorld world → world_of (whole_world world) ≡ Ok world
 reads_world world fits = reads_alone_world world fits ∙ ap Ok (is_alone_world world fits.unplaced)
