@@ -1,0 +1,9 @@
+mod Clauses
+mod Differ
+mod FirstIds
+mod Firsts
+mod Found
+mod NameLists
+mod OneFault
+mod Prefixes
+mod UsesInRange

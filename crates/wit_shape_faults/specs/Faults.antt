@@ -1,8 +1,7 @@
 -- Where an unresolved package lacks its shape: the first clause of the shape that it breaks, in the order in which the
 -- definition of the shape lists them, and the first thing that breaks it, in the order of the package's lists.
-use Rattle.std.specs.Prelude.{◌≡◌, ◌↔◌, ℕ, ◌<◌, ◌≤◌, ◌⊎◌, List, Option, None, Some, length, filter, take, nat_eq, bytes_eq, Contains, IfSome}
+use Rattle.std.specs.Prelude.{◌≡◌, ◌↔◌, ℕ, ◌<◌, ◌≤◌, ◌+◌, ◌⊎◌, List, Option, None, Some, length, filter, map, nat_lt, take, bytes_eq, Contains, IfSome}
 use Rattle.std.specs.List.{IsDistinct}
-use Rattle.wit_digraph.specs.Cycles.{IsOnCycle}
 use Rattle.wit_digraph.specs.Relation.{IsAcyclic}
 use Rattle.wit_data.specs.Each.{Each, EachAt, SomeAt}
 use Rattle.wit_data.specs.Entries.{EntriesUseOwn, Entry, ExportsAreAllowed, ImportsAreAllowed, IncludesEarlier, IsExport, IsImport, ItemUsesOwn, StandOnce, interfaces_in_worlds, is_unnamed}
@@ -124,6 +123,20 @@ UnknownBreaks unknown types at =
     ((length types < unknown) × (at ≡ place.UnknownTypeSpans))
     ⊎ ((unknown ≤ length types) × AtFirst place.Type_ (λ i (def : TypeDef). (def.kind ≡ kind.Unknown) ↔ (i < unknown)) types at)
 
+-- what each of the first n nodes uses of them
+abbrev pub among_first : List (List ℕ) → ℕ → List (List ℕ)
+among_first uses n = map (λ (row : List ℕ). filter (λ j. nat_lt j n) row) (take n uses)
+
+-- node i is the first with which the first nodes lead, by uses among them, from one of them back to it
+pub record IsFirstOnCycle (uses : List (List ℕ)) (i : ℕ) : Type 0 where
+  pub there : i < length uses
+  pub before : IsAcyclic (among_first uses i)
+  pub closes : IsAcyclic (among_first uses (i + 1)) → ⊥
+
+-- the place is that of this node
+abbrev pub AtFirstOnCycle : {A : Type 0} → (ℕ → A) → List (List ℕ) → A → Type 0
+AtFirstOnCycle place uses at = (i : ℕ) × (IsFirstOnCycle uses i × (at ≡ place i))
+
 -- the first thing that breaks a clause: what it is of, and of which it doesn't hold
 abbrev pub BreaksAt : UnresolvedPackage → ShapeClause → ShapePlace → Type 0
 BreaksAt p clause.UnplacedInterfaces = AtFirst place.Interface (λ _ (interface : Interface). interface.package ≡ None) p.interfaces
@@ -157,7 +170,7 @@ BreaksAt p clause.WorldsImports = WithinFirst place.Import (λ w (world : World)
 BreaksAt p clause.WorldsExports = WithinFirst place.Export (λ _ (world : World) (e : Entry). IsExport p.interfaces e.0 e.1) (λ (world : World). world.exports) p.worlds
 BreaksAt p clause.WorldsOnce = AtFirstId place.Interface (λ i id. Contains (take i (unnamed_in_worlds p)) id → ⊥) (unnamed_in_worlds p)
 BreaksAt p clause.WorldsIncludes = WithinFirst place.Include (λ w (world : World) (include : WorldInclude). include.id < w) (λ (world : World). world.includes) p.worlds
-BreaksAt p clause.Uses = λ at. (f used : ℕ) × (IsOnCycle (uses_of p.types p.interfaces) f used × (at ≡ place.Interface f))
+BreaksAt p clause.Uses = AtFirstOnCycle place.Interface (uses_of p.types p.interfaces)
 
 -- none is told where the package keeps the clause, and else the first thing that breaks it
 abbrev pub Tells : UnresolvedPackage → ShapeClause → Option ShapePlace → Type 0

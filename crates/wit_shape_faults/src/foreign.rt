@@ -58,7 +58,10 @@ fn misplaced_id(
 {
     let mut met = Listing::new(alloc, ids.len())?;
     for id in ids {
-        if *id >= ids.len() || *id >= count || met.has(*id) {
+        if *id >= ids.len() || *id >= count {
+            return Ok(Some(*id));
+        }
+        if met.has(*id) {
             return Ok(Some(*id));
         }
         met.push(*id)?;

@@ -1,5 +1,5 @@
 //! What a package and its things are called.
-ghost use Rattle.std.specs.Prelude.{◌↔◌, IfOk, IfSome, IsTrue};
+ghost use Rattle.std.specs.Prelude.{◌≡◌, ◌↔◌, ◌++◌, ◌∷◌, [], Contains, IfOk, IfSome, IsTrue, option_to_list};
 ghost use Rattle.wit_names.specs.UsePath.{IsKebabName};
 ghost use Rattle.wit_shape_faults.specs.Faults.{Tells};
 ghost use Rattle.wit_shape_faults.specs.declared.clause.ShapeClause.TheVariants.{NamesInterfaces, NamesInterfacesDiffer, NamesNamespace, NamesOwn, NamesVersion, NamesWorlds, NamesWorldsDiffer};
@@ -82,14 +82,38 @@ pub(crate) fn interfaces_differ(
         if index < foreign {
             continue;
         }
-        if let Some(name) = &interface.name {
-            if met.contains(name.as_str()) {
-                return Ok(Some(ShapePlace::Interface(InterfaceId::from_index(index))));
-            }
-            met.insert(alloc, name.as_str())?;
+        if !has_new_name(alloc, &mut met, interface)? {
+            return Ok(Some(ShapePlace::Interface(InterfaceId::from_index(index))));
         }
     }
     Ok(None)
+}
+
+/// Adds the name of an interface, where it has one, to those that were met, and tells whether it is new.
+fn has_new_name(
+    alloc: Global,
+    met: &mut NameSet,
+    interface: &Interface,
+) -> Result<bool, AllocError>
+    ensures new { IfOk result (λ new. IsTrue new ↔ IfSome interface.now.name (λ name. Contains met.old name → ⊥)) }
+    ensures met { IfOk result (λ new. IsTrue new → met.new ≡ met.old ++ option_to_list interface.now.name) }
+{
+    match &interface.name {
+        Some(name) => is_new(alloc, met, name.as_str()),
+        None => Ok(true),
+    }
+}
+
+/// Adds a name to those that were met, and tells whether it is new.
+fn is_new(alloc: Global, met: &mut NameSet, name: &str) -> Result<bool, AllocError>
+    ensures new { IfOk result (λ new. IsTrue new ↔ (Contains met.old name.now → ⊥)) }
+    ensures met { IfOk result (λ new. IsTrue new → met.new ≡ met.old ++ name.now ∷ []) }
+{
+    if met.contains(name) {
+        return Ok(false);
+    }
+    met.insert(alloc, name)?;
+    Ok(true)
 }
 
 pub(crate) fn worlds_differ(
@@ -104,10 +128,9 @@ pub(crate) fn worlds_differ(
         if index < foreign {
             continue;
         }
-        if met.contains(world.name.as_str()) {
+        if !is_new(alloc, &mut met, world.name.as_str())? {
             return Ok(Some(ShapePlace::World(WorldId::from_index(index))));
         }
-        met.insert(alloc, world.name.as_str())?;
     }
     Ok(None)
 }

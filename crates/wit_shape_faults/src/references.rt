@@ -20,7 +20,8 @@ pub(crate) fn earlier(
 ) -> Result<Option<ShapePlace>, AllocError>
     ensures { IfOk result (λ found. Tells unresolved.now ReferencesEarlier found) }
 {
-    for (index, def) in unresolved.types.as_slice().iter().enumerate() {
+    let types = unresolved.types.as_slice();
+    for (index, def) in types.iter().enumerate() {
         if !refers_back(alloc, index, def)? {
             return Ok(Some(ShapePlace::Type_(TypeId::from_index(index))));
         }
@@ -46,8 +47,12 @@ pub(crate) fn aliases(unresolved: &UnresolvedPackage) -> Option<ShapePlace>
 {
     let types = unresolved.types.as_slice();
     let interfaces = unresolved.interfaces.as_slice();
-    let index = types.iter().position(|def| !aliases_named(types, interfaces, def))?;
-    Some(ShapePlace::Type_(TypeId::from_index(index)))
+    for (index, def) in types.iter().enumerate() {
+        if !aliases_named(types, interfaces, def) {
+            return Some(ShapePlace::Type_(TypeId::from_index(index)));
+        }
+    }
+    None
 }
 
 fn aliases_named(types: &[TypeDef], interfaces: &[Interface], def: &TypeDef) -> bool

@@ -1,6 +1,8 @@
 //! The search for the first clause of its shape that a package breaks.
-ghost use Rattle.std.specs.Prelude.{IfOk};
-ghost use Rattle.wit_shape_faults.specs.Faults.{KeepsBefore, Tells, TellsFault};
+ghost use Rattle.std.specs.Prelude.{◌≡◌, ◌↔◌, IfOk, IsNone, Some};
+ghost use Rattle.wit_data.specs.Shape.{IsShaped};
+ghost use Rattle.wit_shape_faults.specs.Faults.{IsFirstFault, KeepsBefore, Tells, TellsFault};
+ghost use Rattle.wit_shape_faults.specs.declared.fault.ShapeFault.{ShapeFault};
 
 use crate::clause::ShapeClause;
 use crate::fault::ShapeFault;
@@ -13,9 +15,20 @@ use wit_data::UnresolvedPackage;
 /// The first clause of its shape that a package breaks, in the order of [`ShapeClause::ALL`], and the first thing that
 /// breaks it, in the order of the package's lists. None where the package has its shape.
 ///
-/// Of interfaces that use themselves any may be told. It takes time in proportion to the package's size, and refuses only
-/// for want of memory.
+/// It takes time in proportion to the package's size, but where interfaces use themselves: then that times the logarithm
+/// of their number. It refuses only for want of memory.
 pub fn find_shape_fault(
+    alloc: Global,
+    unresolved: &UnresolvedPackage,
+) -> Result<Option<ShapeFault>, AllocError>
+    ensures none { IfOk result (λ found. IsNone found ↔ IsShaped unresolved.now) }
+    ensures some { IfOk result (λ found. (fault : ShapeFault) → (found ≡ Some fault) ↔ IsFirstFault unresolved.now fault) }
+{
+    first_fault(alloc, unresolved)
+}
+
+/// The same, clause by clause.
+fn first_fault(
     alloc: Global,
     unresolved: &UnresolvedPackage,
 ) -> Result<Option<ShapeFault>, AllocError>
@@ -71,6 +84,6 @@ fn find_place(
         ShapeClause::WorldsExports => Ok(worlds::exports(unresolved)),
         ShapeClause::WorldsOnce => worlds::once(alloc, unresolved),
         ShapeClause::WorldsIncludes => Ok(worlds::includes(unresolved)),
-        ShapeClause::Uses => uses::cycle(alloc, unresolved),
+        ShapeClause::Uses => uses::acyclic(alloc, unresolved),
     }
 }

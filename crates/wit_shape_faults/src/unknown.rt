@@ -51,11 +51,18 @@ pub(crate) fn foreign_types(
     let unknown = unresolved.unknown_type_spans.len();
     let foreign = foreign_interfaces(alloc, &unresolved.foreign_deps)?.len();
     for (index, def) in unresolved.types.as_slice().iter().enumerate() {
-        if index < unknown && !is_foreign_type(foreign, def) {
+        if !is_foreign_if_unknown(unknown, foreign, index, def) {
             return Ok(Some(ShapePlace::Type_(TypeId::from_index(index))));
         }
     }
     Ok(None)
+}
+
+/// Whether a type is one of a foreign interface, if its index is below a bound.
+fn is_foreign_if_unknown(unknown: usize, foreign: usize, index: usize, def: &TypeDef) -> bool
+    ensures { IsTrue result ↔ (index < unknown → IsForeignType foreign def.now) }
+{
+    index >= unknown || is_foreign_type(foreign, def)
 }
 
 /// Whether a type is a named one of the first so many interfaces.
@@ -77,22 +84,26 @@ pub(crate) fn listed_types(
     let unknown = unresolved.unknown_type_spans.len();
     let foreign = foreign_interfaces(alloc, &unresolved.foreign_deps)?.len();
     for (index, interface) in unresolved.interfaces.as_slice().iter().enumerate() {
-        if index < foreign {
-            if let Some(at) = type_that_is_known(unknown, interface) {
-                let id = InterfaceId::from_index(index);
-                return Ok(Some(ShapePlace::InterfaceType(id, at)));
-            }
+        if let Some(at) = type_that_is_known(unknown, foreign, index, interface) {
+            let id = InterfaceId::from_index(index);
+            return Ok(Some(ShapePlace::InterfaceType(id, at)));
         }
     }
     Ok(None)
 }
 
-fn type_that_is_known(unknown: usize, interface: &Interface) -> Option<usize>
-    ensures { IsTold (Each (λ (e : List ℕ × ℕ). e.1 < unknown) interface.now.types) (AtFirst (λ i. i) (λ _ (e : List ℕ × ℕ). e.1 < unknown) interface.now.types) result }
+/// The first type past a bound that an interface lists, if it is one of the first so many interfaces.
+fn type_that_is_known(
+    unknown: usize,
+    foreign: usize,
+    interface_index: usize,
+    interface: &Interface,
+) -> Option<usize>
+    ensures { IsTold (Each (λ (e : List ℕ × ℕ). interface_index < foreign → e.1 < unknown) interface.now.types) (AtFirst (λ i. i) (λ _ (e : List ℕ × ℕ). interface_index < foreign → e.1 < unknown) interface.now.types) result }
 {
     for index in 0..interface.types.len() {
         let (_, id) = interface.types.entry_at(index);
-        if id.index() >= unknown {
+        if interface_index < foreign && id.index() >= unknown {
             return Some(index);
         }
     }

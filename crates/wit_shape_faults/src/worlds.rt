@@ -141,8 +141,10 @@ pub(crate) fn once(
     let interfaces = unresolved.interfaces.as_slice();
     let placed = interfaces_in_worlds(alloc, unresolved.worlds.as_slice())?;
     let unnamed = unnamed_among(alloc, interfaces, placed.as_slice())?;
-    let found = first_again(alloc, unnamed.as_slice(), interfaces.len())?;
-    Ok(found.map(|id| ShapePlace::Interface(InterfaceId::from_index(id))))
+    match first_again(alloc, unnamed.as_slice(), interfaces.len())? {
+        Some(id) => Ok(Some(ShapePlace::Interface(InterfaceId::from_index(id)))),
+        None => Ok(None),
+    }
 }
 
 /// Of numbers below a bound, the first that stands among those before it.

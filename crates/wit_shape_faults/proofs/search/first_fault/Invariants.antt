@@ -2,7 +2,7 @@ use Rattle.std.proofs.Common.{◌<◌}
 use Rattle.wit_shape_faults.specs.Faults.{Holds}
 use Rattle.wit_shape_faults.specs.Faults.{number}
 use Rattle.wit_shape_faults.specs.declared.clause.ShapeClause.{ShapeClause}
-use Rattle.wit_shape_faults.proofs.search.find_shape_fault.Given as goal
+use Rattle.wit_shape_faults.proofs.search.first_fault.Given as goal
 
 -- the first ones hold
 abbrev pub invariant-loop-clause : goal.invariant-loop-clause
