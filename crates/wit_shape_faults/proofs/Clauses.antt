@@ -1,19 +1,84 @@
 -- The clauses of the shape in their order, and the shape of them.
-use Rattle.std.proofs.Common.{◌≡◌, ℕ, ◌<◌, List, [], ◌∷◌, refl, lit<}
-use Rattle.wit_data.specs.Each.{EachAt}
-use Rattle.wit_data.specs.facts.EachFacts.{EachAt-cons, EachAt-nil}
+use Rattle.std.proofs.Common.{◌≡◌, ◌∙◌, ℕ, zero, suc, ◌<◌, ◌+◌, ◌⊎◌, inl, inr, List, [], ◌∷◌, get_or, length, Option, None, Some, refl, ap, sym, subst, lit<, arith}
 use Rattle.wit_data.specs.Shape.{IsShaped, KeysDiffer}
 use Rattle.wit_data.specs.declared.unresolved.UnresolvedPackage.{UnresolvedPackage}
-use Rattle.wit_shape_faults.specs.Faults.{Holds, number}
+use Rattle.wit_shape_faults.specs.Faults.{BreaksAt, Holds, IsFirstFault, KeepsBefore, Tells, number}
+use Rattle.wit_shape_faults.specs.First.{IsTold}
 use Rattle.wit_shape_faults.specs.declared.clause.ShapeClause.{ShapeClause}
+use Rattle.wit_shape_faults.specs.declared.place.ShapePlace.{ShapePlace}
 use Rattle.wit_shape_faults.specs.declared.clause.ShapeClause.TheVariants as clause
 
 abbrev pub clauses : List ShapeClause
 clauses = clause.UnplacedInterfaces ∷ clause.UnplacedWorlds ∷ clause.ForeignSpans ∷ clause.ForeignInterfaces ∷ clause.ForeignWorlds ∷ clause.ForeignBare ∷ clause.UnknownFirst ∷ clause.UnknownForeign ∷ clause.UnknownAlone ∷ clause.UnknownRequired ∷ clause.NamesNamespace ∷ clause.NamesOwn ∷ clause.NamesInterfaces ∷ clause.NamesWorlds ∷ clause.NamesVersion ∷ clause.NamesInterfacesDiffer ∷ clause.NamesWorldsDiffer ∷ clause.OwnersListed ∷ clause.OwnersOwnTypes ∷ clause.OwnersFunctions ∷ clause.ReferencesEarlier ∷ clause.ReferencesAliases ∷ clause.ReferencesUnnamed ∷ clause.OwnTypes ∷ clause.OwnFunctions ∷ clause.OwnImports ∷ clause.OwnExports ∷ clause.WorldsImports ∷ clause.WorldsExports ∷ clause.WorldsOnce ∷ clause.WorldsIncludes ∷ clause.Uses ∷ []
 
 -- each stands at its number
-pub numbered : EachAt (λ i (c : ShapeClause). number c ≡ i) clauses
-numbered = EachAt-cons _ _ _ refl (EachAt-cons _ _ _ refl (EachAt-cons _ _ _ refl (EachAt-cons _ _ _ refl (EachAt-cons _ _ _ refl (EachAt-cons _ _ _ refl (EachAt-cons _ _ _ refl (EachAt-cons _ _ _ refl (EachAt-cons _ _ _ refl (EachAt-cons _ _ _ refl (EachAt-cons _ _ _ refl (EachAt-cons _ _ _ refl (EachAt-cons _ _ _ refl (EachAt-cons _ _ _ refl (EachAt-cons _ _ _ refl (EachAt-cons _ _ _ refl (EachAt-cons _ _ _ refl (EachAt-cons _ _ _ refl (EachAt-cons _ _ _ refl (EachAt-cons _ _ _ refl (EachAt-cons _ _ _ refl (EachAt-cons _ _ _ refl (EachAt-cons _ _ _ refl (EachAt-cons _ _ _ refl (EachAt-cons _ _ _ refl (EachAt-cons _ _ _ refl (EachAt-cons _ _ _ refl (EachAt-cons _ _ _ refl (EachAt-cons _ _ _ refl (EachAt-cons _ _ _ refl (EachAt-cons _ _ _ refl (EachAt-cons _ _ _ refl (EachAt-nil _))))))))))))))))))))))))))))))))
+abbrev AreNumbered : ℕ → List ShapeClause → Type 0
+AreNumbered n [] = Unit {0}
+AreNumbered n (c ∷ cs) = (number c ≡ n) × AreNumbered (n + 1) cs
+
+numbered_from : (n : ℕ) (cs : List ShapeClause) → AreNumbered n cs → (i : ℕ) (d : ShapeClause) → i < length cs → number (get_or cs i d) ≡ n + i
+numbered_from n [] are i d within = absurd (omega arith)
+numbered_from n (c ∷ cs) are zero d within = let same : n ≡ n + 0 = omega arith in are.0 ∙ same
+numbered_from n (c ∷ cs) are (suc i) d within = let more = numbered_from (n + 1) cs are.1 i d (omega arith) in omega arith
+
+numbered : (i : ℕ) (d : ShapeClause) → i < 32 → number (get_or clauses i d) ≡ i
+numbered i d within = let is = numbered_from 0 clauses (refl, (refl, (refl, (refl, (refl, (refl, (refl, (refl, (refl, (refl, (refl, (refl, (refl, (refl, (refl, (refl, (refl, (refl, (refl, (refl, (refl, (refl, (refl, (refl, (refl, (refl, (refl, (refl, (refl, (refl, (refl, (refl, tt)))))))))))))))))))))))))))))))) i d within in omega arith
+
+-- clauses of one number are one
+listed : (c : ShapeClause) → get_or clauses (number c) clause.Uses ≡ c
+listed clause.UnplacedInterfaces = refl
+listed clause.UnplacedWorlds = refl
+listed clause.ForeignSpans = refl
+listed clause.ForeignInterfaces = refl
+listed clause.ForeignWorlds = refl
+listed clause.ForeignBare = refl
+listed clause.UnknownFirst = refl
+listed clause.UnknownForeign = refl
+listed clause.UnknownAlone = refl
+listed clause.UnknownRequired = refl
+listed clause.NamesNamespace = refl
+listed clause.NamesOwn = refl
+listed clause.NamesInterfaces = refl
+listed clause.NamesWorlds = refl
+listed clause.NamesVersion = refl
+listed clause.NamesInterfacesDiffer = refl
+listed clause.NamesWorldsDiffer = refl
+listed clause.OwnersListed = refl
+listed clause.OwnersOwnTypes = refl
+listed clause.OwnersFunctions = refl
+listed clause.ReferencesEarlier = refl
+listed clause.ReferencesAliases = refl
+listed clause.ReferencesUnnamed = refl
+listed clause.OwnTypes = refl
+listed clause.OwnFunctions = refl
+listed clause.OwnImports = refl
+listed clause.OwnExports = refl
+listed clause.WorldsImports = refl
+listed clause.WorldsExports = refl
+listed clause.WorldsOnce = refl
+listed clause.WorldsIncludes = refl
+listed clause.Uses = refl
+
+pub same_clause : (c d : ShapeClause) → number c ≡ number d → c ≡ d
+same_clause c d same = sym (listed c) ∙ ap (λ n. get_or clauses n clause.Uses) same ∙ listed d
+
+-- ---- one clause after another
+module _ (p : UnresolvedPackage) (i : ℕ) (d : ShapeClause) (within : i < 32) (keeps : (other : ShapeClause) → number other < i → Holds p other) where
+  pub before : KeepsBefore p (get_or clauses i d)
+  before other less = keeps other (subst (λ n. number other < n) (numbered i d within) less)
+
+  pub first : (found : Option ShapePlace) (at : ShapePlace) → Tells p (get_or clauses i d) found → found ≡ Some at → IsFirstFault p (record { clause = get_or clauses i d; place = at })
+  first found at told is = record { before = before; breaks = subst (IsTold (Holds p (get_or clauses i d)) (BreaksAt p (get_or clauses i d))) is told }
+
+  pub one_more : (found : Option ShapePlace) → Tells p (get_or clauses i d) found → found ≡ None → (other : ShapeClause) → number other < i + 1 → Holds p other
+  one_more found told is other less =
+      elim (earlier_or (number other) i less) [
+        | inl earlier ↦ keeps other earlier
+        | inr same ↦ subst (Holds p) (same_clause (get_or clauses i d) other (numbered i d within ∙ sym same)) (subst (IsTold (Holds p (get_or clauses i d)) (BreaksAt p (get_or clauses i d))) is told)
+      ]
+    where
+      earlier_or : (a b : ℕ) → a < b + 1 → (a < b) ⊎ (a ≡ b)
+      earlier_or a b below = grind arith
 
 -- a package that keeps them all has its shape
 pub shaped : (p : UnresolvedPackage) → KeysDiffer p → ((c : ShapeClause) → number c < 32 → Holds p c) → IsShaped p

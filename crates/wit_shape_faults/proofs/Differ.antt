@@ -28,45 +28,41 @@ module _ {X : Type 0} (names : List X → List (List ℕ)) (empty : names [] ≡
       let fits : foreign ≤ length (take i xs) = omega arith in
       ap (λ (l : List X). names (drop foreign l)) (take-next_at xs i x at) ∙ ap names (drop-append-le foreign (take i xs) (x ∷ []) fits) ∙ parts (drop foreign (take i xs)) (x ∷ [])
 
+  -- the names before one, its own, and those behind it
+  split : (xs : List X) (i : ℕ) (x : X) → slice_get xs i ≡ Some x → take i xs ++ (x ∷ drop (i + 1) xs) ≡ xs
+  split xs i x at =
+      let within : i < length xs = slice_get_within xs i x at in
+      let here : get_or xs i x ≡ x = get_or_from_slice_get xs i x x at in
+      let more : drop i xs ≡ get_or xs i x ∷ drop (i + 1) xs = drop_more xs i x within in
+      ap (λ (l : List X). take i xs ++ l) (sym (more ∙ ap (λ (y : X). y ∷ drop (i + 1) xs) here)) ∙ take-append-drop i xs
+
+  all_are : (foreign : ℕ) (xs : List X) (i : ℕ) (x : X) (name : List ℕ) → slice_get xs i ≡ Some x → ((rest : List X) → names (x ∷ rest) ≡ name ∷ names rest) → foreign ≤ i
+      → names (drop foreign xs) ≡ names (drop foreign (take i xs)) ++ (name ∷ names (drop (i + 1) xs))
+  all_are foreign xs i x name at called past =
+      let within : i < length xs = slice_get_within xs i x at in
+      let short = length-take i xs in
+      let fits : foreign ≤ length (take i xs) = omega arith in
+      ap (λ (l : List X). names (drop foreign l)) (sym (split xs i x at)) ∙ ap names (drop-append-le foreign (take i xs) (x ∷ drop (i + 1) xs) fits)
+      ∙ parts (drop foreign (take i xs)) (x ∷ drop (i + 1) xs) ∙ ap (λ (l : List (List ℕ)). names (drop foreign (take i xs)) ++ l) (called (drop (i + 1) xs))
+
+  twice : (foreign : ℕ) (xs : List X) (i : ℕ) (x : X) (name : List ℕ) → slice_get xs i ≡ Some x → ((rest : List X) → names (x ∷ rest) ≡ name ∷ names rest)
+      → IsDistinct bytes_eq (names (drop foreign xs)) → Contains (names (drop foreign (take i xs))) name → foreign ≤ i → ⊥
+  twice foreign xs i x name at called apart has past =
+      let before : List (List ℕ) = names (drop foreign (take i xs)) in
+      let behind : List (List ℕ) = names (drop (i + 1) xs) in
+      let all : List (List ℕ) = before ++ (name ∷ behind) in
+      let long = length-append before (name ∷ behind) in
+      let within : length before < length all = omega arith in
+      let here : slice_get all (length before) ≡ Some name = slice_get-get_or all (length before) name within ∙ ap (λ (y : List ℕ). Some y) (get_or_at before name behind name (length before) refl) in
+      met_twice bytes_eq-Decides all (length before) name here
+      (subst (λ (l : List (List ℕ)). Contains l name) (sym (take_at before (name ∷ behind) (length before) refl)) has)
+      (subst (λ (l : List (List ℕ)). IsDistinct bytes_eq l) (all_are foreign xs i x name at called past) apart)
+
   -- a name that those before it have
   pub stands_again : (foreign : ℕ) (xs : List X) (i : ℕ) (x : X) (name : List ℕ) → slice_get xs i ≡ Some x → ((rest : List X) → names (x ∷ rest) ≡ name ∷ names rest)
       → IsDistinct bytes_eq (names (drop foreign xs)) → Contains (names (drop foreign (take i xs))) name → ⊥
   stands_again foreign xs i x name at called apart has =
       elim (below_or i foreign) [
         | inl early ↦ let first : i ≤ foreign = omega arith in Contains-nil (subst (λ (l : List (List ℕ)). Contains l name) (none_yet foreign xs i first) has)
-        | inr past ↦ twice past
+        | inr past ↦ twice foreign xs i x name at called apart has past
       ]
-    where
-      behind : List X
-      behind = drop (i + 1) xs
-
-      before : List (List ℕ)
-      before = names (drop foreign (take i xs))
-
-      split : take i xs ++ (x ∷ behind) ≡ xs
-      unfolding behind
-      split =
-          let within : i < length xs = slice_get_within xs i x at in
-          let here : get_or xs i x ≡ x = get_or_from_slice_get xs i x x at in
-          let more : drop i xs ≡ get_or xs i x ∷ drop (i + 1) xs = drop_more xs i x within in
-          ap (λ (l : List X). take i xs ++ l) (sym (more ∙ ap (λ (y : X). y ∷ drop (i + 1) xs) here)) ∙ take-append-drop i xs
-
-      all_is : foreign ≤ i → names (drop foreign xs) ≡ before ++ (name ∷ names behind)
-      unfolding before
-      all_is past =
-          let within : i < length xs = slice_get_within xs i x at in
-          let short = length-take i xs in
-          let fits : foreign ≤ length (take i xs) = omega arith in
-          ap (λ (l : List X). names (drop foreign l)) (sym split) ∙ ap names (drop-append-le foreign (take i xs) (x ∷ behind) fits) ∙ parts (drop foreign (take i xs)) (x ∷ behind)
-          ∙ ap (λ (l : List (List ℕ)). names (drop foreign (take i xs)) ++ l) (called behind)
-
-      twice : foreign ≤ i → ⊥
-      unfolding before
-      twice past =
-          let all : List (List ℕ) = before ++ (name ∷ names behind) in
-          let long = length-append before (name ∷ names behind) in
-          let within : length before < length all = omega arith in
-          let here : slice_get all (length before) ≡ Some name = slice_get-get_or all (length before) name within ∙ ap (λ (y : List ℕ). Some y) (get_or_at before name (names behind) name (length before) refl) in
-          met_twice bytes_eq-Decides all (length before) name here
-          (subst (λ (l : List (List ℕ)). Contains l name) (sym (take_at before (name ∷ names behind) (length before) refl)) has)
-          (subst (λ (l : List (List ℕ)). IsDistinct bytes_eq l) (all_is past) apart)

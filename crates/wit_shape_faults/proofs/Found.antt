@@ -59,10 +59,3 @@ module _ (H : List ℕ → Type 0) (P : List ℕ → ℕ → ℕ → Type 0) whe
     where
       inside : Some m ≡ Some id → id ≡ m
       inside h = cc
-
-  pub moved_none : (ids others : List ℕ) (found : Option ℕ) → ids ≡ others → IsTold (H ids) (AtFirstId (λ m. m) (P ids) ids) found → found ≡ None → H others
-  moved_none ids others None same told is = subst H same told
-  moved_none ids others (Some m) same told is = absurd (some is)
-    where
-      some : Some m ≡ None → ⊥
-      some h = cc

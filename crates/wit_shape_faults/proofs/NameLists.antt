@@ -1,9 +1,9 @@
 -- The names of interfaces and of worlds after the foreign ones, of the first ones and one more.
-use Rattle.std.proofs.Common.{◌≡◌, ◌∙◌, ℕ, ◌≤◌, ◌+◌, List, [], ◌∷◌, ◌++◌, map, map-append, flat_map, take, Option, None, Some, slice_get, refl, ap, sym, subst}
+use Rattle.std.proofs.Common.{◌≡◌, ◌∙◌, ℕ, ◌≤◌, ◌+◌, List, [], ◌∷◌, ◌++◌, map, flat_map, take, Option, None, Some, slice_get, refl, ap, sym, subst}
 use Rattle.std.specs.Prelude.{Contains, IfSome, bytes_eq, option_to_list}
 use Rattle.std.specs.List.{IsDistinct}
 use Rattle.std.proofs.lemmas.Grind.{flat_map-append}
-use Rattle.std.proofs.lemmas.List.{append-nil}
+use Rattle.std.proofs.lemmas.List.{append-nil, map-append}
 use Rattle.std.proofs.lemmas.Slice.Eq.{bytes_eq-Decides}
 use Rattle.wit_digraph.specs.facts.MemberFacts.{Contains-nil}
 use Rattle.wit_shape.proofs.Distinct.{apart_push}

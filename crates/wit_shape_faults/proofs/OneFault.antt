@@ -1,6 +1,6 @@
 -- A package has one first fault at most, and none where it has its shape.
-use Rattle.std.proofs.Common.{◌≡◌, ◌∙◌, ℕ, ◌<◌, ◌+◌, ◌⊎◌, inl, inr, List, [], ◌∷◌, get_or, length, Option, None, Some, refl, sym, ap, subst, arith}
-use Rattle.std.specs.Prelude.{◌↔◌, IsNone}
+use Rattle.std.proofs.Common.{◌≡◌, ◌∙◌, ℕ, ◌<◌, ◌+◌, ◌⊎◌, inl, inr, List, length, Option, None, Some, Result, Ok, Err, refl, sym, ap, subst, arith}
+use Rattle.std.specs.Prelude.{◌↔◌, IfOk, IsNone}
 use Rattle.wit_data.specs.Foreign.{ForeignItem, foreign_interfaces, foreign_worlds}
 use Rattle.wit_data.specs.Shape.{IsShaped}
 use Rattle.wit_data.specs.Uses.{uses_of}
@@ -8,7 +8,7 @@ use Rattle.wit_data.specs.declared.unresolved.UnresolvedPackage.{UnresolvedPacka
 use Rattle.wit_data.specs.declared.interface.Interface.{Interface}
 use Rattle.wit_data.specs.declared.world.World.{World}
 use Rattle.wit_names.specs.declared.package_name.PackageName.{PackageName}
-use Rattle.wit_shape_faults.proofs.Clauses.{clauses, keeps}
+use Rattle.wit_shape_faults.proofs.Clauses.{keeps, same_clause}
 use Rattle.wit_shape_faults.proofs.FirstIds.{are_new, none_again}
 use Rattle.wit_shape_faults.proofs.Firsts.{first_fails, first_same, id_fails, id_same, within_fails, within_same}
 use Rattle.wit_shape_faults.proofs.NameLists.{interfaces_differ, worlds_differ}
@@ -94,43 +94,8 @@ same_place p clause.WorldsOnce a b one other = id_same one other
 same_place p clause.WorldsIncludes a b one other = within_same (λ (world : World). world.includes) one other
 same_place p clause.Uses a b one other = one.1.1 ∙ ap place.Interface (on_cycle_same (uses_of p.types p.interfaces) one.0 other.0 one.1.0 other.1.0) ∙ sym other.1.1
 
--- clauses of one number are one
-listed : (c : ShapeClause) → get_or clauses (number c) clause.Uses ≡ c
-listed clause.UnplacedInterfaces = refl
-listed clause.UnplacedWorlds = refl
-listed clause.ForeignSpans = refl
-listed clause.ForeignInterfaces = refl
-listed clause.ForeignWorlds = refl
-listed clause.ForeignBare = refl
-listed clause.UnknownFirst = refl
-listed clause.UnknownForeign = refl
-listed clause.UnknownAlone = refl
-listed clause.UnknownRequired = refl
-listed clause.NamesNamespace = refl
-listed clause.NamesOwn = refl
-listed clause.NamesInterfaces = refl
-listed clause.NamesWorlds = refl
-listed clause.NamesVersion = refl
-listed clause.NamesInterfacesDiffer = refl
-listed clause.NamesWorldsDiffer = refl
-listed clause.OwnersListed = refl
-listed clause.OwnersOwnTypes = refl
-listed clause.OwnersFunctions = refl
-listed clause.ReferencesEarlier = refl
-listed clause.ReferencesAliases = refl
-listed clause.ReferencesUnnamed = refl
-listed clause.OwnTypes = refl
-listed clause.OwnFunctions = refl
-listed clause.OwnImports = refl
-listed clause.OwnExports = refl
-listed clause.WorldsImports = refl
-listed clause.WorldsExports = refl
-listed clause.WorldsOnce = refl
-listed clause.WorldsIncludes = refl
-listed clause.Uses = refl
-
-same_clause : (c d : ShapeClause) → number c ≡ number d → c ≡ d
-same_clause c d same = sym (listed c) ∙ ap (λ n. get_or clauses n clause.Uses) same ∙ listed d
+abbrev fault_of : ShapeClause → ShapePlace → ShapeFault
+fault_of c at = record { clause = c; place = at }
 
 module _ (p : UnresolvedPackage) where
   none_before : (f g : ShapeFault) → IsFirstFault p f → IsFirstFault p g → number f.clause < number g.clause → ⊥
@@ -146,9 +111,6 @@ module _ (p : UnresolvedPackage) where
     where
       both : {c d : ShapeClause} {a b : ShapePlace} → c ≡ d → a ≡ b → fault_of c a ≡ fault_of d b
       both {c} {d} {a} clauses_are places_are = ap (λ (e : ShapeClause). fault_of e a) clauses_are ∙ ap (fault_of d) places_are
-
-      abbrev fault_of : ShapeClause → ShapePlace → ShapeFault
-      fault_of c at = record { clause = c; place = at }
 
   not_shaped : (f : ShapeFault) → IsFirstFault p f → IsShaped p → ⊥
   not_shaped f first shape = fails p f.clause f.place first.breaks (keeps p shape f.clause)
@@ -171,3 +133,12 @@ module _ (p : UnresolvedPackage) where
     where
       inside : Some g ≡ Some f → g ≡ f
       inside is = cc
+
+  -- the same of a call that may be refused
+  pub none_told : {E : Type 0} (r : Result (Option ShapeFault) E) → IfOk r (λ found. TellsFault p found) → IfOk r (λ found. IsNone found ↔ IsShaped p)
+  none_told (Ok found) told = none_is found told
+  none_told (Err e) told = tt
+
+  pub some_told : {E : Type 0} (r : Result (Option ShapeFault) E) → IfOk r (λ found. TellsFault p found) → IfOk r (λ found. (f : ShapeFault) → (found ≡ Some f) ↔ IsFirstFault p f)
+  some_told (Ok found) told = some_is found told
+  some_told (Err e) told = tt

@@ -1,8 +1,8 @@
 -- Uses among the first nodes of a relation.
-use Rattle.std.proofs.Common.{◌≡◌, ℕ, ◌<◌, ◌≤◌, ◌+◌, ◌⊎◌, inl, inr, Bool, true, false, List, [], ◌∷◌, All, filter, get_or, length, map, take, length-map, length-take, refl, sym, subst, ◌∙◌, arith, Contains}
-use Rattle.std.specs.Prelude.{nat_lt}
+use Rattle.std.proofs.Common.{◌≡◌, zero, suc, ℕ, ◌<◌, ◌≤◌, ◌+◌, ◌⊎◌, inl, inr, Bool, true, false, List, [], ◌∷◌, All, filter, get_or, length, map, take, length-take, refl, sym, subst, ◌∙◌, arith, Contains}
+use Rattle.std.specs.Prelude.{◌↔◌, IsTrue, nat_lt}
 use Rattle.std.proofs.lemmas.Bool.{cases_Bool, cond-true, cond-false, lt-ltb, ltb-true}
-use Rattle.std.proofs.lemmas.List.{get_or-map, get_or-take, get_or_past}
+use Rattle.std.proofs.lemmas.List.{length-map, get_or-map, get_or-take, get_or_past}
 use Rattle.std.proofs.lemmas.List.Elements.{All-contains, Contains-get_or}
 use Rattle.wit_digraph.specs.facts.MemberFacts.{Contains-cons_cases, Contains-here, Contains-nil, Contains-there}
 use Rattle.wit_digraph.specs.Relation.{IsAcyclic, IsInRange, IsPath, direct}
@@ -120,6 +120,17 @@ none uses = record {
   in_range = in_range uses 0 (omega arith);
   no_cycle = λ i k path leads. let parts = from_among uses 0 i k (omega arith) leads.0 in let less : i < 0 = parts.0 in absurd (omega arith);
 }
+
+-- where a test says that all are not acyclic, there are some
+pub not_all : (uses : List (List ℕ)) (b : Bool) → IsInRange uses → IsTrue b ↔ IsAcyclic uses → b ≡ false → IsAcyclic (among_first uses (length uses)) → ⊥
+not_all uses b ranged test failed acyclic = let passed : b ≡ true = test.1 (whole uses ranged acyclic) in cc
+
+pub some_there : (uses : List (List ℕ)) → (IsAcyclic (among_first uses (length uses)) → ⊥) → 0 < length uses
+some_there uses closes = by (length uses) refl
+  where
+    by : (n : ℕ) → length uses ≡ n → 0 < length uses
+    by zero is = absurd (closes (subst (λ (m : ℕ). IsAcyclic (among_first uses m)) (sym is) (none uses)))
+    by (suc n) is = omega arith
 
 -- ---- one node is the first
 

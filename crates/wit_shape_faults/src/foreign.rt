@@ -56,9 +56,10 @@ fn misplaced_id(
 ) -> Result<Option<usize>, AllocError>
     ensures { IfOk result (λ found. IsTold (AreFirst ids.now count) (AtFirstId (λ id. id) (IsNewFirst ids.now count) ids.now) found) }
 {
+    let bound = count.min(ids.len());
     let mut met = Listing::new(alloc, ids.len())?;
     for id in ids {
-        if *id >= ids.len() || *id >= count {
+        if *id >= bound {
             return Ok(Some(*id));
         }
         if met.has(*id) {

@@ -21,8 +21,11 @@ loop-id-init c = record {
   new = record { each = λ i id below at. absurd (omega (arith, below)) };
 }
 
-pub returns-then-id-ids : goal.returns-then-id-ids
-returns-then-id-ids c = ?
+pub returns-then-id-bound : goal.returns-then-id-bound
+returns-then-id-bound c =
+    let ids = c.args.ids.now in
+    let i = c.loop-id.id-index in
+    id_at (IsNewFirst ids c.args.count) ids i (get_or ids i 0) c.loop-id.invariant.new (slice_get-get_or ids i 0 c.loop-id-test.true) (λ fits. absurd (omega (arith, fits.0, fits.1, c.min-bound.ensures, c.if-id-bound.true)))
 
 pub returns-then-has : goal.returns-then-has
 returns-then-has c =
@@ -44,7 +47,7 @@ loop-id-preserved c =
       listed = ap (λ (l : Listed). l.order) c.in_ok-push.ensures.ok ∙ ap (λ (l : List ℕ). l ++ id ∷ []) c.loop-id.invariant.listed ∙ sym more;
       nodes = ap (λ (l : Listed). l.nodes) c.in_ok-push.ensures.ok ∙ c.loop-id.invariant.nodes;
       differ = subst (λ (l : List ℕ). IsDistinct eqb l) (sym more) (apart_push Decides-eqb (take i ids) id c.loop-id.invariant.differ new);
-      new = one_more c.loop-id.invariant.new id (slice_get-get_or ids i 0 c.loop-id-test.true) (omega arith, omega arith, new);
+      new = one_more c.loop-id.invariant.new id (slice_get-get_or ids i 0 c.loop-id-test.true) (omega (arith, c.min-bound.ensures, c.if-id-bound.false), omega (arith, c.min-bound.ensures, c.if-id-bound.false), new);
     }
 
 pub returns : goal.returns

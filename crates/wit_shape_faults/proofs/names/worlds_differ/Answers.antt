@@ -42,7 +42,7 @@ returns-then-not-branch c =
     let p = c.args.unresolved.now in
     first_at place.World (λ w (world : World). Contains (world_names (foreign_world_count p) (take w p.worlds)) world.name → ⊥) p.worlds c.loop-index.index _ c.world-item.result _ c.loop-index.invariant.new
     (read p.worlds _ c.as_slice-world-items.ensures c.loop-index.index c.world-item.result c.loop-index-test.true c.world-item.is)
-    (rw c.loop-index.invariant.met at c.in_ok-is_new.ensures.new) c.if-not-branch.true c.from_index.ensures
+    (rw (c.as_str.ensures, c.loop-index.invariant.met) at c.in_ok-is_new.ensures.new) c.if-not-branch.true c.from_index.ensures
 
 pub loop-index-preserved : goal.loop-index-preserved
 loop-index-preserved c =
@@ -52,8 +52,8 @@ loop-index-preserved c =
     let bound : c.len-foreign.result ≡ foreign_world_count p = c.len-foreign.ensures ∙ ap length c.in_ok-foreign_worlds.ensures in
     let past : foreign_world_count p ≤ i = omega (arith, c.if-index-foreign.false, bound) in
     let at = read p.worlds _ c.as_slice-world-items.ensures i x c.loop-index-test.true c.world-item.is in
-    let added = c.in_ok-is_new.ensures.met c.if-not-branch.false in
-    let new = c.in_ok-is_new.ensures.new.0 c.if-not-branch.false in
+    let added = rw c.as_str.ensures at (c.in_ok-is_new.ensures.met c.if-not-branch.false) in
+    let new = rw c.as_str.ensures at (c.in_ok-is_new.ensures.new.0 c.if-not-branch.false) in
     record {
       met = added ∙ ap (λ (l : List (List ℕ)). l ++ x.name ∷ []) c.loop-index.invariant.met ∙ sym (one_world (foreign_world_count p) p.worlds i x past at);
       differ = subst (λ (l : List (List ℕ)). IsDistinct bytes_eq l) (sym added) (apart_push bytes_eq-Decides c.loop-index.met x.name c.loop-index.invariant.differ new);

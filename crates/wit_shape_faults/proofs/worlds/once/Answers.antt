@@ -5,7 +5,7 @@ use Rattle.wit_data.specs.Each.{Each}
 use Rattle.wit_data.specs.Entries.{interfaces_in_worlds, is_unnamed}
 use Rattle.wit_data.specs.declared.interface.Interface.{Interface}
 use Rattle.wit_shape.proofs.Unnamed.{unnamed_below}
-use Rattle.wit_shape_faults.proofs.Found.{moved_at, moved_none}
+use Rattle.wit_shape_faults.proofs.Found.{moved_at}
 use Rattle.wit_shape_faults.specs.Faults.{unnamed_in_worlds}
 use Rattle.wit_shape_faults.specs.declared.place.ShapePlace.TheVariants as place
 use Rattle.wit_shape_faults.proofs.worlds.once.Goals as goal
@@ -22,11 +22,3 @@ returns-in-Some c =
     c.as_slice-3.ensures ∙ c.in_ok-unnamed.ensures ∙ ap (λ (l : List Interface). filter (is_unnamed l) c.as_slice-2.result.now) c.as_slice-interfaces.ensures
     ∙ ap (λ (l : List ℕ). filter (is_unnamed p.interfaces) l) (c.as_slice-2.ensures ∙ c.in_ok-placed.ensures ∙ ap interfaces_in_worlds c.as_slice.ensures) in
     moved_at (λ (l : List ℕ). IsDistinct eqb l) (λ (l : List ℕ) i id. Contains (take i l) id → ⊥) place.Interface c.as_slice-3.result.now (unnamed_in_worlds p) _ c.in-Some.id _ same c.in_ok-id.ensures c.in-Some.is c.from_index.ensures
-
-pub returns-in-None : goal.returns-in-None
-returns-in-None c =
-    let p = c.args.unresolved.now in
-    let same : c.as_slice-3.result.now ≡ unnamed_in_worlds p =
-    c.as_slice-3.ensures ∙ c.in_ok-unnamed.ensures ∙ ap (λ (l : List Interface). filter (is_unnamed l) c.as_slice-2.result.now) c.as_slice-interfaces.ensures
-    ∙ ap (λ (l : List ℕ). filter (is_unnamed p.interfaces) l) (c.as_slice-2.ensures ∙ c.in_ok-placed.ensures ∙ ap interfaces_in_worlds c.as_slice.ensures) in
-    moved_none (λ (l : List ℕ). IsDistinct eqb l) (λ (l : List ℕ) i id. Contains (take i l) id → ⊥) c.as_slice-3.result.now (unnamed_in_worlds p) _ same c.in_ok-id.ensures c.in-None.is
