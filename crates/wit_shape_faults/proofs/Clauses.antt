@@ -62,6 +62,10 @@ listed clause.Uses = refl
 pub same_clause : (c d : ShapeClause) → number c ≡ number d → c ≡ d
 same_clause c d same = sym (listed c) ∙ ap (λ n. get_or clauses n clause.Uses) same ∙ listed d
 
+-- the first clauses, by their numbers
+pub keeps_below : (p : UnresolvedPackage) (n : ℕ) → ((i : ℕ) → i < n → Holds p (get_or clauses i clause.Uses)) → (other : ShapeClause) → number other < n → Holds p other
+keeps_below p n holds other less = subst (Holds p) (listed other) (holds (number other) less)
+
 -- ---- one clause after another
 module _ (p : UnresolvedPackage) (i : ℕ) (d : ShapeClause) (within : i < 32) (keeps : (other : ShapeClause) → number other < i → Holds p other) where
   pub before : KeepsBefore p (get_or clauses i d)

@@ -1,9 +1,9 @@
-mod Clauses
+pub mod Clauses
 mod Differ
 mod FirstIds
 mod Firsts
 mod Found
 mod NameLists
-mod OneFault
+pub mod OneFault
 mod Prefixes
 mod UsesInRange

@@ -112,7 +112,7 @@ module _ (p : UnresolvedPackage) where
       both : {c d : ShapeClause} {a b : ShapePlace} → c ≡ d → a ≡ b → fault_of c a ≡ fault_of d b
       both {c} {d} {a} clauses_are places_are = ap (λ (e : ShapeClause). fault_of e a) clauses_are ∙ ap (fault_of d) places_are
 
-  not_shaped : (f : ShapeFault) → IsFirstFault p f → IsShaped p → ⊥
+  pub not_shaped : (f : ShapeFault) → IsFirstFault p f → IsShaped p → ⊥
   not_shaped f first shape = fails p f.clause f.place first.breaks (keeps p shape f.clause)
 
   -- none is told exactly where the package has its shape
