@@ -3,7 +3,7 @@ use Rattle.std.proofs.Common.{◌≡◌, ℕ, zero, suc, ◌<◌, List, [], ◌�
 use Rattle.std.specs.Fmt.{digits}
 use Rattle.wit_digraph.specs.facts.EarlierFacts.{IsAcyclic-earlier}
 use Rattle.wit_digraph.specs.Relation.{IsAcyclic}
-use Rattle.wit_data.specs.Each.{SomeAt}
+use Rattle.wit_data.specs.Each.{Each, SomeAt}
 use Rattle.wit_data.specs.facts.EachFacts.{EachAt-one, EachAt-two}
 use Rattle.wit_data.specs.declared.interface.Interface.{Interface}
 use Rattle.wit_data.specs.declared.unresolved.UnresolvedPackage.{UnresolvedPackage}
@@ -14,7 +14,7 @@ use Rattle.wit_shape_faults.specs.Faults.{Holds, among_first, number}
 use Rattle.wit_shape_faults.specs.declared.clause.ShapeClause.{ShapeClause}
 use Rattle.wit_shape_faults.specs.declared.clause.ShapeClause.TheVariants as clause
 use Rattle.wit_shape_examples.proofs.Shaped.{is_shaped}
-use Rattle.wit_shape_examples.specs.Faults.{ExamplesOfFaults, NearMissesOfFaults, placed_i, placed_x, round}
+use Rattle.wit_shape_examples.specs.Faults.{ExamplesOfFaults, NearMissesOfFaults, placed, placed_i, placed_x, round, with_placed_w, without_span, x}
 use Rattle.wit_shape_examples.specs.Shape.{foreign_i, shaped_package}
 
 -- what stands before the first clauses
@@ -45,14 +45,17 @@ earlier_alone : (j : ℕ) (y : Interface) → j < 1 → slice_get (foreign_i ∷
 earlier_alone zero y less at = let same : foreign_i ≡ y = cc in subst (λ (i : Interface). i.package ≡ None) same refl
 earlier_alone (suc j) y less at = absurd (omega arith)
 
+unplaced : Each (λ (i : Interface). i.package ≡ None) shaped_package.interfaces
+unplaced = is_shaped.unplaced.interfaces
+
 pub examples : ExamplesOfFaults
 unfolding digits
 examples = record {
-  first_interface = record { before = none_before _; breaks = (0, (record { lacks = λ same. cc; earlier = λ j y less at. absurd (omega (arith, less)) }, refl)) };
-  second_interface = record { before = none_before _; breaks = (1, (record { lacks = λ same. cc; earlier = earlier_alone }, refl)) };
-  first_of_two = record { before = none_before _; breaks = (0, (record { lacks = λ same. cc; earlier = λ j y less at. absurd (omega (arith, less)) }, refl)) };
-  world = record { before = one_before _ (EachAt-two _ _ _ refl refl); breaks = (0, (record { lacks = λ same. cc; earlier = λ j y less at. absurd (omega (arith, less)) }, refl)) };
-  no_span = record { before = two_before _ (EachAt-two _ _ _ refl refl) (EachAt-one _ _ refl); breaks = (λ same. absurd (omega (arith, same)), refl) };
+  first_interface = record { before = none_before (placed (placed_i ∷ x ∷ [])); breaks = (0, (record { lacks = λ same. cc; earlier = λ j y less at. absurd (omega (arith, less)) }, refl)) };
+  second_interface = record { before = none_before (placed (foreign_i ∷ placed_x ∷ [])); breaks = (1, (record { lacks = λ same. cc; earlier = earlier_alone }, refl)) };
+  first_of_two = record { before = none_before (placed (placed_i ∷ placed_x ∷ [])); breaks = (0, (record { lacks = λ same. cc; earlier = λ j y less at. absurd (omega (arith, less)) }, refl)) };
+  world = record { before = one_before with_placed_w unplaced; breaks = (0, (record { lacks = λ same. cc; earlier = λ j y less at. absurd (omega (arith, less)) }, refl)) };
+  no_span = record { before = two_before without_span unplaced is_shaped.unplaced.worlds; breaks = (λ same. absurd (omega (arith, same)), refl) };
   closes = record { there = lit< tt; before = before_last; closes = λ is. is.no_cycle 1 2 (1 ∷ []) ((1, lit< tt, refl), ((0, lit< tt, refl), refl)) };
   first_clause = refl;
   last_clause = refl;

@@ -34,6 +34,13 @@ placed_x = record x { «package» = Some 0 }
 abbrev pub placed_w : World
 placed_w = record (world_of (codes "w") (entry_of 0 ∷ entry_of 1 ∷ [])) { «package» = Some 0 }
 
+-- the package with that world, and without a span for the other package
+abbrev pub with_placed_w : UnresolvedPackage
+with_placed_w = record shaped_package { worlds = placed_w ∷ [] }
+
+abbrev pub without_span : UnresolvedPackage
+without_span = record shaped_package { foreign_dep_spans = [] }
+
 -- three nodes, of which the second uses the others, and the third the second
 abbrev pub round : List (List ℕ)
 round = [] ∷ (0 ∷ 2 ∷ []) ∷ (1 ∷ []) ∷ []
@@ -45,9 +52,9 @@ pub record ExamplesOfFaults : Type 0 where
   -- both: the first is told
   pub first_of_two : IsFirstFault (placed (placed_i ∷ placed_x ∷ [])) (fault_of clause.UnplacedInterfaces (place.Interface 0))
   -- a world that does
-  pub world : IsFirstFault (record shaped_package { worlds = placed_w ∷ [] }) (fault_of clause.UnplacedWorlds (place.World 0))
-  -- no span for the other package
-  pub no_span : IsFirstFault (record shaped_package { foreign_dep_spans = [] }) (fault_of clause.ForeignSpans place.ForeignDepSpans)
+  pub world : IsFirstFault with_placed_w (fault_of clause.UnplacedWorlds (place.World 0))
+  -- there is no span for the other package
+  pub no_span : IsFirstFault without_span (fault_of clause.ForeignSpans place.ForeignDepSpans)
   -- the node that closes the round is its last one
   pub closes : IsFirstOnCycle round 2
   -- the first clause and the last
