@@ -1,8 +1,8 @@
 -- The steps of loops that look for the first element of which something doesn't hold.
-use Rattle.std.proofs.Common.{◌≡◌, ◌∙◌, ℕ, ◌+◌, ◌<◌, ◌≤◌, Bool, true, false, List, get_or, length, Option, None, Some, slice_get, refl, sym, ap, subst, arith}
+use Rattle.std.proofs.Common.{◌≡◌, ◌∙◌, ℕ, ◌+◌, ◌<◌, ◌≤◌, Bool, true, false, List, get_or, length, Option, None, Some, slice_get, refl, ap, subst}
 use Rattle.std.specs.Prelude.{◌↔◌, IsTrue}
 use Rattle.std.proofs.lemmas.Option.{slice_get_read}
-use Rattle.wit_data.specs.Each.{Each, SomeAt}
+use Rattle.wit_data.specs.Each.{Each}
 use Rattle.wit_data.specs.facts.EachFacts.{EachBelow, SomeAt-of, one_more}
 use Rattle.wit_shape_faults.proofs.Firsts.{lacks_all}
 use Rattle.wit_shape_faults.specs.First.{AtFirst, AtFirstId, IsFirstWithout, IsTold, WithinFirst}

@@ -1,5 +1,5 @@
 -- A package has one first fault at most, and none where it has its shape.
-use Rattle.std.proofs.Common.{◌≡◌, ◌∙◌, ℕ, ◌<◌, ◌+◌, ◌⊎◌, inl, inr, List, length, Option, None, Some, Result, Ok, Err, refl, sym, ap, subst, arith}
+use Rattle.std.proofs.Common.{◌≡◌, ◌∙◌, ◌<◌, inl, inr, List, length, Option, None, Some, Result, Ok, Err, refl, sym, ap, subst, arith}
 use Rattle.std.specs.Prelude.{◌↔◌, IfOk, IsNone}
 use Rattle.wit_data.specs.Foreign.{ForeignItem, foreign_interfaces, foreign_worlds}
 use Rattle.wit_data.specs.Shape.{IsShaped}

@@ -1,5 +1,5 @@
 -- Uses among the first nodes of a relation.
-use Rattle.std.proofs.Common.{◌≡◌, zero, suc, ℕ, ◌<◌, ◌≤◌, ◌+◌, ◌⊎◌, inl, inr, Bool, true, false, List, [], ◌∷◌, All, filter, get_or, length, map, take, length-take, refl, sym, subst, ◌∙◌, arith, Contains}
+use Rattle.std.proofs.Common.{◌≡◌, zero, suc, ℕ, ◌<◌, ◌≤◌, ◌+◌, ◌⊎◌, inl, inr, Bool, true, false, List, [], ◌∷◌, All, filter, get_or, length, take, length-take, refl, sym, subst, ◌∙◌, arith, Contains}
 use Rattle.std.specs.Prelude.{◌↔◌, IsTrue, nat_lt}
 use Rattle.std.proofs.lemmas.Bool.{cases_Bool, cond-true, cond-false, lt-ltb, ltb-true}
 use Rattle.std.proofs.lemmas.List.{length-map, get_or-map, get_or-take, get_or_past}
@@ -55,7 +55,7 @@ from_among uses n i j fits has =
     elim (below_or i n) [
       | inl less ↦ let parts = kept (λ k. nat_lt k n) (direct uses i) j (subst (λ (l : List ℕ). Contains l j) (row_of uses n i fits less) has) in (less, ltb-true j n parts.1, parts.0)
       | inr past ↦ let length_is = long uses n fits in let none : direct (among_first uses n) i ≡ [] = get_or_past (among_first uses n) i [] (omega arith) in
-      absurd (Contains-nil (subst (λ (l : List ℕ). Contains l j) none has))
+          absurd (Contains-nil (subst (λ (l : List ℕ). Contains l j) none has))
     ]
   where
     below_or : (a b : ℕ) → (a < b) ⊎ (b ≤ a)

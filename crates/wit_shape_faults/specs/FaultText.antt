@@ -76,7 +76,6 @@ clause_text clause.WorldsOnce = codes "an interface without a name stands in one
 clause_text clause.WorldsIncludes = codes "a world includes earlier worlds"
 clause_text clause.Uses = codes "no interface uses itself, through whatever others"
 
-
 -- the path to a place
 abbrev pub place_text : ShapePlace → List ℕ
 place_text place.Name = codes "name"

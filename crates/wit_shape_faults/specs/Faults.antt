@@ -1,6 +1,6 @@
 -- Where an unresolved package lacks its shape: the first clause of the shape that it breaks, in the order in which the
 -- definition of the shape lists them, and the first thing that breaks it, in the order of the package's lists.
-use Rattle.std.specs.Prelude.{◌≡◌, ◌↔◌, ℕ, ◌<◌, ◌≤◌, ◌+◌, ◌⊎◌, List, Option, None, Some, length, filter, map, nat_lt, take, bytes_eq, Contains, IfSome}
+use Rattle.std.specs.Prelude.{◌≡◌, ◌↔◌, ℕ, ◌<◌, ◌≤◌, ◌+◌, ◌⊎◌, List, Option, None, length, filter, map, nat_lt, take, bytes_eq, Contains, IfSome}
 use Rattle.std.specs.List.{IsDistinct}
 use Rattle.wit_digraph.specs.Relation.{IsAcyclic}
 use Rattle.wit_data.specs.Each.{Each, EachAt, SomeAt}

@@ -1,6 +1,6 @@
 -- Where in lists something first doesn't hold, and the place that tells it.
 use Rattle.std.specs.Prelude.{◌≡◌, ℕ, ◌<◌, List, Option, Some, None, slice_get}
-use Rattle.wit_data.specs.Each.{Each, EachAt, SomeAt}
+use Rattle.wit_data.specs.Each.{Each, SomeAt}
 
 -- P doesn't hold of the element at place i, and holds of each before it
 pub record IsFirstWithout {X : Type 0} (P : ℕ → X → Type 0) (xs : List X) (i : ℕ) : Type 0 where

@@ -124,36 +124,55 @@ impl ShapeClause {
         ensures { result.now ≡ clause_text self }
     {
         match self {
-            ShapeClause::UnplacedInterfaces => "an interface doesn't say to which package it belongs",
+            ShapeClause::UnplacedInterfaces =>
+                "an interface doesn't say to which package it belongs",
             ShapeClause::UnplacedWorlds => "a world doesn't say to which package it belongs",
             ShapeClause::ForeignSpans => "there is one span for each package of foreign_deps",
-            ShapeClause::ForeignInterfaces => "the interfaces of other packages are the first ones, each named once",
-            ShapeClause::ForeignWorlds => "the worlds of other packages are the first ones, each named once",
-            ShapeClause::ForeignBare => "what is named of another package is there under its name, holds nothing and is named under a gate",
-            ShapeClause::UnknownFirst => "the types of kind Unknown are the first ones, with one span each in unknown_type_spans",
-            ShapeClause::UnknownForeign => "a type of kind Unknown has a name and belongs to an interface of another package",
-            ShapeClause::UnknownAlone => "an interface of another package lists types of kind Unknown alone",
+            ShapeClause::ForeignInterfaces =>
+                "the interfaces of other packages are the first ones, each named once",
+            ShapeClause::ForeignWorlds =>
+                "the worlds of other packages are the first ones, each named once",
+            ShapeClause::ForeignBare =>
+                "what is named of another package is there under its name, holds nothing and is named under a gate",
+            ShapeClause::UnknownFirst =>
+                "the types of kind Unknown are the first ones, with one span each in unknown_type_spans",
+            ShapeClause::UnknownForeign =>
+                "a type of kind Unknown has a name and belongs to an interface of another package",
+            ShapeClause::UnknownAlone =>
+                "an interface of another package lists types of kind Unknown alone",
             ShapeClause::UnknownRequired => "what has to be a resource is of kind Unknown",
             ShapeClause::NamesNamespace => "the namespace of the package is a kebab name",
             ShapeClause::NamesOwn => "the name of the package is a kebab name",
             ShapeClause::NamesInterfaces => "the name of an interface is a kebab name",
             ShapeClause::NamesWorlds => "the name of a world is a kebab name",
             ShapeClause::NamesVersion => "the version of the package is one of SemVer 2.0.0",
-            ShapeClause::NamesInterfacesDiffer => "the interfaces of the package have different names",
+            ShapeClause::NamesInterfacesDiffer =>
+                "the interfaces of the package have different names",
             ShapeClause::NamesWorldsDiffer => "the worlds of the package have different names",
-            ShapeClause::OwnersListed => "a type with an owner has a name and is listed by its owner under it, and one without has none",
-            ShapeClause::OwnersOwnTypes => "an interface lists types of its own, each under its name",
+            ShapeClause::OwnersListed =>
+                "a type with an owner has a name and is listed by its owner under it, and one without has none",
+            ShapeClause::OwnersOwnTypes =>
+                "an interface lists types of its own, each under its name",
             ShapeClause::OwnersFunctions => "a function stands under its name",
             ShapeClause::ReferencesEarlier => "a type refers to earlier types",
-            ShapeClause::ReferencesAliases => "an alias of a type names a named type of its own owner or of an interface with a name",
-            ShapeClause::ReferencesUnnamed => "a type without a name is neither an alias nor a resource",
-            ShapeClause::OwnTypes => "a type with a name refers to types of its owner alone, but for an alias",
-            ShapeClause::OwnFunctions => "a function of an interface refers to types of the interface alone",
-            ShapeClause::OwnImports => "a function that a world imports refers to types of the world alone",
-            ShapeClause::OwnExports => "a function that a world exports refers to types of the world alone",
-            ShapeClause::WorldsImports => "an import is a named interface under its own key, or an interface, a function or a type of the world under its label",
-            ShapeClause::WorldsExports => "an export is a named interface under its own key, or an interface or a function under its label",
-            ShapeClause::WorldsOnce => "an interface without a name stands in one place of all worlds",
+            ShapeClause::ReferencesAliases =>
+                "an alias of a type names a named type of its own owner or of an interface with a name",
+            ShapeClause::ReferencesUnnamed =>
+                "a type without a name is neither an alias nor a resource",
+            ShapeClause::OwnTypes =>
+                "a type with a name refers to types of its owner alone, but for an alias",
+            ShapeClause::OwnFunctions =>
+                "a function of an interface refers to types of the interface alone",
+            ShapeClause::OwnImports =>
+                "a function that a world imports refers to types of the world alone",
+            ShapeClause::OwnExports =>
+                "a function that a world exports refers to types of the world alone",
+            ShapeClause::WorldsImports =>
+                "an import is a named interface under its own key, or an interface, a function or a type of the world under its label",
+            ShapeClause::WorldsExports =>
+                "an export is a named interface under its own key, or an interface or a function under its label",
+            ShapeClause::WorldsOnce =>
+                "an interface without a name stands in one place of all worlds",
             ShapeClause::WorldsIncludes => "a world includes earlier worlds",
             ShapeClause::Uses => "no interface uses itself, through whatever others",
         }

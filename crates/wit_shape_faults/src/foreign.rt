@@ -49,11 +49,7 @@ pub(crate) fn worlds(
 }
 
 /// Of ids that are to name the first things of a list of so many things, each once, the first that doesn't.
-fn misplaced_id(
-    alloc: Global,
-    ids: &[usize],
-    count: usize,
-) -> Result<Option<usize>, AllocError>
+fn misplaced_id(alloc: Global, ids: &[usize], count: usize) -> Result<Option<usize>, AllocError>
     ensures { IfOk result (λ found. IsTold (AreFirst ids.now count) (AtFirstId (λ id. id) (IsNewFirst ids.now count) ids.now) found) }
 {
     let bound = count.min(ids.len());

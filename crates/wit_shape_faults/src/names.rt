@@ -36,7 +36,9 @@ pub(crate) fn interfaces(unresolved: &UnresolvedPackage) -> Option<ShapePlace>
     ensures { Tells unresolved.now NamesInterfaces result }
 {
     let interfaces = unresolved.interfaces.as_slice();
-    let index = interfaces.iter().position(|interface| !is_interface_kebab(interface))?;
+    let index = interfaces
+        .iter()
+        .position(|interface| !is_interface_kebab(interface))?;
     Some(ShapePlace::Interface(InterfaceId::from_index(index)))
 }
 
@@ -53,7 +55,9 @@ pub(crate) fn worlds(unresolved: &UnresolvedPackage) -> Option<ShapePlace>
     ensures { Tells unresolved.now NamesWorlds result }
 {
     let worlds = unresolved.worlds.as_slice();
-    let index = worlds.iter().position(|world| !is_kebab_name(world.name.as_str()))?;
+    let index = worlds
+        .iter()
+        .position(|world| !is_kebab_name(world.name.as_str()))?;
     Some(ShapePlace::World(WorldId::from_index(index)))
 }
 
@@ -90,11 +94,7 @@ pub(crate) fn interfaces_differ(
 }
 
 /// Adds the name of an interface, where it has one, to those that were met, and tells whether it is new.
-fn has_new_name(
-    alloc: Global,
-    met: &mut NameSet,
-    interface: &Interface,
-) -> Result<bool, AllocError>
+fn has_new_name(alloc: Global, met: &mut NameSet, interface: &Interface) -> Result<bool, AllocError>
     ensures new { IfOk result (λ new. IsTrue new ↔ IfSome interface.now.name (λ name. Contains met.old name → ⊥)) }
     ensures met { IfOk result (λ new. IsTrue new → met.new ≡ met.old ++ option_to_list interface.now.name) }
 {

@@ -44,7 +44,10 @@ impl fmt::Display for ShapePlace {
             ShapePlace::ForeignDepSpans => write!(f, "foreign_dep_spans"),
             ShapePlace::UnknownTypeSpans => write!(f, "unknown_type_spans"),
             ShapePlace::RequiredResource(index) => write!(f, "required_resource_types[{index}]"),
-            ShapePlace::ForeignItem(package, index) => write!(f, "foreign_deps[{package}][{index}]"),
+            ShapePlace::ForeignItem(package, index) => write!(
+                f,
+                "foreign_deps[{package}][{index}]"
+            ),
             ShapePlace::Interface(id) => {
                 let id = id.index();
                 write!(f, "interfaces[{id}]")

@@ -114,7 +114,12 @@ pub(crate) fn required(unresolved: &UnresolvedPackage) -> Option<ShapePlace>
     ensures { Tells unresolved.now UnknownRequired result }
 {
     let types = unresolved.types.as_slice();
-    for (index, item) in unresolved.required_resource_types.as_slice().iter().enumerate() {
+    for (index, item) in unresolved
+        .required_resource_types
+        .as_slice()
+        .iter()
+        .enumerate()
+    {
         if !is_unknown_at(types, item.0) {
             return Some(ShapePlace::RequiredResource(index));
         }

@@ -9,7 +9,9 @@ pub(crate) fn interfaces(unresolved: &UnresolvedPackage) -> Option<ShapePlace>
     ensures { Tells unresolved.now UnplacedInterfaces result }
 {
     let interfaces = unresolved.interfaces.as_slice();
-    let index = interfaces.iter().position(|interface| interface.package.is_some())?;
+    let index = interfaces
+        .iter()
+        .position(|interface| interface.package.is_some())?;
     Some(ShapePlace::Interface(InterfaceId::from_index(index)))
 }
 

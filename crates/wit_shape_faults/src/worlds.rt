@@ -129,7 +129,9 @@ fn include_of_no_earlier(index: usize, world: &World) -> Option<usize>
     ensures { IsTold (IncludesEarlier index world.now) (AtFirst (λ i. i) (λ _ (include : WorldInclude). include.id < index) world.now.includes) result }
 {
     let includes = world.includes.as_slice();
-    includes.iter().position(|include| include.id.index() >= index)
+    includes
+        .iter()
+        .position(|include| include.id.index() >= index)
 }
 
 pub(crate) fn once(
@@ -148,11 +150,7 @@ pub(crate) fn once(
 }
 
 /// Of numbers below a bound, the first that stands among those before it.
-fn first_again(
-    alloc: Global,
-    numbers: &[usize],
-    bound: usize,
-) -> Result<Option<usize>, AllocError>
+fn first_again(alloc: Global, numbers: &[usize], bound: usize) -> Result<Option<usize>, AllocError>
     requires { Each (λ number. number < bound) numbers.now }
     ensures { IfOk result (λ found. IsTold (IsDistinct nat_eq numbers.now) (AtFirstId (λ id. id) (λ i id. Contains (take i numbers.now) id → ⊥) numbers.now) found) }
 {

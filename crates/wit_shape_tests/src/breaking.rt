@@ -1,7 +1,7 @@
 //! A package that has its shape, and packages that break clauses of it.
 use crate::parts::{
     function, function_entry, if_there, interface, interface_item, interface_key, interface_owner,
-    label, list, names, package_name, string, table, type_at, type_def, type_entry, text, world,
+    label, list, names, package_name, string, table, text, type_at, type_def, type_entry, world,
 };
 use std::alloc::Global;
 use std::process::Abort;

@@ -1,14 +1,12 @@
-use Rattle.std.proofs.Common.{◌≡◌, ◌∙◌, ℕ, ◌+◌, ◌<◌, ◌≤◌, List, [], ◌∷◌, ◌++◌, length, take, ap, sym, subst, arith}
+use Rattle.std.proofs.Common.{◌≡◌, ◌∙◌, ℕ, ◌+◌, ◌≤◌, List, [], ◌++◌, length, take, ap, sym, subst, arith}
 use Rattle.std.specs.Prelude.{Contains, IfSome, bytes_eq, option_to_list}
 use Rattle.std.specs.List.{IsDistinct}
 use Rattle.std.proofs.lemmas.List.{take_all}
-use Rattle.std.proofs.lemmas.Slice.Eq.{bytes_eq-Decides}
 use Rattle.wit_data.specs.Shape.{interface_names}
 use Rattle.wit_data.specs.facts.EachFacts.{one_more, one_skip}
 use Rattle.wit_data.specs.declared.interface.Interface.{Interface}
-use Rattle.wit_shape.proofs.Distinct.{apart_push}
 use Rattle.wit_shape_faults.proofs.Found.{ended, first_at, read}
-use Rattle.wit_shape_faults.proofs.NameLists.{differ_more, no_interfaces, none_there, not_there, one_interface}
+use Rattle.wit_shape_faults.proofs.NameLists.{differ_more, no_interfaces, none_there, one_interface}
 use Rattle.wit_shape_faults.specs.Faults.{foreign_interface_count}
 use Rattle.wit_shape_faults.specs.declared.place.ShapePlace.TheVariants as place
 use Rattle.wit_shape_faults.proofs.names.interfaces_differ.Goals as goal

@@ -1,5 +1,5 @@
-use Rattle.std.proofs.Common.{◌≡◌, ◌∙◌, ℕ, ◌+◌, ◌<◌, ◌≤◌, List, [], ◌∷◌, ◌++◌, length, take, ap, sym, subst, arith}
-use Rattle.std.specs.Prelude.{Contains, IfSome, bytes_eq, option_to_list}
+use Rattle.std.proofs.Common.{◌≡◌, ◌∙◌, ℕ, ◌+◌, ◌≤◌, List, [], ◌∷◌, ◌++◌, length, take, ap, sym, subst, arith}
+use Rattle.std.specs.Prelude.{Contains, bytes_eq}
 use Rattle.std.specs.List.{IsDistinct}
 use Rattle.std.proofs.lemmas.List.{take_all}
 use Rattle.std.proofs.lemmas.Slice.Eq.{bytes_eq-Decides}
@@ -8,7 +8,7 @@ use Rattle.wit_data.specs.facts.EachFacts.{one_more, one_skip}
 use Rattle.wit_data.specs.declared.world.World.{World}
 use Rattle.wit_shape.proofs.Distinct.{apart_push}
 use Rattle.wit_shape_faults.proofs.Found.{ended, first_at, read}
-use Rattle.wit_shape_faults.proofs.NameLists.{differ_more, no_worlds, none_there, not_there, one_world}
+use Rattle.wit_shape_faults.proofs.NameLists.{no_worlds, not_there, one_world}
 use Rattle.wit_shape_faults.specs.Faults.{foreign_world_count}
 use Rattle.wit_shape_faults.specs.declared.place.ShapePlace.TheVariants as place
 use Rattle.wit_shape_faults.proofs.names.worlds_differ.Goals as goal
