@@ -41,9 +41,10 @@ pub use wit_graph::{
 pub use wit_items::{
     AccessorKind, AstItem, Case, Docs, EnumCase, Field, Flag, Function, FunctionKind, Handle,
     IncludeName, Interface, InterfaceId, Items, LiftLowerAbi, ManglingAndAbi, MapFault, Names,
-    PackageId, PackageName, Param, Shape, SourceMap, Span, Stability, Table, Text, TrackRule,
-    TryClone, Type_, TypeDef, TypeDefKind, TypeId, TypeOwner, UnresolvedPackage,
-    UnresolvedPackageGroup, Version, World, WorldId, WorldInclude, WorldItem, WorldKey,
+    PackageId, PackageName, Param, Shape, ShapeClause, ShapeFault, ShapePlace, SourceMap, Span,
+    Stability, Table, Text, TrackRule, TryClone, Type_, TypeDef, TypeDefKind, TypeId, TypeOwner,
+    UnresolvedPackage, UnresolvedPackageGroup, Version, World, WorldId, WorldInclude, WorldItem,
+    WorldKey, find_shape_fault,
 };
 pub use wit_package_sources::{PackageSourceNames, PackageSources};
 pub use wit_remap::Remap;
