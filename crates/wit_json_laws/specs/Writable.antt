@@ -1,6 +1,6 @@
--- Of what JSON says all: numbers have the bits of their types, versions are of SemVer 2.0.0, keys differ, and no name
--- holds the mark that ends it. All that a reader of WIT brings is so, but for the label of an interface that is called
--- as the key of that interface is.
+-- Of what JSON says all, so that it reads back: numbers have the bits of their types, versions are of SemVer 2.0.0, keys
+-- differ, and no name of a package holds the mark that ends it. An interface under a label that is the name of its own key
+-- reads as one under that key.
 use Rattle.std.specs.Prelude.{◌≡◌, ℕ, ◌<◌, ◌≤◌, ◌^◌, ◌==◌, List, Option, None, IfSome, false, ⊤}
 use Rattle.std.specs.List.{list_any}
 use Rattle.semver.specs.Grammar.{IsValid}

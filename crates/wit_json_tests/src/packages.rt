@@ -1,9 +1,9 @@
 //! Whole packages: what is read of a text is written as that text.
 use std::alloc::Global;
 use std::process::Abort;
-use wit_data::UnresolvedPackage;
+use wit_data::{UnresolvedPackage, UnresolvedPackageGroup};
 use wit_json::package_to_json;
-use wit_json_reading::read_text;
+use wit_json_reading::{ReadError, read_text};
 
 /// A package with each kind of type, of function and of gate, each sort of entry, and all that is named of others.
 const EVERYTHING: &str =
@@ -108,4 +108,58 @@ fn faults_of_packages_are_told(rt: HostRuntime) {
         let told = written_again(&rt, rt.alloc(), text.as_str());
         assert!(&rt; told.as_str() == wanted, "{told}");
     }
+}
+
+/// What a group of these packages and files reads as: its main package, how many are nested, its files and where the
+/// next one would begin; or the fault.
+fn group_read(rt: &impl Abort, alloc: Global, sources: &str) -> String {
+    let lists =
+        "\"worlds\":[],\"interfaces\":[],\"types\":[],\"foreign-deps\":{},\"foreign-dep-spans\":[],\"unknown-type-spans\":[],\"required-resources\":[]";
+    let text = format!(in alloc;
+        "{{\"main\":{{\"name\":\"a:b\",{lists}}},\"nested\":[{{\"name\":\"a:c\",{lists}}}],\"sources\":{sources}}}"
+    );
+    let text = text.expect(rt, "memory");
+    let read: Result<UnresolvedPackageGroup, ReadError> = read_text(alloc, text.as_str());
+    let group = match read {
+        Ok(group) => group,
+        Err(error) => return error.to_string(alloc).expect(rt, "memory"),
+    };
+    let (name, nested) = (&group.main.name, group.nested.len());
+    let mut shown = format!(in alloc; "{name} and {nested}").expect(rt, "memory");
+    for path in group.source_map.source_names() {
+        shown.push_str(" ").expect(rt, "memory");
+        shown.push_str(path).expect(rt, "memory");
+    }
+    let end = group.source_map.end();
+    let end = format!(in alloc; " to {end}").expect(rt, "memory");
+    shown.push_str(end.as_str()).expect(rt, "memory");
+    shown
+}
+
+#[test]
+fn groups_are_read(rt: HostRuntime) {
+    for (sources, wanted) in [
+        ("[]", "a:b and 1 to 0"),
+        (
+            "[{\"path\":\"a.wit\",\"text\":\"ab\"},{\"text\":\"\",\"path\":\"b.wit\"}]",
+            "a:b and 1 a.wit b.wit to 4",
+        ),
+        (
+            "[{\"path\":\"a.wit\",\"text\":\"ab\"},{\"path\":\"b.wit\"}]",
+            "$.sources[1].text: expected a member of this name",
+        ),
+        ("{}", "$.sources: expected a list"),
+    ] {
+        let shown = group_read(&rt, rt.alloc(), sources);
+        assert!(&rt; shown.as_str() == wanted, "{shown}");
+    }
+}
+
+#[test]
+fn booleans_are_read(rt: HostRuntime) {
+    let alloc = rt.alloc();
+    let yes: Result<bool, ReadError> = read_text(alloc, " true ");
+    assert!(&rt; matches!(yes, Ok(true)));
+    let none: Result<bool, ReadError> = read_text(alloc, "null");
+    assert!(&rt; matches!(none, Err(ReadError::Fault(_))));
 }
