@@ -7,7 +7,7 @@ use crate::states::{incoming, state, tell_state};
 use std::alloc::Global;
 use wit_resolve_graph::{
     Items, PackageId, ParseFault, Resolve, Shape, SourceFault, SourceMap, Span, Text, TryClone,
-    UnresolvedPackage, UnresolvedPackageGroup,
+    UnresolvedPackage, UnresolvedPackageGroup, find_shape_fault,
 };
 use wit_sweep_layers::marks::{call, copy_of, tell_made, tell_refusal};
 
@@ -22,6 +22,8 @@ pub fn add_package(
 {
     call(rt, "is_shaped of a package");
     tell_made(rt, package.is_shaped(alloc))?;
+    call(rt, "find_shape_fault");
+    tell_made(rt, find_shape_fault(alloc, package))?;
     push(rt, alloc, resolve, package)?;
     push_source(rt, alloc, resolve, package)?;
     push_source_unread(rt, alloc, resolve, true)?;
