@@ -2,11 +2,11 @@
 use Rattle.std.proofs.Common.{◌≡◌, ◌∙◌, ℕ, zero, suc, ◌<◌, ◌+◌, ◌⊎◌, inl, inr, List, [], ◌∷◌, get_or, length, Option, None, Some, refl, ap, sym, subst, lit<, arith}
 use Rattle.wit_data.specs.Shape.{IsShaped, KeysDiffer}
 use Rattle.wit_data.specs.declared.unresolved.UnresolvedPackage.{UnresolvedPackage}
-use Rattle.wit_shape_faults.specs.Faults.{BreaksAt, Holds, IsFirstFault, KeepsBefore, Tells, number}
-use Rattle.wit_shape_faults.specs.First.{IsTold}
+use Rattle.wit_shape_faults.specs.Faults.{BreaksAt, Holds, IsFirstFault, KeepsBefore, number}
 use Rattle.wit_shape_faults.specs.declared.clause.ShapeClause.{ShapeClause}
 use Rattle.wit_shape_faults.specs.declared.place.ShapePlace.{ShapePlace}
 use Rattle.wit_shape_faults.specs.declared.clause.ShapeClause.TheVariants as clause
+use Rattle.wit_shape_faults.specs.steps.Telling.{IsTold, Tells}
 
 abbrev pub clauses : List ShapeClause
 clauses = clause.UnplacedInterfaces ∷ clause.UnplacedWorlds ∷ clause.ForeignSpans ∷ clause.ForeignInterfaces ∷ clause.ForeignWorlds ∷ clause.ForeignBare ∷ clause.UnknownFirst ∷ clause.UnknownForeign ∷ clause.UnknownAlone ∷ clause.UnknownRequired ∷ clause.NamesNamespace ∷ clause.NamesOwn ∷ clause.NamesInterfaces ∷ clause.NamesWorlds ∷ clause.NamesVersion ∷ clause.NamesInterfacesDiffer ∷ clause.NamesWorldsDiffer ∷ clause.OwnersListed ∷ clause.OwnersOwnTypes ∷ clause.OwnersFunctions ∷ clause.ReferencesEarlier ∷ clause.ReferencesAliases ∷ clause.ReferencesUnnamed ∷ clause.OwnTypes ∷ clause.OwnFunctions ∷ clause.OwnImports ∷ clause.OwnExports ∷ clause.WorldsImports ∷ clause.WorldsExports ∷ clause.WorldsOnce ∷ clause.WorldsIncludes ∷ clause.Uses ∷ []

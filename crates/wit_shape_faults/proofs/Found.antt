@@ -5,7 +5,8 @@ use Rattle.std.proofs.lemmas.Option.{slice_get_read}
 use Rattle.wit_data.specs.Each.{Each}
 use Rattle.wit_data.specs.facts.EachFacts.{EachBelow, SomeAt-of, one_more}
 use Rattle.wit_shape_faults.proofs.Firsts.{lacks_all}
-use Rattle.wit_shape_faults.specs.First.{AtFirst, AtFirstId, IsFirstWithout, IsTold, WithinFirst}
+use Rattle.wit_shape_faults.specs.First.{AtFirst, AtFirstId, IsFirstWithout, WithinFirst}
+use Rattle.wit_shape_faults.specs.steps.Telling.{IsTold}
 
 -- what stands at a place of a list that is another one, and where that ends
 pub read : {X : Type 0} (xs ys : List X) → ys ≡ xs → (i : ℕ) (x : X) → i < length ys → x ≡ get_or ys i x → slice_get xs i ≡ Some x

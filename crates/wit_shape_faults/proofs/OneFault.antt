@@ -13,12 +13,13 @@ use Rattle.wit_shape_faults.proofs.FirstIds.{are_new, none_again}
 use Rattle.wit_shape_faults.proofs.Firsts.{first_fails, first_same, id_fails, id_same, within_fails, within_same}
 use Rattle.wit_shape_faults.proofs.NameLists.{interfaces_differ, worlds_differ}
 use Rattle.wit_shape_faults.proofs.Prefixes.{on_cycle_fails, on_cycle_same}
-use Rattle.wit_shape_faults.specs.Faults.{BreaksAt, Holds, IsFirstFault, TellsFault, foreign_interface_count, foreign_world_count, number, unnamed_in_worlds}
+use Rattle.wit_shape_faults.specs.Faults.{BreaksAt, Holds, IsFirstFault, foreign_interface_count, foreign_world_count, number, unnamed_in_worlds}
 use Rattle.wit_shape_faults.specs.declared.clause.ShapeClause.{ShapeClause}
 use Rattle.wit_shape_faults.specs.declared.fault.ShapeFault.{ShapeFault}
 use Rattle.wit_shape_faults.specs.declared.place.ShapePlace.{ShapePlace}
 use Rattle.wit_shape_faults.specs.declared.clause.ShapeClause.TheVariants as clause
 use Rattle.wit_shape_faults.specs.declared.place.ShapePlace.TheVariants as place
+use Rattle.wit_shape_faults.specs.steps.Telling.{TellsFault}
 
 -- a clause that is broken somewhere doesn't hold
 fails : (p : UnresolvedPackage) (c : ShapeClause) (at : ShapePlace) → BreaksAt p c at → Holds p c → ⊥

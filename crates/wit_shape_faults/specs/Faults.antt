@@ -8,11 +8,11 @@ use Rattle.wit_data.specs.Entries.{EntriesUseOwn, Entry, ExportsAreAllowed, Impo
 use Rattle.wit_data.specs.Foreign.{AreFirst, AreForeignTypes, AreUnknownFirst, ForeignItem, IsForeign, IsForeignType, ListUnknownAlone, foreign_interfaces, foreign_worlds}
 use Rattle.wit_data.specs.Kind.{referred}
 use Rattle.wit_data.specs.Ownership.{AliasesNamed, FunctionsUseOwn, IsListed, IsPlain, IsTypeOf, ListsOwn, NamesFunctions, RefersToOwn, UsesOwn}
-use Rattle.wit_data.specs.Shape.{IsShaped, interface_names, world_names}
+use Rattle.wit_data.specs.Shape.{interface_names, world_names}
 use Rattle.wit_data.specs.Uses.{uses_of}
 use Rattle.wit_names.specs.PackageName.{HasValidVersion}
 use Rattle.wit_names.specs.UsePath.{IsKebabName}
-use Rattle.wit_shape_faults.specs.First.{AtFirst, AtFirstId, AtOne, IsTold, WithinFirst}
+use Rattle.wit_shape_faults.specs.First.{AtFirst, AtFirstId, AtOne, WithinFirst}
 use Rattle.wit_data.specs.declared.function.Function.{Function}
 use Rattle.wit_data.specs.declared.interface.Interface.{Interface}
 use Rattle.wit_data.specs.declared.types.TypeDef.{TypeDef}
@@ -172,10 +172,6 @@ BreaksAt p clause.WorldsOnce = AtFirstId place.Interface (λ i id. Contains (tak
 BreaksAt p clause.WorldsIncludes = WithinFirst place.Include (λ w (world : World) (include : WorldInclude). include.id < w) (λ (world : World). world.includes) p.worlds
 BreaksAt p clause.Uses = AtFirstOnCycle place.Interface (uses_of p.types p.interfaces)
 
--- none is told where the package keeps the clause, and else the first thing that breaks it
-abbrev pub Tells : UnresolvedPackage → ShapeClause → Option ShapePlace → Type 0
-Tells p c found = IsTold (Holds p c) (BreaksAt p c) found
-
 -- the package keeps each clause before this one
 abbrev pub KeepsBefore : UnresolvedPackage → ShapeClause → Type 0
 KeepsBefore p c = (other : ShapeClause) → number other < number c → Holds p other
@@ -184,7 +180,3 @@ KeepsBefore p c = (other : ShapeClause) → number other < number c → Holds p 
 pub record IsFirstFault (p : UnresolvedPackage) (fault : ShapeFault) : Type 0 where
   pub before : KeepsBefore p fault.clause
   pub breaks : BreaksAt p fault.clause fault.place
-
--- none where the package has its shape, and else its first fault
-abbrev pub TellsFault : UnresolvedPackage → Option ShapeFault → Type 0
-TellsFault p found = IsTold (IsShaped p) (IsFirstFault p) found

@@ -1,5 +1,5 @@
 -- Where in lists something first doesn't hold, and the place that tells it.
-use Rattle.std.specs.Prelude.{◌≡◌, ℕ, ◌<◌, List, Option, Some, None, slice_get}
+use Rattle.std.specs.Prelude.{◌≡◌, ℕ, ◌<◌, List, Some, slice_get}
 use Rattle.wit_data.specs.Each.{Each, SomeAt}
 
 -- P doesn't hold of the element at place i, and holds of each before it
@@ -23,8 +23,3 @@ AtFirstId place P ids at = (i id : ℕ) × (IsFirstWithout P ids i × (slice_get
 -- the one place where a clause is broken
 abbrev pub AtOne : {A : Type 0} → A → Type 0 → A → Type 0
 AtOne place holds at = (holds → ⊥) × (at ≡ place)
-
--- none is told where a clause holds, and else where it is broken
-abbrev pub IsTold : {A : Type 0} → Type 0 → (A → Type 0) → Option A → Type 0
-IsTold holds breaks None = holds
-IsTold holds breaks (Some at) = breaks at

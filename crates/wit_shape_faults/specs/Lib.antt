@@ -1,3 +1,4 @@
-pub mod Faults
 pub mod FaultText
+pub mod Faults
 pub mod First
+pub mod steps

@@ -5,7 +5,7 @@ ghost use Rattle.wit_shape_faults.specs.FaultText.{clause_name, clause_text};
 use std::fmt;
 
 /// A clause of the shape of an unresolved package, in the order in which the shape's definition lists them. It is called
-/// by the part of the shape to which it belongs, and by its field there.
+/// by the part of the shape to which it belongs, and by its field there; [`ShapeClause::text`] tells what it says.
 #[derive(Clone, Copy, Debug, PartialEq, Eq)]
 pub enum ShapeClause {
     UnplacedInterfaces,

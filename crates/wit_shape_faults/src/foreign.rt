@@ -2,9 +2,10 @@
 ghost use Rattle.std.specs.Prelude.{◌≡◌, ◌↔◌, IfOk, IsTrue};
 ghost use Rattle.wit_data.specs.Each.{Each};
 ghost use Rattle.wit_data.specs.Foreign.{AreFirst, IsForeign, IsNameOnly, IsNameOnlyInterface, IsNameOnlyWorld};
-ghost use Rattle.wit_shape_faults.specs.Faults.{IsNewFirst, Tells};
-ghost use Rattle.wit_shape_faults.specs.First.{AtFirst, AtFirstId, IsTold};
+ghost use Rattle.wit_shape_faults.specs.Faults.{IsNewFirst};
+ghost use Rattle.wit_shape_faults.specs.First.{AtFirst, AtFirstId};
 ghost use Rattle.wit_shape_faults.specs.declared.clause.ShapeClause.TheVariants.{ForeignBare, ForeignInterfaces, ForeignSpans, ForeignWorlds};
+ghost use Rattle.wit_shape_faults.specs.steps.Telling.{IsTold, Tells};
 
 use crate::place::ShapePlace;
 use std::alloc::{AllocError, Global};
@@ -16,6 +17,7 @@ use wit_digraph::Listing;
 use wit_shape::names::{has_name, is_text};
 use wit_values::{Items, Names};
 
+/// The spans of the other packages, where there isn't one for each.
 pub(crate) fn spans(unresolved: &UnresolvedPackage) -> Option<ShapePlace>
     ensures { Tells unresolved.now ForeignSpans result }
 {
@@ -26,6 +28,7 @@ pub(crate) fn spans(unresolved: &UnresolvedPackage) -> Option<ShapePlace>
     }
 }
 
+/// The first interface of another package that isn't one of the first ones, or is named again.
 pub(crate) fn interfaces(
     alloc: Global,
     unresolved: &UnresolvedPackage,
@@ -37,6 +40,7 @@ pub(crate) fn interfaces(
     Ok(found.map(|id| ShapePlace::Interface(InterfaceId::from_index(id))))
 }
 
+/// The same of worlds.
 pub(crate) fn worlds(
     alloc: Global,
     unresolved: &UnresolvedPackage,
@@ -66,6 +70,7 @@ fn misplaced_id(alloc: Global, ids: &[usize], count: usize) -> Result<Option<usi
     Ok(None)
 }
 
+/// The first item of another package that isn't there under its name, holds something or is named under no gate.
 pub(crate) fn items(unresolved: &UnresolvedPackage) -> Option<ShapePlace>
     ensures { Tells unresolved.now ForeignBare result }
 {

@@ -1,8 +1,8 @@
 //! What a package and its things are called.
 ghost use Rattle.std.specs.Prelude.{◌≡◌, ◌↔◌, ◌++◌, ◌∷◌, [], Contains, IfOk, IfSome, IsTrue, option_to_list};
 ghost use Rattle.wit_names.specs.UsePath.{IsKebabName};
-ghost use Rattle.wit_shape_faults.specs.Faults.{Tells};
 ghost use Rattle.wit_shape_faults.specs.declared.clause.ShapeClause.TheVariants.{NamesInterfaces, NamesInterfacesDiffer, NamesNamespace, NamesOwn, NamesVersion, NamesWorlds, NamesWorldsDiffer};
+ghost use Rattle.wit_shape_faults.specs.steps.Telling.{Tells};
 
 use crate::place::ShapePlace;
 use std::alloc::{AllocError, Global};
@@ -12,6 +12,7 @@ use wit_data::{
 };
 use wit_values::NameSet;
 
+/// The name of the package, where its namespace is no kebab name.
 pub(crate) fn namespace(unresolved: &UnresolvedPackage) -> Option<ShapePlace>
     ensures { Tells unresolved.now NamesNamespace result }
 {
@@ -22,6 +23,7 @@ pub(crate) fn namespace(unresolved: &UnresolvedPackage) -> Option<ShapePlace>
     }
 }
 
+/// The name of the package, where it is no kebab name.
 pub(crate) fn own(unresolved: &UnresolvedPackage) -> Option<ShapePlace>
     ensures { Tells unresolved.now NamesOwn result }
 {
@@ -32,6 +34,7 @@ pub(crate) fn own(unresolved: &UnresolvedPackage) -> Option<ShapePlace>
     }
 }
 
+/// The first interface with a name that is no kebab name.
 pub(crate) fn interfaces(unresolved: &UnresolvedPackage) -> Option<ShapePlace>
     ensures { Tells unresolved.now NamesInterfaces result }
 {
@@ -51,6 +54,7 @@ fn is_interface_kebab(interface: &Interface) -> bool
     }
 }
 
+/// The first world with a name that is no kebab name.
 pub(crate) fn worlds(unresolved: &UnresolvedPackage) -> Option<ShapePlace>
     ensures { Tells unresolved.now NamesWorlds result }
 {
@@ -61,6 +65,7 @@ pub(crate) fn worlds(unresolved: &UnresolvedPackage) -> Option<ShapePlace>
     Some(ShapePlace::World(WorldId::from_index(index)))
 }
 
+/// The name of the package, where its version isn't one of SemVer.
 pub(crate) fn version(
     alloc: Global,
     unresolved: &UnresolvedPackage,
@@ -74,6 +79,7 @@ pub(crate) fn version(
     }
 }
 
+/// The first interface of the package with the name of an earlier one.
 pub(crate) fn interfaces_differ(
     alloc: Global,
     unresolved: &UnresolvedPackage,
@@ -116,6 +122,7 @@ fn is_new(alloc: Global, met: &mut NameSet, name: &str) -> Result<bool, AllocErr
     Ok(true)
 }
 
+/// The first world of the package with the name of an earlier one.
 pub(crate) fn worlds_differ(
     alloc: Global,
     unresolved: &UnresolvedPackage,

@@ -8,9 +8,9 @@ ghost use Rattle.wit_data.specs.declared.function.Function.{Function};
 ghost use Rattle.wit_data.specs.declared.types.TypeOwner.TheVariants as owners;
 ghost use Rattle.wit_digraph.specs.Relation.{IsAcyclic};
 ghost use Rattle.wit_shape.specs.steps.NamedOwners.{AreNamedOwners};
-ghost use Rattle.wit_shape_faults.specs.Faults.{Tells};
-ghost use Rattle.wit_shape_faults.specs.First.{AtFirst, IsTold};
+ghost use Rattle.wit_shape_faults.specs.First.{AtFirst};
 ghost use Rattle.wit_shape_faults.specs.declared.clause.ShapeClause.TheVariants.{OwnExports, OwnFunctions, OwnImports, OwnTypes};
+ghost use Rattle.wit_shape_faults.specs.steps.Telling.{IsTold, Tells};
 
 use crate::place::ShapePlace;
 use std::alloc::{AllocError, Global};
@@ -21,6 +21,7 @@ use wit_data::{
 use wit_shape::named_owners::{NamedOwners, is_own, shown_by_each};
 use wit_values::{Items, Table};
 
+/// The first named type but an alias that refers to types of others.
 pub(crate) fn types(
     alloc: Global,
     unresolved: &UnresolvedPackage,
@@ -71,6 +72,7 @@ fn are_own(types: &[TypeDef], shown: &Items<NamedOwners>, owner: TypeOwner, ids:
     ids.iter().all(|id| is_own(types, shown, owner, *id))
 }
 
+/// The first function of an interface that refers to types of others.
 pub(crate) fn functions(
     alloc: Global,
     unresolved: &UnresolvedPackage,
@@ -124,6 +126,7 @@ fn uses_own(
     Ok(are_own(types, shown, owner, ids.as_slice()))
 }
 
+/// The first function that a world imports and that refers to types of others.
 pub(crate) fn imports(
     alloc: Global,
     unresolved: &UnresolvedPackage,
@@ -142,6 +145,7 @@ pub(crate) fn imports(
     Ok(None)
 }
 
+/// The first function that a world exports and that refers to types of others.
 pub(crate) fn exports(
     alloc: Global,
     unresolved: &UnresolvedPackage,

@@ -7,9 +7,9 @@ ghost use Rattle.wit_data.specs.declared.function.Function.{Function};
 ghost use Rattle.wit_data.specs.declared.interface.Interface.{Interface};
 ghost use Rattle.wit_data.specs.declared.types.TypeOwner.TheVariants as owners;
 ghost use Rattle.wit_data.specs.declared.world.World.{World};
-ghost use Rattle.wit_shape_faults.specs.Faults.{Tells};
-ghost use Rattle.wit_shape_faults.specs.First.{AtFirst, IsTold};
+ghost use Rattle.wit_shape_faults.specs.First.{AtFirst};
 ghost use Rattle.wit_shape_faults.specs.declared.clause.ShapeClause.TheVariants.{OwnersFunctions, OwnersListed, OwnersOwnTypes};
+ghost use Rattle.wit_shape_faults.specs.steps.Telling.{IsTold, Tells};
 
 use crate::place::ShapePlace;
 use std::alloc::AllocError;
@@ -20,6 +20,7 @@ use wit_data::{
 use wit_shape::names::has_name;
 use wit_values::{Names, Text, TryClone};
 
+/// The first type that its owner doesn't list, or that has a name without an owner.
 pub(crate) fn listed(unresolved: &UnresolvedPackage) -> Result<Option<ShapePlace>, AllocError>
     ensures { IfOk result (λ found. Tells unresolved.now OwnersListed found) }
 {
@@ -110,6 +111,7 @@ fn is_type_item(item: Option<&WorldItem>, index: usize) -> bool
     }
 }
 
+/// The first type that an interface lists and that isn't its own of that name.
 pub(crate) fn own_types(unresolved: &UnresolvedPackage) -> Option<ShapePlace>
     ensures { Tells unresolved.now OwnersOwnTypes result }
 {
@@ -145,6 +147,7 @@ pub(crate) fn is_type_of(types: &[TypeDef], owner: TypeOwner, name: &str, id: Ty
     }
 }
 
+/// The first function that stands under another name.
 pub(crate) fn functions(unresolved: &UnresolvedPackage) -> Option<ShapePlace>
     ensures { Tells unresolved.now OwnersFunctions result }
 {

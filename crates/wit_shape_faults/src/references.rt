@@ -4,8 +4,8 @@ ghost use Rattle.wit_data.specs.Each.{Each, SomeAt};
 ghost use Rattle.wit_data.specs.Kind.{referred};
 ghost use Rattle.wit_data.specs.Ownership.{AliasesNamed, IsNamed, IsNamedInterface, IsPlain};
 ghost use Rattle.wit_data.specs.declared.types.TypeDef.{TypeDef};
-ghost use Rattle.wit_shape_faults.specs.Faults.{Tells};
 ghost use Rattle.wit_shape_faults.specs.declared.clause.ShapeClause.TheVariants.{ReferencesAliases, ReferencesEarlier, ReferencesUnnamed};
+ghost use Rattle.wit_shape_faults.specs.steps.Telling.{Tells};
 
 use crate::place::ShapePlace;
 use std::alloc::{AllocError, Global};
@@ -14,6 +14,7 @@ use wit_data::{
     alias_target, referred,
 };
 
+/// The first type that refers to itself or a later one.
 pub(crate) fn earlier(
     alloc: Global,
     unresolved: &UnresolvedPackage,
@@ -42,6 +43,7 @@ fn are_before(ids: &[TypeId], index: usize) -> bool
     ids.iter().all(|id| id.index() < index)
 }
 
+/// The first alias of a type that names none that it may.
 pub(crate) fn aliases(unresolved: &UnresolvedPackage) -> Option<ShapePlace>
     ensures { Tells unresolved.now ReferencesAliases result }
 {
@@ -99,6 +101,7 @@ pub(crate) fn is_named(interfaces: &[Interface], id: InterfaceId) -> bool
     }
 }
 
+/// The first type without a name that is an alias or a resource.
 pub(crate) fn unnamed(unresolved: &UnresolvedPackage) -> Option<ShapePlace>
     ensures { Tells unresolved.now ReferencesUnnamed result }
 {

@@ -1,8 +1,9 @@
 //! The search for the first clause of its shape that a package breaks.
 ghost use Rattle.std.specs.Prelude.{◌≡◌, ◌↔◌, IfOk, IsNone, Some};
 ghost use Rattle.wit_data.specs.Shape.{IsShaped};
-ghost use Rattle.wit_shape_faults.specs.Faults.{IsFirstFault, KeepsBefore, Tells, TellsFault};
+ghost use Rattle.wit_shape_faults.specs.Faults.{IsFirstFault, KeepsBefore};
 ghost use Rattle.wit_shape_faults.specs.declared.fault.ShapeFault.{ShapeFault};
+ghost use Rattle.wit_shape_faults.specs.steps.Telling.{Tells, TellsFault};
 
 use crate::clause::ShapeClause;
 use crate::fault::ShapeFault;
@@ -14,6 +15,8 @@ use wit_data::UnresolvedPackage;
 
 /// The first clause of its shape that a package breaks, in the order of [`ShapeClause::ALL`], and the first thing that
 /// breaks it, in the order of the package's lists. None where the package has its shape.
+///
+/// Of interfaces that use themselves it is the first with which those up to it do, through whatever others of them.
 ///
 /// It takes time in proportion to the package's size, but where interfaces use themselves: then that times the logarithm
 /// of their number. It refuses only for want of memory.

@@ -4,9 +4,10 @@ ghost use Rattle.wit_data.specs.Each.{Each, SomeAt};
 ghost use Rattle.wit_data.specs.Foreign.{AreUnknownFirst, IsForeignType};
 ghost use Rattle.wit_data.specs.declared.types.TypeDef.{TypeDef};
 ghost use Rattle.wit_data.specs.declared.types.TypeDefKind.TheVariants as kind;
-ghost use Rattle.wit_shape_faults.specs.Faults.{Tells, foreign_interface_count};
-ghost use Rattle.wit_shape_faults.specs.First.{AtFirst, IsTold};
+ghost use Rattle.wit_shape_faults.specs.Faults.{foreign_interface_count};
+ghost use Rattle.wit_shape_faults.specs.First.{AtFirst};
 ghost use Rattle.wit_shape_faults.specs.declared.clause.ShapeClause.TheVariants.{UnknownAlone, UnknownFirst, UnknownForeign, UnknownRequired};
+ghost use Rattle.wit_shape_faults.specs.steps.Telling.{IsTold, Tells};
 
 use crate::place::ShapePlace;
 use std::alloc::{AllocError, Global};
@@ -15,6 +16,8 @@ use wit_data::{
 };
 use wit_shape::unknown::is_unknown;
 
+/// The first type that is of kind `Unknown` and has no span, or has one and is of another kind; or the spans, where there are more of
+/// them than types.
 pub(crate) fn first(unresolved: &UnresolvedPackage) -> Option<ShapePlace>
     ensures { Tells unresolved.now UnknownFirst result }
 {
@@ -42,6 +45,7 @@ fn is_unknown_below(unknown: usize, index: usize, def: &TypeDef) -> bool
     }
 }
 
+/// The first type with a span that isn't a named one of an interface of another package.
 pub(crate) fn foreign_types(
     alloc: Global,
     unresolved: &UnresolvedPackage,
@@ -75,6 +79,7 @@ fn is_foreign_type(foreign: usize, def: &TypeDef) -> bool
     }
 }
 
+/// The first type that an interface of another package lists and that has no span.
 pub(crate) fn listed_types(
     alloc: Global,
     unresolved: &UnresolvedPackage,
@@ -110,6 +115,7 @@ fn type_that_is_known(
     None
 }
 
+/// The first type that has to be a resource and isn't of kind `Unknown`.
 pub(crate) fn required(unresolved: &UnresolvedPackage) -> Option<ShapePlace>
     ensures { Tells unresolved.now UnknownRequired result }
 {

@@ -1,10 +1,11 @@
 //! Interfaces and worlds that say to which package they belong.
-ghost use Rattle.wit_shape_faults.specs.Faults.{Tells};
 ghost use Rattle.wit_shape_faults.specs.declared.clause.ShapeClause.TheVariants.{UnplacedInterfaces, UnplacedWorlds};
+ghost use Rattle.wit_shape_faults.specs.steps.Telling.{Tells};
 
 use crate::place::ShapePlace;
 use wit_data::{InterfaceId, UnresolvedPackage, WorldId};
 
+/// The first interface that says to which package it belongs.
 pub(crate) fn interfaces(unresolved: &UnresolvedPackage) -> Option<ShapePlace>
     ensures { Tells unresolved.now UnplacedInterfaces result }
 {
@@ -15,6 +16,7 @@ pub(crate) fn interfaces(unresolved: &UnresolvedPackage) -> Option<ShapePlace>
     Some(ShapePlace::Interface(InterfaceId::from_index(index)))
 }
 
+/// The first world that does.
 pub(crate) fn worlds(unresolved: &UnresolvedPackage) -> Option<ShapePlace>
     ensures { Tells unresolved.now UnplacedWorlds result }
 {

@@ -2,9 +2,9 @@
 ghost use Rattle.std.specs.Prelude.{◌≡◌, ◌↔◌, ◌≤◌, filter, IfOk, IsTrue, length, nat_lt};
 ghost use Rattle.wit_data.specs.Uses.{uses_of};
 ghost use Rattle.wit_digraph.specs.Relation.{IsAcyclic, IsInRange};
-ghost use Rattle.wit_shape_faults.specs.Faults.{IsFirstOnCycle, Tells, among_first};
-ghost use Rattle.wit_shape_faults.specs.First.{IsTold};
+ghost use Rattle.wit_shape_faults.specs.Faults.{IsFirstOnCycle, among_first};
 ghost use Rattle.wit_shape_faults.specs.declared.clause.ShapeClause.TheVariants.{Uses};
+ghost use Rattle.wit_shape_faults.specs.steps.Telling.{IsTold, Tells};
 
 use crate::place::ShapePlace;
 use std::alloc::{AllocError, Global};
@@ -12,6 +12,7 @@ use wit_data::{InterfaceId, UnresolvedPackage, uses_of};
 use wit_digraph::is_acyclic;
 use wit_values::Items;
 
+/// The first interface with which those up to it use themselves, through whatever others of them.
 pub(crate) fn acyclic(
     alloc: Global,
     unresolved: &UnresolvedPackage,

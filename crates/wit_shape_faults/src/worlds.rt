@@ -4,9 +4,9 @@ ghost use Rattle.std.specs.List.{IsDistinct};
 ghost use Rattle.wit_data.specs.Each.{Each};
 ghost use Rattle.wit_data.specs.Entries.{Entry, ExportsAreAllowed, ImportsAreAllowed, IncludesEarlier, IsExport, IsImport, interfaces_in_worlds, interfaces_of_entries, is_unnamed, item_interface};
 ghost use Rattle.wit_data.specs.declared.world.WorldInclude.{WorldInclude};
-ghost use Rattle.wit_shape_faults.specs.Faults.{Tells};
-ghost use Rattle.wit_shape_faults.specs.First.{AtFirst, AtFirstId, IsTold};
+ghost use Rattle.wit_shape_faults.specs.First.{AtFirst, AtFirstId};
 ghost use Rattle.wit_shape_faults.specs.declared.clause.ShapeClause.TheVariants.{WorldsExports, WorldsImports, WorldsIncludes, WorldsOnce};
+ghost use Rattle.wit_shape_faults.specs.steps.Telling.{IsTold, Tells};
 
 use crate::owners::is_type_of;
 use crate::place::ShapePlace;
@@ -20,6 +20,7 @@ use wit_digraph::Listing;
 use wit_shape::names::is_text;
 use wit_values::{Items, Table};
 
+/// The first import that may not stand under its key.
 pub(crate) fn imports(unresolved: &UnresolvedPackage) -> Option<ShapePlace>
     ensures { Tells unresolved.now WorldsImports result }
 {
@@ -90,6 +91,7 @@ fn is_export(interfaces: &[Interface], key: &WorldKey, item: &WorldItem) -> bool
     }
 }
 
+/// The first export that may not stand under its key.
 pub(crate) fn exports(unresolved: &UnresolvedPackage) -> Option<ShapePlace>
     ensures { Tells unresolved.now WorldsExports result }
 {
@@ -114,6 +116,7 @@ fn entry_that_is_no_export(interfaces: &[Interface], world: &World) -> Option<us
     None
 }
 
+/// The first include of the world itself or a later one.
 pub(crate) fn includes(unresolved: &UnresolvedPackage) -> Option<ShapePlace>
     ensures { Tells unresolved.now WorldsIncludes result }
 {
@@ -134,6 +137,7 @@ fn include_of_no_earlier(index: usize, world: &World) -> Option<usize>
         .position(|include| include.id.index() >= index)
 }
 
+/// The first interface without a name that stands in a second place.
 pub(crate) fn once(
     alloc: Global,
     unresolved: &UnresolvedPackage,
