@@ -18,3 +18,4 @@ pub use crate::graph::graph_to_json;
 pub use crate::refusals::refusal_to_json;
 pub use crate::unresolved::package_to_json;
 pub use crate::whole::whole_to_json;
+pub use crate::writer::{JsonText, WriteJson, text_of};

@@ -57,7 +57,7 @@ impl WriteJson for Features {
 
 impl JsonText {
     /// Writes a graph with what stands beside it.
-    fn whole(
+    pub fn whole(
         &mut self,
         graph: &Graph,
         features: &Features,

@@ -16,7 +16,7 @@ use std::alloc::{AllocError, Global};
 use std::marker::Model;
 
 /// What is written as a JSON value.
-pub(crate) trait WriteJson {
+pub trait WriteJson {
     /// The value.
     ghost json: { Self → Json };
 
@@ -27,7 +27,7 @@ pub(crate) trait WriteJson {
 
 /// A JSON text as far as it is written, which contracts see as its tokens.
 #[derive(Drop)]
-pub(crate) struct JsonText {
+pub struct JsonText {
     alloc: Global,
     writer: Writer,
 }
@@ -46,7 +46,7 @@ impl Model for JsonText {
 }
 
 /// What is written of a value, without a space. The only error is want of memory.
-pub(crate) fn text_of<T: WriteJson>(alloc: Global, value: &T) -> Result<String, AllocError>
+pub fn text_of<T: WriteJson>(alloc: Global, value: &T) -> Result<String, AllocError>
     ensures { IfOk result (λ text. string_bytes text ≡ compact (T.json value.now)) }
 {
     let mut out = JsonText::new(alloc);
