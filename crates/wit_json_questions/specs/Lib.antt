@@ -1,0 +1,2 @@
+pub mod CoreNames
+pub mod Tells
