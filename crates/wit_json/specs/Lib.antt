@@ -9,3 +9,4 @@ pub mod Refusals
 pub mod Unresolved
 pub mod Whole
 pub mod steps
+pub mod facts

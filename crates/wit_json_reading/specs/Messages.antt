@@ -31,6 +31,9 @@ expected_text expected.ForeignItem = codes "an interface or a world of another p
 expected_text expected.Source = codes "a file that ends before position 4294967296"
 expected_text expected.Boolean = codes "true or false"
 expected_text expected.Command = codes "a command"
+expected_text expected.TrackRule = codes "a rule of tracks"
+expected_text expected.Mangling = codes "a mangling"
+expected_text expected.FunctionPlace = codes "where a function stands"
 
 -- a step of a path
 abbrev pub step_text : Step → List ℕ

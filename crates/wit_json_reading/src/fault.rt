@@ -66,6 +66,12 @@ pub enum Expected {
     Boolean,
     /// A command.
     Command,
+    /// A rule by which versions stand on one track.
+    TrackRule,
+    /// A mangling.
+    Mangling,
+    /// Where a function stands.
+    FunctionPlace,
 }
 
 /// Where a JSON value isn't as it is read, and what was to stand there.

@@ -35,6 +35,9 @@ impl fmt::Display for Expected {
             Expected::Source => "a file that ends before position 4294967296",
             Expected::Boolean => "true or false",
             Expected::Command => "a command",
+            Expected::TrackRule => "a rule of tracks",
+            Expected::Mangling => "a mangling",
+            Expected::FunctionPlace => "where a function stands",
         };
         f.write_str(text)
     }

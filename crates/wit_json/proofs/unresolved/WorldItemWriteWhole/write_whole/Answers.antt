@@ -1,6 +1,6 @@
 use Rattle.std.proofs.Common.{codes}
 use Rattle.wit_json.specs.Unresolved.{whole_interface_entry}
-use Rattle.wit_json.proofs.Members.{tag_closed}
+use Rattle.wit_json.specs.facts.MemberFacts.{tag_closed}
 use Rattle.wit_json.proofs.unresolved.WorldItemWriteWhole.write_whole.Goals as goal
 
 pub returns-in_ok-whole_interface_entry-in-Interface : goal.returns-in_ok-whole_interface_entry-in-Interface
