@@ -15,7 +15,7 @@ abbrev pub rule_in : List ℕ → Reading TrackRule
 rule_in word =
     if bytes_eq word (codes "published") then Ok Published
     else if bytes_eq word (codes "with-prereleases") then Ok WithPrereleases
-    else instead_of expected.Command
+    else instead_of expected.TrackRule
 
 -- a rule of tracks by its name
 unfoldable pub rule_of : Json → Reading TrackRule

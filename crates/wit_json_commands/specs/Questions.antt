@@ -43,7 +43,7 @@ mangling_in word =
     else if bytes_eq word (codes "legacy-sync") then Ok LegacySync
     else if bytes_eq word (codes "legacy-async-callback") then Ok LegacyAsyncCallback
     else if bytes_eq word (codes "legacy-async-stackful") then Ok LegacyAsyncStackful
-    else instead_of expected.Command
+    else instead_of expected.Mangling
 
 -- a mangling by its name
 unfoldable pub mangling_of : Json → Reading Mangling
@@ -72,11 +72,11 @@ function_by name j =
     if bytes_eq name (codes "interface") then place_of site.Interface j
     else if bytes_eq name (codes "import") then place_of site.Import j
     else if bytes_eq name (codes "export") then place_of site.Export j
-    else instead_of expected.Command
+    else instead_of expected.FunctionPlace
 
 -- a function of an interface or a world
 unfoldable pub function_of : Json → Reading FunctionPlace
-function_of j = variant_of function_by expected.Command j
+function_of j = variant_of function_by expected.FunctionPlace j
 
 -- the question of a name
 unfoldable pub question_by : List ℕ → Json → Reading Question

@@ -60,7 +60,7 @@ fn rule_in(alloc: Global, word: &str) -> Result<TrackRule, ReadError>
     match word {
         "published" => Ok(TrackRule::Published),
         "with-prereleases" => Ok(TrackRule::WithPrereleases),
-        _ => instead_of(alloc, Expected::Command),
+        _ => instead_of(alloc, Expected::TrackRule),
     }
 }
 
@@ -118,7 +118,7 @@ fn semver(alloc: Global, value: &Value<'_>) -> Result<Change, ReadError>
 
 /// The change of this name.
 #[tactic(auto, unfolding(crate::specs::Changes::change_by))]
-pub fn change(alloc: Global, name: &str, value: &Value<'_>) -> Result<Change, ReadError>
+pub fn change_by(alloc: Global, name: &str, value: &Value<'_>) -> Result<Change, ReadError>
     ensures { Reads result (change_by name.now (value_view value.now)) }
 {
     match name {

@@ -3,8 +3,8 @@ ghost use Rattle.json.specs.Value.{value_view};
 ghost use Rattle.wit_json_commands.specs.Orders.{document_of, is_change, order_by, order_of, plain_request_of, request_by, request_of};
 ghost use Rattle.wit_json_reading.specs.Reading.{Reads};
 
-use crate::changes::{Change, change};
-use crate::questions::{Question, question};
+use crate::changes::{Change, change_by};
+use crate::questions::{Question, question_by};
 use json::Value;
 use std::alloc::Global;
 use wit_data::Items;
@@ -49,13 +49,13 @@ fn is_change(name: &str) -> bool
 }
 
 /// The change or the question of this name.
-fn request(alloc: Global, name: &str, value: &Value<'_>) -> Result<Request, ReadError>
+fn request_by(alloc: Global, name: &str, value: &Value<'_>) -> Result<Request, ReadError>
     ensures { Reads result (request_by name.now (value_view value.now)) }
 {
     if is_change(name) {
-        Ok(Request::Change(change(alloc, name, value)?))
+        Ok(Request::Change(change_by(alloc, name, value)?))
     } else {
-        Ok(Request::Ask(question(alloc, name, value)?))
+        Ok(Request::Ask(question_by(alloc, name, value)?))
     }
 }
 
@@ -78,20 +78,20 @@ impl ReadJson for Request {
             return plain_request(alloc, word);
         }
         match one_member(value) {
-            Some((name, part)) => in_member(alloc, request(alloc, name, part), name),
+            Some((name, part)) => in_member(alloc, request_by(alloc, name, part), name),
             None => instead_of(alloc, Expected::Command),
         }
     }
 }
 
 /// The order of this name.
-fn order(alloc: Global, name: &str, value: &Value<'_>) -> Result<Order, ReadError>
+fn order_by(alloc: Global, name: &str, value: &Value<'_>) -> Result<Order, ReadError>
     ensures { Reads result (order_by name.now (value_view value.now)) }
 {
     if name == "merge" {
         Ok(Order::Merge(ReadJson::read_json(alloc, value)?))
     } else {
-        Ok(Order::Request(request(alloc, name, value)?))
+        Ok(Order::Request(request_by(alloc, name, value)?))
     }
 }
 
@@ -104,7 +104,7 @@ impl ReadJson for Order {
             return Ok(Order::Request(plain_request(alloc, word)?));
         }
         match one_member(value) {
-            Some((name, part)) => in_member(alloc, order(alloc, name, part), name),
+            Some((name, part)) => in_member(alloc, order_by(alloc, name, part), name),
             None => instead_of(alloc, Expected::Command),
         }
     }

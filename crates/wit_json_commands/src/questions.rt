@@ -108,14 +108,14 @@ impl ReadJson for Mangling {
     #[tactic(auto, unfolding(crate::specs::Questions::mangling_of))]
     fn read_json(alloc: Global, value: &Value<'_>) -> Result<Mangling, ReadError> {
         match value.as_str() {
-            Some(word) => mangling(alloc, word),
+            Some(word) => mangling_in(alloc, word),
             None => instead_of(alloc, Expected::Text),
         }
     }
 }
 
 /// The names that a word says.
-fn mangling(alloc: Global, word: &str) -> Result<Mangling, ReadError>
+fn mangling_in(alloc: Global, word: &str) -> Result<Mangling, ReadError>
     ensures { Reads result (mangling_in word.now) }
 {
     match word {
@@ -123,7 +123,7 @@ fn mangling(alloc: Global, word: &str) -> Result<Mangling, ReadError>
         "legacy-sync" => Ok(Mangling::LegacySync),
         "legacy-async-callback" => Ok(Mangling::LegacyAsyncCallback),
         "legacy-async-stackful" => Ok(Mangling::LegacyAsyncStackful),
-        _ => instead_of(alloc, Expected::Command),
+        _ => instead_of(alloc, Expected::Mangling),
     }
 }
 
@@ -170,7 +170,7 @@ fn function_in(alloc: Global, name: &str, value: &Value<'_>) -> Result<FunctionP
         "interface" => place(alloc, FunctionSite::Interface, value),
         "import" => place(alloc, FunctionSite::Import, value),
         "export" => place(alloc, FunctionSite::Export, value),
-        _ => instead_of(alloc, Expected::Command),
+        _ => instead_of(alloc, Expected::FunctionPlace),
     }
 }
 
@@ -180,13 +180,13 @@ fn function(alloc: Global, value: &Value<'_>) -> Result<FunctionPlace, ReadError
 {
     match one_member(value) {
         Some((name, place)) => in_member(alloc, function_in(alloc, name, place), name),
-        None => instead_of(alloc, Expected::Command),
+        None => instead_of(alloc, Expected::FunctionPlace),
     }
 }
 
 /// The question of this name.
 #[tactic(auto, unfolding(crate::specs::Questions::question_by))]
-pub fn question(alloc: Global, name: &str, value: &Value<'_>) -> Result<Question, ReadError>
+pub fn question_by(alloc: Global, name: &str, value: &Value<'_>) -> Result<Question, ReadError>
     ensures { Reads result (question_by name.now (value_view value.now)) }
 {
     match name {
