@@ -1,13 +1,14 @@
 #!/usr/bin/env python3
-"""Turns scripts into JSON documents of the same commands (docs/JSON.md), and compares what both programs answer.
+"""Turns scripts into JSON documents of the same commands (docs/JSON.md), and compares what is answered with the model.
 
     python3 bench/documents.py SCRIPT
-    python3 bench/documents.py --programs WITGRAPH WITGRAPH_JSON --stored crates/witgraph_cases/stdin
-    python3 bench/documents.py --programs WITGRAPH WITGRAPH_JSON [--first N] [--many N]
+    python3 bench/documents.py --program WITGRAPH_JSON --stored crates/witgraph_cases/stdin
+    python3 bench/documents.py --program WITGRAPH_JSON [--first N] [--many N]
 
-The first form writes the document of a script. The others compare, for the stored cases or for random scripts, the
-replies and all worlds of the last graph: where a script prints a world, the comparison prints all at its end. A script
-that isn't understood has no document. Ends with status 1 where they differ.
+The first form writes the document of a script. The others compare what the program answers, for the stored cases or for
+random scripts, with the model of the rules (`bench/model`): the replies, and all worlds of the last graph. What a script
+prints on its way is left out, and what it selects in another graph. A script that isn't understood has no document. Ends
+with status 1 where they differ.
 """
 import argparse
 import json
@@ -48,6 +49,7 @@ class Reader(reader.Reader):
     """Keeps the file of each package, and of what has to be a resource the line that says so."""
 
     def read(self, line, words):
+        model.names.need(self.package or words[0] == "package")
         at = 0 if words[0] == "package" else len(self.package.file)
         size = len(line.encode())
         Spans.now = [at, at + size]
@@ -287,7 +289,7 @@ def reply_lines(graph, command, reply):
         case {"pushed": _}:
             return [f"pushed {asked['main']['main']['name']}"]
         case {"world": number}:
-            return [f"selected {id_text(graph, graph['worlds'][number]['package'], graph['worlds'][number]['name'])}" if graph else "selected"]
+            return [f"selected {id_text(graph, graph['worlds'][number]['package'], graph['worlds'][number]['name'])}"]
     return [str(reply)]
 
 
@@ -301,13 +303,32 @@ def run(program, text):
     return done.returncode, done.stdout
 
 
-def differs(programs, name, script):
-    """What both answer where they differ, None where they don't, and the size of the document."""
-    document = document_of(script)
+def compared_lines(script):
+    """The lines of a script without what a document doesn't answer."""
+    lines, other = [], False
+    for line in script.split("\n"):
+        word = (words_of(line) or [""])[0]
+        other = word == "other" or other and word != "merge"
+        if word != "print" and not (other and word == "select"):
+            lines.append(line)
+    return lines
+
+
+def with_former_names(ours, asked):
+    """The lines, in which a selected world that has another name at the end has the one that the model gives it."""
+    if not any(line.startswith(("importize", "exportize")) for line in asked.split("\n")):
+        return ours
+    former = iter([text for of in model.answers(asked) for text in of if text.startswith("selected")])
+    return [next(former, line) if line.startswith("selected") else line for line in ours]
+
+
+def differs(program, name, script):
+    """What is answered where that isn't as the model says, else None."""
+    lines = compared_lines(script)
+    document = document_of("\n".join(lines))
     if document is None:
         return None
-    text = json.dumps(document)
-    status, printed = run(programs[1], text)
+    status, printed = run(program, json.dumps(document))
     try:
         output = json.loads(printed)
         if json.dumps(output, separators=(",", ":"), ensure_ascii=False) != printed:
@@ -319,18 +340,18 @@ def differs(programs, name, script):
     worlds = [it for it in graph["worlds"] if it["package"] is not None]
     ours += [line for world in worlds for line in world_lines(graph, world)]
     prints = [f"print {graph['packages'][it['package']]['name']} {it['name']}" for it in worlds]
-    lines = [it for it in script.split("\n") if words_of(it)[:1] != ["print"]]
-    _, theirs = run(programs[0], "\n".join([*lines, *prints]))
-    theirs = theirs.splitlines()
-    same = len(ours) == len(theirs) and all(a == b or a == "selected" and b.startswith(a) for a, b in zip(ours, theirs))
-    same = same and status == 0
-    return None if same else f"{name} differs\n{script}\n--- witgraph\n{chr(10).join(theirs)}\n--- witgraph_json\n{chr(10).join(ours)}"
+    asked = "\n".join([*lines, *prints])
+    ours = with_former_names(ours, asked)
+    if status == 0 and model.is_right(asked, "".join(f"{it}\n" for it in ours)):
+        return None
+    told = "\n".join(ours)
+    return f"{name} differs\n{asked}\n--- may print\n{model.answers(asked)}\n--- witgraph_json\n{told}"
 
 
 def main():
     parser = argparse.ArgumentParser()
     parser.add_argument("script", nargs="?")
-    parser.add_argument("--programs", nargs=2)
+    parser.add_argument("--program")
     parser.add_argument("--stored")
     parser.add_argument("--first", type=int, default=1)
     parser.add_argument("--many", type=int, default=500)
@@ -343,7 +364,7 @@ def main():
         scripts, _ = compare.stored(compare.read(asked.stored))
     else:
         scripts = {str(n): compare.written(n, compare.KINDS) for n in range(asked.first, asked.first + asked.many)}
-    found = [it for it in (differs(asked.programs, *of) for of in scripts.items()) if it]
+    found = [it for it in (differs(asked.program, *of) for of in scripts.items()) if it]
     print("\n".join(found[:5]))
     print(f"{len(scripts)} scripts, {sum(document_of(it) is not None for it in scripts.values())} with documents, {len(found)} differ")
     return 1 if found else 0

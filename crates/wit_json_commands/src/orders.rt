@@ -1,4 +1,5 @@
 //! What a document asks, in order.
+ghost use Rattle.std.specs.Prelude.{◌≡◌};
 ghost use Rattle.json.specs.Value.{value_view};
 ghost use Rattle.wit_json_commands.specs.Orders.{document_of, is_change, order_by, order_of, plain_request_of, request_by, request_of};
 ghost use Rattle.wit_json_reading.specs.Reading.{Reads};

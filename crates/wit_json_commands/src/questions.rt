@@ -1,6 +1,6 @@
 //! Questions about a graph.
 ghost use Rattle.json.specs.Value.{value_view};
-ghost use Rattle.wit_json_commands.specs.Questions.{canonical_id_of, core_names_of, function_by, function_of, interface_of, mangling_in, mangling_of, package_of, place_of, question_by, select_of};
+ghost use Rattle.wit_json_commands.specs.Questions.{canonical_id_of, core_names_of, function_by, function_of, interface_of, mangling_in, mangling_of, place_of, question_by, select_of};
 ghost use Rattle.wit_json_reading.specs.Reading.{Reads};
 
 use json::Value;
