@@ -5,3 +5,6 @@ pub mod Worlds
 pub mod Graphs
 pub mod Details
 pub mod Refusals
+pub mod ReadValues
+pub mod ReadTypes
+pub mod ReadWorlds

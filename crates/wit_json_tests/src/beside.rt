@@ -109,8 +109,7 @@ fn written_beside(rt: &impl Abort, alloc: Global) -> String {
 #[test]
 fn what_is_beside_the_layout_is_written(rt: HostRuntime) {
     let written = written_beside(&rt, rt.alloc());
-    assert_eq!(
-        &rt;
+    assert_eq!(&rt;
         written.as_str(),
         "\"details\":{\"worlds\":[{\"span\":[30,40],\"imports\":{\
         \"interface-0\":{\"docs\":{\"contents\":\"E.\"},\"span\":[31,32],\"external-id\":\"e\"},\"t\":{}},\"exports\":{}}],\

@@ -7,6 +7,8 @@ mod beside;
 #[cfg(test)]
 mod functions;
 #[cfg(test)]
+mod packages;
+#[cfg(test)]
 mod parts;
 #[cfg(test)]
 mod reading;

@@ -5,7 +5,7 @@ use std::process::Abort;
 use wit_data::TypeDef;
 use wit_graph_data::Graph;
 use wit_json::graph_to_json;
-use wit_json_reading::read_text;
+use wit_json_reading::{ReadError, offset_of, read_text};
 
 /// What a text reads as, as it is written in a graph with this type alone, or the fault.
 fn read_type(rt: &impl Abort, alloc: Global, text: &str) -> String {
@@ -129,5 +129,32 @@ fn faults_of_types_are_told(rt: HostRuntime) {
         ),
     ] {
         assert_type(&rt, rt.alloc(), text, wanted);
+    }
+}
+
+/// Where the fault of a text begins, and past its end where it has none.
+fn fault_offset(rt: &impl Abort, alloc: Global, text: &str) -> usize {
+    let read: Result<TypeDef, ReadError> = read_text(alloc, text);
+    match read {
+        Ok(_) => text.len() + 1,
+        Err(ReadError::OutOfMemory) => text.len() + 1,
+        Err(ReadError::Fault(fault)) => offset_of(alloc, text, &fault).expect(rt, "memory"),
+    }
+}
+
+#[test]
+fn faults_are_placed(rt: HostRuntime) {
+    for (text, wanted) in [
+        ("{\"name\":1}", "1}"),
+        ("{ \"name\" : null, \"kind\": {\"list\" : -1}}", "-1}}"),
+        (
+            "{\"name\":null,\"kind\":{\"map\":[\"u8\", \"u9\"]}}",
+            "\"u9\"]}}",
+        ),
+        ("{\"name\":null,\"name\":true}", "true}"),
+        ("{\"name\":null,\"kind\":\"list\"}", "\"list\"}"),
+    ] {
+        let offset = fault_offset(&rt, rt.alloc(), text);
+        assert!(&rt; text.get(offset..) == Some(wanted), "{offset} of {text}");
     }
 }

@@ -1,0 +1,102 @@
+-- Readings that succeed, one step after another.
+use Rattle.std.proofs.Common.{◌≡◌, ◌∙◌, ℕ, zero, suc, Bool, true, false, cond, List, [], ◌∷◌, ◌++◌, map, Option, Some, None, Result, Ok, Err, refl, sym, ap, subst, bytes_eq, if◌then◌else◌, append_assoc, slice_get, arith, append-nil}
+use Rattle.std.proofs.lemmas.Option.{slice_get_within}
+use Rattle.std.proofs.lemmas.Slice.Eq.{bytes_eq-Decides}
+use Rattle.std.specs.Option.{option_map}
+use Rattle.std.specs.Prelude.{IfSome, is_some}
+use Rattle.std.specs.Map.{lookup}
+use Rattle.json.specs.Find.{get}
+use Rattle.json.specs.Json.{Json, Members}
+use Rattle.json.specs.Json as json
+use Rattle.json.specs.Value.{items_of}
+use Rattle.wit_values.specs.Table.{HasDistinctKeys}
+use Rattle.wit_values.specs.facts.Lists.{slice_get-behind, slice_get-append}
+use Rattle.wit_data.specs.Each.{Each}
+use Rattle.wit_json.specs.Values.{members_of, object_under_names, pair, tagged}
+use Rattle.wit_json.specs.Values as written
+use Rattle.wit_json_reading.specs.Objects.{alone, pair_of, variant_of}
+use Rattle.wit_json_reading.specs.Reading.{Reading, ◌>>=◌, has_to_be_there, if_there, items_from, list_of, only, optional, required, under}
+use Rattle.wit_json_reading.specs.Tables.{named_from, named_of}
+use Rattle.wit_json_reading.specs.Values.{nullable}
+use Rattle.wit_json_reading.specs.declared.fault.Expected.{Expected}
+use Rattle.wit_json_reading.specs.declared.fault.Step.TheVariants as step
+
+-- ---- steps
+
+module _ {A B : Type 0} where
+  -- something is read, and then something else
+  pub then : (m : Reading A) (k : A → Reading B) (x : A) (r : Reading B) → m ≡ Ok x → k x ≡ r → (m >>= k) ≡ r
+  then m k x r first next = ap (λ (it : Reading A). it >>= k) first ∙ next
+
+module _ {A : Type 0} where
+  pub reads_required : (f : Json → Reading A) (name : List ℕ) (j v : Json) (x : A) → get name j ≡ Some v → f v ≡ Ok x → required f name j ≡ Ok x
+  reads_required f name j v x there reads = ap (has_to_be_there f name) there ∙ ap (under (step.Member name)) reads
+
+  reads_there : (f : Json → Reading A) (w : A → Json) (name : List ℕ) (o : Option A) → IfSome o (λ x. f (w x) ≡ Ok x) → if_there f name (option_map w o) ≡ Ok o
+  reads_there f w name None reads = refl
+  reads_there f w name (Some x) reads = ap (λ (r : Reading A). under (step.Member name) r >>= λ y. Ok (Some y)) reads
+
+  pub reads_optional : (f : Json → Reading A) (w : A → Json) (name : List ℕ) (j : Json) (o : Option A) → get name j ≡ option_map w o → IfSome o (λ x. f (w x) ≡ Ok x)
+      → optional f name j ≡ Ok o
+  reads_optional f w name j o there reads = ap (if_there f name) there ∙ reads_there f w name o reads
+
+  pub reads_alone : (f : Json → Reading A) (name : List ℕ) (j : Json) (x : A) → only (name ∷ []) (tagged name j) ≡ Ok tt → get name (tagged name j) ≡ Some j → f j ≡ Ok x
+      → alone f name (tagged name j) ≡ Ok x
+  reads_alone f name j x known there reads = then (only (name ∷ []) (tagged name j)) (λ _. required f name (tagged name j)) tt (Ok x) known (reads_required f name (tagged name j) j x there reads)
+
+  pub reads_variant : (f : List ℕ → Json → Reading A) (e : Expected) (name : List ℕ) (j : Json) (x : A) → f name j ≡ Ok x → variant_of f e (tagged name j) ≡ Ok x
+  reads_variant f e name j x reads = ap (under (step.Member name)) reads
+
+-- ---- lists and pairs
+
+module _ {A : Type 0} (f : Json → Reading A) (w : A → Json) where
+  reads_items : (n : ℕ) (xs : List A) → Each (λ x. f (w x) ≡ Ok x) xs → items_from f n (items_of (map w xs)) ≡ Ok xs
+  reads_items n [] each = refl
+  reads_items n (x ∷ xs) each =
+      then (under (step.Item n) (f (w x))) _ x (Ok (x ∷ xs)) (ap (under (step.Item n)) (each 0 x refl))
+          (then (items_from f (suc n) (items_of (map w xs))) _ xs (Ok (x ∷ xs)) (reads_items (suc n) xs (λ i y at. each (suc i) y at)) refl)
+
+  pub reads_list : (xs : List A) → Each (λ x. f (w x) ≡ Ok x) xs → list_of f (written.list_of w xs) ≡ Ok xs
+  reads_list xs each = reads_items 0 xs each
+
+module _ {A B : Type 0} where
+  pub reads_pair : (f : Json → Reading A) (g : Json → Reading B) (a b : Json) (x : A) (y : B) → f a ≡ Ok x → g b ≡ Ok y → pair_of f g (pair a b) ≡ Ok (x, y)
+  reads_pair f g a b x y first second =
+      then (under (step.Item 0) (f a)) _ x (Ok (x, y)) (ap (under (step.Item 0)) first) (then (under (step.Item 1) (g b)) _ y (Ok (x, y)) (ap (under (step.Item 1)) second) refl)
+
+-- ---- tables
+
+module _ {K V : Type 0} {eq : K → K → Bool} (exact : (a b : K) → eq a b ≡ true → a ≡ b) where
+  -- a key that no entry has isn't found
+  not_there : (es : List (K × V)) (k : K) → ((i : ℕ) (e : K × V) → slice_get es i ≡ Some e → k ≡ e.0 → ⊥) → lookup (eq k) es ≡ None
+  not_there [] k none = refl
+  not_there (e ∷ es) k none = by (eq k e.0) refl
+    where
+      by : (b : Bool) → eq k e.0 ≡ b → cond b (Some e.1) (lookup (eq k) es) ≡ None
+      by true same = absurd (none 0 e refl (exact k e.0 same))
+      by false other = not_there es k (λ i d at. none (suc i) d at)
+
+  within : (es : List (K × V)) (i : ℕ) (e : K × V) → slice_get es i ≡ Some e → i ≡ length es → ⊥
+  within es i e at same = omega (arith, slice_get_within es i e at, same)
+
+  -- nor the one of the next entry among those before it
+  pub is_new : (es fs : List (K × V)) (e : K × V) → HasDistinctKeys (es ++ e ∷ fs) → is_some (lookup (eq e.0) es) ≡ false
+  is_new es fs e distinct =
+      ap is_some (not_there es e.0 (λ i d at same. within es i d at
+          (distinct i (length es) d e (slice_get-append es (e ∷ fs) i d at) (slice_get-behind es fs e) (sym same))))
+
+module _ {A : Type 0} (f : Json → Reading A) (w : A → Json) where
+  abbrev member_of : List ℕ × A → List ℕ × Json
+  member_of e = (e.0, w e.1)
+
+  reads_entries : (before es : List (List ℕ × A)) → HasDistinctKeys (before ++ es) → Each (λ (e : List ℕ × A). f (w e.1) ≡ Ok e.1) es
+      → named_from f before (members_of (map member_of es)) ≡ Ok (before ++ es)
+  reads_entries before [] distinct each = ap Ok (sym (append-nil before))
+  reads_entries before (e ∷ es) distinct each =
+      let new : is_some (lookup (bytes_eq e.0) before) ≡ false = is_new (λ a b. (bytes_eq-Decides a b).0) before es e distinct in
+      let longer : (before ++ e ∷ []) ++ es ≡ before ++ e ∷ es = append_assoc before (e ∷ []) es in
+      rw new (then (under (step.Member e.0) (f (w e.1))) _ e.1 (Ok (before ++ e ∷ es)) (ap (under (step.Member e.0)) (each 0 e refl))
+          (reads_entries (before ++ e ∷ []) es (subst (λ (all : List (List ℕ × A)). HasDistinctKeys all) (sym longer) distinct) (λ i y at. each (suc i) y at) ∙ ap Ok longer))
+
+  pub reads_named : (es : List (List ℕ × A)) → HasDistinctKeys es → Each (λ (e : List ℕ × A). f (w e.1) ≡ Ok e.1) es → named_of f (object_under_names w es) ≡ Ok es
+  reads_named es distinct each = reads_entries [] es distinct each
