@@ -1,5 +1,5 @@
 -- The documents that come out.
-use Rattle.std.specs.Prelude.{ℕ, List, ◌++◌, codes, rev}
+use Rattle.std.specs.Prelude.{ℕ, List, ◌++◌, codes, reverse}
 use Rattle.json.specs.Json.{Json}
 use Rattle.wit_graph_data.specs.declared.features.Features.{Features}
 use Rattle.wit_graph_data.specs.declared.graph.Graph.{Graph}
@@ -25,7 +25,7 @@ json_of_step (step.Item index) = json_of_number index
 
 -- the steps from the whole down; a fault has the last one first
 abbrev pub json_of_path : List Step → Json
-json_of_path steps = list_of json_of_step (rev steps)
+json_of_path steps = list_of json_of_step (reverse steps)
 
 -- the path to a value, the byte at which it begins, and what was expected there
 abbrev pub json_of_place : Fault → ℕ → Json

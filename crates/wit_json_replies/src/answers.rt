@@ -1,5 +1,7 @@
 //! Answers to commands.
-ghost use Rattle.wit_json_replies.specs.Answers.{json_of_answer, json_of_refused, json_of_response};
+ghost use Rattle.std.specs.Prelude.{◌≡◌, ◌++◌, OnOk};
+ghost use Rattle.json.specs.Tree.{json_tokens};
+ghost use Rattle.wit_json_replies.specs.Answers.{json_of_answer, json_of_merge, json_of_refused, json_of_response};
 
 use crate::core_names::CoreNames;
 use crate::remaps::write_remap;
@@ -90,6 +92,20 @@ impl WriteJson for Answer {
     }
 }
 
+/// Writes the answers to what made another graph, and to its merge.
+fn write_merge(
+    out: &mut JsonText,
+    replies: &Items<Answer>,
+    reply: &Answer,
+) -> Result<(), AllocError>
+    ensures { OnOk result (out.new ≡ out.old ++ json_tokens (json_of_merge replies.now reply.now)) }
+{
+    out.begin_object()?;
+    out.member("replies", replies)?;
+    out.member("reply", reply)?;
+    out.end_object()
+}
+
 impl WriteJson for Response {
     ghost json = { json_of_response };
 
@@ -98,10 +114,7 @@ impl WriteJson for Response {
             Response::Answer(answer) => answer.write_json(out),
             Response::Merge { replies, reply } => {
                 out.begin_tagged("merge")?;
-                out.begin_object()?;
-                out.member("replies", replies)?;
-                out.member("reply", reply)?;
-                out.end_object()?;
+                write_merge(out, replies, reply)?;
                 out.end_object()
             }
         }

@@ -46,8 +46,8 @@ fn write_path(out: &mut JsonText, steps: &[Step]) -> Result<(), AllocError>
     ensures { OnOk result (out.new ≡ out.old ++ json_tokens (json_of_path steps.now)) }
 {
     out.begin_array()?;
-    for step in steps.iter().rev() {
-        write_step(out, step)?;
+    for index in (0..steps.len()).rev() {
+        write_step(out, &steps[index])?;
     }
     out.end_array()
 }
