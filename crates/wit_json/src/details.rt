@@ -58,7 +58,11 @@ impl JsonText {
     }
 
     /// Writes what is left out of a thing under a name.
-    pub(crate) fn details<T: WriteDetails>(&mut self, name: &str, value: &T) -> Result<(), AllocError>
+    pub(crate) fn details<T: WriteDetails>(
+        &mut self,
+        name: &str,
+        value: &T,
+    ) -> Result<(), AllocError>
         ensures { OnOk result (Adds self.old self.new (member name.now (T.details value.now))) }
     {
         self.key(name)?;

@@ -72,11 +72,11 @@ module _ (mark : ℕ) where
 
   has_mark : (xs rest : List ℕ) → is_mark mark ≡ true → list_any is_mark (xs ++ mark ∷ rest) ≡ true
   has_mark [] rest own = ap (λ (b : Bool). b || list_any is_mark rest) own
-  has_mark (x ∷ xs) rest own = by (is_mark x)
+  has_mark (x ∷ xs) rest own = by (is_mark x) (has_mark xs rest own)
     where
-      by : (b : Bool) → (b || list_any is_mark (xs ++ mark ∷ rest)) ≡ true
-      by true = refl
-      by false = has_mark xs rest own
+      by : (b : Bool) → list_any is_mark (xs ++ mark ∷ rest) ≡ true → (b || list_any is_mark (xs ++ mark ∷ rest)) ≡ true
+      by true others = refl
+      by false others = others
 
   front : (xs rest : List ℕ) → list_any is_mark xs ≡ false → is_mark mark ≡ true → before_first is_mark (xs ++ mark ∷ rest) ≡ xs
   front xs rest none own = ap (λ (n : ℕ). take n (xs ++ mark ∷ rest)) (marked_at xs rest none own) ∙ taken xs rest

@@ -38,12 +38,13 @@ digit_behind k [] d m small read =
     let same : k ≡ m = cc in
     let digit : (48 + d) - 48 ≡ d = omega arith in
     rw (digit_is d small) (ap (λ (n : ℕ). Some (k * 10 + n)) digit ∙ ap (λ (n : ℕ). Some (n * 10 + d)) same)
-digit_behind k (c ∷ cs) d m small read = by (is_ascii_digit c) read
+digit_behind k (c ∷ cs) d m small read = by (is_ascii_digit c) read (λ rest. digit_behind (k * 10 + (c - 48)) cs d m small rest)
   where
     by : (b : Bool) → (if b then decimal_after (k * 10 + (c - 48)) cs else None) ≡ Some m
+        → (decimal_after (k * 10 + (c - 48)) cs ≡ Some m → decimal_after (k * 10 + (c - 48)) (cs ++ (48 + d) ∷ []) ≡ Some (m * 10 + d))
         → (if b then decimal_after (k * 10 + (c - 48)) (cs ++ (48 + d) ∷ []) else None) ≡ Some (m * 10 + d)
-    by true h = digit_behind (k * 10 + (c - 48)) cs d m small h
-    by false h = cc
+    by true h others = others h
+    by false h others = cc
 
 one_digit : (n : ℕ) → n < 10 → decimal_after 0 ((48 + n) ∷ []) ≡ Some n
 one_digit n small = digit_behind 0 [] n 0 small refl

@@ -70,11 +70,11 @@ module _ {K V : Type 0} {eq : K → K → Bool} (exact : (a b : K) → eq a b �
   -- a key that no entry has isn't found
   not_there : (es : List (K × V)) (k : K) → ((i : ℕ) (e : K × V) → slice_get es i ≡ Some e → k ≡ e.0 → ⊥) → lookup (eq k) es ≡ None
   not_there [] k none = refl
-  not_there (e ∷ es) k none = by (eq k e.0) refl
+  not_there (e ∷ es) k none = by (eq k e.0) refl (not_there es k (λ i d at. none (suc i) d at))
     where
-      by : (b : Bool) → eq k e.0 ≡ b → cond b (Some e.1) (lookup (eq k) es) ≡ None
-      by true same = absurd (none 0 e refl (exact k e.0 same))
-      by false other = not_there es k (λ i d at. none (suc i) d at)
+      by : (b : Bool) → eq k e.0 ≡ b → lookup (eq k) es ≡ None → cond b (Some e.1) (lookup (eq k) es) ≡ None
+      by true same others = absurd (none 0 e refl (exact k e.0 same))
+      by false other others = others
 
   within : (es : List (K × V)) (i : ℕ) (e : K × V) → slice_get es i ≡ Some e → i ≡ length es → ⊥
   within es i e at same = omega (arith, slice_get_within es i e at, same)

@@ -40,20 +40,20 @@ pub is_second : {A : Type 0} (known : List (List ℕ)) (ms : List (Bor (List ℕ
 is_second known ms i m small is second =
     ap (names_from known (names_in (take i ms))) (next_member ms i m small is)
     ∙ ap (λ (b : Bool). if b then under (step.Member m.0.now) (instead_of expected.NoSecondMember)
-        else if list_any (bytes_eq m.0.now) known then names_from known (names_in (take i ms) ++ m.0.now ∷ []) (members_view (drop (suc i) ms))
-        else under (step.Member m.0.now) (instead_of expected.NoMember)) (any_map (bytes_eq m.0.now) (λ it. it.0.now) (take i ms) ∙ second)
+    else if list_any (bytes_eq m.0.now) known then names_from known (names_in (take i ms) ++ m.0.now ∷ []) (members_view (drop (suc i) ms))
+    else under (step.Member m.0.now) (instead_of expected.NoMember)) (any_map (bytes_eq m.0.now) (λ it. it.0.now) (take i ms) ∙ second)
 
 -- it doesn't stand before it
 first_there : {A : Type 0} (known : List (List ℕ)) (ms : List (Bor (List ℕ) × Value A)) (i : ℕ) (m : Bor (List ℕ) × Value A) → i < length ms → m ≡ get_or ms i m
     → list_any (λ e. bytes_eq m.0.now e.0.now) (take i ms) ≡ false
     → names_from known (names_in (take i ms)) (members_view (drop i ms))
     ≡ (if list_any (bytes_eq m.0.now) known then names_from known (names_in (take i ms) ++ m.0.now ∷ []) (members_view (drop (suc i) ms))
-        else under (step.Member m.0.now) (instead_of expected.NoMember))
+    else under (step.Member m.0.now) (instead_of expected.NoMember))
 first_there known ms i m small is first =
     ap (names_from known (names_in (take i ms))) (next_member ms i m small is)
     ∙ ap (λ (b : Bool). if b then under (step.Member m.0.now) (instead_of expected.NoSecondMember)
-        else if list_any (bytes_eq m.0.now) known then names_from known (names_in (take i ms) ++ m.0.now ∷ []) (members_view (drop (suc i) ms))
-        else under (step.Member m.0.now) (instead_of expected.NoMember)) (any_map (bytes_eq m.0.now) (λ it. it.0.now) (take i ms) ∙ first)
+    else if list_any (bytes_eq m.0.now) known then names_from known (names_in (take i ms) ++ m.0.now ∷ []) (members_view (drop (suc i) ms))
+    else under (step.Member m.0.now) (instead_of expected.NoMember)) (any_map (bytes_eq m.0.now) (λ it. it.0.now) (take i ms) ∙ first)
 
 -- the name of the member at an index isn't known
 pub is_unknown : {A : Type 0} (known : List (Bor (List ℕ))) (ms : List (Bor (List ℕ) × Value A)) (i : ℕ) (m : Bor (List ℕ) × Value A) → i < length ms → m ≡ get_or ms i m
@@ -62,7 +62,7 @@ pub is_unknown : {A : Type 0} (known : List (Bor (List ℕ))) (ms : List (Bor (L
 is_unknown known ms i m small is first unknown =
     first_there (map (λ it. it.now) known) ms i m small is first
     ∙ ap (λ (b : Bool). if b then names_from (map (λ it. it.now) known) (names_in (take i ms) ++ m.0.now ∷ []) (members_view (drop (suc i) ms))
-        else under (step.Member m.0.now) (instead_of expected.NoMember)) (any_map (bytes_eq m.0.now) (λ it. it.now) known ∙ unknown)
+    else under (step.Member m.0.now) (instead_of expected.NoMember)) (any_map (bytes_eq m.0.now) (λ it. it.now) known ∙ unknown)
 
 -- it is known
 pub is_known : {A : Type 0} (known : List (Bor (List ℕ))) (ms : List (Bor (List ℕ) × Value A)) (i : ℕ) (m : Bor (List ℕ) × Value A) → i < length ms → m ≡ get_or ms i m
@@ -72,7 +72,7 @@ is_known known ms i m small is first there =
     let next : suc i ≡ i + 1 = omega arith in
     first_there (map (λ it. it.now) known) ms i m small is first
     ∙ ap (λ (b : Bool). if b then names_from (map (λ it. it.now) known) (names_in (take i ms) ++ m.0.now ∷ []) (members_view (drop (suc i) ms))
-        else under (step.Member m.0.now) (instead_of expected.NoMember)) (any_map (bytes_eq m.0.now) (λ it. it.now) known ∙ there)
+    else under (step.Member m.0.now) (instead_of expected.NoMember)) (any_map (bytes_eq m.0.now) (λ it. it.now) known ∙ there)
     ∙ ap (λ names. names_from (map (λ it. it.now) known) names (members_view (drop (suc i) ms))) (next_name ms i m small is)
     ∙ ap (λ n. names_from (map (λ it. it.now) known) (names_in (take (i + 1) ms)) (members_view (drop n ms))) next
 

@@ -1,5 +1,5 @@
 -- What source maps and groups of packages are read from.
-use Rattle.std.specs.Prelude.{ℕ, suc, ◌^◌, List, [], ◌∷◌, Result, Ok, Err, codes, if◌then◌else◌, nat_lt}
+use Rattle.std.specs.Prelude.{ℕ, ◌^◌, List, [], ◌∷◌, length, Result, Ok, Err, codes, if◌then◌else◌, nat_lt}
 use Rattle.json.specs.Json.{Items, Json}
 use Rattle.json.specs.Json as json
 use Rattle.wit_sources.specs.SourceMap.{Sources, end_after, with_file}
@@ -25,17 +25,17 @@ with_source sources file = if nat_lt (end_after sources.end file.1) (2 ^ 32) the
 abbrev pub source_behind : Sources → Json → Reading Sources
 source_behind sources j = source_of j >>= λ file. with_source sources file
 
--- the files of the items from an index on, behind those that are there
-abbrev pub sources_from : Sources → ℕ → Items → Reading Sources
-sources_from sources n json.no_items = Ok sources
-sources_from sources n (json.item j js) = under (step.Item n) (source_behind sources j) >>= λ more. sources_from more (suc n) js
+-- the files of items, behind those that are there
+abbrev pub sources_from : Sources → Items → Reading Sources
+sources_from sources json.no_items = Ok sources
+sources_from sources (json.item j js) = under (step.Item (length sources.files)) (source_behind sources j) >>= λ more. sources_from more js
 
 abbrev pub no_sources : Sources
 no_sources = record { files = []; end = 0 }
 
 -- files in a row, from position 0 on
 abbrev pub sources_of : Json → Reading Sources
-sources_of (json.array js) = sources_from no_sources 0 js
+sources_of (json.array js) = sources_from no_sources js
 sources_of _ = instead_of expected.List
 
 -- packages, and the files in which their spans are positions

@@ -85,11 +85,14 @@ with_entry name entry entries =
     if is_some (lookup (same_key (key_of name entry)) entries) then under (step.Member name) (instead_of expected.NoSecondMember)
     else Ok (entries ++ (key_of name entry, entry) ∷ [])
 
+-- the entry of a member behind those that are there
+abbrev pub with_member : List ℕ → Json → List (WorldKey × WorldItem) → Reading (List (WorldKey × WorldItem))
+with_member name j entries = under (step.Member name) (item_of j) >>= λ entry. with_entry name entry entries
+
 -- the entries of members, behind those that are there
 abbrev pub entries_from : List (WorldKey × WorldItem) → Members → Reading (List (WorldKey × WorldItem))
 entries_from entries json.no_members = Ok entries
-entries_from entries (json.member name j ms) =
-    (under (step.Member name) (item_of j) >>= λ entry. with_entry name entry entries) >>= λ more. entries_from more ms
+entries_from entries (json.member name j ms) = with_member name j entries >>= λ more. entries_from more ms
 
 -- the entries of a world
 abbrev pub entries_of : Json → Reading (List (WorldKey × WorldItem))

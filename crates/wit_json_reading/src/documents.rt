@@ -46,8 +46,7 @@ fn take_step(reader: &mut Reader<'_>, step: &Step, second: bool, most: usize) ->
             let found = matches!(reader.next(), Some(Token::BeginObject))
                 && take_to(reader, name.as_str(), most);
             if found && second {
-                return reader.skip_value(MAX_DEPTH).is_ok()
-                    && take_to(reader, name.as_str(), most);
+                return reader.skip_value(MAX_DEPTH).is_ok() && take_to(reader, name.as_str(), most);
             }
             found
         }

@@ -22,11 +22,7 @@ fn source(alloc: Global, value: &Value<'_>) -> Result<(Text, Text), ReadError>
 }
 
 /// The sources with the file that a value is at their end.
-fn with_value(
-    alloc: Global,
-    sources: SourceMap,
-    value: &Value<'_>,
-) -> Result<SourceMap, ReadError>
+fn with_value(alloc: Global, sources: SourceMap, value: &Value<'_>) -> Result<SourceMap, ReadError>
     ensures { Reads result (source_behind sources (value_view value.now)) }
 {
     let (path, text) = source(alloc, value)?;
@@ -57,8 +53,9 @@ impl ReadJson for SourceMap {
             return instead_of(alloc, Expected::List);
         };
         let mut sources = SourceMap::new(alloc);
-        for index in 0..items.len() {
-            sources = in_item(with_value(alloc, sources, &items[index]), index)?;
+        for item in items {
+            let index = sources.len();
+            sources = in_item(with_value(alloc, sources, item), index)?;
         }
         Ok(sources)
     }

@@ -39,11 +39,7 @@ fn package_name(alloc: Global, text: &str) -> Result<PackageName, ReadError>
 }
 
 /// The name in a namespace.
-fn name_in_namespace(
-    alloc: Global,
-    namespace: &str,
-    text: &str,
-) -> Result<PackageName, ReadError>
+fn name_in_namespace(alloc: Global, namespace: &str, text: &str) -> Result<PackageName, ReadError>
     ensures { Reads result (name_in namespace.now text.now) }
 {
     let version = version_behind(alloc, text)?;

@@ -82,10 +82,7 @@ fn is_one_of(names: &[&str], name: &str) -> bool
 }
 
 /// A list.
-pub fn list<T: ReadJson + Drop>(
-    alloc: Global,
-    value: &Value<'_>,
-) -> Result<Items<T>, ReadError>
+pub fn list<T: ReadJson + Drop>(alloc: Global, value: &Value<'_>) -> Result<Items<T>, ReadError>
     ensures { Reads result (list_of T.reading (value_view value.now)) }
 {
     let Value::Array(items) = value else {

@@ -10,7 +10,9 @@ use crate::objects::{alone, one_member, pair};
 use crate::reader::{ReadJson, only, optional, required};
 use json::Value;
 use std::alloc::Global;
-use wit_data::{Case, EnumCase, Field, Flag, Handle, Type_, TypeDef, TypeDefKind, TypeId, TypeOwner};
+use wit_data::{
+    Case, EnumCase, Field, Flag, Handle, Type_, TypeDef, TypeDefKind, TypeId, TypeOwner,
+};
 
 impl ReadJson for Type_ {
     ghost reading = { type_of };
@@ -254,7 +256,15 @@ impl ReadJson for TypeDef {
         only(
             alloc,
             value,
-            &["name", "kind", "owner", "docs", "stability", "span", "external-id"],
+            &[
+                "name",
+                "kind",
+                "owner",
+                "docs",
+                "stability",
+                "span",
+                "external-id",
+            ],
         )?;
         let name = required(alloc, value, "name")?;
         let kind = required(alloc, value, "kind")?;

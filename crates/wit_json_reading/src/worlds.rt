@@ -2,7 +2,7 @@
 ghost use Rattle.std.specs.Prelude.{◌≡◌, ◌++◌, IfOk, codes, decimal, bytes_eq};
 ghost use Rattle.json.specs.Value.{value_view};
 ghost use Rattle.wit_json_reading.specs.Reading.{Reads};
-ghost use Rattle.wit_json_reading.specs.Worlds.{entries_of, include_name_of, include_of, interface_entry_of, interface_of, item_by, item_of, key_of, placed_type_of, type_entry_of, with_entry, world_of};
+ghost use Rattle.wit_json_reading.specs.Worlds.{entries_of, include_name_of, include_of, interface_entry_of, interface_of, item_by, item_of, key_of, placed_type_of, type_entry_of, with_entry, with_member, world_of};
 
 use crate::fault::{Expected, ReadError, in_member, instead_of};
 use crate::gates::{docs, span, stability};
@@ -145,12 +145,23 @@ impl ReadJson for Table<WorldKey, WorldItem> {
         };
         let mut entries = Table::new(alloc);
         for member in members {
-            let name = member.0;
-            let entry = in_member(alloc, WorldItem::read_json(alloc, &member.1), name)?;
-            entries = with_entry(alloc, name, entry, entries)?;
+            entries = with_member(alloc, member.0, &member.1, entries)?;
         }
         Ok(entries)
     }
+}
+
+/// The entries with that of one member more.
+fn with_member(
+    alloc: Global,
+    name: &str,
+    value: &Value<'_>,
+    entries: Table<WorldKey, WorldItem>,
+) -> Result<Table<WorldKey, WorldItem>, ReadError>
+    ensures { Reads result (with_member name.now (value_view value.now) entries) }
+{
+    let entry = in_member(alloc, ReadJson::read_json(alloc, value), name)?;
+    with_entry(alloc, name, entry, entries)
 }
 
 /// The entries with one more, under a key that isn't there yet.

@@ -10,9 +10,9 @@ returns-then-is_among c =
     let i = c.loop-index.index in
     let small : i < length ms = omega (arith, c.loop-index-test.true, c.len-index-end.ensures) in
     let second : list_any (λ e. bytes_eq m.0.now e.0.now) (take i ms) ≡ true =
-        ap (λ xs. list_any (λ e. bytes_eq m.0.now e.0.now) (take i xs)) (sym c.deref.ensures.value) ∙ sym c.is_among.ensures ∙ c.if-is_among.true in
+    ap (λ xs. list_any (λ e. bytes_eq m.0.now e.0.now) (take i xs)) (sym c.deref.ensures.value) ∙ sym c.is_among.ensures ∙ c.if-is_among.true in
     reads_same c.in_member.result (c.loop-index.invariant ∙ is_second (map (λ name. name.now) c.args.known.now) ms i m small c.index.ensures second)
-        (c.in_member.ensures _ c.instead_of-then-is_among.ensures)
+    (c.in_member.ensures _ c.instead_of-then-is_among.ensures)
 
 pub returns-then-not-is_one_of : goal.returns-then-not-is_one_of
 returns-then-not-is_one_of c =
@@ -21,10 +21,10 @@ returns-then-not-is_one_of c =
     let i = c.loop-index.index in
     let small : i < length ms = omega (arith, c.loop-index-test.true, c.len-index-end.ensures) in
     let first : list_any (λ e. bytes_eq m.0.now e.0.now) (take i ms) ≡ false =
-        ap (λ xs. list_any (λ e. bytes_eq m.0.now e.0.now) (take i xs)) (sym c.deref.ensures.value) ∙ sym c.is_among.ensures ∙ c.if-is_among.false in
+    ap (λ xs. list_any (λ e. bytes_eq m.0.now e.0.now) (take i xs)) (sym c.deref.ensures.value) ∙ sym c.is_among.ensures ∙ c.if-is_among.false in
     let unknown : list_any (λ it. bytes_eq m.0.now it.now) c.args.known.now ≡ false = sym c.is_one_of.ensures ∙ c.if-not-is_one_of.true in
     reads_same c.in_member-then-not-is_one_of.result (c.loop-index.invariant ∙ is_unknown c.args.known.now ms i m small c.index.ensures first unknown)
-        (c.in_member-then-not-is_one_of.ensures _ c.instead_of-then-not-is_one_of.ensures)
+    (c.in_member-then-not-is_one_of.ensures _ c.instead_of-then-not-is_one_of.ensures)
 
 pub loop-index-preserved : goal.loop-index-preserved
 loop-index-preserved c =
@@ -33,6 +33,6 @@ loop-index-preserved c =
     let i = c.loop-index.index in
     let small : i < length ms = omega (arith, c.loop-index-test.true, c.len-index-end.ensures) in
     let first : list_any (λ e. bytes_eq m.0.now e.0.now) (take i ms) ≡ false =
-        ap (λ xs. list_any (λ e. bytes_eq m.0.now e.0.now) (take i xs)) (sym c.deref.ensures.value) ∙ sym c.is_among.ensures ∙ c.if-is_among.false in
+    ap (λ xs. list_any (λ e. bytes_eq m.0.now e.0.now) (take i xs)) (sym c.deref.ensures.value) ∙ sym c.is_among.ensures ∙ c.if-is_among.false in
     let there : list_any (λ it. bytes_eq m.0.now it.now) c.args.known.now ≡ true = sym c.is_one_of.ensures ∙ c.if-not-is_one_of.false in
     c.loop-index.invariant ∙ is_known c.args.known.now ms i m small c.index.ensures first there
