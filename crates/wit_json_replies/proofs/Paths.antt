@@ -1,12 +1,12 @@
 -- The steps of a path, written from the first one on.
-use Rattle.std.proofs.Common.{◌≡◌, ◌<◌, ◌∙◌, ℕ, suc, List, [], ◌∷◌, ◌++◌, length, get_or, drop, reverse, map, refl, sym, ap, append_assoc, append-nil, drop-cons}
+use Rattle.std.proofs.Common.{◌≡◌, ◌<◌, ◌∙◌, ℕ, suc, List, [], ◌∷◌, ◌++◌, length, get_or, drop, reverse, map, OnOk, Result, Ok, Err, refl, sym, ap, append_assoc, append-nil, drop-cons}
 use Rattle.std.proofs.lemmas.List.{reverse-append}
 use Rattle.json.specs.Token.{Token}
 use Rattle.json.specs.Token as token
 use Rattle.json.specs.Tree.{items_tokens, json_tokens}
 use Rattle.json.specs.Value.{items_of}
 use Rattle.wit_json_reading.specs.declared.fault.Step.{Step}
-use Rattle.wit_json_replies.specs.Documents.{json_of_step}
+use Rattle.wit_json_replies.specs.Documents.{json_of_path, json_of_step}
 
 -- the tokens of steps
 abbrev pub steps_tokens : List Step → List Token
@@ -33,3 +33,11 @@ one_before ss k n s next small is =
     ∙ steps_tokens-append (reverse (drop (suc k) ss)) (s ∷ [])
     ∙ ap (λ x. steps_tokens (reverse (drop (suc k) ss)) ++ x) (append-nil (json_tokens (json_of_step s)))
     ∙ ap (λ m. steps_tokens (reverse (drop m ss)) ++ json_tokens (json_of_step s)) (sym next)
+
+-- all steps are written, and the list is ended
+pub path_ended : {E : Type 0} (r : Result (Unit {0}) E) (a : List Token) {b : List Token} (d : List Token) (ss : List Step) → b ≡ a ++ token.begin_array ∷ steps_tokens (reverse ss)
+    → OnOk r (d ≡ b ++ token.end_array ∷ []) → OnOk r (d ≡ a ++ json_tokens (json_of_path ss))
+path_ended (Ok x) a d ss written ends =
+    ends ∙ ap (λ (ts : List Token). ts ++ token.end_array ∷ []) written ∙ append_assoc a (token.begin_array ∷ steps_tokens (reverse ss)) (token.end_array ∷ [])
+    ∙ ap (λ (ts : List Token). a ++ token.begin_array ∷ ts) (sym (all_steps (reverse ss)))
+path_ended (Err e) a d ss written ends = tt

@@ -1,7 +1,10 @@
 //! The documents that come out.
-ghost use Rattle.std.specs.Prelude.{◌≡◌, ◌++◌, IfOk, OnOk, string_bytes};
+ghost use Rattle.std.specs.Prelude.{◌≡◌, ◌++◌, IfOk, OnOk, codes, string_bytes};
 ghost use Rattle.json.specs.Tree.{json_tokens};
 ghost use Rattle.wit_json.specs.Graph.{compact};
+ghost use Rattle.wit_json.specs.Values.{json_of_number, json_of_text, member};
+ghost use Rattle.wit_json.specs.steps.Members.{Adds};
+ghost use Rattle.wit_json_reading.specs.Messages.{expected_text};
 ghost use Rattle.wit_json_replies.specs.Documents.{json_of_fault, json_of_output, json_of_path, json_of_place, json_of_step};
 
 use crate::answers::Response;
@@ -9,7 +12,7 @@ use std::alloc::{AllocError, Global};
 use wit_data::{Items, SourceMap};
 use wit_graph_data::{Features, Graph};
 use wit_json::JsonText;
-use wit_json_reading::{Fault, Step};
+use wit_json_reading::{Expected, Fault, Step};
 
 /// The answers to the commands of a document, and the graph with what stands beside it, without a space. The only error
 /// is want of memory.
@@ -52,19 +55,40 @@ fn write_path(out: &mut JsonText, steps: &[Step]) -> Result<(), AllocError>
     out.end_array()
 }
 
+/// Writes the member that has the path to a fault.
+fn write_path_member(out: &mut JsonText, path: &Items<Step>) -> Result<(), AllocError>
+    ensures { OnOk result (Adds out.old out.new (member (codes "path") (json_of_path path.now))) }
+{
+    out.key("path")?;
+    write_path(out, path.as_slice())
+}
+
+/// Writes the member that has the byte at which the value of a fault begins.
+fn write_offset(out: &mut JsonText, offset: usize) -> Result<(), AllocError>
+    ensures { OnOk result (Adds out.old out.new (member (codes "offset") (json_of_number offset))) }
+{
+    out.key("offset")?;
+    out.number(offset as u64)
+}
+
+/// Writes the member that has what was expected.
+fn write_expected(out: &mut JsonText, expected: Expected) -> Result<(), AllocError>
+    ensures { OnOk result (Adds out.old out.new (member (codes "expected") (json_of_text (expected_text expected)))) }
+{
+    let alloc = out.allocator();
+    let text = format!(in alloc; "{expected}")?;
+    out.key("expected")?;
+    out.string(text.as_str())
+}
+
 /// Writes the path to a fault, the byte at which its value begins, and what was expected there.
 fn write_place(out: &mut JsonText, fault: &Fault, offset: usize) -> Result<(), AllocError>
     ensures { OnOk result (out.new ≡ out.old ++ json_tokens (json_of_place fault.now offset)) }
 {
-    let alloc = out.allocator();
-    let expected = format!(in alloc; "{}", fault.expected)?;
     out.begin_object()?;
-    out.key("path")?;
-    write_path(out, fault.path.as_slice())?;
-    out.key("offset")?;
-    out.number(offset as u64)?;
-    out.key("expected")?;
-    out.string(expected.as_str())?;
+    write_path_member(out, &fault.path)?;
+    write_offset(out, offset)?;
+    write_expected(out, fault.expected)?;
     out.end_object()
 }
 
