@@ -1,7 +1,7 @@
 -- What a document's commands do, and what is answered to each.
 use Rattle.std.specs.Prelude.{◌≡◌, ◌⊎◌, ℕ, List, [], ◌∷◌}
-use Rattle.std.specs.List.{AllByRecursion}
 use Rattle.wit_sources.specs.SourceMap.{Sources}
+use Rattle.wit_data.specs.Each.{Each}
 use Rattle.wit_data.specs.Shape.{IsGroupShaped}
 use Rattle.wit_resolve_graph.specs.State.{State, new_state}
 use Rattle.wit_resolve_graph.specs.Step.{Step}
@@ -51,7 +51,7 @@ command_of (change.Semver home world) = command.Semver home world
 
 -- the groups that a change adds have their shape
 abbrev pub IsChangeShaped : Change → Type 0
-IsChangeShaped (change.PushGroups main deps) = AllByRecursion IsGroupShaped (main ∷ deps)
+IsChangeShaped (change.PushGroups main deps) = IsGroupShaped main × Each IsGroupShaped deps
 IsChangeShaped _ = Unit {0}
 
 -- a change whose groups have their shape is carried out

@@ -1,5 +1,8 @@
 //! Changes carried out.
 ghost use Rattle.std.specs.Prelude.{◌≡◌, ◌↔◌, IfOk, IsTrue};
+ghost use Rattle.wit_data.specs.Each.{Each};
+ghost use Rattle.wit_data.specs.Shape.{IsGroupShaped};
+ghost use Rattle.wit_json_questions.specs.Tells.{refused};
 ghost use Rattle.wit_json_runs.specs.Runs.{AnswersChange, AnswersCommand, IsChangeShaped, answer_of, command_of};
 ghost use Rattle.wit_resolve_graph.specs.Step.{IsCommandShaped};
 
@@ -34,7 +37,9 @@ fn is_change_shaped(alloc: Global, change: &Change) -> Result<bool, AllocError>
 }
 
 /// Whether groups have their shape.
-fn are_shaped(alloc: Global, groups: &[UnresolvedPackageGroup]) -> Result<bool, AllocError> {
+fn are_shaped(alloc: Global, groups: &[UnresolvedPackageGroup]) -> Result<bool, AllocError>
+    ensures { IfOk result (λ shaped. IsTrue shaped ↔ Each IsGroupShaped groups.now) }
+{
     for group in groups {
         if !group.is_shaped(alloc)? {
             return Ok(false);
@@ -104,7 +109,9 @@ fn answer_of(alloc: Global, resolve: &Resolve, reply: Reply) -> ResolveResult<An
 }
 
 /// A refusal with its line.
-fn refused(alloc: Global, resolve: &Resolve, error: ResolveError) -> ResolveResult<Answer> {
+fn refused(alloc: Global, resolve: &Resolve, error: ResolveError) -> ResolveResult<Answer>
+    ensures { IfOk result (λ answer. answer ≡ refused resolve.now.source_map error) }
+{
     let rendered = Text::from_string(error.render(alloc, resolve.source_map())?);
     Ok(Answer::Refused(Refusal { error, rendered }))
 }

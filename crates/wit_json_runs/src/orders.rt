@@ -1,5 +1,6 @@
 //! What a document asks, carried out in order.
 ghost use Rattle.std.specs.Prelude.{IfOk};
+ghost use Rattle.wit_json_commands.specs.declared.orders.Order.TheVariants as order;
 ghost use Rattle.wit_json_runs.specs.Runs.{Answers, AnswersEach, Responds, RespondsEach};
 
 use crate::changes::{answer_change, carry_out};
@@ -36,7 +37,13 @@ fn response_to(alloc: Global, resolve: &mut Resolve, order: Order) -> ResolveRes
 }
 
 /// Carries out requests on an empty graph, and merges that into this one.
-fn merge(alloc: Global, resolve: &mut Resolve, requests: Items<Request>) -> ResolveResult<Response> {
+fn merge(
+    alloc: Global,
+    resolve: &mut Resolve,
+    requests: Items<Request>,
+) -> ResolveResult<Response>
+    ensures { IfOk result (λ reply. Responds resolve.old (order.Merge requests) reply resolve.new) }
+{
     let mut other = Resolve::new(alloc);
     let replies = answers_to(alloc, &mut other, requests)?;
     let reply = carry_out(alloc, resolve, Command::Merge(other))?;
