@@ -6,7 +6,7 @@ use Rattle.wit_graph_data.specs.declared.error_kind.ResolveErrorKind.TheVariants
 use Rattle.wit_merge_match.specs.Differing.{merge_of_graphs_by}
 use Rattle.wit_merge_spec.specs.Cause.{IsMergeCause, MergeIsAccepted}
 use Rattle.wit_merge.proofs.Outcome.{is_united, nothing_speaks, settle_told, settles}
-use Rattle.wit_merge.proofs.whole.union_of.Goals as goal
+use Rattle.wit_merge.proofs.whole.united_by.Goals as goal
 
 pub returns-in_err-joined-clause-cause : goal.returns-in_err-joined-clause-cause
 returns-in_err-joined-clause-cause c =
@@ -18,7 +18,7 @@ returns-in_err-joined-clause-cause c =
 
 pub check_and_elaborate-requires : goal.check_and_elaborate-requires
 check_and_elaborate-requires c =
-    settles (merge_of_graphs_by c.args.graph.now c.args.other.now c.args.offset) c.requires.valid c.requires.other c.in_ok-check_agreement.ensures.agree.one c.in_ok-joined.joined c.in_ok-joined.ensures.joined
+    settles (merge_of_graphs_by c.args.graph.now c.args.other.now c.args.offset) c.requires.valid c.requires.other c.requires.agree.one c.in_ok-joined.joined c.in_ok-joined.ensures.joined
 
 pub returns-in_err-check_and_elaborate-clause-cause : goal.returns-in_err-check_and_elaborate-clause-cause
 returns-in_err-check_and_elaborate-clause-cause c =
@@ -27,12 +27,12 @@ returns-in_err-check_and_elaborate-clause-cause c =
     (λ e is.
     let same : e ≡ c.in_err-check_and_elaborate.field-0.0 = is in
     subst (λ (x : ResolveErrorKind). (x ≡ OutOfMemory) ⊎ IsMergeCause m x) (sym same)
-    (settle_told m c.requires.valid c.requires.other c.in_ok-check_agreement.ensures.agree.one c.in_ok-joined.joined c.in_ok-joined.ensures.joined c.in_err-check_and_elaborate.field-0.0 c.in_err-check_and_elaborate.ensures.cause))
+    (settle_told m c.requires.valid c.requires.other c.requires.agree.one c.in_ok-joined.joined c.in_ok-joined.ensures.joined c.in_err-check_and_elaborate.field-0.0 c.in_err-check_and_elaborate.ensures.cause))
 
 pub returns-clause-valid : goal.returns-clause-valid
 returns-clause-valid c =
     let m = merge_of_graphs_by c.args.graph.now c.args.other.now c.args.offset in
-    let agree = c.in_ok-check_agreement.ensures.agree in
+    let agree = c.requires.agree in
     let can : MergeIsAccepted m = nothing_speaks m c.requires.valid c.requires.other agree.one c.in_ok-joined.joined c.in_ok-joined.ensures.joined agree c.in_ok-joined.ensures.none c.in_ok-check_and_elaborate.ensures.refuses in
     subst IsValid (sym (is_united m c.in_ok-joined.joined c.check_and_elaborate.new.graph c.in_ok-joined.ensures.joined c.in_ok-check_and_elaborate.ensures.ok))
     (c.unions_stay_valid.ensures m c.requires.valid c.requires.other can)
@@ -40,7 +40,7 @@ returns-clause-valid c =
 pub returns-clause-refuses : goal.returns-clause-refuses
 returns-clause-refuses c =
     let m = merge_of_graphs_by c.args.graph.now c.args.other.now c.args.offset in
-    let agree = c.in_ok-check_agreement.ensures.agree in
+    let agree = c.requires.agree in
     nothing_speaks m c.requires.valid c.requires.other agree.one c.in_ok-joined.joined c.in_ok-joined.ensures.joined agree c.in_ok-joined.ensures.none c.in_ok-check_and_elaborate.ensures.refuses
 
 pub returns-clause-graph : goal.returns-clause-graph
