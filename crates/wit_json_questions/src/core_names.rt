@@ -1,9 +1,10 @@
 //! The names in core wasm of the functions of a world.
-ghost use Rattle.std.specs.Prelude.{◌≡◌, ◌++◌, IfOk, OnOk, map};
+ghost use Rattle.std.specs.Prelude.{◌≡◌, ◌++◌, IfOk, OnOk};
 ghost use Rattle.std.specs.List.{flat_map};
 ghost use Rattle.std.specs.Option.{option_copied};
 ghost use Rattle.wit_elaboration.specs.Valid.{IsValid};
-ghost use Rattle.wit_json_questions.specs.CoreNames.{core_export, core_exports, core_import, core_imports, entry_functions, mangling_of};
+ghost use Rattle.wit_json_questions.specs.CoreNames.{core_export, core_exports, core_import, core_imports, entry_functions, functions_at, mangling_of};
+ghost use Rattle.wit_json_questions.specs.steps.Placed.{placed_function, placed_functions};
 ghost use Rattle.wit_json_questions.specs.Tells.{core_names};
 
 use crate::names::world_named;
@@ -68,7 +69,7 @@ fn functions_of<'a>(
     graph: &'a Graph,
     entries: &'a Table<WorldKey, WorldItem>,
 ) -> Result<Vec<Placed<'a>>, AllocError>
-    ensures { IfOk result (λ placed. map (λ (it : Placed). (option_copied it.interface, it.function.now)) placed.items ≡ flat_map (entry_functions graph.now) entries.now) }
+    ensures { IfOk result (λ placed. placed_functions placed.items ≡ flat_map (entry_functions graph.now) entries.now) }
 {
     let mut placed = Vec::new(alloc);
     for (key, item) in entries.iter() {
@@ -84,6 +85,7 @@ fn add_functions<'a>(
     item: &'a WorldItem,
     placed: &mut Vec<Placed<'a>>,
 ) -> Result<(), AllocError>
+    ensures { OnOk result (placed_functions placed.new.items ≡ placed_functions placed.old.items ++ entry_functions graph.now (key.now, item.now)) }
 {
     match item {
         WorldItem::Function(function) => placed.push(Placed {
@@ -103,6 +105,7 @@ fn add_interface<'a>(
     id: InterfaceId,
     placed: &mut Vec<Placed<'a>>,
 ) -> Result<(), AllocError>
+    ensures { OnOk result (placed_functions placed.new.items ≡ placed_functions placed.old.items ++ functions_at graph.now key.now id) }
 {
     let Some(interface) = graph.interfaces.get(id.index()) else {
         return Ok(());
@@ -143,7 +146,7 @@ fn core_import(
     placed: &Placed<'_>,
 ) -> ResolveResult<Option<CoreImport>>
     requires { IsValid graph.now }
-    ensures { IfOk result (λ import. import ≡ core_import graph.now mangling (option_copied placed.now.interface) placed.now.function.now) }
+    ensures { IfOk result (λ import. import ≡ core_import graph.now mangling (placed_function placed.now)) }
 {
     let import = WasmImport::Func {
         interface: placed.interface,
@@ -200,7 +203,7 @@ fn core_export(
     placed: &Placed<'_>,
 ) -> ResolveResult<Option<CoreExport>>
     requires { IsValid graph.now }
-    ensures { IfOk result (λ export. export ≡ core_export graph.now mangling (option_copied placed.now.interface) placed.now.function.now) }
+    ensures { IfOk result (λ export. export ≡ core_export graph.now mangling (placed_function placed.now)) }
 {
     let export = WasmExport::Func {
         interface: placed.interface,
