@@ -29,11 +29,23 @@ fn is_change_shaped(alloc: Global, change: &Change) -> Result<bool, AllocError>
     ensures { IfOk result (λ shaped. IsTrue shaped ↔ IsChangeShaped change.now) }
 {
     match change {
-        Change::PushGroups { main, deps } => {
-            Ok(main.is_shaped(alloc)? && are_shaped(alloc, deps.as_slice())?)
-        }
+        Change::PushGroups { main, deps } => are_groups_shaped(alloc, main, deps),
         _ => Ok(true),
     }
+}
+
+/// Whether a main group and those that come with it have their shape.
+fn are_groups_shaped(
+    alloc: Global,
+    main: &UnresolvedPackageGroup,
+    deps: &Items<UnresolvedPackageGroup>,
+) -> Result<bool, AllocError>
+    ensures { IfOk result (λ shaped. IsTrue shaped ↔ (IsGroupShaped main.now × Each IsGroupShaped deps.now)) }
+{
+    if !main.is_shaped(alloc)? {
+        return Ok(false);
+    }
+    are_shaped(alloc, deps.as_slice())
 }
 
 /// Whether groups have their shape.
