@@ -42,6 +42,10 @@ if told != (1, "", "the script isn't UTF-8\n"):
 print(f"c_example: {len(cases)} worked scripts print what they are to print")
 P
 
+"$compiler" $flags bindings/c/json.c $libraries -o "$work/json"
+"$work/json" < crates/witgraph_json/stdin | cmp - crates/witgraph_json/stdout
+echo "c_example: the document of witgraph_json comes out as stored"
+
 # Each allocation is refused in turn.
 "$compiler" $flags -Wl,--wrap=malloc,--wrap=realloc,--wrap=free bindings/c/no_memory.c $libraries -o "$work/no_memory"
 "$work/no_memory" < crates/witgraph/stdin

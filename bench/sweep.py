@@ -2,11 +2,11 @@
 """Refuses each request for memory in turn, and tells where want of memory isn't what is answered. A request for less than
 what a block has, which gives memory back, is none of these.
 
-    python3 bench/sweep.py [--calls PROGRAM] [--scripts PROGRAM] [--jobs N]
+    python3 bench/sweep.py [--calls PROGRAM] [--scripts PROGRAM] [--documents PROGRAM] [--jobs N]
     python3 bench/sweep.py --planted BUILD
 
 The programs are those that `rt ci` leaves in the folders `out`: `wit_sweep`, which makes each call on the graphs of
-worked scripts, and `witgraph`, which runs the scripts of `witgraph_cases`. `bench/refuse.c` is compiled and laid over
+worked scripts, `witgraph`, which runs the scripts of `witgraph_cases`, and `witgraph_json`. `bench/refuse.c` is compiled and laid over
 their allocator. Each round is a process of its own. The script ends with status 1 where a round isn't answered so:
 
 Calls. In the round of number N the Nth request for memory within one call is refused, for N from 1 until none is; then
@@ -20,6 +20,10 @@ understood, else 0. In the round of number N the Nth request of the whole run is
 out of memory`, and the others what they print where that command isn't there, with status 0; or nothing is printed, with
 status 1.
 
+Documents. Every eighth script that has a document (`bench/documents.py`) is given to `witgraph_json` as that. In the round of
+number N the Nth request of the whole run is refused. One command is answered by 28, and the others and the graph are as
+where that command isn't there; or nothing is written, with status 1.
+
 `--planted` plants the wrong bodies of `bench/planted` in a copy of the repository and ends with status 1 where the
 sweep of the calls doesn't tell one of them. No proof lets them pass, so `BUILD FOLDER OUT` is a command that builds the
 program of a crate's folder unproved.
@@ -28,6 +32,7 @@ import argparse
 import collections
 import concurrent.futures
 import dataclasses
+import json
 import os
 import re
 import shutil
@@ -36,6 +41,7 @@ import sys
 import tempfile
 import time
 
+import documents
 from model.scripts import COMMANDS, SILENT
 
 BENCH = os.path.dirname(os.path.abspath(__file__))
@@ -284,6 +290,84 @@ class Script:
         return is_refused, [f"request {at}: {it}" for it in faults]
 
 
+# ---- documents
+
+
+def without_spans(made):
+    """A reply without spans: the files of a push that is refused may stay, and what follows them then stands further on."""
+    if isinstance(made, list):
+        return [without_spans(it) for it in made]
+    return {key: without_spans(it) for key, it in made.items() if key != "span"} if isinstance(made, dict) else made
+
+
+def told_of(out):
+    """What of a document that came out has to be as it is without the command that was refused."""
+    output = json.loads(out)
+    return without_spans(output["replies"]), output["resolve"]["graph"], output["resolve"]["features"]
+
+
+def is_want(reply):
+    return isinstance(reply, dict) and reply.get("refused", {}).get("error", {}).get("number") == 28
+
+
+def without_each(commands):
+    """The commands without one of them, with what is to be answered of a list of replies where that one is refused."""
+    for at, command in enumerate(commands):
+        left = commands[:at] + commands[at + 1:]
+        yield left, lambda replies, told, at=at: replies[:at] + told[at:at + 1] + replies[at:]
+        for inner in range(len(command.get("merge", []))):
+            of = command["merge"][:inner] + command["merge"][inner + 1:]
+
+            def with_inner(replies, told, at=at, inner=inner):
+                made, want = replies[at]["merge"], told[at]["merge"]["replies"]
+                each = made["replies"][:inner] + want[inner:inner + 1] + made["replies"][inner:]
+                return replies[:at] + [{"merge": {**made, "replies": each}}] + replies[at + 1:]
+
+            yield commands[:at] + [{"merge": of}] + commands[at + 1:], with_inner
+
+
+def wants(replies):
+    """How many of the replies are 28. A merge that is refused tells what made the other graph as it is."""
+    inner = [it for reply in replies if "merge" in reply for it in [*reply["merge"]["replies"], reply["merge"]["reply"]]]
+    return sum(map(is_want, [*replies, *inner]))
+
+
+class Document:
+    """The rounds of one document."""
+
+    def __init__(self, program, commands):
+        self.program, self.given = program, json.dumps({"commands": commands})
+        self.plain = program.run(self.given)
+        self.faults = list(self.plain.faults())
+        if self.plain.status:
+            self.faults.append(f"without refusals: status {self.plain.status}, prints\n{self.plain.out}")
+        self.may = []
+        for left, with_want in without_each(commands):
+            ran = program.run(json.dumps({"commands": left}))
+            self.may.append((told_of(ran.out), with_want))
+
+    def is_right(self, out):
+        """Whether one command is refused for memory, and all else is as without it."""
+        replies, *others = told_of(out)
+        if wants(replies) != 1:
+            return False
+        return any(list(rest) == others and with_want(of, replies) == replies for (of, *rest), with_want in self.may)
+
+    def rounds(self):
+        return ((at,) for at in range(1, self.plain.whole[0] + 2))
+
+    def judge(self, at):
+        """Whether anything is refused in a round, and what is wrong."""
+        ran = self.program.run(self.given, at=at)
+        faults, is_refused = list(ran.faults()), ran.whole[1] > 0
+        is_plain = (ran.status, ran.out) == (self.plain.status, self.plain.out)
+        if not is_refused and not is_plain:
+            faults.append("nothing is refused, and yet it prints something else")
+        elif is_refused and (ran.status, ran.out) != (1, "") and (ran.status or not self.is_right(ran.out)):
+            faults.append("answers as if it weren't refused" if is_plain else f"status {ran.status}, prints\n{ran.out[:2000]}")
+        return is_refused, [f"request {at}: {it}" for it in faults]
+
+
 # ---- all of them
 
 
@@ -331,6 +415,14 @@ class Sweep:
             self.add(f"script {name}", Script(program, script, stored))
         self.tell(f"{len(scripts)} scripts more")
 
+    def documents(self, path):
+        program, scripts = self.program(path), cases_of(f"{TOP}/crates/witgraph_cases/stdin")
+        made = {name: documents.document_of(case.partition("---\n")[0]) for name, case in scripts.items()}
+        chosen = [name for name, document in made.items() if document][::8]
+        for name in chosen:
+            self.add(f"document {name}", Document(program, made[name]["commands"]))
+        self.tell(f"{len(chosen)} documents more")
+
     def tell(self, what):
         print(f"sweep: {what}: {self.rounds} rounds with a refusal, {len(self.faults)} wrong, {time.time() - self.begun:.0f} s", flush=True)
 
@@ -361,6 +453,7 @@ def main():
     parser = argparse.ArgumentParser()
     parser.add_argument("--calls", default=f"{TOP}/crates/wit_sweep/out/wit_sweep")
     parser.add_argument("--scripts", default=f"{TOP}/crates/witgraph/out/witgraph")
+    parser.add_argument("--documents", default=f"{TOP}/crates/witgraph_json/out/witgraph_json")
     parser.add_argument("--jobs", type=int, default=os.cpu_count())
     parser.add_argument("--planted", metavar="BUILD")
     asked = parser.parse_args()
@@ -370,6 +463,7 @@ def main():
             return planted(sweep, asked.planted)
         sweep.calls(asked.calls, cases_of(f"{TOP}/crates/wit_sweep/stdout"))
         sweep.scripts(asked.scripts)
+        sweep.documents(asked.documents)
     for it in sweep.faults[:40]:
         print("WRONG", it)
     return 1 if sweep.faults else 0

@@ -1,6 +1,6 @@
-/* witgraph: scripts of WIT packages and of what to do with them are run, and answered.
+/* witgraph: scripts of WIT packages and of what to do with them, or JSON documents of the same, are run, and answered.
  *
- * docs/SCRIPT.md has the language of the scripts and of their answers. The functions are those of the static library
+ * docs/SCRIPT.md has the language of the scripts and of their answers, docs/JSON.md the documents. The functions are those of the static library
  * libwitgraph_c.a, which `rt lib` builds in crates/witgraph_c; a program links it, and after it the toolchain's
  * liblibc_c.a, by which the library calls the program's malloc, realloc and free. bindings/README.md has the commands.
  *
@@ -65,6 +65,13 @@ uint32_t witgraph_execute(const uint8_t *input, size_t length, uint8_t *output, 
  *
  * The arguments and the status are as there. */
 uint32_t witgraph_explain(const uint8_t *input, size_t length, uint8_t *output, size_t capacity, size_t *needed);
+
+/* Carries out the commands of a JSON document on an empty graph, and writes the document that comes out: the one that
+ * the program witgraph_json writes. It has the replies and the graph, and where the input isn't such a document
+ * (WITGRAPH_NOT_UNDERSTOOD) the first fault in it.
+ *
+ * The arguments and the status are as of witgraph_execute, with the document in place of the script. */
+uint32_t witgraph_json(const uint8_t *input, size_t length, uint8_t *output, size_t capacity, size_t *needed);
 
 #ifdef __cplusplus
 }

@@ -1,0 +1,3 @@
+pub mod CoreNames
+pub mod Tells
+pub mod steps

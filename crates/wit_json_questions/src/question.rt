@@ -1,0 +1,59 @@
+//! Questions and their answers.
+ghost use Rattle.std.specs.Prelude.{◌≡◌, IfOk};
+ghost use Rattle.wit_elaboration.specs.Valid.{IsValid};
+ghost use Rattle.wit_json_questions.specs.Tells.{Tells, canonical_id};
+
+use crate::core_names::core_names;
+use crate::dependencies::{interface_dependencies, package_dependencies, package_order};
+use crate::functions::futures_and_streams;
+use crate::selection::select;
+use std::alloc::Global;
+use wit_data::{PackageName, SourceMap, Text};
+use wit_graph_data::{Graph, ResolveResult};
+use wit_json_commands::Question;
+use wit_json_replies::Answer;
+use wit_queries::canonical::canonicalized_id_of_name;
+
+/// The answer to a question about a valid graph, whose spans stand in these files. A choice of a world may be refused, and
+/// that is its answer; else the only refusal is want of memory (28).
+pub fn tell(
+    alloc: Global,
+    graph: &Graph,
+    files: &SourceMap,
+    question: &Question,
+) -> ResolveResult<Answer>
+    requires { IsValid graph.now }
+    ensures { IfOk result (λ answer. Tells graph.now files.now question.now answer) }
+{
+    match question {
+        Question::Select { packages, world } => select(alloc, graph, files, packages, world),
+        Question::PackageDependencies(package) => package_dependencies(alloc, graph, package),
+        Question::InterfaceDependencies { package, interface } => {
+            interface_dependencies(alloc, graph, package, interface)
+        }
+        Question::PackageOrder => package_order(alloc, graph),
+        Question::CanonicalId { package, name } => canonical_id(alloc, graph, package, name),
+        Question::CoreNames {
+            package,
+            world,
+            mangling,
+        } => core_names(alloc, graph, package, world, *mangling),
+        Question::FuturesAndStreams(place) => futures_and_streams(alloc, graph, place),
+    }
+}
+
+/// The canonical id text of this name in a package.
+fn canonical_id(
+    alloc: Global,
+    graph: &Graph,
+    package: &PackageName,
+    name: &Text,
+) -> ResolveResult<Answer>
+    ensures { IfOk result (λ answer. answer ≡ canonical_id graph.now «package».now name.now) }
+{
+    let Some(id) = graph.package_names.get(package) else {
+        return Ok(Answer::NotFound);
+    };
+    let text = canonicalized_id_of_name(alloc, graph, *id, name.as_str())?;
+    Ok(Answer::Text(Text::from_string(text)))
+}

@@ -1,0 +1,4 @@
+pub mod CoreNames
+pub mod Remaps
+pub mod Answers
+pub mod Documents

@@ -1,0 +1,53 @@
+-- Answers one after another, and the answers to commands.
+use Rattle.std.proofs.Common.{◌≡◌, ℕ, suc, List, [], ◌∷◌, ◌++◌, Result, Ok, Err, refl, sym, ap, ◌∙◌, subst}
+use Rattle.std.specs.List.{AllByRecursion}
+use Rattle.wit_data.specs.Each.{Each}
+use Rattle.wit_data.specs.Shape.{IsGroupShaped}
+use Rattle.wit_resolve_graph.specs.State.{State}
+use Rattle.wit_resolve_graph.specs.Step.{IsCommandShaped, Run, Step}
+use Rattle.wit_resolve_graph.specs.declared.command.Command.{Command}
+use Rattle.wit_resolve_graph.specs.declared.command.Reply.{Reply}
+use Rattle.wit_json_commands.specs.declared.changes.Change.{Change}
+use Rattle.wit_json_commands.specs.declared.changes.Change.TheVariants as change
+use Rattle.wit_json_commands.specs.declared.orders.Order.{Order}
+use Rattle.wit_json_commands.specs.declared.orders.Request.{Request}
+use Rattle.wit_json_replies.specs.declared.answers.Answer.{Answer}
+use Rattle.wit_json_replies.specs.declared.answers.Response.{Response}
+use Rattle.wit_json_runs.specs.Runs.{Answers, AnswersCommand, AnswersEach, Responds, RespondsEach, IsChangeShaped, answer_of, command_of}
+
+-- one more request
+pub AnswersEach-more : (old mid new : State) (its : List Request) (answers : List Answer) (it : Request) (told : Answer)
+    → AnswersEach old its answers mid → Answers mid it told new → AnswersEach old (its ++ it ∷ []) (answers ++ told ∷ []) new
+AnswersEach-more old mid new [] [] it told each one = (new, subst (λ (s : State). Answers s it told new) each one, refl)
+AnswersEach-more old mid new (first ∷ its) (answer ∷ answers) it told each one = (each.0, each.1, AnswersEach-more each.0 mid new its answers it told each.2 one)
+AnswersEach-more old mid new [] (answer ∷ answers) it told each one = absurd each
+AnswersEach-more old mid new (first ∷ its) [] it told each one = absurd each
+
+-- one more order
+pub RespondsEach-more : (old mid new : State) (its : List Order) (replies : List Response) (it : Order) (told : Response)
+    → RespondsEach old its replies mid → Responds mid it told new → RespondsEach old (its ++ it ∷ []) (replies ++ told ∷ []) new
+RespondsEach-more old mid new [] [] it told each one = (new, subst (λ (s : State). Responds s it told new) each one, refl)
+RespondsEach-more old mid new (first ∷ its) (reply ∷ replies) it told each one = (each.0, each.1, RespondsEach-more each.0 mid new its replies it told each.2 one)
+RespondsEach-more old mid new [] (reply ∷ replies) it told each one = absurd each
+RespondsEach-more old mid new (first ∷ its) [] it told each one = absurd each
+
+-- the one reply to one command
+pub one_reply : (old new : State) (it : Command) (reply : Reply) → Run old (it ∷ []) (reply ∷ []) new → (told : Answer) → told ≡ answer_of new.source_map reply
+    → AnswersCommand old it told new
+one_reply old new it reply run told is = record { reply = reply; step = subst (λ (s : State). Step old it reply s) (sym run.2) run.1; told_is = is }
+
+-- ---- shapes
+
+each_all : {X : Type 0} (P : X → Type 0) (xs : List X) → Each P xs → AllByRecursion P xs
+each_all P [] each = tt
+each_all P (x ∷ xs) each = (each 0 x refl, each_all P xs (λ i y at. each (suc i) y at))
+
+-- the command that a change with its shape is has its shape
+pub shaped_command : (it : Change) → IsChangeShaped it → IsCommandShaped (command_of it)
+shaped_command (change.AddFeature name) shaped = tt
+shaped_command (change.SetAllFeatures all) shaped = tt
+shaped_command (change.SetTrackRule rule) shaped = tt
+shaped_command (change.PushGroups main deps) shaped = (shaped.0, each_all IsGroupShaped deps shaped.1)
+shaped_command (change.Importize home world out) shaped = tt
+shaped_command (change.Exportize home world out keys) shaped = tt
+shaped_command (change.Semver home world) shaped = tt

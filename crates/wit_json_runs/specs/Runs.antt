@@ -1,0 +1,99 @@
+-- What a document's commands do, and what is answered to each.
+use Rattle.std.specs.Prelude.{◌≡◌, ◌⊎◌, ℕ, List, [], ◌∷◌}
+use Rattle.wit_sources.specs.SourceMap.{Sources}
+use Rattle.wit_data.specs.Each.{Each}
+use Rattle.wit_data.specs.Shape.{IsGroupShaped}
+use Rattle.wit_resolve_graph.specs.State.{State, new_state}
+use Rattle.wit_resolve_graph.specs.Step.{Step}
+use Rattle.wit_resolve_graph.specs.declared.command.Command.{Command}
+use Rattle.wit_resolve_graph.specs.declared.command.Command.TheVariants as command
+use Rattle.wit_resolve_graph.specs.declared.command.Reply.{Reply}
+use Rattle.wit_resolve_graph.specs.declared.command.Reply.TheVariants as reply
+use Rattle.wit_json_commands.specs.declared.changes.Change.{Change}
+use Rattle.wit_json_commands.specs.declared.changes.Change.TheVariants as change
+use Rattle.wit_json_commands.specs.declared.orders.Order.{Order}
+use Rattle.wit_json_commands.specs.declared.orders.Order.TheVariants as order
+use Rattle.wit_json_commands.specs.declared.orders.Request.{Request}
+use Rattle.wit_json_commands.specs.declared.orders.Request.TheVariants as request
+use Rattle.wit_json_questions.specs.Tells.{Tells, refused}
+use Rattle.wit_json_replies.specs.declared.answers.Answer.{Answer}
+use Rattle.wit_json_replies.specs.declared.answers.Answer.TheVariants as answer
+use Rattle.wit_json_replies.specs.declared.answers.Response.{Response}
+use Rattle.wit_json_replies.specs.declared.answers.Response.TheVariants as response
+
+-- ---- commands
+
+-- the answer that a reply is; the line of a refusal is looked up in these files
+abbrev pub answer_of : Sources → Reply → Answer
+answer_of files reply.Done = answer.Done
+answer_of files (reply.Pushed id) = answer.Pushed id
+answer_of files (reply.Merged remap) = answer.Merged remap
+answer_of files reply.NoWorld = answer.NoWorld
+answer_of files (reply.Refused error) = refused files error
+
+-- a command is carried out, and its reply is answered
+pub record AnswersCommand (old : State) (it : Command) (told : Answer) (new : State) : Type 0 where
+  pub reply : Reply
+  pub step : Step old it reply new
+  pub told_is : told ≡ answer_of new.source_map reply
+
+-- ---- changes
+
+-- the command that a change is
+abbrev pub command_of : Change → Command
+command_of (change.AddFeature name) = command.AddFeature name
+command_of (change.SetAllFeatures all) = command.SetAllFeatures all
+command_of (change.SetTrackRule rule) = command.SetTrackRule rule
+command_of (change.PushGroups main deps) = command.PushGroups main deps
+command_of (change.Importize home world out) = command.Importize home world out
+command_of (change.Exportize home world out keys) = command.Exportize home world out keys
+command_of (change.Semver home world) = command.Semver home world
+
+-- the groups that a change adds have their shape
+abbrev pub IsChangeShaped : Change → Type 0
+IsChangeShaped (change.PushGroups main deps) = IsGroupShaped main × Each IsGroupShaped deps
+IsChangeShaped _ = Unit {0}
+
+-- a change whose groups have their shape is carried out
+pub record AnswersShaped (old : State) (it : Change) (told : Answer) (new : State) : Type 0 where
+  pub shaped : IsChangeShaped it
+  pub answered : AnswersCommand old (command_of it) told new
+
+-- of another one that is said, and nothing has changed
+pub record TellsShape (old : State) (it : Change) (told : Answer) (new : State) : Type 0 where
+  pub unshaped : IsChangeShaped it → ⊥
+  pub told_is : told ≡ answer.NotShaped
+  pub same : new ≡ old
+
+abbrev pub AnswersChange : State → Change → Answer → State → Type 0
+AnswersChange old it told new = AnswersShaped old it told new ⊎ TellsShape old it told new
+
+-- ---- requests and orders
+
+-- a change is carried out; a question changes nothing
+abbrev pub Answers : State → Request → Answer → State → Type 0
+Answers old (request.Change it) told new = AnswersChange old it told new
+Answers old (request.Ask it) told new = Tells old.graph old.source_map it told × (new ≡ old)
+
+-- one after another, with one answer to each
+abbrev pub AnswersEach : State → List Request → List Answer → State → Type 0
+AnswersEach old [] [] new = new ≡ old
+AnswersEach old (it ∷ its) (told ∷ answers) new = (mid : State) × Answers old it told mid × AnswersEach mid its answers new
+AnswersEach old _ _ new = ⊥
+
+-- requests are carried out on an empty graph, which is merged into this one
+pub record MergesOther (old : State) (its : List Request) (answers : List Answer) (told : Answer) (new : State) : Type 0 where
+  pub other : State
+  pub made : AnswersEach new_state its answers other
+  pub merged : AnswersCommand old (command.Merge other) told new
+
+abbrev pub Responds : State → Order → Response → State → Type 0
+Responds old (order.Request it) (response.Answer told) new = Answers old it told new
+Responds old (order.Merge its) (response.Merge answers told) new = MergesOther old its answers told new
+Responds old _ _ new = ⊥
+
+-- one after another, with one reply to each
+abbrev pub RespondsEach : State → List Order → List Response → State → Type 0
+RespondsEach old [] [] new = new ≡ old
+RespondsEach old (it ∷ its) (told ∷ replies) new = (mid : State) × Responds old it told mid × RespondsEach mid its replies new
+RespondsEach old _ _ new = ⊥

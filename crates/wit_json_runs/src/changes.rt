@@ -1,0 +1,129 @@
+//! Changes carried out.
+ghost use Rattle.std.specs.Prelude.{◌≡◌, ◌↔◌, IfOk, IsTrue};
+ghost use Rattle.wit_data.specs.Each.{Each};
+ghost use Rattle.wit_data.specs.Shape.{IsGroupShaped};
+ghost use Rattle.wit_json_questions.specs.Tells.{refused};
+ghost use Rattle.wit_json_runs.specs.Runs.{AnswersChange, AnswersCommand, IsChangeShaped, answer_of, command_of};
+ghost use Rattle.wit_resolve_graph.specs.Step.{IsCommandShaped};
+
+use std::alloc::{AllocError, Global};
+use wit_json_commands::Change;
+use wit_json_replies::{Answer, Refusal};
+use wit_resolve_graph::{
+    Command, Items, Reply, Resolve, ResolveError, ResolveResult, Shape, Text,
+    UnresolvedPackageGroup, run,
+};
+
+/// Carries out a change, and answers it. The only refusal is want of memory outside the command (28).
+pub fn answer_change(alloc: Global, resolve: &mut Resolve, change: Change) -> ResolveResult<Answer>
+    ensures { IfOk result (λ answer. AnswersChange resolve.old change answer resolve.new) }
+{
+    if !is_change_shaped(alloc, &change)? {
+        return Ok(Answer::NotShaped);
+    }
+    carry_out(alloc, resolve, command_of(change))
+}
+
+/// Whether the groups that a change adds have their shape.
+fn is_change_shaped(alloc: Global, change: &Change) -> Result<bool, AllocError>
+    ensures { IfOk result (λ shaped. IsTrue shaped ↔ IsChangeShaped change.now) }
+{
+    match change {
+        Change::PushGroups { main, deps } => are_groups_shaped(alloc, main, deps),
+        _ => Ok(true),
+    }
+}
+
+/// Whether a main group and those that come with it have their shape.
+fn are_groups_shaped(
+    alloc: Global,
+    main: &UnresolvedPackageGroup,
+    deps: &Items<UnresolvedPackageGroup>,
+) -> Result<bool, AllocError>
+    ensures { IfOk result (λ shaped. IsTrue shaped ↔ (IsGroupShaped main.now × Each IsGroupShaped deps.now)) }
+{
+    if !main.is_shaped(alloc)? {
+        return Ok(false);
+    }
+    are_shaped(alloc, deps.as_slice())
+}
+
+/// Whether groups have their shape.
+fn are_shaped(alloc: Global, groups: &[UnresolvedPackageGroup]) -> Result<bool, AllocError>
+    ensures { IfOk result (λ shaped. IsTrue shaped ↔ Each IsGroupShaped groups.now) }
+{
+    for group in groups {
+        if !group.is_shaped(alloc)? {
+            return Ok(false);
+        }
+    }
+    Ok(true)
+}
+
+/// The command that a change is.
+fn command_of(change: Change) -> Command
+    ensures { result ≡ command_of change }
+{
+    match change {
+        Change::AddFeature(name) => Command::AddFeature(name),
+        Change::SetAllFeatures(all) => Command::SetAllFeatures(all),
+        Change::SetTrackRule(rule) => Command::SetTrackRule(rule),
+        Change::PushGroups { main, deps } => Command::PushGroups { main, deps },
+        Change::Importize {
+            package,
+            world,
+            out,
+        } => Command::Importize {
+            package,
+            world,
+            out,
+        },
+        Change::Exportize {
+            package,
+            world,
+            out,
+            keys,
+        } => Command::Exportize {
+            package,
+            world,
+            out,
+            keys,
+        },
+        Change::Semver { package, world } => Command::Semver { package, world },
+    }
+}
+
+/// Carries out a command, and answers its reply.
+pub fn carry_out(alloc: Global, resolve: &mut Resolve, command: Command) -> ResolveResult<Answer>
+    requires { IsCommandShaped command }
+    ensures { IfOk result (λ answer. AnswersCommand resolve.old command answer resolve.new) }
+{
+    let mut commands = Items::new(alloc);
+    commands.push(command)?;
+    let mut replies = run(alloc, resolve, commands.into_vec())?;
+    match replies.pop() {
+        Some(reply) => answer_of(alloc, resolve, reply),
+        None => unreachable!(),
+    }
+}
+
+/// The answer that a reply is.
+fn answer_of(alloc: Global, resolve: &Resolve, reply: Reply) -> ResolveResult<Answer>
+    ensures { IfOk result (λ answer. answer ≡ answer_of resolve.now.source_map reply) }
+{
+    match reply {
+        Reply::Done => Ok(Answer::Done),
+        Reply::Pushed(id) => Ok(Answer::Pushed(id)),
+        Reply::Merged(remap) => Ok(Answer::Merged(remap)),
+        Reply::NoWorld => Ok(Answer::NoWorld),
+        Reply::Refused(error) => refused(alloc, resolve, error),
+    }
+}
+
+/// A refusal with its line.
+fn refused(alloc: Global, resolve: &Resolve, error: ResolveError) -> ResolveResult<Answer>
+    ensures { IfOk result (λ answer. answer ≡ refused resolve.now.source_map error) }
+{
+    let rendered = Text::from_string(error.render(alloc, resolve.source_map())?);
+    Ok(Answer::Refused(Refusal { error, rendered }))
+}

@@ -1,0 +1,93 @@
+//! From the bytes of a document to those of the one that comes out.
+ghost use Rattle.std.specs.Prelude.{◌≡◌, ◌⊎◌, [], Bool, List, ℕ, true, IfErr, IfOk, IfSome, OnOk, IsErrOf, string_bytes};
+ghost use Rattle.std.specs.Str.{IsUtf8};
+ghost use Rattle.std.specs.Io.KnownBytes.{Appends};
+ghost use Rattle.wit_script.specs.Watched.{AppendsBeginning};
+ghost use Rattle.wit_json.specs.Graph.{compact};
+ghost use Rattle.wit_json_replies.specs.Documents.{json_of_fault};
+ghost use Rattle.wit_json_runs.specs.Documents.{ComesOut, ComesOutOfBytes, Outputs};
+
+use crate::orders::responses_to;
+use std::alloc::{AllocError, Global};
+use std::io::{Read, Write};
+use wit_json_commands::Document;
+use wit_json_reading::{Fault, ReadError, offset_of, read_text};
+use wit_json_replies::{fault_to_json, output_to_json};
+use wit_resolve_graph::Resolve;
+use wit_script::{ScriptFault, Watched, read_all, write_all};
+
+/// Carries out the commands of a document on an empty graph: whether it is understood, and the document that comes out.
+/// The only error is want of memory outside a command.
+pub fn respond(alloc: Global, text: &str) -> Result<(bool, String), AllocError>
+    ensures { IfOk result (λ answer. ComesOut text.now answer.0 (string_bytes answer.1)) }
+{
+    match read_text::<Document>(alloc, text) {
+        Ok(document) => Ok((true, output(alloc, document)?)),
+        Err(ReadError::Fault(fault)) => Ok((false, fault_text(alloc, text, &fault)?)),
+        Err(ReadError::OutOfMemory) => Err(AllocError),
+    }
+}
+
+/// What comes out of a document that can't be read.
+fn fault_text(alloc: Global, text: &str, fault: &Fault) -> Result<String, AllocError>
+    ensures { IfOk result (λ out. (offset : ℕ) × (string_bytes out ≡ compact (json_of_fault fault.now offset))) }
+{
+    let offset = offset_of(alloc, text, fault)?;
+    fault_to_json(alloc, fault, offset)
+}
+
+/// What comes out of a document.
+fn output(alloc: Global, document: Document) -> Result<String, AllocError>
+    ensures { IfOk result (λ out. Outputs document (string_bytes out)) }
+{
+    let mut resolve = Resolve::new(alloc);
+    let Ok(replies) = responses_to(alloc, &mut resolve, document.commands) else {
+        return Err(AllocError);
+    };
+    let (graph, features, files) = (resolve.graph(), resolve.features(), resolve.source_map());
+    output_to_json(alloc, &replies, graph, features, files)
+}
+
+/// Reads a document to the end of the reader, carries it out on an empty graph, and writes the one that comes out: of one
+/// that can't be read its first fault, and the answer is then false.
+///
+/// The faults are a failed call of the reader or the writer, an input that isn't UTF-8, and want of memory outside a
+/// command. The clauses speak of readers and writers that tell their bytes. Where the writer fails, a beginning of what was
+/// to be written is; after any other fault nothing is. Once the reader has told its end, an input that isn't UTF-8 is told
+/// as that, whatever memory there is.
+pub fn execute<R: Read, W: Write>(
+    alloc: Global,
+    reader: &mut Watched<R>,
+    writer: &mut Watched<W>,
+) -> Result<bool, ScriptFault>
+    ensures ok { IfOk result (λ understood. IfSome (R.remaining reader.old.inner) (λ input.
+        (text : List ℕ) × ComesOutOfBytes input understood text × Appends (W.contents writer.old.inner) (W.contents writer.new.inner) text)) }
+    ensures cut { IsErrOf result ScriptFault.Write → IfSome (R.remaining reader.old.inner) (λ input.
+        (understood : Bool) × (text : List ℕ) × ComesOutOfBytes input understood text × AppendsBeginning (W.contents writer.old.inner) (W.contents writer.new.inner) text) }
+    ensures untouched { IfErr result (λ fault. (fault ≡ ScriptFault.Write) ⊎ (writer.new ≡ writer.old)) }
+    ensures end { OnOk result (IfSome (R.remaining reader.new.inner) (λ rest. rest ≡ [])) }
+    ensures read { IsErrOf result ScriptFault.Read → reader.new.failed ≡ true }
+    ensures write { IsErrOf result ScriptFault.Write → writer.new.failed ≡ true }
+    ensures utf8 { IsErrOf result ScriptFault.NotUtf8 → IfSome (R.remaining reader.old.inner) (λ input. IsUtf8 input → ⊥) }
+    ensures memory { IsErrOf result ScriptFault.OutOfMemory → (reader.new.ended ≡ reader.old.ended) ⊎ IfSome (R.remaining reader.old.inner) IsUtf8 }
+{
+    let input = read_all(alloc, reader)?;
+    let (understood, text) = responded(alloc, &input)?;
+    write_all(writer, &text)?;
+    Ok(understood)
+}
+
+/// What comes out of an input, and whether it is understood. An input that isn't UTF-8 is told as that, whatever memory
+/// there is.
+fn responded(alloc: Global, input: &[u8]) -> Result<(bool, String), ScriptFault>
+    ensures ok { IfOk result (λ answer. ComesOutOfBytes input.now answer.0 (string_bytes answer.1)) }
+    ensures read { IsErrOf result ScriptFault.Read → ⊥ }
+    ensures write { IsErrOf result ScriptFault.Write → ⊥ }
+    ensures utf8 { IsErrOf result ScriptFault.NotUtf8 → IsUtf8 input.now → ⊥ }
+    ensures memory { IsErrOf result ScriptFault.OutOfMemory → IsUtf8 input.now }
+{
+    match str::from_utf8(input) {
+        Ok(text) => Ok(respond(alloc, text)?),
+        Err(_) => Err(ScriptFault::NotUtf8),
+    }
+}
