@@ -126,10 +126,7 @@ impl PackageBuilder {
             .foreign_deps
             .entry(package.clone())
             .or_default();
-        known.insert(
-            name.to_owned(),
-            ForeignItem(item, vec![Stability::Unknown]),
-        );
+        known.insert(name.to_owned(), ForeignItem(item, vec![Stability::Unknown]));
     }
 
     // types
@@ -262,12 +259,7 @@ impl PackageBuilder {
     /// # Panics
     ///
     /// Where the interface is of this package and has no such type.
-    pub fn use_type(
-        &mut self,
-        owner: impl Into<TypeOwner>,
-        from: InterfaceId,
-        name: &str,
-    ) -> Type {
+    pub fn use_type(&mut self, owner: impl Into<TypeOwner>, from: InterfaceId, name: &str) -> Type {
         let target = match self.package.interfaces[from].types.get(name) {
             Some(id) => *id,
             None => self.add_foreign_type(from, name),
@@ -351,7 +343,10 @@ impl PackageBuilder {
     }
 
     fn name_of(&self, resource: TypeId) -> String {
-        self.package.types[resource].name.clone().unwrap_or_default()
+        self.package.types[resource]
+            .name
+            .clone()
+            .unwrap_or_default()
     }
 
     /// Adds a function of whatever kind to an interface.
@@ -366,14 +361,18 @@ impl PackageBuilder {
     pub fn import(&mut self, world: WorldId, interface: InterfaceId) -> &mut WorldItem {
         let imports = &mut self.package.worlds[world].imports;
         let key = WorldKey::Interface(interface);
-        imports.entry(key).or_insert(WorldItem::interface(interface))
+        imports
+            .entry(key)
+            .or_insert(WorldItem::interface(interface))
     }
 
     /// Exports an interface.
     pub fn export(&mut self, world: WorldId, interface: InterfaceId) -> &mut WorldItem {
         let exports = &mut self.package.worlds[world].exports;
         let key = WorldKey::Interface(interface);
-        exports.entry(key).or_insert(WorldItem::interface(interface))
+        exports
+            .entry(key)
+            .or_insert(WorldItem::interface(interface))
     }
 
     /// Includes another world.
@@ -414,7 +413,12 @@ impl PackageBuilder {
         let ids = NewIds {
             interfaces: new_ids(package.interfaces.iter().map(|(id, _)| is_known(id))),
             worlds: new_ids(package.worlds.iter().map(|(id, _)| is_known_world(id))),
-            types: new_ids(package.types.iter().map(|(_, it)| it.kind == TypeDefKind::Unknown)),
+            types: new_ids(
+                package
+                    .types
+                    .iter()
+                    .map(|(_, it)| it.kind == TypeDefKind::Unknown),
+            ),
         };
         ids.renumber(&mut package);
         package
@@ -478,11 +482,20 @@ impl NewIds {
         package.types.items_mut().for_each(|it| self.type_def(it));
         for interface in package.interfaces.items_mut() {
             interface.types.values_mut().for_each(|id| self.id(id));
-            interface.functions.values_mut().for_each(|it| self.function(it));
+            interface
+                .functions
+                .values_mut()
+                .for_each(|it| self.function(it));
         }
         package.worlds.items_mut().for_each(|it| self.world(it));
-        package.required_resource_types.iter_mut().for_each(|(id, _)| self.id(id));
-        let items = package.foreign_deps.values_mut().flat_map(|named| named.values_mut());
+        package
+            .required_resource_types
+            .iter_mut()
+            .for_each(|(id, _)| self.id(id));
+        let items = package
+            .foreign_deps
+            .values_mut()
+            .flat_map(|named| named.values_mut());
         items.for_each(|it| match &mut it.0 {
             AstItem::Interface(id) => *id = self.interfaces[id.index()],
             AstItem::World(id) => *id = self.worlds[id.index()],
@@ -514,7 +527,10 @@ impl NewIds {
             TypeDefKind::Handle(Handle::Own(id) | Handle::Borrow(id)) => self.id(id),
             TypeDefKind::Tuple(it) => it.types.iter_mut().for_each(|it| self.ty(it)),
             TypeDefKind::Variant(it) => {
-                it.cases.iter_mut().filter_map(|it| it.ty.as_mut()).for_each(|it| self.ty(it));
+                it.cases
+                    .iter_mut()
+                    .filter_map(|it| it.ty.as_mut())
+                    .for_each(|it| self.ty(it));
             }
             TypeDefKind::Result(Result_ { ok, err }) => {
                 ok.iter_mut().chain(err).for_each(|it| self.ty(it));

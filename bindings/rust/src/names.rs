@@ -131,7 +131,11 @@ pub(crate) mod gates {
 
     pub fn serialize<S: Serializer>(gates: &[Stability], serializer: S) -> Result<S::Ok, S::Error> {
         let known = |it: &Stability| (!it.is_unknown()).then(|| it.clone());
-        gates.iter().map(known).collect::<Vec<_>>().serialize(serializer)
+        gates
+            .iter()
+            .map(known)
+            .collect::<Vec<_>>()
+            .serialize(serializer)
     }
 
     pub fn deserialize<'de, D: Deserializer<'de>>(from: D) -> Result<Vec<Stability>, D::Error> {

@@ -179,7 +179,10 @@ impl From<Whole> for Resolve {
 
 /// What is left out of the thing of a name.
 fn take(details: &mut IndexMap<String, ItemDetails>, name: &str) -> ItemDetails {
-    details.get_mut(name).map(std::mem::take).unwrap_or_default()
+    details
+        .get_mut(name)
+        .map(std::mem::take)
+        .unwrap_or_default()
 }
 
 fn add_to_entries(

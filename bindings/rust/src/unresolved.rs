@@ -18,10 +18,7 @@ pub enum AstItem {
 /// What is named of another package, and the gates under which it is named, at least one.
 #[derive(Clone, Debug, PartialEq, Eq, Serialize, Deserialize)]
 #[allow(missing_docs)]
-pub struct ForeignItem(
-    pub AstItem,
-    #[serde(with = "gates")] pub Vec<Stability>,
-);
+pub struct ForeignItem(pub AstItem, #[serde(with = "gates")] pub Vec<Stability>);
 
 /// A package before its foreign names are looked up. Its ids are places in its own lists, in which what it names of
 /// other packages comes first. [`PackageBuilder`](crate::PackageBuilder) makes one in that shape.

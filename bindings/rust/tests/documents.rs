@@ -10,7 +10,9 @@ use std::{env, fs};
 use witgraph::*;
 
 fn stored(name: &str) -> String {
-    let path = Path::new(env!("CARGO_MANIFEST_DIR")).join("../../examples/kinds").join(name);
+    let path = Path::new(env!("CARGO_MANIFEST_DIR"))
+        .join("../../examples/kinds")
+        .join(name);
     fs::read_to_string(&path).unwrap_or_else(|error| panic!("{}: {error}", path.display()))
 }
 
@@ -52,13 +54,22 @@ fn each_command_is_written_as_docs_json_says() {
         function: "f".to_owned(),
     };
     let commands = [
-        (Command::AddFeature("f".to_owned()), r#"{"add-feature":"f"}"#),
-        (Command::SetAllFeatures(true), r#"{"set-all-features":true}"#),
+        (
+            Command::AddFeature("f".to_owned()),
+            r#"{"add-feature":"f"}"#,
+        ),
+        (
+            Command::SetAllFeatures(true),
+            r#"{"set-all-features":true}"#,
+        ),
         (
             Command::SetTrackRule(TrackRule::WithPrereleases),
             r#"{"set-track-rule":"with-prereleases"}"#,
         ),
-        (Command::Merge(vec![Command::PackageOrder]), r#"{"merge":["package-order"]}"#),
+        (
+            Command::Merge(vec![Command::PackageOrder]),
+            r#"{"merge":["package-order"]}"#,
+        ),
         (
             Command::Importize {
                 package: package.clone(),
@@ -131,7 +142,10 @@ fn each_reply_is_read_as_docs_json_says() {
         ),
     ];
     for (written, reply) in replies {
-        assert_eq!(serde_json::from_str::<Reply>(written).expect("a reply"), reply);
+        assert_eq!(
+            serde_json::from_str::<Reply>(written).expect("a reply"),
+            reply
+        );
     }
 }
 
@@ -150,7 +164,10 @@ fn a_refusal_is_an_error() {
 fn a_fault_is_an_error() {
     let written = r#"{"fault":{"path":["commands",0],"offset":13,"expected":"a command"}}"#;
     let error = Run::from_json(written).expect_err("a fault");
-    assert_eq!(error.to_string(), "expected a command at byte 13, at \"commands\".0");
+    assert_eq!(
+        error.to_string(),
+        "expected a command at byte 13, at \"commands\".0"
+    );
     assert!(matches!(Run::from_json("{"), Err(RunError::Json(_))));
 }
 
@@ -168,31 +185,47 @@ fn a_graph_is_read_with_what_stands_beside_it() {
     let package = &graph.packages[package];
     assert_eq!(package.name, name("example:kinds@1.2.0"));
     let interface = &graph.interfaces[package.interfaces["all"]];
-    assert_eq!(graph.id_of(package.interfaces["all"]).as_deref(), Some("example:kinds/all@1.2.0"));
+    assert_eq!(
+        graph.id_of(package.interfaces["all"]).as_deref(),
+        Some("example:kinds/all@1.2.0")
+    );
     let cursor = &graph.types[interface.types["cursor"]];
     assert_eq!(cursor.kind, TypeDefKind::Resource);
     assert_eq!(cursor.external_id.as_deref(), Some("kinds/cursor"));
     assert!(cursor.stability.is_stable() && cursor.span.is_known());
     let wait = &interface.functions["[method]cursor.wait"];
-    assert_eq!(wait.kind, FunctionKind::AsyncMethod(interface.types["cursor"]));
+    assert_eq!(
+        wait.kind,
+        FunctionKind::AsyncMethod(interface.types["cursor"])
+    );
     let TypeDefKind::Record(record) = &graph.types[interface.types["item"]].kind else {
         panic!("no record")
     };
     assert_eq!(record.fields[0].docs.contents.as_deref(), Some("Its name."));
     assert!(record.fields[0].span.is_known());
     let world = &graph.worlds[package.worlds["whole"]];
-    let WorldItem::Interface { external_id, docs, .. } = &world.imports[&WorldKey::Name("second".to_owned())] else {
+    let WorldItem::Interface {
+        external_id, docs, ..
+    } = &world.imports[&WorldKey::Name("second".to_owned())]
+    else {
         panic!("no interface")
     };
     assert_eq!(external_id.as_deref(), Some("kinds/second"));
-    assert_eq!(docs.contents.as_deref(), Some("An interface under a label."));
-    assert!(world.exports.contains_key(&WorldKey::Name("finish".to_owned())));
+    assert_eq!(
+        docs.contents.as_deref(),
+        Some("An interface under a label.")
+    );
+    assert!(world
+        .exports
+        .contains_key(&WorldKey::Name("finish".to_owned())));
 }
 
 #[test]
 fn aliases_lead_to_the_type() {
     let graph = whole().graph;
-    let all = graph.package_named(&name("example:kinds@1.2.0")).expect("it is there");
+    let all = graph
+        .package_named(&name("example:kinds@1.2.0"))
+        .expect("it is there");
     let all = &graph.interfaces[graph.packages[all].interfaces["all"]];
     let size = graph.without_aliases(all.types["length"]);
     assert_eq!(graph.types[size].name.as_deref(), Some("size"));
@@ -214,33 +247,52 @@ fn built() -> UnresolvedPackage {
     let api = made.foreign_interface(&name("shop:api"), "types");
     let item = made.use_type(orders, api, "item");
     let stock = made.use_type(orders, api, "stock");
-    let Type::Id(stock_id) = stock else { panic!("an id") };
+    let Type::Id(stock_id) = stock else {
+        panic!("an id")
+    };
     let loan = made.handle(Handle::Borrow(stock_id));
     let line = made.record(orders, "line", [("of", item), ("state", state)]);
     let lines = made.unnamed(TypeDefKind::List(line));
     let order = made.resource(orders, "order");
     made.constructor(orders, order, [("lines", lines)]);
     made.method(orders, order, "send", [("from", loan)], Some(Type::Bool));
-    made.function(orders, "count", [], Some(Type::U32)).docs.contents = Some("How many.".to_owned());
+    made.function(orders, "count", [], Some(Type::U32))
+        .docs
+        .contents = Some("How many.".to_owned());
     let base = made.foreign_world(&name("shop:api"), "base");
     let world = made.world("shop");
     made.include(world, base);
     made.import(world, orders);
     let item = made.use_type(world, orders, "line");
-    let send = Function::new("sent", FunctionKind::Freestanding, vec![Param::new("it", item)], None);
+    let send = Function::new(
+        "sent",
+        FunctionKind::Freestanding,
+        vec![Param::new("it", item)],
+        None,
+    );
     let key = WorldKey::Name("sent".to_owned());
-    made.world_mut(world).exports.insert(key, WorldItem::Function(send));
+    made.world_mut(world)
+        .exports
+        .insert(key, WorldItem::Function(send));
     made.finish()
 }
 
 #[test]
 fn what_is_foreign_comes_first() {
     let made = built();
-    let interfaces: Vec<_> = made.interfaces.iter().map(|(_, it)| it.name.as_deref()).collect();
+    let interfaces: Vec<_> = made
+        .interfaces
+        .iter()
+        .map(|(_, it)| it.name.as_deref())
+        .collect();
     assert_eq!(interfaces, [Some("types"), Some("orders")]);
     let worlds: Vec<_> = made.worlds.iter().map(|(_, it)| it.name.as_str()).collect();
     assert_eq!(worlds, ["base", "shop"]);
-    let unknown: Vec<_> = made.types.iter().map(|(_, it)| it.kind == TypeDefKind::Unknown).collect();
+    let unknown: Vec<_> = made
+        .types
+        .iter()
+        .map(|(_, it)| it.kind == TypeDefKind::Unknown)
+        .collect();
     assert!(unknown[..2].iter().all(|it| *it) && unknown[2..].iter().all(|it| !it));
     for (id, ty) in made.types.iter() {
         if let TypeOwner::Interface(owner) = ty.owner {
@@ -267,8 +319,22 @@ fn what_is_built_is_pushed() {
         return;
     };
     assert!(matches!(replies[0], Reply::Pushed(_)), "{replies:?}");
-    assert!(matches!(&replies[1], Reply::Refused(it) if it.number == 5), "{replies:?}");
-    let (_, world) = graph.worlds.iter().find(|(_, it)| it.name == "shop").expect("a world");
-    let imports: Vec<_> = world.imports.keys().map(|it| graph.name_world_key(it)).collect();
-    assert_eq!(imports, ["shop:api/types", "shop:orders/orders@1.0.0", "line"]);
+    assert!(
+        matches!(&replies[1], Reply::Refused(it) if it.number == 5),
+        "{replies:?}"
+    );
+    let (_, world) = graph
+        .worlds
+        .iter()
+        .find(|(_, it)| it.name == "shop")
+        .expect("a world");
+    let imports: Vec<_> = world
+        .imports
+        .keys()
+        .map(|it| graph.name_world_key(it))
+        .collect();
+    assert_eq!(
+        imports,
+        ["shop:api/types", "shop:orders/orders@1.0.0", "line"]
+    );
 }
