@@ -154,7 +154,8 @@ class Types(Case):
         self.refused("package a:b; interface i {\nf: func(x: t); }", "2: interface `i` has no type `t`")
 
     def test_names_may_be_words(self):
-        self.assertEqual(self.kinds("type %string = u8; type a = %string;"), [("string", {"type": "u8"}), ("a", {"type": 0})])
+        kinds = self.kinds("type %string = u8; type a = %string;")
+        self.assertEqual(kinds, [("string", {"type": "u8"}), ("a", {"type": 0})])
 
 
 class Functions(Case):
@@ -192,7 +193,8 @@ class Functions(Case):
         self.assertEqual(made["f"]["result"], 0)
 
     def test_a_constructor_that_may_fail(self):
-        self.assertEqual(self.functions("resource r { constructor() -> result<r, u8>; }")["[constructor]r"]["result"], 1)
+        made = self.functions("resource r { constructor() -> result<r, u8>; }")
+        self.assertEqual(made["[constructor]r"]["result"], 1)
         told = "2: a constructor of `r` answers that or a result of it"
         self.refused("package a:b; interface i { resource r { constructor() ->\nu8; } }", told)
         self.refused("package a:b; interface i { resource r { constructor() ->\nresult<u8>; } }", told)
@@ -260,7 +262,8 @@ class Notes(Case):
 
     def test_places(self):
         """Each thing with a name stands where its span says, in a file that isn't ASCII, behind others, too."""
-        text = "// é\npackage c:d;\ninterface i { use a:b/j.{t}; record r { x: t } f: func(p: r); }\nworld w { import i; }\n"
+        text = "// é\npackage c:d;\ninterface i { use a:b/j.{t}; record r { x: t } f: func(p: r); }\n"
+        text += "world w { import i; }\n"
         self.write("p/b.wit", text)
         self.write("p/a.wit", "// ü\n")
         group = self.pushed("p")["main"]
@@ -324,15 +327,17 @@ class Worlds(Case):
         }
         self.assertEqual(made["foreign-deps"], deps)
         named = [(it["name"], it["kind"], it["owner"]) for it in made["types"][:3]]
-        unknown = [("t", "unknown", {"interface": 1}), ("u", "unknown", {"interface": 1}), ("t", "unknown", {"interface": 0})]
-        self.assertEqual(named, unknown)
+        self.assertEqual(named, [(it, "unknown", {"interface": of}) for it, of in (("t", 1), ("u", 1), ("t", 0))])
         self.assertEqual([id for id, _ in made["required-resources"]], [1])
         self.assertEqual(made["interfaces"][0], {"name": "e", "types": {"t": 2}, "functions": {}})
 
     def test_what_is_there_twice(self):
-        self.refused("package a:b; interface i {}\nworld w { import i; import\ni; }", "2: world `w` has `interface i` already")
-        self.refused("package a:b;\nworld w { import l: func();\nimport l: interface {} }", "3: world `w` has `l` already")
-        self.refused("package a:b; interface i { type t = u8;\nf: func();\nt: func(); }", "3: interface `i` has `t` already")
+        text = "package a:b; interface i {}\nworld w { import i; import\ni; }"
+        self.refused(text, "2: world `w` has `interface i` already")
+        text = "package a:b;\nworld w { import l: func();\nimport l: interface {} }"
+        self.refused(text, "3: world `w` has `l` already")
+        text = "package a:b; interface i { type t = u8;\nf: func();\nt: func(); }"
+        self.refused(text, "3: interface `i` has `t` already")
         self.refused("package a:b; interface i {}\nworld i {}", "2: the package has `i` already")
 
     def test_what_is_not_there(self):
@@ -352,6 +357,15 @@ class Files(Case):
         self.assertEqual(push["main"]["main"]["name"], "a:b")
         self.assertEqual([it["main"]["name"] for it in push["deps"]], ["g:h", "c:d", "e:f"])
         self.assertEqual([it["name"] for it in push["deps"][0]["nested"]], ["k:l"])
+
+    def test_each_nested_package_has_its_own_names(self):
+        text = """
+            package a:b { use x:y/i as z; interface j { use z.{t}; } }
+            package c:d { use x:y/k as z; interface j { use z.{t}; } }"""
+        self.write("p.wit", text)
+        group = self.pushed("p.wit")["main"]
+        named = [list(it["foreign-deps"]["x:y"]) for it in (group["main"], *group["nested"])]
+        self.assertEqual(named, [["i"], ["k"]])
 
     def test_commands_behind_the_push(self):
         self.write("p.wit", "package a:b; world w {}")

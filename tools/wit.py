@@ -418,9 +418,7 @@ class Parser:
             if self.next.is_one_of(["package"]):
                 line, name, span = self.package_name()
                 if self.take("{"):
-                    nested.append(Package(name, span, self.file, docs))
-                    while not self.take("}"):
-                        self.item(nested[-1])
+                    nested.append(self.nested_package(name, span, docs))
                     continue
                 self.sign(";")
                 if not is_first:
@@ -433,6 +431,15 @@ class Parser:
             else:
                 self.item(package)
         return nested
+
+    def nested_package(self, name, span, docs):
+        """What stands in the braces of a package, which has its own `use .. as ..`."""
+        outer, self.file = self.file, File(self.file.path, self.file.text)
+        package = Package(name, span, self.file, docs)
+        while not self.take("}"):
+            self.item(package)
+        self.file = outer
+        return package
 
     def package_name(self):
         line = self.sign("package").line

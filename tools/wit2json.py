@@ -306,7 +306,8 @@ class ScopeWriter:
             self.add_name(it.new.line, it.new.text)
             if it.name.text not in types:
                 raise Problem(it.name.line, f"interface `{use.path}` has no type `{it.name}`")
-            self.add_named(it.new.text, {"type": types[it.name.text]}, it.new.span, without_none(stability=stability_of(use.gate)))
+            more = without_none(stability=stability_of(use.gate))
+            self.add_named(it.new.text, {"type": types[it.name.text]}, it.new.span, more)
 
     def add_named(self, name, kind, span, more):
         made = self.writer.add_type(name, kind, self.owner, self.span(span))
@@ -377,8 +378,8 @@ class ScopeWriter:
     def function(self, it):
         params = [self.param(part) for part in it.parameters]
         if it.is_method:
-            kind = {"handle": {"borrow": self.names.types[it.resource]}}
-            params.insert(0, {"name": "self", "type": self.writer.add_unnamed(kind, self.span(it.span)), "span": self.span(it.span)})
+            kind, span = {"handle": {"borrow": self.names.types[it.resource]}}, self.span(it.span)
+            params.insert(0, {"name": "self", "type": self.writer.add_unnamed(kind, span), "span": span})
         made = {"name": it.name, "kind": self.function_kind(it), "params": params}
         more = without_none(result=self.result(it), external_id=it.gate.external_id)
         return made | more | self.common(it.gate) | {"span": self.span(it.span)}
@@ -415,7 +416,8 @@ class ScopeWriter:
     def kind(self, ty):
         """What a type is, as an alias where it is a name."""
         if not ty.is_form:
-            return {"type": ty.name if ty.name in wit.PRIMITIVES and ty.name not in self.names.types else self.named(ty)}
+            is_primitive = ty.name in wit.PRIMITIVES and ty.name not in self.names.types
+            return {"type": ty.name if is_primitive else self.named(ty)}
         name = ty.name
         if name in ("own", "borrow"):
             return {"handle": {name: self.resource(ty.parts[0])}}

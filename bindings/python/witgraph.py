@@ -752,9 +752,9 @@ def read_union(choices: tuple, value: Any) -> Any:
     """The value of the one of several types to which its tag leads, or its own form."""
     if value is None and type(None) in choices:
         return None
-    tag = value if isinstance(value, str) else next(iter(value), None) if isinstance(value, dict) and len(value) == 1 else None
+    tag = value if isinstance(value, str) else next(iter(value), None) if isinstance(value, dict) else None
     for it in choices:
-        if getattr(it, "tag", None) == tag and tag is not None:
+        if hasattr(it, "tag") and it.tag == tag:
             return read_class(it, value)
     for it in choices:
         if not hasattr(it, "tag") and it is not type(None):

@@ -53,8 +53,9 @@ class Graph:
             return f"type {name} = {self.form(kind)}"
         (parts,) = parts.values()
         typed = "{}: {}" if word == "record" else "{}({})"
-        texts = [typed.format(it["name"], self.type(it["type"])) if it.get("type") is not None else it["name"] for it in parts]
-        return f"type {name} = {word} {{{', '.join(texts)}}}"
+        texts = [(it["name"], self.type(it["type"]) if it.get("type") is not None else None) for it in parts]
+        shown = ", ".join(typed.format(*it) if it[1] else it[0] for it in texts)
+        return f"type {name} = {word} {{{shown}}}"
 
     def aliased(self, id, target):
         """The text behind another name of a type: of another interface with its name."""
