@@ -47,6 +47,7 @@ mod commands;
 mod data;
 mod ffi;
 mod names;
+mod renumber;
 mod resolve;
 mod run;
 mod unresolved;
@@ -63,7 +64,7 @@ pub use names::{Docs, NotAPackageName, PackageName, Span, Stability};
 pub use resolve::{Package, Resolve};
 #[cfg(witgraph_json)]
 pub use run::run;
-pub use run::{run_by, to_json, Fault, Run, RunError};
+pub use run::{commands_from_json, run_by, to_json, Fault, Run, RunError};
 pub use semver::Version;
 pub use unresolved::{AstItem, ForeignItem, Source, UnresolvedPackage, UnresolvedPackageGroup};
 
