@@ -1,12 +1,12 @@
 #!/usr/bin/env python3
 """Writes random documents of commands (docs/JSON.md), a line each, for check/original.
 
-    check/random_documents.py COUNT [SEED] | check-original PROGRAM -
+    check/random_documents.py [--no-features] COUNT [SEED] | check-original PROGRAM -
 
 The packages are written as WIT and read by tools/wit2json.py: each kind of type and function, documentation, gates,
 deprecation, external ids, labels and interfaces in place, includes with other names, several versions, nested packages,
 groups in whatever order. Commands push them, merge graphs that share packages, transform worlds, merge by semver and
-choose worlds.
+choose worlds. With --no-features nothing stands behind a feature.
 """
 import json
 import os
@@ -22,6 +22,7 @@ import wit2json  # noqa: E402
 
 PRIMITIVES = sorted(wit.PRIMITIVES)
 FEATURES = ["active", "other"]
+HAS_FEATURES = "--no-features" not in sys.argv
 
 
 class Interface:
@@ -51,10 +52,12 @@ class Text:
         if self.maybe(0.15):
             gates += f"/// {self.r.choice(['One line.', 'Some words on it.'])}\n"
         if self.maybe(chance):
-            if self.version and self.maybe(0.7):
+            if self.version and (self.maybe(0.7) or not HAS_FEATURES):
                 gates += f"@since(version = {'0.2.0' if self.version.startswith('0') else '1.0.0'}) "
-            else:
+            elif HAS_FEATURES:
                 gates += f"@unstable(feature = {self.r.choice(FEATURES)}) "
+            else:
+                return gates
             if self.maybe(0.3):
                 gates += "@deprecated(version = 1.1.0) "
         return gates
@@ -280,4 +283,5 @@ def main(count, seed=0):
 
 
 if __name__ == "__main__":
-    main(*map(int, sys.argv[1:])) if len(sys.argv) in (2, 3) else sys.exit(__doc__)
+    numbers = [it for it in sys.argv[1:] if it != "--no-features"]
+    main(*map(int, numbers)) if len(numbers) in (1, 2) else sys.exit(__doc__)

@@ -24,8 +24,9 @@ pub fn renumbered(mut graph: Resolve) -> Resolve {
         .map(|(id, _)| id)
         .collect();
     for id in owns {
-        // one that a value needs stands nowhere
+        // one that a value needs stands nowhere and has no gate
         graph.types[id].span = Span::default();
+        graph.types[id].stability = Stability::Unknown;
     }
     let mut walk = Walk {
         types: vec![None; graph.types.len()],
