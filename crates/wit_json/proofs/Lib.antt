@@ -1,1 +1,1 @@
-pub mod Members
+mod Texts

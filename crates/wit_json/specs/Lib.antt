@@ -4,4 +4,9 @@ pub mod Types
 pub mod Functions
 pub mod Worlds
 pub mod Graph
+pub mod Details
+pub mod Refusals
+pub mod Unresolved
+pub mod Whole
 pub mod steps
+pub mod facts

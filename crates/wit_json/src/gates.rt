@@ -42,7 +42,7 @@ impl JsonText {
     }
 
     /// Writes a gate.
-    fn gate<T: WriteJson>(
+    pub fn gate<T: WriteJson>(
         &mut self,
         tag: &str,
         name: &str,

@@ -2,7 +2,7 @@
 ghost use Rattle.std.specs.Prelude.{◌≡◌, IfOk, string_bytes};
 ghost use Rattle.wit_json.specs.Graph.{compact, json_of_graph, json_of_package, json_of_package_name};
 
-use crate::writer::{JsonText, WriteJson};
+use crate::writer::{JsonText, WriteJson, text_of};
 use std::alloc::{AllocError, Global};
 use wit_data::PackageName;
 use wit_graph_data::{Graph, Package};
@@ -47,10 +47,5 @@ impl WriteJson for Graph {
 pub fn graph_to_json(alloc: Global, graph: &Graph) -> Result<String, AllocError>
     ensures { IfOk result (λ text. string_bytes text ≡ compact (json_of_graph graph.now)) }
 {
-    let mut out = JsonText::new(alloc);
-    graph.write_json(&mut out)?;
-    match String::from_utf8(out.into_bytes()) {
-        Ok(text) => Ok(text),
-        Err(_) => unreachable!(),
-    }
+    text_of(alloc, graph)
 }

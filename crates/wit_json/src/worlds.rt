@@ -26,7 +26,7 @@ impl WriteJson for Interface {
 
 impl JsonText {
     /// Writes the name of an entry of a world, whose value comes next.
-    fn entry_name(&mut self, key: &WorldKey) -> Result<(), AllocError>
+    pub fn entry_name(&mut self, key: &WorldKey) -> Result<(), AllocError>
         ensures { OnOk result (self.new ≡ self.old ++ key_token (entry_name key.now) ∷ []) }
     {
         match key {

@@ -1,12 +1,13 @@
 //! What writes JSON, value by value.
-ghost use Rattle.std.specs.Prelude.{◌≡◌, ◌++◌, ◌∷◌, [], OnOk, string_bytes, vec_len, decimal};
+ghost use Rattle.std.specs.Prelude.{◌≡◌, ◌++◌, ◌∷◌, [], IfOk, OnOk, string_bytes, decimal};
 ghost use Rattle.std.specs.Option.{option_map};
 ghost use Rattle.std.specs.Str.{IsUtf8};
 ghost use Rattle.json.specs.Json.{Json};
 ghost use Rattle.json.specs.Lex.{tokens};
 ghost use Rattle.json.specs.Print.{print};
 ghost use Rattle.json.specs.Tree.{json_tokens};
-ghost use Rattle.json.specs.Token.{begin_array, begin_object, end_array, end_object, key, null, number, string};
+ghost use Rattle.json.specs.Token.{begin_array, begin_object, boolean, end_array, end_object, key, null, number, string};
+ghost use Rattle.wit_json.specs.Graph.{compact};
 ghost use Rattle.wit_json.specs.Values.{list_of, member, optional, tagged};
 ghost use Rattle.wit_json.specs.steps.Members.{Adds};
 
@@ -15,7 +16,7 @@ use std::alloc::{AllocError, Global};
 use std::marker::Model;
 
 /// What is written as a JSON value.
-pub(crate) trait WriteJson {
+pub trait WriteJson {
     /// The value.
     ghost json: { Self → Json };
 
@@ -26,7 +27,7 @@ pub(crate) trait WriteJson {
 
 /// A JSON text as far as it is written, which contracts see as its tokens.
 #[derive(Drop)]
-pub(crate) struct JsonText {
+pub struct JsonText {
     alloc: Global,
     writer: Writer,
 }
@@ -42,6 +43,15 @@ impl Model for JsonText {
     ghost view = { λ t. t.writer.tokens };
 
     ghost invariant = { λ t. t.writer.before ≡ [] };
+}
+
+/// What is written of a value, without a space. The only error is want of memory.
+pub fn text_of<T: WriteJson>(alloc: Global, value: &T) -> Result<String, AllocError>
+    ensures { IfOk result (λ text. string_bytes text ≡ compact (T.json value.now)) }
+{
+    let mut out = JsonText::new(alloc);
+    value.write_json(&mut out)?;
+    Ok(out.into_string())
 }
 
 impl JsonText {
@@ -62,6 +72,16 @@ impl JsonText {
         ensures utf8 { IsUtf8 result.items }
     {
         self.writer.into_inner()
+    }
+
+    /// The text.
+    pub fn into_string(self) -> String
+        ensures { string_bytes result ≡ print self }
+    {
+        match String::from_utf8(self.into_bytes()) {
+            Ok(text) => text,
+            Err(_) => unreachable!(),
+        }
     }
 
     /// The allocator that the text was made with, of which contracts say nothing.
@@ -118,6 +138,12 @@ impl JsonText {
         ensures { OnOk result (self.new ≡ self.old ++ number (decimal n) ∷ []) }
     {
         self.writer.u64(n)
+    }
+
+    pub fn boolean(&mut self, value: bool) -> Result<(), AllocError>
+        ensures { OnOk result (self.new ≡ self.old ++ boolean value ∷ []) }
+    {
+        self.writer.boolean(value)
     }
 
     pub fn null(&mut self) -> Result<(), AllocError>

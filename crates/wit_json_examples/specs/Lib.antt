@@ -3,3 +3,8 @@ pub mod Types
 pub mod Functions
 pub mod Worlds
 pub mod Graphs
+pub mod Details
+pub mod Refusals
+pub mod ReadValues
+pub mod ReadTypes
+pub mod ReadWorlds

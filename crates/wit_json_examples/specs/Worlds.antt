@@ -4,7 +4,6 @@ use Rattle.wit_data.specs.New.{new_function, new_interface, new_world}
 use Rattle.wit_data.specs.declared.function.FunctionKind.TheVariants as function
 use Rattle.wit_data.specs.declared.interface.Interface.{Interface}
 use Rattle.wit_data.specs.declared.stability.Stability.TheVariants.{Stable, Unknown}
-use Rattle.wit_data.specs.declared.world.World.{World}
 use Rattle.wit_data.specs.declared.world.WorldItem.{WorldItem}
 use Rattle.wit_data.specs.declared.world.WorldItem.TheVariants as item
 use Rattle.wit_data.specs.declared.world.WorldKey.{WorldKey}

@@ -2,9 +2,14 @@
 //! beside the crate, so that it doesn't wait for them.
 #![tactic(auto)]
 
+ghost use Rattle.wit_json_examples.specs.Details.{ExamplesOfDetails, ExamplesOfWholes};
 ghost use Rattle.wit_json_examples.specs.Gates.{ExamplesOfGates};
 ghost use Rattle.wit_json_examples.specs.Functions.{ExamplesOfFunctions};
 ghost use Rattle.wit_json_examples.specs.Graphs.{ExamplesOfGraphs};
+ghost use Rattle.wit_json_examples.specs.ReadTypes.{ExamplesOfReadFunctions, ExamplesOfReadKinds, ExamplesOfReadTypes};
+ghost use Rattle.wit_json_examples.specs.ReadValues.{ExamplesOfReadGates, ExamplesOfReadValues};
+ghost use Rattle.wit_json_examples.specs.ReadWorlds.{ExamplesOfReadPackages, ExamplesOfReadWorlds};
+ghost use Rattle.wit_json_examples.specs.Refusals.{ExamplesOfRefusals};
 ghost use Rattle.wit_json_examples.specs.Types.{ExamplesOfKinds, ExamplesOfTypes};
 ghost use Rattle.wit_json_examples.specs.Worlds.{ExamplesOfInterfaces, ExamplesOfWorlds};
 
@@ -41,4 +46,54 @@ pub fn examples_of_worlds()
 /// Packages and whole graphs.
 pub fn examples_of_graphs()
     ensures { ExamplesOfGraphs }
+{}
+
+/// What the layout leaves out.
+pub fn examples_of_details()
+    ensures { ExamplesOfDetails }
+{}
+
+/// Features, files, and a graph with all that stands beside it.
+pub fn examples_of_wholes()
+    ensures { ExamplesOfWholes }
+{}
+
+/// Refusals.
+pub fn examples_of_refusals()
+    ensures { ExamplesOfRefusals }
+{}
+
+/// What texts, numbers, versions and lists are read from, and their faults.
+pub fn examples_of_read_values()
+    ensures { ExamplesOfReadValues }
+{}
+
+/// What spans, docs and gates are read from.
+pub fn examples_of_read_gates()
+    ensures { ExamplesOfReadGates }
+{}
+
+/// What types are read from.
+pub fn examples_of_read_types()
+    ensures { ExamplesOfReadTypes }
+{}
+
+/// What each kind of type is read from.
+pub fn examples_of_read_kinds()
+    ensures { ExamplesOfReadKinds }
+{}
+
+/// What functions are read from.
+pub fn examples_of_read_functions()
+    ensures { ExamplesOfReadFunctions }
+{}
+
+/// What interfaces and worlds are read from.
+pub fn examples_of_read_worlds()
+    ensures { ExamplesOfReadWorlds }
+{}
+
+/// What names of packages, foreign names, packages and files are read from.
+pub fn examples_of_read_packages()
+    ensures { ExamplesOfReadPackages }
 {}

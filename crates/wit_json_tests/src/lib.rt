@@ -3,9 +3,15 @@
 #![tactic(auto)]
 
 #[cfg(test)]
+mod beside;
+#[cfg(test)]
 mod functions;
 #[cfg(test)]
+mod packages;
+#[cfg(test)]
 mod parts;
+#[cfg(test)]
+mod reading;
 #[cfg(test)]
 mod types;
 #[cfg(test)]

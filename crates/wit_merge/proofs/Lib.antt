@@ -3,6 +3,7 @@ mod BroughtNames
 mod Chosen
 mod CounterpartSteps
 mod Elaborates
+mod GrownUnions
 mod IdTexts
 mod Left
 mod MatchedThings
@@ -13,6 +14,8 @@ mod NamesStay
 mod Numbered
 mod Outcome
 mod Positions
+mod Returned
 mod Returning
 mod SameImages
 mod UnitedIs
+mod WorldsBehind

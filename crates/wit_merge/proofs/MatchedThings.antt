@@ -19,7 +19,7 @@ use Rattle.wit_merge_laws.specs.facts.InterfacesStand.{moved_interface_remapped}
 use Rattle.wit_merge_laws.specs.facts.ListedStand.{interfaces_apart}
 use Rattle.wit_merge_laws.specs.facts.MatchFacts.{goes_to}
 use Rattle.wit_merge_laws.specs.facts.TypesStand.{matched_some}
-use Rattle.wit_merge.specs.steps.UnionSteps.{KeyWithin, entry_joined, stability_joined, stability_of, stability_under, CanUnite, first_from, merging_of}
+use Rattle.wit_merge.specs.steps.UnionSteps.{KeyWithin, KnowsCounterparts, entry_joined, stability_joined, stability_of, stability_under, CanUnite, first_from, merging_of}
 use Rattle.wit_merge.specs.declared.union_plan.UnionPlan.{UnionPlan}
 use Rattle.wit_merge.proofs.CounterpartSteps.{is_matched, none_matched}
 
@@ -88,16 +88,16 @@ module _ (m : GraphMerge) (valid : IsValid m.graph) (valid_other : IsValid m.oth
   label_under label ((key.Name other, held) ∷ from) = label_under label from
   label_under label ((key.Interface j, held) ∷ from) = label_under label from
 
-module _ (u : UnionPlan) (ready : CanUnite u) (w : ℕ) (from : List Entry) where
+module _ (u : UnionPlan) (ready : CanUnite u) (counterparts : List (Option ℕ)) (known : KnowsCounterparts u counterparts) (w : ℕ) (from : List Entry) where
   abbrev m : GraphMerge
   m = merging_of u
 
   abbrev list : List (Option ℕ)
   list = u.matches.now.interfaces
 
-  told : (i' : ℕ) → i' < length u.graph.now.interfaces → get_or u.counterparts.now i' None ≡ first_from 0 list i'
+  told : (i' : ℕ) → i' < length u.graph.now.interfaces → get_or counterparts i' None ≡ first_from 0 list i'
   told i' below =
-      ap (λ (l : List (Option ℕ)). get_or l i' None) ready.counterparts ∙ get_or-map-range_with_len (first_from 0 list) 0 (length u.graph.now.interfaces) i' i' None below (omega arith)
+      ap (λ (l : List (Option ℕ)). get_or l i' None) known ∙ get_or-map-range_with_len (first_from 0 list) 0 (length u.graph.now.interfaces) i' i' None below (omega arith)
 
   -- an interface that goes to one of the graph is matched with it
   goes_back : (i' j : ℕ) → i' < length u.graph.now.interfaces → merged_interface m j ≡ i' → get_or list j None ≡ Some i'
@@ -111,7 +111,7 @@ module _ (u : UnionPlan) (ready : CanUnite u) (w : ℕ) (from : List Entry) wher
   ]
 
   abbrev Same : WorldKey → WorldItem → Type 0
-  Same k held = joined_entry false (brought m ready.valid ready.valid_other w from) (k, held) ≡ entry_joined u.counterparts.now from (k, held)
+  Same k held = joined_entry false (brought m ready.valid ready.valid_other w from) (k, held) ≡ entry_joined counterparts from (k, held)
 
   pub entry_is : (k : WorldKey) (held : WorldItem) → KeyWithin (length u.graph.now.interfaces) k → Same k held
   entry_is (key.Name label) held within =
@@ -119,7 +119,7 @@ module _ (u : UnionPlan) (ready : CanUnite u) (w : ℕ) (from : List Entry) wher
   entry_is (key.Interface i') held within = by (first_from 0 list i') refl
     where
       joined : (o : Option WorldItem) → lookup (same_key (key.Interface i')) (brought m ready.valid ready.valid_other w from) ≡ option_map (item_image (merge_maps m) w) o
-          → stability_under u.counterparts.now from (key.Interface i') ≡ option_and_then stability_of o → Same (key.Interface i') held
+          → stability_under counterparts from (key.Interface i') ≡ option_and_then stability_of o → Same (key.Interface i') held
       joined o there tells =
           ap (λ (x : Option WorldItem). let r : Entry = (key.Interface i', option_map_or (λ (d : WorldItem). joined_item false d held) x held) in r) there
           ∙ ap (λ (h : WorldItem). let r : Entry = (key.Interface i', h) in r)

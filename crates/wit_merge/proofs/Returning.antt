@@ -16,7 +16,7 @@ use Rattle.wit_data.specs.declared.types.TypeOwner.TheVariants as owner
 use Rattle.wit_data.specs.declared.types.Type_.TheVariants as type
 use Rattle.wit_elaboration.specs.Valid.{IsValid}
 use Rattle.wit_remap_spec.specs.Image.{Maps, function_image, value_image}
-use Rattle.wit_graph_theory.specs.facts.ListFacts.{found_at, get_at}
+use Rattle.wit_graph_theory.specs.facts.ListFacts.{Contains-map_cases, found_at, get_at}
 use Rattle.wit_graph_theory.specs.steps.Sources.{Stands}
 use Rattle.wit_link_spec.specs.CauseText.{borrow_text}
 use Rattle.wit_link_spec.specs.Reasons.{HoldsBorrow}
@@ -63,6 +63,15 @@ module _ (m : GraphMerge) (valid : IsValid m.graph) (valid_other : IsValid m.oth
             let found = found_at (λ (there : TypeDef). (there.name ≡ None) × (there.owner ≡ owner.None) × (there.kind ≡ kind.Handle (Own (merged_type m t)))) (joined_graph m).types (value_id (remap_of_merge m) t) own.1 in
             slice_get_within (joined_graph m).types (value_id (remap_of_merge m) t) found.0 found.1
       ]
+
+  -- so what it returns where it goes is there
+  pub image_returned_there : (f : Function) → Contains (moved_functions m) f → (t' : ℕ) → Contains (named_option (function_image (merge_maps m) f).result_) t' → t' < length (joined_graph m).types
+  image_returned_there f moved t' names =
+      let values : List ℕ = flat_map (λ (p : Param). named_type p.ty) f.params in
+      let from = Contains-map_cases (value_id (remap_of_merge m)) (named_option f.result_) t' (subst (λ (ids : List ℕ). Contains ids t') (option_image (merge_maps m) f.result_) names) in
+      let within : from.0 < length m.other.types =
+      moved_refers m valid_other f moved from.0 (Contains-append_right (option_to_list (resource_of f.kind)) (signature_positions f) from.0 (Contains-append_right values (named_option f.result_) from.0 from.1)) in
+      subst (λ (x : ℕ). x < length (joined_graph m).types) from.2 (value_there from.0 within)
 
 -- ---- what is told of one function
 

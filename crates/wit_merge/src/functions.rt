@@ -12,11 +12,12 @@ ghost use Rattle.wit_link_spec.specs.Addition.{selected_with_index};
 ghost use Rattle.wit_link_spec.specs.ValueRemap.{item_function, world_functions};
 ghost use Rattle.wit_merge_spec.specs.United.{brought_functions, interface_functions, moved_functions};
 ghost use Rattle.wit_link_resources.specs.steps.Active.{seen};
+ghost use Rattle.wit_merge.specs.steps.Behind.{functions_of};
 ghost use Rattle.wit_merge_match.specs.steps.Matched.{AreMatches, merge_of_graphs, moves};
 
 use crate::names::moves;
 use std::alloc::{AllocError, Global};
-use wit_data::{Function, Interface, Names, Table, World, WorldItem, WorldKey};
+use wit_data::{Function, Interface, Items, Names, Table, World, WorldItem, WorldKey};
 use wit_graph_data::Graph;
 use wit_merge_match::Matches;
 
@@ -34,6 +35,46 @@ pub(crate) fn moved_functions<'a>(
     push_interfaces(&mut functions, graph, other, matches)?;
     push_worlds(&mut functions, other, matches)?;
     Ok(functions)
+}
+
+/// The functions of some interfaces, then those of some worlds.
+pub(crate) fn functions_of<'a>(
+    alloc: Global,
+    interfaces: &'a Items<Interface>,
+    worlds: &'a Items<World>,
+) -> Result<Vec<&'a Function>, AllocError>
+    ensures { IfOk result (λ functions. seen functions.items ≡ functions_of interfaces.now worlds.now) }
+{
+    let mut functions = Vec::new(alloc);
+    push_of_interfaces(&mut functions, interfaces)?;
+    push_of_worlds(&mut functions, worlds)?;
+    Ok(functions)
+}
+
+/// Adds those of some interfaces.
+fn push_of_interfaces<'a>(
+    functions: &mut Vec<&'a Function>,
+    interfaces: &'a Items<Interface>,
+) -> Result<(), AllocError>
+    ensures { OnOk result (seen functions.new.items ≡ seen functions.old.items ++ flat_map (λ (interface : Interface). map (λ (e : List ℕ × Function). e.1) interface.functions) interfaces.now) }
+{
+    for interface in interfaces.as_slice() {
+        push_all(functions, &interface.functions)?;
+    }
+    Ok(())
+}
+
+/// Adds those of some worlds.
+fn push_of_worlds<'a>(
+    functions: &mut Vec<&'a Function>,
+    worlds: &'a Items<World>,
+) -> Result<(), AllocError>
+    ensures { OnOk result (seen functions.new.items ≡ seen functions.old.items ++ flat_map world_functions worlds.now) }
+{
+    for world in worlds.as_slice() {
+        push_world(functions, world)?;
+    }
+    Ok(())
 }
 
 /// Adds those that interfaces bring.

@@ -1,12 +1,12 @@
 //! The interfaces of two graphs as one.
-ghost use Rattle.std.specs.Prelude.{◌≡◌, ◌++◌, IfOk, OnOk};
+ghost use Rattle.std.specs.Prelude.{◌≡◌, ◌++◌, IfOk, OnOk, map};
 ghost use Rattle.wit_remap_spec.specs.Image.{function_image, interface_image};
-ghost use Rattle.wit_merge_spec.specs.United.{merge_maps, joined_graph};
-ghost use Rattle.wit_merge.specs.steps.UnionSteps.{FunctionMoves, FunctionsMove, brought_matched, functions_image, CanUnite, merging_of};
+ghost use Rattle.wit_merge_spec.specs.United.{merge_maps, joined_graph, moved_interfaces};
+ghost use Rattle.wit_merge.specs.steps.UnionSteps.{FunctionMoves, FunctionsMove, brought_matched, functions_image, CanUnite, KnowsCounterparts, merging_of};
 ghost use Rattle.wit_values.specs.Table.{HasDistinctKeys};
 
 use crate::names::push_moved;
-use crate::parts::{Part, joined_list};
+use crate::parts::{Part, joined_list, move_all};
 use crate::stabilities::join_stability;
 use crate::union_plan::UnionPlan;
 use std::alloc::{AllocError, Global};
@@ -33,7 +33,12 @@ impl Part for Interface {
         Ok(moved)
     }
 
-    fn joined(&self, plan: &UnionPlan<'_>, from: &Interface) -> Result<Interface, AllocError> {
+    fn joined(
+        &self,
+        plan: &UnionPlan<'_>,
+        _counterparts: &Items<Option<usize>>,
+        from: &Interface,
+    ) -> Result<Interface, AllocError> {
         let mut joined = self.try_clone()?;
         let found = &plan.matches.types;
         push_moved(
@@ -90,11 +95,30 @@ fn moved_function(plan: &UnionPlan<'_>, function: &Function) -> Result<Function,
 pub(crate) fn joined_interfaces(
     alloc: Global,
     plan: &UnionPlan<'_>,
+    counterparts: &Items<Option<usize>>,
 ) -> Result<Items<Interface>, AllocError>
-    requires { CanUnite plan.now }
+    requires ready { CanUnite plan.now }
+    requires counterparts { KnowsCounterparts plan.now counterparts.now }
     ensures { IfOk result (λ interfaces. interfaces ≡ (joined_graph (merging_of plan.now)).interfaces) }
 {
     let found = &plan.matches.interfaces;
     let others = &plan.other.interfaces;
-    joined_list(alloc, plan, found, others, &plan.graph.interfaces)
+    let ours = &plan.graph.interfaces;
+    joined_list(alloc, plan, counterparts, found, others, ours)
+}
+
+/// The interfaces that move.
+pub(crate) fn moved_interfaces(
+    alloc: Global,
+    plan: &UnionPlan<'_>,
+) -> Result<Items<Interface>, AllocError>
+    requires { CanUnite plan.now }
+    ensures { IfOk result (λ interfaces. interfaces ≡ map (interface_image (merge_maps (merging_of plan.now))) (moved_interfaces (merging_of plan.now))) }
+{
+    move_all(
+        alloc,
+        plan,
+        &plan.matches.interfaces,
+        &plan.other.interfaces,
+    )
 }

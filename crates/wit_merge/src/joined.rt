@@ -4,6 +4,7 @@ ghost use Rattle.wit_merge_spec.specs.United.{joined_graph, remap_of_merge};
 ghost use Rattle.wit_merge.specs.steps.UnionSteps.{CanUnite, merging_of};
 ghost use Rattle.wit_link_spec.specs.ValueRemap.{owns as owns_of};
 
+use crate::counterparts::counterparts;
 use crate::interfaces::joined_interfaces;
 use crate::packages::{joined_names, joined_packages};
 use crate::types::joined_types;
@@ -23,10 +24,12 @@ pub(crate) fn joined_graph(
     requires owns { owns ≡ owns_of (remap_of_merge (merging_of plan.now)) }
     ensures { IfOk result (λ joined. joined ≡ joined_graph (merging_of plan.now)) }
 {
-    let types = joined_types(alloc, plan, owns)?;
-    let interfaces = joined_interfaces(alloc, plan)?;
-    let worlds = joined_worlds(alloc, plan)?;
-    let packages = joined_packages(alloc, plan)?;
+    let found = &plan.matches.interfaces;
+    let counterparts = counterparts(alloc, found, plan.graph.interfaces.len())?;
+    let types = joined_types(alloc, plan, &counterparts, owns)?;
+    let interfaces = joined_interfaces(alloc, plan, &counterparts)?;
+    let worlds = joined_worlds(alloc, plan, &counterparts)?;
+    let packages = joined_packages(alloc, plan, &counterparts)?;
     Ok(Graph {
         types,
         interfaces,

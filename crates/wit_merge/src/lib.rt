@@ -2,6 +2,8 @@
 #![tactic(auto)]
 
 mod agreement;
+mod appending;
+mod coming;
 mod counterparts;
 mod functions;
 mod interfaces;
@@ -17,4 +19,4 @@ mod union_plan;
 mod whole;
 mod worlds;
 
-pub use crate::whole::{United, union_of, unite};
+pub use crate::whole::{United, agreed_matches, append_union, union_of, unite, united_by};

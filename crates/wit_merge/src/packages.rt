@@ -1,11 +1,13 @@
 //! The packages of two graphs as one.
-ghost use Rattle.std.specs.Prelude.{◌≡◌, ◌++◌, IfOk, OnOk};
+ghost use Rattle.std.specs.Prelude.{◌≡◌, ◌++◌, IfOk, OnOk, map};
 ghost use Rattle.wit_values.specs.Table.{HasDistinctKeys};
-ghost use Rattle.wit_merge_spec.specs.United.{joined_graph};
-ghost use Rattle.wit_merge.specs.steps.UnionSteps.{moved_names, CanUnite, merging_of};
+ghost use Rattle.wit_link_spec.specs.Selected.{selected};
+ghost use Rattle.wit_merge_spec.specs.United.{joined_graph, moves_package, package_image};
+ghost use Rattle.wit_merge.specs.steps.Behind.{new_names};
+ghost use Rattle.wit_merge.specs.steps.UnionSteps.{moved_names, CanUnite, KnowsCounterparts, merging_of};
 
 use crate::names::{moves, push_moved};
-use crate::parts::{Part, joined_list};
+use crate::parts::{Part, joined_list, move_all};
 use crate::union_plan::UnionPlan;
 use std::alloc::{AllocError, Global};
 use wit_data::{Items, Names, PackageId, PackageName, Table, TryClone};
@@ -36,7 +38,12 @@ impl Part for Package {
         Ok(moved)
     }
 
-    fn joined(&self, plan: &UnionPlan<'_>, from: &Package) -> Result<Package, AllocError> {
+    fn joined(
+        &self,
+        plan: &UnionPlan<'_>,
+        _counterparts: &Items<Option<usize>>,
+        from: &Package,
+    ) -> Result<Package, AllocError> {
         let mut joined = self.try_clone()?;
         push_tables(plan, &mut joined, from)?;
         Ok(joined)
@@ -71,13 +78,16 @@ fn push_tables(plan: &UnionPlan<'_>, into: &mut Package, from: &Package) -> Resu
 pub(crate) fn joined_packages(
     alloc: Global,
     plan: &UnionPlan<'_>,
+    counterparts: &Items<Option<usize>>,
 ) -> Result<Items<Package>, AllocError>
-    requires { CanUnite plan.now }
+    requires ready { CanUnite plan.now }
+    requires counterparts { KnowsCounterparts plan.now counterparts.now }
     ensures { IfOk result (λ packages. packages ≡ (joined_graph (merging_of plan.now)).packages) }
 {
     let found = &plan.matches.packages;
     let others = &plan.other.packages;
-    joined_list(alloc, plan, found, others, &plan.graph.packages)
+    let ours = &plan.graph.packages;
+    joined_list(alloc, plan, counterparts, found, others, ours)
 }
 
 /// The names of the packages of the two as one.
@@ -91,6 +101,34 @@ pub(crate) fn joined_names(
     for (name, id) in plan.other.package_names.iter() {
         if moves(&plan.matches.packages, id.index()) {
             names.push(name.try_clone()?, plan.merged_package(*id))?;
+        }
+    }
+    Ok(names)
+}
+
+/// The packages that move.
+pub(crate) fn moved_packages(
+    alloc: Global,
+    plan: &UnionPlan<'_>,
+) -> Result<Items<Package>, AllocError>
+    requires { CanUnite plan.now }
+    ensures { IfOk result (λ packages. packages ≡ map (package_image (merging_of plan.now)) (selected (moves_package (merging_of plan.now)) plan.now.other.now.packages)) }
+{
+    move_all(alloc, plan, &plan.matches.packages, &plan.other.packages)
+}
+
+/// The names of the packages that move.
+pub(crate) fn moved_names(
+    alloc: Global,
+    plan: &UnionPlan<'_>,
+) -> Result<Items<(PackageName, PackageId)>, AllocError>
+    requires { CanUnite plan.now }
+    ensures { IfOk result (λ names. names ≡ new_names (merging_of plan.now)) }
+{
+    let mut names = Items::new(alloc);
+    for (name, id) in plan.other.package_names.iter() {
+        if moves(&plan.matches.packages, id.index()) {
+            names.push((name.try_clone()?, plan.merged_package(*id)))?;
         }
     }
     Ok(names)

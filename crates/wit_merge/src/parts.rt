@@ -5,7 +5,7 @@ ghost use Rattle.std.specs.Option.{option_map_or};
 ghost use Rattle.wit_link_spec.specs.Addition.{selected_with_index};
 ghost use Rattle.wit_merge_match.specs.steps.Matched.{moves};
 ghost use Rattle.wit_merge_spec.specs.Matches.{GraphMerge, counterpart_of};
-ghost use Rattle.wit_merge.specs.steps.UnionSteps.{CanUnite, merging_of, placed_at};
+ghost use Rattle.wit_merge.specs.steps.UnionSteps.{CanUnite, KnowsCounterparts, merging_of, placed_at};
 
 use crate::counterparts::counterparts;
 use crate::names::moves;
@@ -33,29 +33,38 @@ pub(crate) trait Part: TryClone + Drop {
         requires can { can_move (merging_of plan.now) self.now }
         ensures { IfOk result (λ made. (index : ℕ) → made ≡ image (merging_of plan.now) (index, self.now)) };
 
-    /// A copy with another joined to it, at whatever index of the other graph that stands.
-    fn joined(&self, plan: &UnionPlan<'_>, from: &Self) -> Result<Self, AllocError>
+    /// A copy with another joined to it, at whatever index of the other graph that stands, by with which interface of that
+    /// graph each one is matched.
+    fn joined(
+        &self,
+        plan: &UnionPlan<'_>,
+        counterparts: &Items<Option<usize>>,
+        from: &Self,
+    ) -> Result<Self, AllocError>
         requires ready { CanUnite plan.now }
+        requires counterparts { KnowsCounterparts plan.now counterparts.now }
         requires can { can_join (merging_of plan.now) from.now self.now }
         ensures { IfOk result (λ made. (index : ℕ) → made ≡ union (merging_of plan.now) (index, from.now) self.now) };
 }
 
 /// Copies of the things of a graph, each with the one joined to it that is matched with it, if one is; and behind them
-/// those of the other graph that move.
+/// those of the other graph that move. With which interface of the other graph each one of the graph is matched comes in.
 pub(crate) fn joined_list<S, T: Part>(
     alloc: Global,
     plan: &UnionPlan<'_>,
+    interfaces: &Items<Option<usize>>,
     found: &Items<Option<Id<S>>>,
     others: &Items<T>,
     ours: &Items<T>,
 ) -> Result<Items<T>, AllocError>
     requires ready { CanUnite plan.now }
+    requires interfaces { KnowsCounterparts plan.now interfaces.now }
     requires long { length found.now ≡ length others.now }
     requires joining { (x x' : ℕ) (from into : T) → slice_get others.now x ≡ Some from → get_or found.now x None ≡ Some x' → slice_get ours.now x' ≡ Some into → T.can_join (merging_of plan.now) from into }
     requires moving { (x : ℕ) (from : T) → slice_get others.now x ≡ Some from → moves found.now x ≡ true → T.can_move (merging_of plan.now) from }
     ensures { IfOk result (λ made. made ≡ map (λ (e : ℕ × T). option_map_or (λ (p : ℕ × T). T.union (merging_of plan.now) p e.1) (counterpart_of (λ x. get_or found.now x None) others.now e.0) e.1) (enumerate_from 0 ours.now) ++ map (T.image (merging_of plan.now)) (selected_with_index (moves found.now) others.now)) }
 {
-    let mut made = join_all(alloc, plan, found, others, ours)?;
+    let mut made = join_all(alloc, plan, interfaces, found, others, ours)?;
     made.append(move_all(alloc, plan, found, others)?)?;
     Ok(made)
 }
@@ -64,11 +73,13 @@ pub(crate) fn joined_list<S, T: Part>(
 fn join_all<S, T: Part>(
     alloc: Global,
     plan: &UnionPlan<'_>,
+    interfaces: &Items<Option<usize>>,
     found: &Items<Option<Id<S>>>,
     others: &Items<T>,
     ours: &Items<T>,
 ) -> Result<Items<T>, AllocError>
     requires ready { CanUnite plan.now }
+    requires interfaces { KnowsCounterparts plan.now interfaces.now }
     requires long { length found.now ≡ length others.now }
     requires can { (x x' : ℕ) (from into : T) → slice_get others.now x ≡ Some from → get_or found.now x None ≡ Some x' → slice_get ours.now x' ≡ Some into → T.can_join (merging_of plan.now) from into }
     ensures { IfOk result (λ made. made ≡ map (λ (e : ℕ × T). option_map_or (λ (p : ℕ × T). T.union (merging_of plan.now) p e.1) (counterpart_of (λ x. get_or found.now x None) others.now e.0) e.1) (enumerate_from 0 ours.now)) }
@@ -78,7 +89,7 @@ fn join_all<S, T: Part>(
     for index in 0..ours.len() {
         let into = ours.at(index);
         let place = *counterparts.at(index);
-        made.push(join_one(plan, others, place, into)?)?;
+        made.push(join_one(plan, interfaces, others, place, into)?)?;
     }
     Ok(made)
 }
@@ -86,17 +97,19 @@ fn join_all<S, T: Part>(
 /// A copy of a thing, with the one at an index joined to it, if there is one.
 fn join_one<T: Part>(
     plan: &UnionPlan<'_>,
+    interfaces: &Items<Option<usize>>,
     others: &Items<T>,
     index: Option<usize>,
     into: &T,
 ) -> Result<T, AllocError>
     requires ready { CanUnite plan.now }
+    requires interfaces { KnowsCounterparts plan.now interfaces.now }
     requires can { (x : ℕ) (from : T) → index ≡ Some x → slice_get others.now x ≡ Some from → T.can_join (merging_of plan.now) from into.now }
     ensures { IfOk result (λ made. made ≡ option_map_or (λ (p : ℕ × T). T.union (merging_of plan.now) p into.now) (placed_at others.now index) into.now) }
 {
     match index {
         Some(index) => match others.get(index) {
-            Some(from) => into.joined(plan, from),
+            Some(from) => into.joined(plan, interfaces, from),
             None => into.try_clone(),
         },
         None => into.try_clone(),
@@ -104,7 +117,7 @@ fn join_one<T: Part>(
 }
 
 /// Those that move.
-fn move_all<S, T: Part>(
+pub(crate) fn move_all<S, T: Part>(
     alloc: Global,
     plan: &UnionPlan<'_>,
     found: &Items<Option<Id<S>>>,

@@ -1,10 +1,10 @@
 //! The types of two graphs as one.
 ghost use Rattle.std.specs.Prelude.{◌≡◌, IfOk};
 ghost use Rattle.wit_merge_spec.specs.United.{joined_graph, remap_of_merge};
-ghost use Rattle.wit_merge.specs.steps.UnionSteps.{CanUnite, merging_of};
-ghost use Rattle.wit_link_spec.specs.ValueRemap.{owns as owns_of};
+ghost use Rattle.wit_merge.specs.steps.UnionSteps.{CanUnite, KnowsCounterparts, merging_of};
+ghost use Rattle.wit_link_spec.specs.ValueRemap.{owns as owns_of, types_behind};
 
-use crate::parts::{Part, joined_list};
+use crate::parts::{Part, joined_list, move_all};
 use crate::stabilities::join_stability;
 use crate::union_plan::UnionPlan;
 use std::alloc::{AllocError, Global};
@@ -31,7 +31,12 @@ impl Part for TypeDef {
         Ok(moved)
     }
 
-    fn joined(&self, _plan: &UnionPlan<'_>, from: &TypeDef) -> Result<TypeDef, AllocError> {
+    fn joined(
+        &self,
+        _plan: &UnionPlan<'_>,
+        _counterparts: &Items<Option<usize>>,
+        from: &TypeDef,
+    ) -> Result<TypeDef, AllocError> {
         let mut joined = self.try_clone()?;
         join_stability(&mut joined.stability, &from.stability)?;
         Ok(joined)
@@ -43,15 +48,33 @@ impl Part for TypeDef {
 pub(crate) fn joined_types(
     alloc: Global,
     plan: &UnionPlan<'_>,
+    counterparts: &Items<Option<usize>>,
     owns: Items<TypeDef>,
 ) -> Result<Items<TypeDef>, AllocError>
     requires ready { CanUnite plan.now }
+    requires counterparts { KnowsCounterparts plan.now counterparts.now }
     requires owns { owns ≡ owns_of (remap_of_merge (merging_of plan.now)) }
     ensures { IfOk result (λ types. types ≡ (joined_graph (merging_of plan.now)).types) }
 {
     let found = &plan.matches.types;
     let others = &plan.other.types;
-    let mut types = joined_list(alloc, plan, found, others, &plan.graph.types)?;
+    let ours = &plan.graph.types;
+    let mut types = joined_list(alloc, plan, counterparts, found, others, ours)?;
+    types.append(owns)?;
+    Ok(types)
+}
+
+/// The types that come: those that move, and the `own`s that values ask for.
+pub(crate) fn moved_types(
+    alloc: Global,
+    plan: &UnionPlan<'_>,
+    owns: Items<TypeDef>,
+) -> Result<Items<TypeDef>, AllocError>
+    requires ready { CanUnite plan.now }
+    requires owns { owns ≡ owns_of (remap_of_merge (merging_of plan.now)) }
+    ensures { IfOk result (λ types. types ≡ types_behind (remap_of_merge (merging_of plan.now))) }
+{
+    let mut types = move_all(alloc, plan, &plan.matches.types, &plan.other.types)?;
     types.append(owns)?;
     Ok(types)
 }

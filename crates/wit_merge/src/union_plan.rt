@@ -17,8 +17,6 @@ pub(crate) struct UnionPlan<'a> {
     pub(crate) merge_remap: &'a MergeRemap,
     /// What types are remapped to at value positions.
     pub(crate) values: &'a Items<TypeId>,
-    /// With which interface of the other graph each one of the graph is matched.
-    pub(crate) counterparts: &'a Items<Option<usize>>,
     pub(crate) offset: u32,
 }
 

@@ -1,5 +1,6 @@
 //! Another graph goes into a graph.
-ghost use Rattle.std.specs.Prelude.{◌≡◌, ◌⊎◌, ℕ, IfErr, IfOk, List, OnOk};
+ghost use Rattle.std.specs.Prelude.{◌≡◌, ◌⊎◌, ℕ, IfErr, IfOk, List, OnErr, OnOk};
+ghost use Rattle.wit_elaboration.specs.Elaboration.{graph_uses};
 ghost use Rattle.wit_elaboration.specs.Valid.{IsValid};
 ghost use Rattle.wit_graph_data.specs.declared.error_kind.ResolveErrorKind.{ResolveErrorKind};
 ghost use Rattle.wit_graph_data.specs.declared.error_kind.ResolveErrorKind.TheVariants.{OutOfMemory};
@@ -7,19 +8,29 @@ ghost use Rattle.wit_merge_match.specs.Differing.{merge_of_graphs_by};
 ghost use Rattle.wit_merge_match.specs.steps.Matched.{AreMatches, merge_remap_of};
 ghost use Rattle.wit_merge_spec.specs.United.{merge_remap as ids_of, joined_graph, united};
 ghost use Rattle.wit_merge_spec.specs.Cause.{IsMergeCause, MergeReturnsBorrow};
+ghost use Rattle.wit_merge_spec.specs.steps.Leaving.{LeavesGraph};
+ghost use Rattle.wit_remap.specs.Grown.{Begins, Grown};
+ghost use Rattle.wit_link_resources.specs.steps.Leading.{AreRight};
+ghost use Rattle.wit_merge.specs.steps.Behind.{IsComing};
 ghost use Rattle.wit_merge.specs.steps.UnionSteps.{DoAgree};
 ghost use Rattle.wit_merge.specs.Remapped.{remap_of};
 
 use crate::agreement::check_agreement;
-use crate::counterparts::counterparts;
+use crate::appending::append;
+use crate::coming::{Coming, moved_things};
 use crate::joined::joined_graph;
 use crate::owning::values;
 use crate::results::check_results;
 use crate::union_plan::UnionPlan;
-use std::alloc::Global;
+use std::alloc::{AllocError, Global};
+use wit_data::{Table, TypeId};
+use wit_elaboration::Elaborator;
 use wit_graph_data::{Graph, ResolveResult};
 use wit_link_spec::{NewIds, Values};
-use wit_merge_laws::laws::unions_stay_valid;
+use wit_merge_laws::laws::{
+    accepted_growth, functions_come, joined_is_grown, new_worlds_are_sound, nothing_new_is_cyclic,
+    unions_grow, unions_stay_valid, uses_grow,
+};
 use wit_merge_match::{Matches, MergeRemap, find_matches, find_remap};
 use wit_remap::Remap;
 use wit_unite_common::check_and_elaborate;
@@ -74,16 +85,139 @@ pub fn union_of(alloc: Global, graph: &Graph, other: &Graph, offset: u32) -> Res
     ensures cause { IfErr result (λ e. (e ≡ OutOfMemory) ⊎ IsMergeCause (merge_of_graphs_by graph.now other.now offset) e) }
     ensures refuses { (e : ResolveErrorKind) → IsMergeCause (merge_of_graphs_by graph.now other.now offset) e → OnOk result ⊥ }
 {
-    unions_stay_valid();
+    let matches = agreed_matches(alloc, graph, other, offset)?;
+    united_by(alloc, graph, other, &matches, offset)
+}
+
+/// What is matched of two valid graphs that agree: refused where what matches disagrees (24), where two stabilities that
+/// would be joined are known and differ (8), where a span of the other would pass 4294967295 (27), and for memory (28).
+/// It costs what the other graph costs.
+pub fn agreed_matches(
+    alloc: Global,
+    graph: &Graph,
+    other: &Graph,
+    offset: u32,
+) -> ResolveResult<Matches>
+    requires valid { IsValid graph.now }
+    requires other { IsValid other.now }
+    ensures matches { IfOk result (AreMatches graph.now other.now) }
+    ensures agree { OnOk result (DoAgree (merge_of_graphs_by graph.now other.now offset)) }
+    ensures cause { IfErr result (λ e. (e ≡ OutOfMemory) ⊎ IsMergeCause (merge_of_graphs_by graph.now other.now offset) e) }
+{
     let matches = find_matches(alloc, graph, other)?;
     check_agreement(alloc, graph, other, &matches, offset)?;
-    let merge_remap = find_remap(alloc, graph, other, &matches)?;
-    let mut joined = as_listed(alloc, graph, other, &matches, &merge_remap, offset)?;
+    Ok(matches)
+}
+
+/// `union_of` of two graphs that agree, by what is matched of them.
+pub fn united_by(
+    alloc: Global,
+    graph: &Graph,
+    other: &Graph,
+    matches: &Matches,
+    offset: u32,
+) -> ResolveResult<United>
+    requires valid { IsValid graph.now }
+    requires other { IsValid other.now }
+    requires agree { DoAgree (merge_of_graphs_by graph.now other.now offset) }
+    requires matches { AreMatches graph.now other.now matches.now }
+    ensures graph { IfOk result (λ made. made.graph ≡ united (merge_of_graphs_by graph.now other.now offset)) }
+    ensures remap { IfOk result (λ made. made.remap ≡ remap_of (ids_of (merge_of_graphs_by graph.now other.now offset))) }
+    ensures valid { IfOk result (λ made. IsValid made.graph) }
+    ensures cause { IfErr result (λ e. (e ≡ OutOfMemory) ⊎ IsMergeCause (merge_of_graphs_by graph.now other.now offset) e) }
+    ensures refuses { (e : ResolveErrorKind) → IsMergeCause (merge_of_graphs_by graph.now other.now offset) e → OnOk result ⊥ }
+{
+    unions_stay_valid();
+    let merge_remap = find_remap(alloc, graph, other, matches)?;
+    let mut joined = as_listed(alloc, graph, other, matches, &merge_remap, offset)?;
     check_and_elaborate(alloc, &mut joined)?;
     Ok(United {
         graph: joined,
         remap: into_remap(merge_remap),
     })
+}
+
+/// The same in place where nothing of the graph changes: what comes goes behind what is there, and its worlds alone are
+/// elaborated. With an elaborator of the graph, which becomes one of the new graph, and with types of the graph that
+/// were met along aliases, each with whether it leads to a resource; what is met more comes behind these. It costs what
+/// comes. After a refusal (4, 15, 28) graph and elaborator are as before.
+///
+/// Source: `merge` of wit-parser 0.263.0.
+pub fn append_union(
+    alloc: Global,
+    graph: &mut Graph,
+    elaborator: &mut Elaborator,
+    met: &mut Table<TypeId, bool>,
+    other: &Graph,
+    matches: &Matches,
+    offset: u32,
+) -> ResolveResult<Remap>
+    requires valid { IsValid graph.old }
+    requires other { IsValid other.now }
+    requires agree { DoAgree (merge_of_graphs_by graph.old other.now offset) }
+    requires matches { AreMatches graph.old other.now matches.now }
+    requires leaves { LeavesGraph (merge_of_graphs_by graph.old other.now offset) }
+    requires uses { elaborator.old ≡ graph_uses graph.old }
+    requires met { AreRight graph.old.types met.old }
+    ensures graph { OnOk result (graph.new ≡ united (merge_of_graphs_by graph.old other.now offset)) }
+    ensures remap { IfOk result (λ remap. remap ≡ remap_of (ids_of (merge_of_graphs_by graph.old other.now offset))) }
+    ensures valid { IsValid graph.new }
+    ensures uses { elaborator.new ≡ graph_uses graph.new }
+    ensures err { OnErr result (graph.new ≡ graph.old) }
+    ensures grown { Grown graph.old graph.new }
+    ensures rows { Begins elaborator.old elaborator.new }
+    ensures met { AreRight graph.new.types met.new }
+    ensures met_before { Begins met.old met.new }
+    ensures cause { IfErr result (λ e. (e ≡ OutOfMemory) ⊎ IsMergeCause (merge_of_graphs_by graph.old other.now offset) e) }
+    ensures refuses { (e : ResolveErrorKind) → IsMergeCause (merge_of_graphs_by graph.old other.now offset) e → OnOk result ⊥ }
+{
+    joined_is_grown();
+    uses_grow();
+    nothing_new_is_cyclic();
+    new_worlds_are_sound();
+    functions_come();
+    unions_grow();
+    accepted_growth();
+    unions_stay_valid();
+    let merge_remap = find_remap(alloc, graph, other, matches)?;
+    let coming = what_comes(alloc, graph, other, matches, &merge_remap, met, offset)?;
+    append(alloc, graph, elaborator, coming)?;
+    Ok(into_remap(merge_remap))
+}
+
+/// What comes behind the graph.
+fn what_comes(
+    alloc: Global,
+    graph: &Graph,
+    other: &Graph,
+    matches: &Matches,
+    merge_remap: &MergeRemap,
+    met: &mut Table<TypeId, bool>,
+    offset: u32,
+) -> Result<Coming, AllocError>
+    requires valid { IsValid graph.now }
+    requires other { IsValid other.now }
+    requires agree { DoAgree (merge_of_graphs_by graph.now other.now offset) }
+    requires matches { AreMatches graph.now other.now matches.now }
+    requires merge_remap { merge_remap.now ≡ merge_remap_of (merge_of_graphs_by graph.now other.now offset) }
+    requires met { AreRight graph.now.types met.old }
+    ensures comes { IfOk result (IsComing (merge_of_graphs_by graph.now other.now offset)) }
+    ensures met { AreRight graph.now.types met.new }
+    ensures met_before { Begins met.old met.new }
+{
+    let Values {
+        new_ids: value_ids,
+        owns,
+    } = values(alloc, graph, other, matches, merge_remap, met)?;
+    let plan = UnionPlan {
+        graph,
+        other,
+        matches,
+        merge_remap,
+        values: &value_ids,
+        offset,
+    };
+    moved_things(alloc, &plan, owns)
 }
 
 /// Where things are now, as it is answered.
@@ -117,18 +251,17 @@ fn as_listed(
     ensures none { OnOk result ((message : List ℕ) → MergeReturnsBorrow (merge_of_graphs_by graph.now other.now offset) message → ⊥) }
     ensures cause { IfErr result (λ e. (e ≡ OutOfMemory) ⊎ IsMergeCause (merge_of_graphs_by graph.now other.now offset) e) }
 {
+    let mut met = Table::new(alloc);
     let Values {
         new_ids: value_ids,
         owns,
-    } = values(alloc, graph, other, matches, merge_remap)?;
-    let counterparts = counterparts(alloc, &matches.interfaces, graph.interfaces.len())?;
+    } = values(alloc, graph, other, matches, merge_remap, &mut met)?;
     let plan = UnionPlan {
         graph,
         other,
         matches,
         merge_remap,
         values: &value_ids,
-        counterparts: &counterparts,
         offset,
     };
     let joined = joined_graph(alloc, &plan, owns)?;

@@ -3,9 +3,10 @@ ghost use Rattle.std.specs.Prelude.{◌≡◌, IfOk, None, get_or, map};
 ghost use Rattle.std.specs.Option.{option_copied};
 ghost use Rattle.wit_values.specs.Table.{HasDistinctKeys};
 ghost use Rattle.wit_merge_spec.specs.United.{joined_graph};
-ghost use Rattle.wit_merge.specs.steps.UnionSteps.{entry_joined, stability_joined, stability_of, stability_under, CanUnite, merging_of};
+ghost use Rattle.wit_merge_spec.specs.steps.Leaving.{new_worlds};
+ghost use Rattle.wit_merge.specs.steps.UnionSteps.{entry_joined, stability_joined, stability_of, stability_under, CanUnite, KnowsCounterparts, merging_of};
 
-use crate::parts::{Part, joined_list};
+use crate::parts::{Part, joined_list, move_all};
 use crate::stabilities::join_stability;
 use crate::union_plan::UnionPlan;
 use std::alloc::{AllocError, Global};
@@ -43,9 +44,14 @@ impl Part for World {
         Ok(moved)
     }
 
-    fn joined(&self, plan: &UnionPlan<'_>, from: &World) -> Result<World, AllocError> {
-        let imports = joined_entries(plan, &from.imports, &self.imports)?;
-        let exports = joined_entries(plan, &from.exports, &self.exports)?;
+    fn joined(
+        &self,
+        _plan: &UnionPlan<'_>,
+        counterparts: &Items<Option<usize>>,
+        from: &World,
+    ) -> Result<World, AllocError> {
+        let imports = joined_entries(counterparts, &from.imports, &self.imports)?;
+        let exports = joined_entries(counterparts, &from.exports, &self.exports)?;
         let mut joined = self.try_clone()?;
         joined.imports = imports;
         joined.exports = exports;
@@ -57,16 +63,16 @@ impl Part for World {
 /// Copies of entries of a world, each with the stability joined to it of what stands under its key in the world that is
 /// matched.
 fn joined_entries(
-    plan: &UnionPlan<'_>,
+    counterparts: &Items<Option<usize>>,
     from: &Table<WorldKey, WorldItem>,
     into: &Table<WorldKey, WorldItem>,
 ) -> Result<Table<WorldKey, WorldItem>, AllocError>
     requires { HasDistinctKeys into.now }
-    ensures { IfOk result (λ joined. joined ≡ map (entry_joined plan.now.counterparts.now from.now) into.now) }
+    ensures { IfOk result (λ joined. joined ≡ map (entry_joined counterparts.now from.now) into.now) }
 {
     let mut joined = Table::new(into.allocator());
     for (key, item) in into.iter() {
-        let item = joined_item(item, stability_under(plan.counterparts, from, key))?;
+        let item = joined_item(item, stability_under(counterparts, from, key))?;
         joined.push(key.try_clone()?, item)?;
     }
     Ok(joined)
@@ -125,11 +131,25 @@ fn stability_of(item: &WorldItem) -> Option<&Stability>
 }
 
 /// The worlds of the two as one.
-pub(crate) fn joined_worlds(alloc: Global, plan: &UnionPlan<'_>) -> Result<Items<World>, AllocError>
-    requires { CanUnite plan.now }
+pub(crate) fn joined_worlds(
+    alloc: Global,
+    plan: &UnionPlan<'_>,
+    counterparts: &Items<Option<usize>>,
+) -> Result<Items<World>, AllocError>
+    requires ready { CanUnite plan.now }
+    requires counterparts { KnowsCounterparts plan.now counterparts.now }
     ensures { IfOk result (λ worlds. worlds ≡ (joined_graph (merging_of plan.now)).worlds) }
 {
     let found = &plan.matches.worlds;
     let others = &plan.other.worlds;
-    joined_list(alloc, plan, found, others, &plan.graph.worlds)
+    let ours = &plan.graph.worlds;
+    joined_list(alloc, plan, counterparts, found, others, ours)
+}
+
+/// The worlds that move.
+pub(crate) fn moved_worlds(alloc: Global, plan: &UnionPlan<'_>) -> Result<Items<World>, AllocError>
+    requires { CanUnite plan.now }
+    ensures { IfOk result (λ worlds. worlds ≡ new_worlds (merging_of plan.now)) }
+{
+    move_all(alloc, plan, &plan.matches.worlds, &plan.other.worlds)
 }

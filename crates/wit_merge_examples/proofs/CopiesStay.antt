@@ -1,5 +1,5 @@
--- What stays as it is where the one graph is empty, or both are the same.
-use Rattle.std.proofs.Common.{◌≡◌, ℕ, zero, suc, [], Option, length, nat_eq, codes, refl, ap, lit<, arith}
+-- What stays as it is where the one graph is empty, both are the same, or what comes changes nothing.
+use Rattle.std.proofs.Common.{◌≡◌, ℕ, zero, suc, List, [], Option, length, nat_eq, slice_get, codes, refl, ap, lit<, arith}
 use Rattle.std.proofs.lemmas.Bool.{eqb-true, false≢true}
 use Rattle.std.specs.Option.{option_map_or}
 use Rattle.wit_digraph.specs.PostOrder.{post_order, post_order_within}
@@ -11,6 +11,7 @@ use Rattle.wit_graph_theory.specs.examples.TestFacts.{at_are}
 use Rattle.wit_merge_structure.specs.Structure.{structure, structure_within}
 use Rattle.wit_merge_spec.specs.Cause as merging
 use Rattle.wit_merge_spec.specs.Matches.{GraphMerge}
+use Rattle.wit_merge_spec.specs.steps.Leaving.{LeavesGraph}
 use Rattle.wit_merge_spec.specs.United.{merged_interface, merged_package, merged_type, merged_world}
 use Rattle.wit_merge_laws.specs.facts.EmptyFacts.{keeps_ids}
 use Rattle.wit_merge_laws.specs.laws.CopyLaws.{IsPlaced, KeepsIds, StaysItself}
@@ -57,6 +58,9 @@ type_count interface = option_map_or (λ (it : Interface). length it.types) inte
 type_comes : StaysItself (two_numbers (codes "u")) (merge_of_graphs (two_numbers (codes "u")) (two_numbers (codes "v"))) → ⊥
 type_comes same = let count : 3 ≡ 2 = ap type_count (same.interfaces 0 _ refl) in absurd (omega (arith, count))
 
+brings_type : LeavesGraph (merge_of_graphs (two_numbers (codes "u")) (two_numbers (codes "v"))) → ⊥
+brings_type leaves = let count : 3 ≡ 2 = ap (λ (interfaces : List Interface). type_count (slice_get interfaces 0)) leaves.interfaces in absurd (omega (arith, count))
+
 pub copies : ExamplesOfCopies
 unfolding post_order post_order_within structure structure_within
 copies = record {
@@ -64,6 +68,8 @@ copies = record {
   behind_others = behind_others;
   stays = stays;
   type_comes = type_comes;
+  leaves = record { types = refl; interfaces = refl; worlds = refl; packages = refl };
+  brings_type = brings_type;
   placed_accepted = can_merge _ (record { interfaces = refl; worlds = refl; types = refl; rank = λ i. i; uses = refl; packages = refl; exports = refl; gates = record { types = refl; interfaces = refl; worlds = refl }; results = refl; spans = refl });
   lost_refused = merging.borrow_in_result_15 _ (are_one _ refl refl refl) (record { f = _; t' = 3; moved = (0, lit< tt, refl); result_is = (0, lit< tt, refl); holds = (3, ([], refl), (2, refl)); message_is = refl });
 }

@@ -1,4 +1,4 @@
--- What stays as it is where the one graph is empty, or both are the same.
+-- What stays as it is where the one graph is empty, both are the same, or what comes changes nothing.
 use Rattle.std.specs.Prelude.{[], ◌∷◌, None, Some, codes}
 use Rattle.wit_data.specs.declared.types.Handle.TheVariants as handle
 use Rattle.wit_data.specs.declared.types.Type_.TheVariants as type
@@ -9,6 +9,7 @@ use Rattle.wit_graph_data.specs.declared.error_kind.ResolveErrorKind.TheVariants
 use Rattle.wit_graph_data.specs.declared.graph.Graph.{Graph}
 use Rattle.wit_graph_data.specs.examples.Samples.{function_of, type_in, world_of}
 use Rattle.wit_merge_spec.specs.Cause.{IsMergeCause, MergeIsAccepted}
+use Rattle.wit_merge_spec.specs.steps.Leaving.{LeavesGraph}
 use Rattle.wit_merge_laws.specs.laws.CopyLaws.{KeepsIds, StaysItself}
 use Rattle.wit_merge_examples.specs.Graphs.{b_uses_a, inner, merge_of_graphs, only_c, three, two_numbers}
 
@@ -27,6 +28,9 @@ pub record ExamplesOfCopies : Type 0 where
   -- with a copy of itself it stays as it is; with a graph of which one type has another name it gets that too
   pub stays : StaysItself three (merge_of_graphs three three)
   pub type_comes : StaysItself (two_numbers (codes "u")) (merge_of_graphs (two_numbers (codes "u")) (two_numbers (codes "v"))) → ⊥
+  -- a graph that has no package of it leaves it as it is; one that brings a type to an interface doesn't
+  pub leaves : LeavesGraph (merge_of_graphs only_c b_uses_a)
+  pub brings_type : LeavesGraph (merge_of_graphs (two_numbers (codes "u")) (two_numbers (codes "v"))) → ⊥
   -- a copy is refused where it brings a function that returns a borrow, which one that is placed doesn't
   pub placed_accepted : MergeIsAccepted (merge_of_graphs inner_borrow inner_borrow)
   pub lost_refused : IsMergeCause (merge_of_graphs lost_borrow lost_borrow) (Semantic None (codes "function `f` returns a type which contains a `borrow<T>` which is not supported") cause.BorrowInResult)

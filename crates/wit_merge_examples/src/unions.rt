@@ -12,7 +12,7 @@ pub fn examples_of_unions()
     ensures { ExamplesOfUnions }
 {}
 
-/// What stays as it is with an empty graph and with a copy, and a copy that is refused.
+/// What stays as it is with an empty graph, with a copy and with what changes nothing, and a copy that is refused.
 pub fn examples_of_copies()
     ensures { ExamplesOfCopies }
 {}

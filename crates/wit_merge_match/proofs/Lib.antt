@@ -1,8 +1,10 @@
+mod Next
 pub mod Apart
 pub mod Mapped
 pub mod Matched
-mod Next
+pub mod NoPairs
 pub mod Noted
+pub mod NothingChanges
 pub mod PairSteps
 pub mod Passing
 pub mod Steps

@@ -1,3 +1,4 @@
+pub mod Leaving
 pub mod Matched
 pub mod Stabilities
 pub mod Structures

@@ -4,6 +4,7 @@
 #![tactic(auto)]
 
 mod entries;
+mod leaving;
 mod matched_graphs;
 mod matches;
 mod merge_remap;
@@ -16,6 +17,7 @@ mod tables;
 mod types;
 mod world_labels;
 
+pub use crate::leaving::leaves_graph;
 pub use crate::matches::{Matches, find_matches};
 pub use crate::merge_remap::{MergeRemap, find_remap};
 pub use crate::mismatch::find_mismatch;

@@ -1,14 +1,15 @@
 //! What differs in the structure of matched types, in the order in which they are compared.
-ghost use Rattle.std.specs.Prelude.{◌≡◌, ◌∷◌, ◌++◌, ◌<◌, [], IfNone, IfOk, IfSome, length, string_bytes};
+ghost use Rattle.std.specs.Prelude.{◌≡◌, ◌∷◌, ◌++◌, ◌<◌, ℕ, [], None, IfNone, IfOk, IfSome, false, get_or, length, string_bytes};
 ghost use Rattle.std.specs.List.{flat_map};
 ghost use Rattle.wit_graph_data.specs.Queries.{topological_packages, package_uses};
 ghost use Rattle.wit_digraph.specs.Relation.{IsAcyclic};
 ghost use Rattle.wit_merge_spec.specs.Matches.{entry_pairs, interface_pairs, item_pairs, paired, type_pairs, world_pairs};
-ghost use Rattle.wit_merge_match.specs.Differing.{merging_of};
+ghost use Rattle.wit_merge_match.specs.Differing.{AreKnown, merging_of};
 ghost use Rattle.wit_merge_match.specs.steps.Structures.{AreComparable, FirstMismatch, IsOf, IsThere, ListsThere, NoneDiffer, TypesThere, common_pair, package_interface_pairs, package_world_pairs, side_pairs, unnamed_pairs};
 
 use crate::matched_graphs::MatchedGraphs;
 use crate::messages::{in_entry, in_part, in_type};
+use crate::tables::match_at;
 use std::alloc::{AllocError, Global};
 use wit_data::{InterfaceId, Items, Names, PackageId, Table, TypeId, WorldId, WorldItem, WorldKey};
 use wit_graph_data::Graph;
@@ -23,10 +24,21 @@ impl<'a> MatchedGraphs<'a> {
         ensures some { IfOk result (λ found. IfSome found (λ message. FirstMismatch (merging_of self.now) (type_pairs (merging_of self.now)) (string_bytes message))) }
         ensures none { IfOk result (λ found. IfNone found (NoneDiffer (merging_of self.now) (type_pairs (merging_of self.now)))) }
     {
+        if !self.has_pairs() {
+            return Ok(None);
+        }
         let order = package_order(alloc, self.other)?;
         let types = &self.matches.types;
         let mut comparison = Comparison::new(alloc, &self.other.types, &self.graph.types, types)?;
         self.packages_differ(alloc, &mut comparison, &order)
+    }
+
+    /// Whether there may be types to compare: an interface or a world is matched.
+    fn has_pairs(&self) -> bool
+        requires { AreKnown self.now }
+        ensures { result ≡ false → type_pairs (merging_of self.now) ≡ [] }
+    {
+        any_matched(&self.matches.interfaces) || any_matched(&self.matches.worlds)
     }
 
     /// What differs in types of the interfaces of some packages, and then of their worlds.
@@ -319,6 +331,19 @@ impl<'a> MatchedGraphs<'a> {
             None => self.interface_differs(alloc, comparison, id),
         }
     }
+}
+
+/// Whether one of some things is matched.
+fn any_matched<T: Copy>(found: &Items<Option<T>>) -> bool
+    ensures { result ≡ false → (i : ℕ) → get_or found.now i None ≡ None }
+{
+    for index in 0..found.len() {
+        match match_at(found, index) {
+            Some(_) => return true,
+            None => {}
+        }
+    }
+    false
 }
 
 /// The packages of a valid graph, each after those that it depends on.

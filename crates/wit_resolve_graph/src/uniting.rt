@@ -7,14 +7,18 @@ ghost use Rattle.wit_graph_data.specs.declared.error_kind.ResolveErrorKind.TheVa
 ghost use Rattle.wit_merge_spec.specs.Cause.{IsMergeCause};
 ghost use Rattle.wit_merge_spec.specs.United as moved;
 ghost use Rattle.wit_merge_spec.specs.United.{united};
+ghost use Rattle.wit_merge_match.specs.steps.Matched.{AreMatches};
+ghost use Rattle.wit_merge_spec.specs.steps.Leaving.{LeavesGraph};
 ghost use Rattle.wit_merge.specs.Remapped.{remap_of};
+ghost use Rattle.wit_merge.specs.steps.UnionSteps.{DoAgree};
 ghost use Rattle.wit_resolve_graph.specs.State.{AreKept};
 
 use crate::kept::Kept;
 use std::alloc::Global;
 use wit_graph_data::{Graph, ResolveResult};
-use wit_merge::{United, union_of};
-use wit_remap::Remap;
+use wit_merge::{United, agreed_matches, append_union, united_by};
+use wit_merge_match::{Matches, leaves_graph};
+use wit_remap::{Mark, Remap};
 
 /// Makes a graph one with another, whose spans move by an offset, and answers where the things of the other stand now:
 /// see `wit_merge::union_of`. After a refusal nothing has changed. What is kept is of the graph, and becomes that of the
@@ -35,7 +39,11 @@ pub(crate) fn unite_kept(
     ensures cause { IfErr result (λ kind. (kind ≡ OutOfMemory) ⊎ IsMergeCause (merge_of_graphs_by graph.old other.now offset) kind) }
     ensures refuses { (kind : ResolveErrorKind) → IsMergeCause (merge_of_graphs_by graph.old other.now offset) kind → OnOk result ⊥ }
 {
-    let made = union_of(alloc, graph, other, offset)?;
+    let matches = agreed_matches(alloc, graph, other, offset)?;
+    if leaves_graph(graph, other, &matches) {
+        return append_union_kept(alloc, graph, kept, other, &matches, offset);
+    }
+    let made = united_by(alloc, graph, other, &matches, offset)?;
     let new_kept = Kept::of(alloc, &made.graph)?;
     let United {
         graph: union_graph,
@@ -43,5 +51,42 @@ pub(crate) fn unite_kept(
     } = made;
     *graph = union_graph;
     *kept = new_kept;
+    Ok(remap)
+}
+
+/// The same where nothing of the graph changes: see `wit_merge::append_union`. What is kept grows by what comes.
+fn append_union_kept(
+    alloc: Global,
+    graph: &mut Graph,
+    kept: &mut Kept,
+    other: &Graph,
+    matches: &Matches,
+    offset: u32,
+) -> ResolveResult<Remap>
+    requires kept { AreKept graph.old kept.old }
+    requires other { IsValid other.now }
+    requires agree { DoAgree (merge_of_graphs_by graph.old other.now offset) }
+    requires matches { AreMatches graph.old other.now matches.now }
+    requires leaves { LeavesGraph (merge_of_graphs_by graph.old other.now offset) }
+    ensures graph { OnOk result (graph.new ≡ united (merge_of_graphs_by graph.old other.now offset)) }
+    ensures remap { IfOk result (λ remap. remap ≡ remap_of (moved.merge_remap (merge_of_graphs_by graph.old other.now offset))) }
+    ensures kept { AreKept graph.new kept.new }
+    ensures err { OnErr result (graph.new ≡ graph.old) }
+    ensures cause { IfErr result (λ kind. (kind ≡ OutOfMemory) ⊎ IsMergeCause (merge_of_graphs_by graph.old other.now offset) kind) }
+    ensures refuses { (kind : ResolveErrorKind) → IsMergeCause (merge_of_graphs_by graph.old other.now offset) kind → OnOk result ⊥ }
+{
+    let mark = Mark::of(graph);
+    let rows = kept.elaborator.interfaces();
+    let met = kept.met.len();
+    let remap = append_union(
+        alloc,
+        graph,
+        &mut kept.elaborator,
+        &mut kept.met,
+        other,
+        matches,
+        offset,
+    )?;
+    kept.follow(alloc, graph, mark, rows, met)?;
     Ok(remap)
 }

@@ -31,4 +31,5 @@ pub use crate::printer::print_world;
 pub use crate::reader::read_script;
 pub use crate::ready::{ReadyCommand, ScriptCommand};
 pub use crate::script::{execute, execute_text, exit_status};
+pub use crate::stream::{read_all, write_all};
 pub use crate::watched::Watched;

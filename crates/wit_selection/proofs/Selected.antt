@@ -30,3 +30,8 @@ module _ {X : Type 0} where
   -- and where it passes
   pub filter-met : (p : X → Bool) (xs : List X) (i : ℕ) (x : X) → slice_get xs i ≡ Some x → p x ≡ true → filter p (drop i xs) ≡ x ∷ filter p (drop (i + 1) xs)
   filter-met p xs i x at passes = rw (drop-next_at xs i x at, passes) refl
+
+  -- nothing is left of what fails
+  pub filter-none : (p : X → Bool) → ((x : X) → p x ≡ false) → (xs : List X) → filter p xs ≡ []
+  filter-none p fails [] = refl
+  filter-none p fails (x ∷ xs) = rw (fails x) (filter-none p fails xs)

@@ -158,9 +158,12 @@ fn version_from(
     ensures small { IfSome result (λ i. i < 2 ^ 63) }
     ensures first { MatchOption result (versions_of name.now (drop from names.now) ≡ []) (λ i. IfSome (slice_get names.now i) (λ e. versions_of name.now (drop from names.now) ≡ e ∷ versions_of name.now (drop (i + 1) names.now))) }
 {
+    if name.version.is_some() {
+        return None;
+    }
     for index in from..names.len() {
         let (candidate, _) = names.entry_at(index);
-        if name.version.is_none() && is_version_of(candidate, name) {
+        if is_version_of(candidate, name) {
             return Some(index);
         }
     }

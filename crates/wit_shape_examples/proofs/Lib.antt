@@ -1,3 +1,4 @@
+mod FirstFaults
 pub mod OneFilePlaces
 mod ShapeMisses
 mod Shaped

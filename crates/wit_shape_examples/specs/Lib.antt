@@ -1,3 +1,4 @@
+pub mod Faults
 pub mod OneFile
 pub mod Places
 pub mod Shape

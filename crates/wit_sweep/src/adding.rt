@@ -9,6 +9,7 @@ use wit_resolve_graph::{
     Items, PackageId, ParseFault, Resolve, Shape, SourceFault, SourceMap, Span, Text, TryClone,
     UnresolvedPackage, UnresolvedPackageGroup,
 };
+use wit_shape_faults::find_shape_fault;
 use wit_sweep_layers::marks::{call, copy_of, tell_made, tell_refusal};
 
 /// Each way to add a package that is alone.
@@ -22,6 +23,8 @@ pub fn add_package(
 {
     call(rt, "is_shaped of a package");
     tell_made(rt, package.is_shaped(alloc))?;
+    call(rt, "find_shape_fault");
+    tell_made(rt, find_shape_fault(alloc, package))?;
     push(rt, alloc, resolve, package)?;
     push_source(rt, alloc, resolve, package)?;
     push_source_unread(rt, alloc, resolve, true)?;

@@ -15,7 +15,7 @@ use Rattle.wit_link_spec.specs.Reasons.{HoldsBorrow}
 use Rattle.wit_link_spec.specs.ValueRemap.{value_id}
 use Rattle.wit_remap.specs.steps.Fits.{PartsFit, Fits, FunctionFits, InterfaceFits, TypeFits, WorldFits}
 use Rattle.wit_merge_spec.specs.Matches.{GraphMerge}
-use Rattle.wit_merge_spec.specs.United.{merge_maps, remap_of_merge, joined_graph, with_interface, with_package, merged_package, moves_interface, moves_package, moves_world}
+use Rattle.wit_merge_spec.specs.United.{merge_maps, remap_of_merge, joined_graph, with_interface, with_package, moves_interface, moves_world}
 use Rattle.wit_merge_spec.specs.Cause.{HasNoMismatch, MergeOverflows, MergeReturnsBorrow, StabilitiesMismatch}
 use Rattle.wit_merge_match.specs.steps.Matched.{AreMatches, merge_remap_of, moves}
 use Rattle.wit_merge.specs.declared.union_plan.UnionPlan.{UnionPlan}
@@ -23,7 +23,6 @@ use Rattle.std.specs.Map.{lookup}
 use Rattle.wit_values.specs.Table.{HasDistinctKeys}
 use Rattle.wit_data.specs.Entries.{Entry}
 use Rattle.wit_data.specs.declared.interface.Interface.{Interface}
-use Rattle.wit_names.specs.declared.package_name.PackageName.{PackageName}
 use Rattle.wit_data.specs.declared.types.TypeDef.{TypeDef}
 use Rattle.wit_data.specs.declared.types.TypeOwner.{TypeOwner}
 use Rattle.wit_data.specs.declared.world.World.{World}
@@ -65,8 +64,11 @@ pub record CanUnite (u : UnionPlan) : Type 0 where
   pub matches : AreMatches u.graph.now u.other.now u.matches.now
   pub merge_remap : u.merge_remap.now ≡ merge_remap_of (merging_of u)
   pub values : u.values.now ≡ value_ids (merging_of u)
-  pub counterparts : u.counterparts.now ≡ firsts_from 0 u.matches.now.interfaces (length u.graph.now.interfaces)
   pub fits : PartsFit u.offset u.other.now.types u.other.now.interfaces u.other.now.worlds
+
+-- with which interface of the other graph each one of the graph is matched
+abbrev pub KnowsCounterparts : UnionPlan → List (Option ℕ) → Type 0
+KnowsCounterparts u counterparts = counterparts ≡ firsts_from 0 u.matches.now.interfaces (length u.graph.now.interfaces)
 
 -- nothing differs that has to agree, all stabilities can be joined, and all spans can be moved
 pub record DoAgree (m : GraphMerge) : Type 0 where

@@ -1,6 +1,6 @@
 -- What is found of another graph in a graph, as lists of ids: of each thing of the other graph the one with which it is
 -- matched; and where its things go in a merge.
-use Rattle.std.specs.Prelude.{◌≡◌, ℕ, Bool, List, get_or, length, nat_eq, slice_get, Option, None, Some, option_and_then, if◌then◌else◌, ◌+◌, not, is_some, unwrap_or, bytes_eq}
+use Rattle.std.specs.Prelude.{◌≡◌, ℕ, Bool, List, get_or, length, nat_eq, slice_get, Option, None, option_and_then, if◌then◌else◌, ◌+◌, not, is_some, unwrap_or, bytes_eq}
 use Rattle.std.specs.Map.{lookup}
 use Rattle.wit_data.specs.Entries.{is_unnamed, entries_of}
 use Rattle.wit_data.specs.Ownership.{world_types}

@@ -7,7 +7,7 @@ use Rattle.wit_merge_match.specs.Differing.{merge_of_graphs_by}
 use Rattle.wit_merge_match.specs.declared.merge_remap.MergeRemap.{MergeRemap}
 use Rattle.wit_merge_match.specs.steps.Matched.{merge_of_graphs}
 use Rattle.wit_link_resources.specs.steps.Active.{seen}
-use Rattle.wit_link_resources.specs.facts.MetTypes.{right-begun}
+use Rattle.wit_remap.specs.facts.GrownFacts.{Begins-same}
 use Rattle.wit_merge.proofs.MergeComes.{comes, is_remap, positions_remapped}
 use Rattle.wit_merge.proofs.owning.values.Goals as goal
 
@@ -21,11 +21,8 @@ remapped_values-requires-clause-there c =
     positions_remapped (merge_of_graphs c.args.graph.now c.args.other.now) c.requires.valid c.requires.valid_other c.args.merge_remap.now.new_ids.types (ap (λ (g : MergeRemap). g.new_ids.types) c.requires.merge_remap)
     (seen c.as_slice.result.now) (ap seen c.as_slice.ensures.value ∙ c.in_ok-functions.ensures)
 
-pub remapped_values-requires-clause-met : goal.remapped_values-requires-clause-met
-remapped_values-requires-clause-met c = right-begun c.args.graph.now.types c.new-met.result c.new-met.ensures
-
-pub returns : goal.returns
-returns c =
+pub returns-clause-values : goal.returns-clause-values
+returns-clause-values c =
     IfOk-weaker c.remapped_values.result _ _
     (λ values is offset.
     let m : GraphMerge = merge_of_graphs_by c.args.graph.now c.args.other.now offset in
@@ -33,3 +30,6 @@ returns c =
     (is_remap m c.requires.valid c.requires.valid_other c.args.merge_remap.now.new_ids.types (ap (λ (g : MergeRemap). g.new_ids.types) c.requires.merge_remap)
     (seen c.as_slice.result.now) (ap seen c.as_slice.ensures.value ∙ c.in_ok-functions.ensures)) in
     (ap (λ (v : Values). v.new_ids) same, ap (λ (v : Values). v.owns) same)) c.remapped_values.ensures.values
+
+pub returns-in_err-functions-clause-met_before : goal.returns-in_err-functions-clause-met_before
+returns-in_err-functions-clause-met_before c = Begins-same c.args.met.now

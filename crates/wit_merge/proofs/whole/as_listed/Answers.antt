@@ -3,6 +3,7 @@ use Rattle.wit_graph_data.specs.facts.ResultFacts.{residual_error}
 use Rattle.wit_graph_data.specs.declared.graph.Graph.{Graph}
 use Rattle.wit_graph_data.specs.declared.error_kind.ResolveErrorKind.{ResolveErrorKind}
 use Rattle.wit_graph_data.specs.declared.error_kind.ResolveErrorKind.TheVariants.{OutOfMemory}
+use Rattle.wit_link_resources.specs.facts.MetTypes.{right-begun}
 use Rattle.wit_merge_match.specs.Differing.{merge_of_graphs_by}
 use Rattle.wit_merge_spec.specs.Cause.{IsMergeCause}
 use Rattle.wit_merge.proofs.Outcome.{all_fit, borrow_told}
@@ -18,8 +19,7 @@ joined_graph-requires-clause-ready c =
       one = agree.one;
       matches = c.requires.matches;
       merge_remap = c.requires.merge_remap;
-      values = (c.in_ok-value_ids.ensures c.args.offset).0;
-      counterparts = rw c.len.ensures at c.in_ok-counterparts.ensures;
+      values = (c.in_ok-value_ids.ensures.values c.args.offset).0;
       fits = all_fit (merge_of_graphs_by c.args.graph.now c.args.other.now c.args.offset) small agree.spans;
     }
 
@@ -33,8 +33,7 @@ check_results-requires-clause-ready c =
       one = agree.one;
       matches = c.requires.matches;
       merge_remap = c.requires.merge_remap;
-      values = (c.in_ok-value_ids.ensures c.args.offset).0;
-      counterparts = rw c.len.ensures at c.in_ok-counterparts.ensures;
+      values = (c.in_ok-value_ids.ensures.values c.args.offset).0;
       fits = all_fit (merge_of_graphs_by c.args.graph.now c.args.other.now c.args.offset) small agree.spans;
     }
 
@@ -54,4 +53,7 @@ pub values-requires-clause-merge_remap : goal.values-requires-clause-merge_remap
 values-requires-clause-merge_remap c = c.requires.merge_remap
 
 pub joined_graph-requires-clause-owns : goal.joined_graph-requires-clause-owns
-joined_graph-requires-clause-owns c = (c.in_ok-value_ids.ensures c.args.offset).1
+joined_graph-requires-clause-owns c = (c.in_ok-value_ids.ensures.values c.args.offset).1
+
+pub values-requires-clause-met : goal.values-requires-clause-met
+values-requires-clause-met c = right-begun c.args.graph.now.types c.new-met.result c.new-met.ensures

@@ -10,12 +10,12 @@ use Rattle.wit_merge.proofs.worlds.joined_entries.Goals as goal
 
 pub loop-key-init : goal.loop-key-init
 loop-key-init c =
-    let f = entry_joined c.args.plan.now.counterparts.now c.args.from.now in
+    let f = entry_joined c.args.counterparts.now c.args.from.now in
     λ j. c.new-joined.ensures j ++ map f ((c.into_iter-key-iterator.ensures.into_iter_gives ∙ c.iter-key-items.ensures.rest) j)
 
 pub push-requires : goal.push-requires
 push-requires c =
-    let counterparts = c.args.plan.now.counterparts.now in
+    let counterparts = c.args.counterparts.now in
     let from = c.args.from.now in
     let into = c.args.into.now in
     let f = entry_joined counterparts from in
@@ -26,11 +26,11 @@ push-requires c =
 
 pub loop-key-preserved : goal.loop-key-preserved
 loop-key-preserved c =
-    let f = entry_joined c.args.plan.now.counterparts.now c.args.from.now in
+    let f = entry_joined c.args.counterparts.now c.args.from.now in
     let e : Entry = (c.in-Some.key.now, c.in-Some.item.now) in
     let held = c.in_ok-item.ensures ∙ ap (λ o. stability_joined o e.1) c.stability_under.ensures in
     let is : (c.in_ok-try_clone.field-0, c.in_ok-item.item) ≡ f e = λ j. let r : Entry = (c.in_ok-try_clone.ensures j, held j) in r in
     mapped_more f c.loop-key.joined c.push.new.self _ c.next.new.self e _ (map f c.args.into.now) c.in-Some.ensures.steps c.loop-key.invariant c.in_ok-push.ensures.ok is
 
 pub returns : goal.returns
-returns c = mapped_none (entry_joined c.args.plan.now.counterparts.now c.args.from.now) c.loop-key.joined _ (map (entry_joined c.args.plan.now.counterparts.now c.args.from.now) c.args.into.now) c.in-None.ensures.steps.0 c.loop-key.invariant
+returns c = mapped_none (entry_joined c.args.counterparts.now c.args.from.now) c.loop-key.joined _ (map (entry_joined c.args.counterparts.now c.args.from.now) c.args.into.now) c.in-None.ensures.steps.0 c.loop-key.invariant

@@ -10,14 +10,14 @@ use Rattle.wit_merge.proofs.UnitedIs.{united_is}
 use Rattle.wit_merge.proofs.worlds.joined_worlds.Goals as goal
 
 pub joined_list-requires-clause-joining : goal.joined_list-requires-clause-joining
-joined_list-requires-clause-joining c x x' from into at found there = worlds_join c.args.plan.now c.requires x' into there
+joined_list-requires-clause-joining c x x' from into at found there = worlds_join c.args.plan.now c.requires.ready x' into there
 
 pub joined_list-requires-clause-moving : goal.joined_list-requires-clause-moving
-joined_list-requires-clause-moving c x from at moves = worlds_move c.args.plan.now c.requires x from at
+joined_list-requires-clause-moving c x from at moves = worlds_move c.args.plan.now c.requires.ready x from at
 
 pub returns : goal.returns
 returns c =
     let u = c.args.plan.now in
     let m = merging_of u in
-    let same = united_is (counterpart_world m) _ u.matches.now.worlds c.requires.matches.worlds (with_world m) (λ (e : ℕ × World). world_image (merge_maps m) e.0 e.1) u.other.now.worlds u.graph.now.worlds in
+    let same = united_is (counterpart_world m) _ u.matches.now.worlds c.requires.ready.matches.worlds (with_world m) (λ (e : ℕ × World). world_image (merge_maps m) e.0 e.1) u.other.now.worlds u.graph.now.worlds in
     IfOk-weaker c.joined_list.result _ _ (λ made is. is ∙ same) c.joined_list.ensures

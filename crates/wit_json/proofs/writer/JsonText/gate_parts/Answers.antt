@@ -1,4 +1,4 @@
-use Rattle.wit_json.proofs.Members.{object_closed, then_more}
+use Rattle.wit_json.specs.facts.MemberFacts.{object_closed, then_more}
 use Rattle.wit_json.proofs.writer.JsonText.gate_parts.Goals as goal
 
 pub returns : goal.returns

@@ -1,10 +1,15 @@
-use Rattle.std.proofs.Common.{string_bytes, sym}
+use Rattle.std.proofs.Common.{List, string_bytes, subst, sym, Contains}
 use Rattle.std.proofs.lemmas.Option.{IfSome_then}
 use Rattle.std.proofs.lemmas.Result.{IfOk-weaker}
+use Rattle.wit_digraph.specs.facts.MemberFacts.{Contains-nil}
+use Rattle.wit_merge_spec.specs.Matches.{TypePair}
 use Rattle.wit_merge_match.specs.Differing.{merging_of}
 use Rattle.wit_merge_match.proofs.PairSteps.{first_is, none_same, pairs_by_package}
 use Rattle.wit_merge_match.proofs.Steps.{if_none}
 use Rattle.wit_merge_match.proofs.matched_graphs.MatchedGraphs.structures_mismatch.Goals as goal
+
+pub returns-then-not-has_pairs-clause-none : goal.returns-then-not-has_pairs-clause-none
+returns-then-not-has_pairs-clause-none c = λ p ending has differs. Contains-nil (subst (λ (pairs : List TypePair). Contains pairs p) (c.has_pairs.ensures c.if-not-has_pairs.true) has)
 
 pub package_order-requires : goal.package_order-requires
 package_order-requires c = c.requires.other.no_cycles.packages

@@ -1,0 +1,10 @@
+use Rattle.std.proofs.Common.{◌≡◌, ◌++◌, ◌∷◌, drop, map}
+use Rattle.json.specs.Token.{begin_array}
+use Rattle.json.specs.Tree.{items_tokens}
+use Rattle.json.specs.Value.{items_of}
+use Rattle.wit_json.proofs.unresolved.ItemsWriteWhole.write_whole.Given as goal
+
+-- what is written, and the items that are left
+abbrev pub invariant-loop-item : goal.invariant-loop-item
+invariant-loop-item g l =
+    l.out ++ items_tokens (items_of (map g.T.WriteWhole.whole (drop l.item-index l.item-items))) ≡ l.fn.out ++ begin_array ∷ items_tokens (items_of (map g.T.WriteWhole.whole l.self))

@@ -1,0 +1,4 @@
+pub mod Digits
+mod Marks
+mod Members
+mod Steps

@@ -1,0 +1,12 @@
+pub mod Reading
+pub mod Values
+pub mod Objects
+pub mod Tables
+pub mod Gates
+pub mod Types
+pub mod Functions
+pub mod Worlds
+pub mod Packages
+pub mod Groups
+pub mod Documents
+pub mod Messages

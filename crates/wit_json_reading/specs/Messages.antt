@@ -1,0 +1,41 @@
+-- Faults as texts.
+use Rattle.std.specs.Prelude.{ℕ, List, ◌++◌, codes, decimal}
+use Rattle.wit_json_reading.specs.declared.fault.Expected.{Expected}
+use Rattle.wit_json_reading.specs.declared.fault.Expected.TheVariants as expected
+use Rattle.wit_json_reading.specs.declared.fault.Step.{Step}
+use Rattle.wit_json_reading.specs.declared.fault.Step.TheVariants as step
+
+-- what was to stand there
+abbrev pub expected_text : Expected → List ℕ
+expected_text expected.Document = codes "a JSON value and nothing else"
+expected_text expected.Object = codes "an object"
+expected_text expected.List = codes "a list"
+expected_text expected.Text = codes "a text"
+expected_text expected.Number = codes "a number in digits alone, below 18446744073709551616"
+expected_text expected.SmallNumber = codes "a number below 4294967296"
+expected_text expected.Version = codes "a version"
+expected_text expected.Pair = codes "a list of two values"
+expected_text expected.Span = codes "a start that isn't after its end"
+expected_text expected.Member = codes "a member of this name"
+expected_text expected.NoMember = codes "no member of this name"
+expected_text expected.NoSecondMember = codes "no second member of this name"
+expected_text expected.Type = codes "a type"
+expected_text expected.TypeKind = codes "a kind of type"
+expected_text expected.FunctionKind = codes "a kind of function"
+expected_text expected.Gate = codes "a gate"
+expected_text expected.Owner = codes "an owner of a type"
+expected_text expected.Handle = codes "a handle"
+expected_text expected.Entry = codes "an entry of a world"
+expected_text expected.PackageName = codes "the name of a package"
+expected_text expected.ForeignItem = codes "an interface or a world of another package"
+expected_text expected.Source = codes "a file that ends before position 4294967296"
+expected_text expected.Boolean = codes "true or false"
+expected_text expected.Command = codes "a command"
+expected_text expected.TrackRule = codes "a rule of tracks"
+expected_text expected.Mangling = codes "a mangling"
+expected_text expected.FunctionPlace = codes "where a function stands"
+
+-- a step of a path
+abbrev pub step_text : Step → List ℕ
+step_text (step.Member name) = codes "." ++ name
+step_text (step.Item index) = codes "[" ++ (decimal index ++ codes "]")

@@ -1,0 +1,43 @@
+-- Values with a name or with parts: variants, pairs, objects of one member.
+use Rattle.std.specs.Prelude.{ℕ, List, [], ◌∷◌, Option, Some, None, Result, Ok, Err}
+use Rattle.json.specs.Json.{Json}
+use Rattle.json.specs.Json as json
+use Rattle.wit_json_reading.specs.Reading.{Reading, ◌>>=◌, instead_of, only, required, under}
+use Rattle.wit_json_reading.specs.declared.fault.Expected.{Expected}
+use Rattle.wit_json_reading.specs.declared.fault.Expected.TheVariants as expected
+use Rattle.wit_json_reading.specs.declared.fault.Step.TheVariants as step
+
+-- the one member of an object that has no other
+abbrev pub one_member : Json → Option (List ℕ × Json)
+one_member (json.object (json.member name j json.no_members)) = Some (name, j)
+one_member _ = None
+
+abbrev pub by_member : {A : Type 0} → (List ℕ → Json → Reading A) → Expected → Option (List ℕ × Json) → Reading A
+by_member f e None = instead_of e
+by_member f e (Some m) = under (step.Member m.0) (f m.0 m.1)
+
+-- an object of one member, which says of what variant its value is
+abbrev pub variant_of : {A : Type 0} → (List ℕ → Json → Reading A) → Expected → Json → Reading A
+variant_of f e j = by_member f e (one_member j)
+
+-- an object of this member alone
+abbrev pub alone : {A : Type 0} → (Json → Reading A) → List ℕ → Json → Reading A
+alone f name j = do
+  _ ← only (name ∷ []) j
+  required f name j
+
+-- the two items of a list that has no other
+abbrev pub two_items : Json → Option (Json × Json)
+two_items (json.array (json.item a (json.item b json.no_items))) = Some (a, b)
+two_items _ = None
+
+abbrev pub by_items : {A B : Type 0} → (Json → Reading A) → (Json → Reading B) → Option (Json × Json) → Reading (A × B)
+by_items f g None = instead_of expected.Pair
+by_items f g (Some p) = do
+  x ← under (step.Item 0) (f p.0)
+  y ← under (step.Item 1) (g p.1)
+  Ok (x, y)
+
+-- a list of two values
+abbrev pub pair_of : {A B : Type 0} → (Json → Reading A) → (Json → Reading B) → Json → Reading (A × B)
+pair_of f g j = by_items f g (two_items j)

@@ -1,0 +1,86 @@
+-- What a JSON value reads as: the thing that it says, or the first fault in it.
+use Rattle.std.specs.Prelude.{◌≡◌, ℕ, suc, Bool, true, false, List, [], ◌∷◌, ◌++◌, Option, Some, None, Result, Ok, Err, if◌then◌else◌, bytes_eq}
+use Rattle.std.specs.List.{list_any}
+use Rattle.json.specs.Json.{Json, Items, Members}
+use Rattle.json.specs.Json as json
+use Rattle.json.specs.Find.{get}
+use Rattle.wit_json_reading.specs.declared.fault.Expected.{Expected}
+use Rattle.wit_json_reading.specs.declared.fault.Expected.TheVariants as expected
+use Rattle.wit_json_reading.specs.declared.fault.Fault.{Fault}
+use Rattle.wit_json_reading.specs.declared.fault.ReadError.{ReadError}
+use Rattle.wit_json_reading.specs.declared.fault.ReadError.TheVariants as error
+use Rattle.wit_json_reading.specs.declared.fault.Step.{Step}
+use Rattle.wit_json_reading.specs.declared.fault.Step.TheVariants as step
+
+-- what is read, or the fault
+abbrev pub Reading : Type 0 → Type 0
+Reading A = Result A Fault
+
+-- one reading and then another, up to the first fault
+infixl 10 ◌>>=◌
+abbrev pub ◌>>=◌ : {A B : Type 0} → Reading A → (A → Reading B) → Reading B
+Ok x >>= f = f x
+Err fault >>= f = Err fault
+
+-- something else stands there
+abbrev pub instead_of : {A : Type 0} → Expected → Reading A
+instead_of e = Err (record { path = []; expected = e })
+
+-- a fault in a part is one in the whole, one step further on
+abbrev pub under : {A : Type 0} → Step → Reading A → Reading A
+under s (Ok x) = Ok x
+under s (Err fault) = Err (record fault { path = fault.path ++ s ∷ [] })
+
+-- a call answers what is read; want of memory may always be answered
+abbrev pub Reads : {A : Type 0} → Result A ReadError → Reading A → Type 0
+Reads (Ok x) reading = reading ≡ Ok x
+Reads (Err (error.Fault fault)) reading = reading ≡ Err fault
+Reads (Err error.OutOfMemory) reading = Unit {0}
+
+-- ---- objects
+
+-- each name is one of the known ones, and stands once
+abbrev pub names_from : List (List ℕ) → List (List ℕ) → Members → Reading (Unit {0})
+names_from known earlier json.no_members = Ok tt
+names_from known earlier (json.member name j ms) =
+    if list_any (bytes_eq name) earlier then under (step.Member name) (instead_of expected.NoSecondMember)
+    else if list_any (bytes_eq name) known then names_from known (earlier ++ name ∷ []) ms
+    else under (step.Member name) (instead_of expected.NoMember)
+
+-- an object with members of these names alone, each once at the most
+abbrev pub only : List (List ℕ) → Json → Reading (Unit {0})
+only known (json.object ms) = names_from known [] ms
+only known _ = instead_of expected.Object
+
+-- a member where it is there
+abbrev pub if_there : {A : Type 0} → (Json → Reading A) → List ℕ → Option Json → Reading (Option A)
+if_there f name None = Ok None
+if_there f name (Some j) = under (step.Member name) (f j) >>= λ x. Ok (Some x)
+
+-- the member of a name, which may be left out
+abbrev pub optional : {A : Type 0} → (Json → Reading A) → List ℕ → Json → Reading (Option A)
+optional f name j = if_there f name (get name j)
+
+-- a member that has to be there
+abbrev pub has_to_be_there : {A : Type 0} → (Json → Reading A) → List ℕ → Option Json → Reading A
+has_to_be_there f name None = under (step.Member name) (instead_of expected.Member)
+has_to_be_there f name (Some j) = under (step.Member name) (f j)
+
+-- the member of a name
+abbrev pub required : {A : Type 0} → (Json → Reading A) → List ℕ → Json → Reading A
+required f name j = has_to_be_there f name (get name j)
+
+-- ---- lists
+
+-- the items from an index on
+abbrev pub items_from : {A : Type 0} → (Json → Reading A) → ℕ → Items → Reading (List A)
+items_from f n json.no_items = Ok []
+items_from f n (json.item j js) = do
+  x ← under (step.Item n) (f j)
+  xs ← items_from f (suc n) js
+  Ok (x ∷ xs)
+
+-- a list
+abbrev pub list_of : {A : Type 0} → (Json → Reading A) → Json → Reading (List A)
+list_of f (json.array js) = items_from f 0 js
+list_of f _ = instead_of expected.List

@@ -1,0 +1,134 @@
+-- What interfaces and worlds of unresolved packages are read from.
+use Rattle.std.specs.Prelude.{ℕ, List, [], ◌∷◌, ◌++◌, Option, Some, None, Result, Ok, Err, codes, decimal, if◌then◌else◌, bytes_eq, is_some, unwrap_or}
+use Rattle.std.specs.Map.{lookup}
+use Rattle.json.specs.Find.{get}
+use Rattle.json.specs.Json.{Json, Members}
+use Rattle.json.specs.Json as json
+use Rattle.wit_data.specs.facts.WorldKeyFacts.{same_key}
+use Rattle.wit_data.specs.declared.interface.Interface.{Interface}
+use Rattle.wit_data.specs.declared.world.IncludeName.{IncludeName}
+use Rattle.wit_data.specs.declared.world.World.{World}
+use Rattle.wit_data.specs.declared.world.WorldInclude.{WorldInclude}
+use Rattle.wit_data.specs.declared.world.WorldItem.{WorldItem}
+use Rattle.wit_data.specs.declared.world.WorldItem.TheVariants as item
+use Rattle.wit_data.specs.declared.world.WorldKey.{WorldKey}
+use Rattle.wit_data.specs.declared.world.WorldKey.TheVariants as key
+use Rattle.wit_json_reading.specs.Functions.{function_of}
+use Rattle.wit_json_reading.specs.Gates.{docs_of, span_of, stability_of}
+use Rattle.wit_json_reading.specs.Objects.{one_member, variant_of}
+use Rattle.wit_json_reading.specs.Reading.{Reading, ◌>>=◌, instead_of, list_of, only, optional, required, under}
+use Rattle.wit_json_reading.specs.Tables.{named_of}
+use Rattle.wit_json_reading.specs.Values.{nullable, number_of, text_of}
+use Rattle.wit_json_reading.specs.declared.fault.Expected.TheVariants as expected
+use Rattle.wit_json_reading.specs.declared.fault.Step.TheVariants as step
+
+abbrev pub interface_names : List (List ℕ)
+interface_names = codes "name" ∷ codes "types" ∷ codes "functions" ∷ codes "docs" ∷ codes "stability" ∷ codes "span" ∷ []
+
+-- an interface, which belongs to no package yet
+unfoldable pub interface_of : Json → Reading Interface
+interface_of j = do
+  _ ← only interface_names j
+  name ← required (nullable text_of) (codes "name") j
+  types ← required (named_of number_of) (codes "types") j
+  functions ← required (named_of function_of) (codes "functions") j
+  docs ← docs_of j
+  stability ← stability_of j
+  span ← span_of j
+  Ok (record { name = name; types = types; functions = functions; docs = docs; stability = stability; «package» = None; span = span })
+
+-- ---- entries of worlds
+
+unfoldable pub interface_entry_of : Json → Reading WorldItem
+interface_entry_of j = do
+  _ ← only (codes "id" ∷ codes "stability" ∷ codes "docs" ∷ codes "span" ∷ codes "external-id" ∷ []) j
+  id ← required number_of (codes "id") j
+  stability ← stability_of j
+  docs ← docs_of j
+  span ← span_of j
+  external_id ← optional text_of (codes "external-id") j
+  Ok (item.Interface id stability docs span external_id)
+
+-- an id with a span
+unfoldable pub placed_type_of : Json → Reading WorldItem
+placed_type_of j = do
+  _ ← only (codes "id" ∷ codes "span" ∷ []) j
+  id ← required number_of (codes "id") j
+  span ← span_of j
+  Ok (item.Type_ id span)
+
+-- an id alone, or with a span
+abbrev pub type_entry_of : Json → Reading WorldItem
+type_entry_of (json.object ms) = placed_type_of (json.object ms)
+type_entry_of j = number_of j >>= λ id. Ok (item.Type_ id None)
+
+abbrev pub item_by : List ℕ → Json → Reading WorldItem
+item_by name j =
+    if bytes_eq name (codes "interface") then interface_entry_of j
+    else if bytes_eq name (codes "function") then (function_of j >>= λ f. Ok (item.Function f))
+    else if bytes_eq name (codes "type") then type_entry_of j
+    else instead_of expected.Entry
+
+-- what a world imports or exports
+unfoldable pub item_of : Json → Reading WorldItem
+item_of j = variant_of item_by expected.Entry j
+
+-- the key of an entry under a name: its interface where the name is that of its id, else the name as a label
+abbrev pub key_of : List ℕ → WorldItem → WorldKey
+key_of name (item.Interface id stability docs span external_id) = if bytes_eq name (codes "interface-" ++ decimal id) then key.Interface id else key.Name name
+key_of name (item.Function f) = key.Name name
+key_of name (item.Type_ id span) = key.Name name
+
+-- an entry behind those that are there, under a key that isn't there yet
+abbrev pub with_entry : List ℕ → WorldItem → List (WorldKey × WorldItem) → Reading (List (WorldKey × WorldItem))
+with_entry name entry entries =
+    if is_some (lookup (same_key (key_of name entry)) entries) then under (step.Member name) (instead_of expected.NoSecondMember)
+    else Ok (entries ++ (key_of name entry, entry) ∷ [])
+
+-- the entry of a member behind those that are there
+abbrev pub with_member : List ℕ → Json → List (WorldKey × WorldItem) → Reading (List (WorldKey × WorldItem))
+with_member name j entries = under (step.Member name) (item_of j) >>= λ entry. with_entry name entry entries
+
+-- the entries of members, behind those that are there
+abbrev pub entries_from : List (WorldKey × WorldItem) → Members → Reading (List (WorldKey × WorldItem))
+entries_from entries json.no_members = Ok entries
+entries_from entries (json.member name j ms) = with_member name j entries >>= λ more. entries_from more ms
+
+-- the entries of a world
+abbrev pub entries_of : Json → Reading (List (WorldKey × WorldItem))
+entries_of (json.object ms) = entries_from [] ms
+entries_of _ = instead_of expected.Object
+
+-- ---- worlds
+
+unfoldable pub include_name_of : Json → Reading IncludeName
+include_name_of j = do
+  _ ← only (codes "name" ∷ codes "as" ∷ []) j
+  name ← required text_of (codes "name") j
+  as_ ← required text_of (codes "as") j
+  Ok (record { name = name; as_ = as_ })
+
+unfoldable pub include_of : Json → Reading WorldInclude
+include_of j = do
+  _ ← only (codes "id" ∷ codes "names" ∷ codes "stability" ∷ codes "span" ∷ []) j
+  id ← required number_of (codes "id") j
+  names ← required (list_of include_name_of) (codes "names") j
+  stability ← stability_of j
+  span ← span_of j
+  Ok (record { stability = stability; id = id; names = names; span = span })
+
+abbrev pub world_names : List (List ℕ)
+world_names = codes "name" ∷ codes "imports" ∷ codes "exports" ∷ codes "includes" ∷ codes "docs" ∷ codes "stability" ∷ codes "span" ∷ []
+
+-- a world, which belongs to no package yet
+unfoldable pub world_of : Json → Reading World
+world_of j = do
+  _ ← only world_names j
+  name ← required text_of (codes "name") j
+  imports ← required entries_of (codes "imports") j
+  exports ← required entries_of (codes "exports") j
+  includes ← required (list_of include_of) (codes "includes") j
+  docs ← docs_of j
+  stability ← stability_of j
+  span ← span_of j
+  Ok (record { name = name; imports = imports; exports = exports; docs = docs; stability = stability; «package» = None; includes = includes; span = span })

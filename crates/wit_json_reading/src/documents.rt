@@ -1,0 +1,79 @@
+//! Whole texts.
+ghost use Rattle.wit_json_reading.specs.Documents.{reading_of};
+ghost use Rattle.wit_json_reading.specs.Reading.{Reads};
+
+use crate::fault::{Expected, Fault, ReadError, Step, instead_of};
+use crate::reader::ReadJson;
+use json::{MAX_DEPTH, Reader, Scratch, Token, Value};
+use std::alloc::{AllocError, Global};
+
+/// What a text reads as that is a JSON value, with whatever white space.
+pub fn read_text<T: ReadJson>(alloc: Global, text: &str) -> Result<T, ReadError>
+    ensures { Reads result (reading_of T.reading text.now) }
+{
+    let mut scratch = Scratch::new(alloc);
+    match Value::parse(alloc, text, &mut scratch) {
+        Ok(value) => T::read_json(alloc, &value),
+        Err(json::Error::OutOfMemory) => Err(ReadError::OutOfMemory),
+        Err(_) => instead_of(alloc, Expected::Document),
+    }
+}
+
+/// Where in a text the value of a fault begins, as far as its path leads there: for a message, contracts don't say it. The
+/// only error is want of memory.
+pub fn offset_of(alloc: Global, text: &str, fault: &Fault) -> Result<usize, AllocError> {
+    let mut scratch = Scratch::new(alloc);
+    let mut reader = Reader::new(text, &mut scratch)?;
+    if fault.expected == Expected::Document {
+        let _ = reader.skip_value(MAX_DEPTH);
+        return Ok(reader.offset());
+    }
+    let second = fault.expected == Expected::NoSecondMember;
+    let count = fault.path.len();
+    for index in 0..count {
+        let (step, is_last) = (fault.path.at(count - 1 - index), index + 1 == count);
+        if !take_step(&mut reader, step, second && is_last, text.len()) {
+            break;
+        }
+    }
+    Ok(reader.offset())
+}
+
+/// Goes to where a step leads: to the second member of its name, where that is asked. Answers whether it is there.
+fn take_step(reader: &mut Reader<'_>, step: &Step, second: bool, most: usize) -> bool {
+    match step {
+        Step::Member(name) => {
+            let found = matches!(reader.next(), Some(Token::BeginObject))
+                && take_to(reader, name.as_str(), most);
+            if found && second {
+                return reader.skip_value(MAX_DEPTH).is_ok() && take_to(reader, name.as_str(), most);
+            }
+            found
+        }
+        Step::Item(index) => {
+            let mut found = matches!(reader.next(), Some(Token::BeginArray));
+            for _ in 0..*index {
+                found = found && reader.skip_value(MAX_DEPTH).is_ok();
+            }
+            found
+        }
+    }
+}
+
+/// Goes on in an object to the value of the next member of this name, past so many others at the most.
+fn take_to(reader: &mut Reader<'_>, name: &str, most: usize) -> bool {
+    for _ in 0..most {
+        match reader.next_key() {
+            Ok(Some(key)) => {
+                if key == name {
+                    return true;
+                }
+                if reader.skip_value(MAX_DEPTH).is_err() {
+                    return false;
+                }
+            }
+            _ => return false,
+        }
+    }
+    false
+}

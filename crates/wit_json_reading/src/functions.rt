@@ -1,0 +1,119 @@
+//! Functions.
+ghost use Rattle.json.specs.Value.{value_view};
+ghost use Rattle.wit_json_reading.specs.Functions.{function_kind_by, function_kind_of, function_of, param_of, plain_function_kind_of, resource_kind_of};
+ghost use Rattle.wit_json_reading.specs.Reading.{Reads};
+
+use crate::fault::{Expected, ReadError, in_member, instead_of};
+use crate::gates::{docs, span, stability};
+use crate::objects::one_member;
+use crate::reader::{ReadJson, only, optional, required};
+use json::Value;
+use std::alloc::Global;
+use wit_data::{Function, FunctionKind, Param, TypeId};
+
+impl ReadJson for FunctionKind {
+    ghost reading = { function_kind_of };
+
+    #[tactic(auto, unfolding(crate::specs::Functions::function_kind_of))]
+    fn read_json(alloc: Global, value: &Value<'_>) -> Result<FunctionKind, ReadError> {
+        if let Some(word) = value.as_str() {
+            return plain_kind(alloc, word);
+        }
+        match one_member(value) {
+            Some((name, id)) => in_member(alloc, kind(alloc, name, id), name),
+            None => instead_of(alloc, Expected::FunctionKind),
+        }
+    }
+}
+
+/// A kind without a resource.
+fn plain_kind(alloc: Global, word: &str) -> Result<FunctionKind, ReadError>
+    ensures { Reads result (plain_function_kind_of word.now) }
+{
+    match word {
+        "freestanding" => Ok(FunctionKind::Freestanding),
+        "async-freestanding" => Ok(FunctionKind::AsyncFreestanding),
+        "getter" => Ok(FunctionKind::Getter),
+        "setter" => Ok(FunctionKind::Setter),
+        _ => instead_of(alloc, Expected::FunctionKind),
+    }
+}
+
+/// A kind of a resource's function.
+#[tactic(auto, unfolding(crate::specs::Functions::function_kind_by))]
+fn kind(alloc: Global, name: &str, value: &Value<'_>) -> Result<FunctionKind, ReadError>
+    ensures { Reads result (function_kind_by name.now (value_view value.now)) }
+{
+    let id = ReadJson::read_json(alloc, value)?;
+    resource_kind(alloc, name, id)
+}
+
+fn resource_kind(alloc: Global, name: &str, id: TypeId) -> Result<FunctionKind, ReadError>
+    ensures { Reads result (resource_kind_of name.now id) }
+{
+    match name {
+        "method" => Ok(FunctionKind::Method(id)),
+        "async-method" => Ok(FunctionKind::AsyncMethod(id)),
+        "static" => Ok(FunctionKind::Static(id)),
+        "async-static" => Ok(FunctionKind::AsyncStatic(id)),
+        "constructor" => Ok(FunctionKind::Constructor(id)),
+        "method-getter" => Ok(FunctionKind::MethodGetter(id)),
+        "method-setter" => Ok(FunctionKind::MethodSetter(id)),
+        "static-getter" => Ok(FunctionKind::StaticGetter(id)),
+        "static-setter" => Ok(FunctionKind::StaticSetter(id)),
+        _ => instead_of(alloc, Expected::FunctionKind),
+    }
+}
+
+impl ReadJson for Param {
+    ghost reading = { param_of };
+
+    #[tactic(auto, unfolding(crate::specs::Functions::param_of))]
+    fn read_json(alloc: Global, value: &Value<'_>) -> Result<Param, ReadError> {
+        only(alloc, value, &["name", "type", "span"])?;
+        let name = required(alloc, value, "name")?;
+        let ty = required(alloc, value, "type")?;
+        let span = span(alloc, value)?;
+        Ok(Param { name, ty, span })
+    }
+}
+
+impl ReadJson for Function {
+    ghost reading = { function_of };
+
+    #[tactic(auto, unfolding(crate::specs::Functions::function_of))]
+    fn read_json(alloc: Global, value: &Value<'_>) -> Result<Function, ReadError> {
+        only(
+            alloc,
+            value,
+            &[
+                "name",
+                "kind",
+                "params",
+                "result",
+                "docs",
+                "stability",
+                "span",
+                "external-id",
+            ],
+        )?;
+        let name = required(alloc, value, "name")?;
+        let kind = required(alloc, value, "kind")?;
+        let params = required(alloc, value, "params")?;
+        let result_ = optional(alloc, value, "result")?;
+        let docs = docs(alloc, value)?;
+        let stability = stability(alloc, value)?;
+        let span = span(alloc, value)?;
+        let external_id = optional(alloc, value, "external-id")?;
+        Ok(Function {
+            name,
+            kind,
+            params,
+            result_,
+            docs,
+            stability,
+            span,
+            external_id,
+        })
+    }
+}

@@ -1,0 +1,21 @@
+//! The data of WIT from JSON: each value reads as what it says, or its first fault is told with the path to it.
+#![tactic(auto)]
+
+mod documents;
+mod fault;
+mod functions;
+mod gates;
+mod groups;
+mod messages;
+mod objects;
+mod packages;
+mod reader;
+mod tables;
+mod types;
+mod values;
+mod worlds;
+
+pub use crate::documents::{offset_of, read_text};
+pub use crate::fault::{Expected, Fault, ReadError, Step, in_item, in_member, instead_of};
+pub use crate::objects::{alone, one_member, pair};
+pub use crate::reader::{ReadJson, list, only, optional, required};

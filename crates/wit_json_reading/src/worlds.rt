@@ -1,0 +1,251 @@
+//! Interfaces and worlds.
+ghost use Rattle.std.specs.Prelude.{◌≡◌, ◌++◌, IfOk, codes, decimal, bytes_eq};
+ghost use Rattle.json.specs.Value.{value_view};
+ghost use Rattle.wit_json_reading.specs.Reading.{Reads};
+ghost use Rattle.wit_json_reading.specs.Worlds.{entries_of, include_name_of, include_of, interface_entry_of, interface_of, item_by, item_of, key_of, placed_type_of, type_entry_of, with_entry, with_member, world_of};
+
+use crate::fault::{Expected, ReadError, in_member, instead_of};
+use crate::gates::{docs, span, stability};
+use crate::objects::one_member;
+use crate::reader::{ReadJson, only, optional, required};
+use json::Value;
+use std::alloc::{AllocError, Global};
+use wit_data::{
+    IncludeName, Interface, InterfaceId, Span, World, WorldInclude, WorldItem, WorldKey,
+};
+use wit_values::{Table, Text};
+
+impl ReadJson for Interface {
+    ghost reading = { interface_of };
+
+    #[tactic(auto, unfolding(crate::specs::Worlds::interface_of))]
+    fn read_json(alloc: Global, value: &Value<'_>) -> Result<Interface, ReadError> {
+        only(
+            alloc,
+            value,
+            &["name", "types", "functions", "docs", "stability", "span"],
+        )?;
+        let name = required(alloc, value, "name")?;
+        let types = required(alloc, value, "types")?;
+        let functions = required(alloc, value, "functions")?;
+        let docs = docs(alloc, value)?;
+        let stability = stability(alloc, value)?;
+        let span = span(alloc, value)?;
+        Ok(Interface {
+            name,
+            types,
+            functions,
+            docs,
+            stability,
+            package: None,
+            span,
+        })
+    }
+}
+
+impl ReadJson for WorldItem {
+    ghost reading = { item_of };
+
+    #[tactic(auto, unfolding(crate::specs::Worlds::item_of))]
+    fn read_json(alloc: Global, value: &Value<'_>) -> Result<WorldItem, ReadError> {
+        match one_member(value) {
+            Some((name, entry)) => in_member(alloc, item(alloc, name, entry), name),
+            None => instead_of(alloc, Expected::Entry),
+        }
+    }
+}
+
+/// The entry of this sort.
+fn item(alloc: Global, name: &str, value: &Value<'_>) -> Result<WorldItem, ReadError>
+    ensures { Reads result (item_by name.now (value_view value.now)) }
+{
+    match name {
+        "interface" => interface_entry(alloc, value),
+        "function" => Ok(WorldItem::Function(ReadJson::read_json(alloc, value)?)),
+        "type" => type_entry(alloc, value),
+        _ => instead_of(alloc, Expected::Entry),
+    }
+}
+
+#[tactic(auto, unfolding(crate::specs::Worlds::interface_entry_of))]
+fn interface_entry(alloc: Global, value: &Value<'_>) -> Result<WorldItem, ReadError>
+    ensures { Reads result (interface_entry_of (value_view value.now)) }
+{
+    only(
+        alloc,
+        value,
+        &["id", "stability", "docs", "span", "external-id"],
+    )?;
+    let id = required(alloc, value, "id")?;
+    let stability = stability(alloc, value)?;
+    let docs = docs(alloc, value)?;
+    let span = span(alloc, value)?;
+    let external_id = optional(alloc, value, "external-id")?;
+    Ok(WorldItem::Interface {
+        id,
+        stability,
+        docs,
+        span,
+        external_id,
+    })
+}
+
+/// A type by its id alone, or by its id with a span.
+fn type_entry(alloc: Global, value: &Value<'_>) -> Result<WorldItem, ReadError>
+    ensures { Reads result (type_entry_of (value_view value.now)) }
+{
+    if let Value::Object(_) = value {
+        return placed_type(alloc, value);
+    }
+    let id = ReadJson::read_json(alloc, value)?;
+    let span = Span::unknown();
+    Ok(WorldItem::Type_ { id, span })
+}
+
+#[tactic(auto, unfolding(crate::specs::Worlds::placed_type_of))]
+fn placed_type(alloc: Global, value: &Value<'_>) -> Result<WorldItem, ReadError>
+    ensures { Reads result (placed_type_of (value_view value.now)) }
+{
+    only(alloc, value, &["id", "span"])?;
+    let id = required(alloc, value, "id")?;
+    let span = span(alloc, value)?;
+    Ok(WorldItem::Type_ { id, span })
+}
+
+/// The key of an entry under a name.
+fn key(alloc: Global, name: &str, entry: &WorldItem) -> Result<WorldKey, AllocError>
+    ensures { IfOk result (λ key. key ≡ key_of name.now entry.now) }
+{
+    if let WorldItem::Interface { id, .. } = entry {
+        if is_key_of(alloc, name, *id)? {
+            return Ok(WorldKey::Interface(*id));
+        }
+    }
+    Ok(WorldKey::Name(Text::try_from_str(alloc, name)?))
+}
+
+/// Whether a name is that of an interface's key.
+fn is_key_of(alloc: Global, name: &str, id: InterfaceId) -> Result<bool, AllocError>
+    ensures { IfOk result (λ is. is ≡ bytes_eq name.now (codes "interface-" ++ decimal id)) }
+{
+    let index = id.index();
+    let key = format!(in alloc; "interface-{index}")?;
+    Ok(name == key.as_str())
+}
+
+impl ReadJson for Table<WorldKey, WorldItem> {
+    ghost reading = { entries_of };
+
+    fn read_json(
+        alloc: Global,
+        value: &Value<'_>,
+    ) -> Result<Table<WorldKey, WorldItem>, ReadError> {
+        let Value::Object(members) = value else {
+            return instead_of(alloc, Expected::Object);
+        };
+        let mut entries = Table::new(alloc);
+        for member in members {
+            entries = with_member(alloc, member.0, &member.1, entries)?;
+        }
+        Ok(entries)
+    }
+}
+
+/// The entries with that of one member more.
+fn with_member(
+    alloc: Global,
+    name: &str,
+    value: &Value<'_>,
+    entries: Table<WorldKey, WorldItem>,
+) -> Result<Table<WorldKey, WorldItem>, ReadError>
+    ensures { Reads result (with_member name.now (value_view value.now) entries) }
+{
+    let entry = in_member(alloc, ReadJson::read_json(alloc, value), name)?;
+    with_entry(alloc, name, entry, entries)
+}
+
+/// The entries with one more, under a key that isn't there yet.
+fn with_entry(
+    alloc: Global,
+    name: &str,
+    entry: WorldItem,
+    mut entries: Table<WorldKey, WorldItem>,
+) -> Result<Table<WorldKey, WorldItem>, ReadError>
+    ensures { Reads result (with_entry name.now entry entries) }
+{
+    let key = key(alloc, name, &entry)?;
+    if entries.contains_key(&key) {
+        return in_member(alloc, instead_of(alloc, Expected::NoSecondMember), name);
+    }
+    entries.push(key, entry)?;
+    Ok(entries)
+}
+
+impl ReadJson for IncludeName {
+    ghost reading = { include_name_of };
+
+    #[tactic(auto, unfolding(crate::specs::Worlds::include_name_of))]
+    fn read_json(alloc: Global, value: &Value<'_>) -> Result<IncludeName, ReadError> {
+        only(alloc, value, &["name", "as"])?;
+        let name = required(alloc, value, "name")?;
+        let as_ = required(alloc, value, "as")?;
+        Ok(IncludeName { name, as_ })
+    }
+}
+
+impl ReadJson for WorldInclude {
+    ghost reading = { include_of };
+
+    #[tactic(auto, unfolding(crate::specs::Worlds::include_of))]
+    fn read_json(alloc: Global, value: &Value<'_>) -> Result<WorldInclude, ReadError> {
+        only(alloc, value, &["id", "names", "stability", "span"])?;
+        let id = required(alloc, value, "id")?;
+        let names = required(alloc, value, "names")?;
+        let stability = stability(alloc, value)?;
+        let span = span(alloc, value)?;
+        Ok(WorldInclude {
+            stability,
+            id,
+            names,
+            span,
+        })
+    }
+}
+
+impl ReadJson for World {
+    ghost reading = { world_of };
+
+    #[tactic(auto, unfolding(crate::specs::Worlds::world_of))]
+    fn read_json(alloc: Global, value: &Value<'_>) -> Result<World, ReadError> {
+        only(
+            alloc,
+            value,
+            &[
+                "name",
+                "imports",
+                "exports",
+                "includes",
+                "docs",
+                "stability",
+                "span",
+            ],
+        )?;
+        let name = required(alloc, value, "name")?;
+        let imports = required(alloc, value, "imports")?;
+        let exports = required(alloc, value, "exports")?;
+        let includes = required(alloc, value, "includes")?;
+        let docs = docs(alloc, value)?;
+        let stability = stability(alloc, value)?;
+        let span = span(alloc, value)?;
+        Ok(World {
+            name,
+            imports,
+            exports,
+            docs,
+            stability,
+            package: None,
+            includes,
+            span,
+        })
+    }
+}

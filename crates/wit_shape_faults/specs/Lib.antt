@@ -1,0 +1,4 @@
+pub mod FaultText
+pub mod Faults
+pub mod First
+pub mod steps
