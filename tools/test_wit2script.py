@@ -409,14 +409,35 @@ class Substitutions(Case):
             func f(x:list<u8>)->list<tuple<string;f64>>
             func g() @since=1.0.0"""
         told = [
-            "4: `f` is async in WIT, not in the script",
             "4: `float64` is a former name of `f64`",
+            "4: `f` is async in WIT, not in the script",
             "4: `list<u8, 4>` becomes a list of any length",
             "4: `map<string, f64>` becomes a list of tuples",
             "4: `tuple<string, f64>` becomes a record, named `tuple<string;f64>`",
             "6: `@deprecated(version = 1.1.0)` is left out",
         ]
         self.same(body, lines, told, package="a:b@1.2.0")
+
+    def test_external_ids(self):
+        body = """
+            interface i {
+              @external-id("x")
+              resource r;
+              @external-id("y")
+              f: func();
+            }
+            world w {
+              @external-id("z")
+              import i;
+            }"""
+        lines = """
+            interface i
+            resource r
+            func f()
+            world w
+            import i"""
+        told = [f"{n}: the external id of `{it}` is left out" for n, it in ((5, "r"), (7, "f"), (11, "i"))]
+        self.same(body, lines, told)
 
     def test_interfaces_in_worlds(self):
         body = """
@@ -459,7 +480,7 @@ class Problems(Case):
         self.refused("package a:b;\nrecord r { x: u8 }", "2: expected `interface`, `world` or `use`, found `record`")
         self.within("f: func(x u8);", "3: expected `:`, found `u8`")
         self.within("f: func() -> (a: u8);", "3: expected a type, found `(`")
-        gates = "3: expected `since`, `unstable` or `deprecated`, found `later`"
+        gates = "3: expected `since`, `unstable`, `deprecated` or `external-id`, found `later`"
         self.within("@later(version = 1.0.0) f: func();", gates)
         self.within("@since(version = 1.0) f: func();", "3: expected a version, found `1`")
         self.within("@since(version = 01.0.0) f: func();", "3: expected a version, found `01`")
@@ -498,17 +519,34 @@ class Problems(Case):
         self.refused("package a:b; interface i {}\nworld i {}", "2: the package has `i` already")
         text = "package a:b; interface i {}\nworld w { import i; export i;\nimport i; }"
         self.refused(text, "3: world `w` has `interface i` already")
+        text = "package a:b; interface i {}\nworld w { import l: i; export l: i;\nimport l: func(); }"
+        self.refused(text, "3: world `w` has `l` already")
+
+    def test_parts_that_are_there_twice(self):
+        self.within("record r { a: u8,\na: u16, b: u8 }", "4: field `a` is there already")
+        self.within("variant v { a, b(u8),\nb }", "4: case `b` is there already")
+        self.within("enum e { a,\na }", "4: case `a` is there already")
+        self.within("flags f { a,\na }", "4: flag `a` is there already")
+        self.within("f: func(a: u8,\na: u8);", "4: parameter `a` is there already")
+        self.within("resource r { m: func(\nself: u8); }", "4: parameter `self` is there already")
+        self.within("record r { self: u8, %self: u8 }", "3: field `self` is there already")
+        text = "package a:b; world v {}\nworld w { include v with { a as b,\na as c } }"
+        self.refused(text, "3: label `a` is there already")
+
+    def test_gates_that_do_not_go_together(self):
+        one = "3: a statement has one gate, `@since` or `@unstable`"
+        self.within("@since(version = 1.0.0) @unstable(feature = x) f: func();", one)
+        self.within("@since(version = 1.0.0) @since(version = 1.0.0) f: func();", "3: `@since` is there already")
+        alone = "3: `@deprecated` stands beside `@since` or `@unstable`"
+        self.within("@deprecated(version = 1.0.0) f: func();", alone)
 
     def test_what_a_script_lacks(self):
-        nested = "a script has no nested namespaces and packages"
+        nested = "nested namespaces and packages aren't read"
         self.refused("package a:b:c;", f"1: {nested}")
         self.refused("package a:b;\ninterface i { use c:d/e/f.{t}; }", f"2: {nested}")
         taken = "3: a type of a script can't have the name `string`, which is that of one of its own"
         self.within("type %string = u8;", taken)
         self.within("record r {}", "3: a record of a script has parts, and `r` has none")
-        self.within(
-            "@since(version = 1.0.0) @unstable(feature = x) f: func();", "3: a statement of a script has one gate"
-        )
 
     def test_all_are_told(self):
         text = """package a:b; interface i {
@@ -526,11 +564,23 @@ class Files(Case):
     def test_a_folder_is_a_package(self):
         self.write("p/b.wit", "interface b { type t = u8; }")
         self.write("p/a.wit", "package a:b;\nuse b as c;\ninterface a { use c.{t}; }")
-        self.write("p/deps/x.wit", "package x:x;")
         status, script, told = self.run_tool("p")
         self.assertEqual(status, 0)
         self.assertEqual(script, "package a:b\n\ninterface b\ntype t u8\n\ninterface a\nuse b t\npush\n")
         self.assertEqual(told, "p/a.wit:3: interface `a` comes behind `b`, which it names\n")
+
+    def test_dependencies_are_read(self):
+        self.write("p/a.wit", "package a:b;\nworld w { import c:d/i; import e:f/j; }")
+        self.write("p/deps/x.wit", "package c:d;\ninterface i {}")
+        self.write("p/deps/y/j.wit", "package e:f;\ninterface j {}")
+        self.write("p/deps/y/deps/z.wit", "package no:t;")
+        self.write("p/deps/README.md", "no file of WIT")
+        lines = "package a:b world w import c:d/i import e:f/j package c:d interface i package e:f interface j push"
+        self.assertEqual(self.run_tool("p")[1].split(), lines.split())
+        # the same package twice is one
+        self.assertEqual(self.run_tool("p", "p/deps/x.wit")[1].split().count("c:d"), 1)
+        self.write("p/deps/z.wasm", "")
+        self.assertEqual(self.run_tool("p")[2], "p/deps/z.wasm:1: a package in binary form isn't read\n")
 
     def test_faults_are_told_of_their_files(self):
         self.write("p/a.wit", "package a:b;\ninterface a { use b.{t}; }")

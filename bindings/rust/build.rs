@@ -5,6 +5,7 @@
 //! the path of a page at the top of the toolchain.
 
 use std::env;
+use std::fs;
 use std::path::{Path, PathBuf};
 use std::process::Command;
 
@@ -18,11 +19,20 @@ fn main() {
         "witgraph_c",
         "build it by `rt lib` in crates/witgraph_c, or set WITGRAPH_LIBRARY",
     );
+    if has_json(&library.join("libwitgraph_c.a")) {
+        println!("cargo:rustc-cfg=witgraph_json");
+    }
     link(
         &heap,
         "libc_c",
         "set WITGRAPH_HEAP to the folder `c` of the toolchain",
     );
+}
+
+/// Whether the library has the call `witgraph_json`.
+fn has_json(archive: &Path) -> bool {
+    let name = b"witgraph_json";
+    fs::read(archive).is_ok_and(|bytes| bytes.windows(name.len()).any(|it| it == name))
 }
 
 /// A folder that the environment names.

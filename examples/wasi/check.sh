@@ -5,6 +5,9 @@
 # program on each walk-through, and asks the model of the rules (bench/model), too. Compares the cases of
 # crates/witgraph_cases. Names what differs, and then ends with status 1. With --store it is stored, but for the cases.
 #
+# Where WITGRAPH_JSON is the path of a build of witgraph_json, that runs the walk-throughs with nothing substituted, and its
+# graph of all packages is compared with the texts.
+#
 # Where ORIGINAL is the path of the original that reads scripts (bench/original.py), that is asked too; it answers the
 # same but for the numbers of refusals, which it doesn't have.
 set -u
@@ -47,6 +50,12 @@ done
 for walk in features merge tool; do
     case_of $walk | cmp -s - "$made/$walk.case" || { echo "case wasi-$walk: it isn't the script of walk.sh with $walk.out"; status=1; }
 done
+for walk in ${WITGRAPH_JSON:+features merge proxy tool}; do
+    ./walk_json.py $walk "$WITGRAPH_JSON" | cmp -s - $walk.out || { echo "$walk: witgraph_json answers otherwise"; status=1; }
+done
+if [ -n "${WITGRAPH_JSON:-}" ]; then
+    ../../tools/wit2json.py wit/0.2.?/*.wit | "$WITGRAPH_JSON" | ./compare_graph.py 0.2.0 0.2.3 || status=1
+fi
 for walk in ${ORIGINAL:+features merge proxy tool}; do
     sed 's/^refused [0-9]* /refused ? /' "$made/$walk.out" > "$made/expected"
     "$ORIGINAL" < "$made/$walk.script" | cmp -s - "$made/expected" || { echo "$walk: the original answers otherwise"; status=1; }

@@ -21,7 +21,7 @@ import sys
 WASI = pathlib.Path(os.environ.get("WASI", pathlib.Path(__file__).parent)).resolve()
 sys.path.append(str(WASI.parent.parent / "tools"))
 
-import wit2script as wit  # noqa: E402
+import wit  # noqa: E402
 
 PRIMITIVES = dict(enumerate("string char f64 f32 u64 s64 u32 s32 u16 s16 u8 s8 bool".split(), 0x73))
 
@@ -137,7 +137,7 @@ def lines_of(package, scope):
     def full(path):
         return str(path) if path.package else f"{before}/{path.name}@{version}"
 
-    uses = [f"type {new} = {full(it.path)}.{{{old}}}" for it in active(scope.of(wit.Use)) for old, new in it.names]
+    uses = [f"type {it.new} = {full(use.path)}.{{{it.name}}}" for use in active(scope.of(wit.Use)) for it in use.names]
     definitions = active(wit.in_order(scope.of(wit.Definition), wit.Definition.names, lambda *_: None))
     functions = [it for definition in definitions for it in definition.functions] + scope.of(wit.Function)
     return [*uses, *map(definition_text, definitions), *map(function_text, active(functions))]
@@ -151,20 +151,24 @@ def definition_text(it):
     if it.word == "resource":
         return f"resource {it.name}"
     if it.word == "type":
-        return f"type {it.name} = {it.parts[0][1]}"
+        return f"type {it.name} = {it.type}"
     typed = "{}: {}" if it.word == "record" else "{}({})"
-    parts = ", ".join(typed.format(name, ty) if ty else name for name, ty in it.parts)
+    parts = ", ".join(typed.format(part.name, part.type) if part.type else part.name.text for part in it.parts)
     return f"type {it.name} = {it.word} {{{parts}}}"
 
 
 def function_text(it):
-    parameters = ", ".join(f"{name}: {ty}" for name, ty in it.parameters)
-    return f"{it.name}: func({parameters})" + (f" -> {it.result}" if it.result else "")
+    parameters = [f"{part.name}: {part.type}" for part in it.parameters]
+    if it.is_method:
+        parameters.insert(0, f"self: borrow<{it.resource}>")
+    result = it.result or (it.is_constructor and it.resource)
+    return f"{it.name}: func({', '.join(parameters)})" + (f" -> {result}" if result else "")
 
 
 def texts_of(version):
     """What each interface of a version says, by its name."""
-    packages = [it for path in (WASI / "wit" / version).iterdir() for it in wit.packages_of(str(path), wit.Report())]
+    groups = wit.groups_of([str(path) for path in (WASI / "wit" / version).iterdir()], wit.Report())
+    packages = [it for group in groups for it in group.packages]
     named = [(package, it) for package in packages for it in active(package.scopes) if it.word == "interface"]
     return {f"{package.name.replace('@', f'/{it.name}@')}": lines_of(package, it) for package, it in named}
 

@@ -35,6 +35,15 @@ extern "C" {
         capacity: usize,
         needed: *mut usize,
     ) -> u32;
+
+    #[cfg(witgraph_json)]
+    fn witgraph_json(
+        input: *const u8,
+        length: usize,
+        output: *mut u8,
+        capacity: usize,
+        needed: *mut usize,
+    ) -> u32;
 }
 
 /// Runs a script, and writes its answers: the status, and how many bytes are needed.
@@ -47,7 +56,13 @@ pub fn explain(script: &[u8], output: &mut [u8]) -> (u32, usize) {
     call(witgraph_explain, script, output)
 }
 
-/// The status of a call of either, and how many bytes it says are needed.
+/// Carries out a document of commands, and writes the one that comes out: the status, and how many bytes are needed.
+#[cfg(witgraph_json)]
+pub fn json(document: &[u8], output: &mut [u8]) -> (u32, usize) {
+    call(witgraph_json, document, output)
+}
+
+/// The status of a call of one of them, and how many bytes it says are needed.
 fn call(function: Function, script: &[u8], output: &mut [u8]) -> (u32, usize) {
     let mut needed = 0;
     // SAFETY: the declarations are those of include/witgraph.h. Of each slice its pointer, which is never null, and its

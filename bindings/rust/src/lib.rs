@@ -41,7 +41,31 @@
 
 #![deny(unsafe_code)]
 
+mod arena;
+mod builder;
+mod commands;
+mod data;
 mod ffi;
+mod names;
+mod resolve;
+mod run;
+mod unresolved;
+
+pub use arena::{Arena, Id};
+pub use builder::PackageBuilder;
+pub use commands::{
+    Command, CoreExport, CoreImport, CoreNames, FunctionName, FunctionPlace, Mangling, Refusal,
+    Remap, Reply, TrackRule,
+};
+pub use data::*;
+pub use indexmap::IndexMap;
+pub use names::{Docs, NotAPackageName, PackageName, Span, Stability};
+pub use resolve::{Package, Resolve};
+#[cfg(witgraph_json)]
+pub use run::run;
+pub use run::{run_by, to_json, Fault, Run, RunError};
+pub use semver::Version;
+pub use unresolved::{AstItem, ForeignItem, Source, UnresolvedPackage, UnresolvedPackageGroup};
 
 use std::error;
 use std::fmt;

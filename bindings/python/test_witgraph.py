@@ -1,0 +1,198 @@
+#!/usr/bin/env python3
+"""Tests of witgraph.py: `python3 bindings/python/test_witgraph.py`.
+
+What needs no library is always tested, over the stored documents of examples/kinds. WITGRAPH_SHARED, the path of a
+libwitgraph.so, adds the scripts, and commands where it has `witgraph_json`; WITGRAPH_JSON, the path of a build of the
+program `witgraph_json`, adds commands carried out by that.
+"""
+import doctest
+import json
+import os
+import sys
+import unittest
+
+HERE = os.path.dirname(os.path.abspath(__file__))
+TOP = os.path.dirname(os.path.dirname(HERE))
+sys.dont_write_bytecode = True
+sys.path.insert(0, HERE)
+
+import witgraph as wg  # noqa: E402
+
+SHARED, PROGRAM = os.environ.get("WITGRAPH_SHARED"), os.environ.get("WITGRAPH_JSON")
+
+
+def stored(name):
+    with open(os.path.join(TOP, "examples", "kinds", name), encoding="utf-8") as file:
+        return file.read()
+
+
+def has_json():
+    return bool(SHARED) and hasattr(wg.library()._library, "witgraph_json")
+
+
+def runners():
+    """All that carries out commands here."""
+    return [wg.run] * has_json() + [lambda commands: wg.run_by(PROGRAM, commands)] * bool(PROGRAM)
+
+
+class Documents(unittest.TestCase):
+    def test_a_document_is_the_same_again(self):
+        for command in json.loads(stored("kinds.json"))["commands"]:
+            push = wg.from_json(wg.PushGroups, command)
+            self.assertEqual(wg.to_json(push), command)
+            self.assertEqual(json.loads(wg.document_of([push])), {"commands": [command]})
+
+    def test_commands(self):
+        expected = {
+            '{"add-feature": "f"}': wg.AddFeature("f"),
+            '{"set-all-features": false}': wg.SetAllFeatures(False),
+            '{"set-track-rule": "published"}': wg.SetTrackRule("published"),
+            '{"merge": ["package-order"]}': wg.MergeGraph([wg.PackageOrder()]),
+            '{"importize": {"package": "a:b", "world": "w"}}': wg.Importize("a:b", "w"),
+            '{"exportize": {"package": "a:b", "world": "w", "out": "v", "keys": ["k"]}}': wg.Exportize(
+                "a:b", "w", "v", ["k"]
+            ),
+            '{"semver": {"package": "a:b", "world": "w"}}': wg.Semver("a:b", "w"),
+            '{"select": {"packages": ["a:b"]}}': wg.Select(["a:b"]),
+            '{"select": {"packages": ["a:b"], "world": "w"}}': wg.Select(["a:b"], "w"),
+            '{"package-dependencies": {"package": "a:b"}}': wg.PackageDependencies("a:b"),
+            '{"interface-dependencies": {"package": "a:b", "interface": "i"}}': wg.InterfaceDependencies("a:b", "i"),
+            '{"canonical-id": {"package": "a:b", "name": "i"}}': wg.CanonicalId("a:b", "i"),
+            '{"core-names": {"package": "a:b", "world": "w", "mangling": "standard32"}}': wg.CoreNamesOf(
+                "a:b", "w", "standard32"
+            ),
+        }
+        for text, command in expected.items():
+            self.assertEqual(wg.to_json(command), json.loads(text))
+
+    def test_replies(self):
+        expected = {
+            '"done"': wg.Done(),
+            '"no-world"': wg.NoWorld(),
+            '{"pushed": 3}': wg.Pushed(3),
+            '{"world": 0}': wg.WorldReply(0),
+            '{"packages": [1, 0]}': wg.Packages([1, 0]),
+            '{"text": "a:b/i"}': wg.Text("a:b/i"),
+            '{"merge": {"replies": ["done"], "reply": {"merged": {"types": [null, 2], "interfaces": [], "worlds": [],'
+            ' "packages": [0]}}}}': wg.Merge([wg.Done()], wg.Merged([None, 2], [], [], [0])),
+        }
+        for text, reply in expected.items():
+            self.assertEqual(wg.from_json(wg.Reply, json.loads(text)), reply)
+            self.assertEqual(wg.accepted(reply), reply.reply if isinstance(reply, wg.Merge) else reply)
+
+    def test_a_refusal_is_raised(self):
+        error = {"number": 26, "cause": "world-selection", "text": "no", "span": [1, 2]}
+        reply = wg.from_json(wg.Reply, {"refused": {"error": error, "rendered": "no at 1"}})
+        with self.assertRaises(wg.Refusal) as raised:
+            wg.accepted(reply)
+        self.assertEqual((str(raised.exception), raised.exception.number), ("no at 1", 26))
+        self.assertEqual(raised.exception.span, (1, 2))
+
+    def test_a_fault_is_raised(self):
+        with self.assertRaises(wg.Fault) as raised:
+            wg.run_of('{"fault": {"path": ["commands", 0], "offset": 13, "expected": "a command"}}')
+        self.assertEqual(str(raised.exception), "expected a command at byte 13, at commands.0")
+
+    def test_other_forms_are_told(self):
+        for hint, value in ((wg.TypeDefKind, {"no": 1}), (wg.Type, None), (wg.Field, {"name": "x"}), (wg.Type, True)):
+            with self.assertRaises(wg.Unreadable):
+                wg.from_json(hint, value)
+
+
+class Graphs(unittest.TestCase):
+    def setUp(self):
+        self.run_ = wg.run_of(stored("kinds.out.json"))
+        self.graph = self.run_.graph
+
+    def interface(self, name):
+        package = self.graph.packages[self.run_.replies[0].id]
+        return self.graph.interfaces[package.interfaces[name]]
+
+    def test_packages(self):
+        package = self.graph.packages[self.run_.replies[0].id]
+        self.assertEqual((package.name, package.docs[:22]), ("example:kinds@1.2.0", "Every kind of type, fu"))
+        self.assertEqual(self.graph.package_named("other:things@0.1.0"), 0)
+        self.assertEqual(self.graph.id_of(package.interfaces["all"]), "example:kinds/all@1.2.0")
+
+    def test_types(self):
+        types = {name: self.graph.types[id] for name, id in self.interface("all").types.items()}
+        self.assertEqual(types["item"].kind.fields[0].docs, "Its name.")
+        self.assertEqual(types["key"].kind, wg.FixedLengthList("u8", 32))
+        self.assertEqual(types["table"].kind, wg.Map("string", "u32"))
+        self.assertEqual(types["failure"].kind, wg.Result(None, "error-context"))
+        self.assertEqual(types["signal"].kind, wg.Future(None))
+        self.assertEqual([it.name for it in types["color"].kind.cases], ["red", "green", "blue"])
+        cursor = types["cursor"]
+        self.assertEqual((cursor.kind, cursor.external_id), (wg.Resource(), "kinds/cursor"))
+        self.assertEqual(cursor.stability, wg.Stable("1.0.0", "1.1.0"))
+
+    def test_what_stands_beside_is_put_where_it_belongs(self):
+        text = json.loads(stored("kinds.json"))["commands"][0]["push-groups"]["main"]["sources"][0]["text"]
+        base = len(json.loads(stored("kinds.json"))["commands"][0]["push-groups"]["deps"][0]["sources"][0]["text"]) + 1
+        item = self.graph.types[self.interface("all").types["item"]]
+        places = [(item.span, "item"), *((it.span, it.name) for it in item.kind.fields)]
+        count = self.interface("all").functions["count"]
+        places += [(count.span, "count"), *((it.span, it.name) for it in count.params)]
+        found = [(text[a:b], text[a - base : b - base]) for (a, b), _ in places]
+        self.assertIn([name for _, name in places], [[it for it, _ in found], [it for _, it in found]])
+
+    def test_worlds(self):
+        (world,) = [it for it in self.graph.worlds if it.name == "whole"]
+        names = [self.graph.entry_name(key, item) for key, item in world.imports.items()]
+        self.assertIn("example:kinds/all@1.2.0", names)
+        second = world.imports["second"]
+        self.assertEqual((second.external_id, second.docs), ("kinds/second", "An interface under a label."))
+        self.assertEqual(world.exports["start"].function.kind, "async-freestanding")
+        self.assertIsInstance(world.imports["session"], wg.TypeItem)
+
+
+class Calls(unittest.TestCase):
+    @unittest.skipUnless(SHARED, "no libwitgraph.so")
+    def test_scripts(self):
+        self.assertEqual(wg.execute("package a:b\npush\n"), "pushed a:b\n")
+        self.assertEqual(wg.explain("package a:b\npush\n"), "")
+        self.assertTrue(wg.explain("package a:b\npush\npackage a:b\npush\n").startswith("refused 5 "))
+        with self.assertRaises(wg.NotUnderstood) as raised:
+            wg.execute("package a:b\npush\nhello\n")
+        self.assertEqual(raised.exception.line, 3)
+        many = "".join(f"package a:b{n}\npush\n" for n in range(2000))
+        self.assertEqual(wg.execute(many).count("pushed"), 2000)
+
+    def test_the_stored_graph_is_what_comes_out(self):
+        for run in runners():
+            self.assertEqual(run(json.loads(stored("kinds.json"))["commands"]), wg.run_of(stored("kinds.out.json")))
+
+    def test_what_is_made_here_is_pushed(self):
+        interface = wg.Interface("i", {"t": 0}, {"f": wg.Function("f", "freestanding", [wg.Param("x", 0)], "bool")})
+        record = wg.TypeDef("t", wg.Record([wg.Field("a", "u8")]), wg.InterfaceOwner(0))
+        world = wg.World("w", {"interface-0": wg.InterfaceItem(0)}, includes=[])
+        package = wg.UnresolvedPackage("a:b", worlds=[world], interfaces=[interface], types=[record])
+        push = wg.PushGroups(wg.UnresolvedPackageGroup(package))
+        for run in runners():
+            made = run([push, push, wg.Select(["a:b"]), wg.AddFeature("f")])
+            self.assertEqual([type(it) for it in made.replies], [wg.Pushed, wg.Refused, wg.WorldReply, wg.Done])
+            self.assertEqual(made.replies[1].error.number, 5)
+            self.assertEqual(made.graph.features, ["f"])
+            self.assertEqual(made.graph.types, [record])
+
+    def test_faults(self):
+        for run in runners():
+            with self.assertRaises(wg.Fault):
+                run([{"no": "command"}])
+
+
+class Walk(unittest.TestCase):
+    @unittest.skipUnless(runners(), "nothing that carries out commands")
+    def test_readme(self):
+        """The walk through in README.md prints what stands there."""
+        if PROGRAM and not has_json():
+            wg.run = lambda commands: wg.run_by(PROGRAM, commands)
+        at = os.getcwd()
+        os.chdir(TOP)
+        self.addCleanup(os.chdir, at)
+        failed, count = doctest.testfile(os.path.join(HERE, "README.md"), module_relative=False)
+        self.assertTrue(count > 5 and not failed)
+
+
+if __name__ == "__main__":
+    unittest.main()

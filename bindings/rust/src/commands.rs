@@ -1,0 +1,290 @@
+//! What is asked, and what is answered: docs/JSON.md of the repository has each in its own words.
+
+use crate::data::{InterfaceId, PackageId, TypeId, WorldId};
+use crate::names::{PackageName, Span};
+use crate::unresolved::UnresolvedPackageGroup;
+use serde::{Deserialize, Serialize};
+use std::error::Error;
+use std::fmt;
+
+/// A command, or a question about the graph as it is then.
+#[derive(Clone, Debug, PartialEq, Eq, Serialize, Deserialize)]
+#[serde(rename_all = "kebab-case")]
+pub enum Command {
+    /// Turns a feature on: [`Reply::Done`].
+    AddFeature(String),
+    /// Turns all features on, or off but for those that were added: [`Reply::Done`].
+    SetAllFeatures(bool),
+    /// Says which versions are of one track: [`Reply::Done`].
+    SetTrackRule(TrackRule),
+    /// Adds groups of packages, all or none: [`Reply::Pushed`].
+    PushGroups {
+        /// The main group.
+        main: UnresolvedPackageGroup,
+        /// The groups that it needs, in whatever order.
+        deps: Vec<UnresolvedPackageGroup>,
+    },
+    /// Carries out commands on an empty graph, and merges that into this one: [`Reply::Merge`].
+    Merge(Vec<Command>),
+    /// Makes the exports of a world its imports: [`Reply::Done`] or [`Reply::NoWorld`].
+    Importize {
+        /// The package of the world.
+        package: PackageName,
+        /// The world.
+        world: String,
+        /// The name of the new world, where the old one stays.
+        #[serde(default, skip_serializing_if = "Option::is_none")]
+        out: Option<String>,
+    },
+    /// Makes imports of a world its exports: [`Reply::Done`] or [`Reply::NoWorld`].
+    Exportize {
+        /// The package of the world.
+        package: PackageName,
+        /// The world.
+        world: String,
+        /// The name of the new world, where the old one stays.
+        #[serde(default, skip_serializing_if = "Option::is_none")]
+        out: Option<String>,
+        /// The names of the imports that become exports; all where it lacks.
+        #[serde(default, skip_serializing_if = "Option::is_none")]
+        keys: Option<Vec<String>>,
+    },
+    /// Leaves of a world's imports the newest version on each track: [`Reply::Done`] or [`Reply::NoWorld`].
+    Semver {
+        /// The package of the world.
+        package: PackageName,
+        /// The world.
+        world: String,
+    },
+    /// Which world a name chooses among main packages: [`Reply::World`].
+    Select {
+        /// The main packages.
+        packages: Vec<PackageName>,
+        /// The name or the path of a world.
+        #[serde(default, skip_serializing_if = "Option::is_none")]
+        world: Option<String>,
+    },
+    /// On which packages a package depends directly: [`Reply::Packages`].
+    PackageDependencies {
+        /// The package.
+        package: PackageName,
+    },
+    /// On which interfaces an interface depends directly: [`Reply::Interfaces`].
+    InterfaceDependencies {
+        /// The package of the interface.
+        package: PackageName,
+        /// The interface.
+        interface: String,
+    },
+    /// All packages, each behind those that it depends on: [`Reply::Packages`].
+    PackageOrder,
+    /// The id of an interface or a world with its track for a version: [`Reply::Text`].
+    CanonicalId {
+        /// The package.
+        package: PackageName,
+        /// The interface or the world.
+        name: String,
+    },
+    /// The names in core wasm of what a world imports and exports: [`Reply::CoreNames`].
+    CoreNames {
+        /// The package of the world.
+        package: PackageName,
+        /// The world.
+        world: String,
+        /// By which rules they are named.
+        mangling: Mangling,
+    },
+    /// The futures and streams of a function: [`Reply::Types`].
+    FuturesAndStreams(FunctionPlace),
+}
+
+/// Which versions are of one track.
+#[derive(Clone, Copy, Debug, PartialEq, Eq, Hash, Serialize, Deserialize)]
+#[serde(rename_all = "kebab-case")]
+pub enum TrackRule {
+    /// As the component model says: a prerelease is on no track.
+    Published,
+    /// Prereleases are on the tracks of their versions.
+    WithPrereleases,
+}
+
+/// By which rules names of core wasm are made.
+#[derive(Clone, Copy, Debug, PartialEq, Eq, Hash, Serialize, Deserialize)]
+#[serde(rename_all = "kebab-case")]
+#[allow(missing_docs)]
+pub enum Mangling {
+    Standard32,
+    LegacySync,
+    LegacyAsyncCallback,
+    LegacyAsyncStackful,
+}
+
+/// Where a function stands.
+#[derive(Clone, Debug, PartialEq, Eq, Hash, Serialize, Deserialize)]
+#[serde(rename_all = "kebab-case")]
+pub enum FunctionPlace {
+    /// In an interface.
+    Interface(FunctionName),
+    /// Among the imports of a world.
+    Import(FunctionName),
+    /// Among its exports.
+    Export(FunctionName),
+}
+
+/// The name of a function with that of its interface or world.
+#[derive(Clone, Debug, PartialEq, Eq, Hash, Serialize, Deserialize)]
+#[allow(missing_docs)]
+pub struct FunctionName {
+    pub package: PackageName,
+    pub name: String,
+    pub function: String,
+}
+
+/// What is answered to a command.
+#[derive(Clone, Debug, PartialEq, Eq, Deserialize)]
+#[serde(rename_all = "kebab-case")]
+#[non_exhaustive]
+pub enum Reply {
+    /// It is carried out.
+    Done,
+    /// The package has no such world.
+    NoWorld,
+    /// What a question names isn't there.
+    NotFound,
+    /// A package hasn't the shape that it must have.
+    NotShaped,
+    /// The main package that was added.
+    Pushed(PackageId),
+    /// The answers to the commands of another graph, and to its merge, which is [`Reply::Merged`] where it is done.
+    Merge {
+        /// The answers to its commands.
+        replies: Vec<Reply>,
+        /// The answer to the merge.
+        reply: Box<Reply>,
+    },
+    /// Where each thing of the other graph stands now.
+    Merged(Remap),
+    /// Nothing but the list of files has changed.
+    Refused(Refusal),
+    /// A world.
+    World(WorldId),
+    /// Packages, directly depended on ones with repeats.
+    Packages(Vec<PackageId>),
+    /// Interfaces, with repeats.
+    Interfaces(Vec<InterfaceId>),
+    /// Types.
+    Types(Vec<TypeId>),
+    /// A text.
+    Text(String),
+    /// Names of core wasm.
+    CoreNames(CoreNames),
+}
+
+impl Reply {
+    /// The reply, or the refusal that it is; of a merge its own.
+    ///
+    /// # Errors
+    ///
+    /// Where it is a refusal.
+    pub fn accepted(self) -> Result<Reply, Refusal> {
+        match self {
+            Reply::Refused(refusal) => Err(refusal),
+            Reply::Merge { reply, .. } => reply.accepted(),
+            other => Ok(other),
+        }
+    }
+}
+
+/// Where each thing of a merged graph stands: at its old place is its new id.
+#[derive(Clone, Debug, Default, PartialEq, Eq, Deserialize)]
+#[allow(missing_docs)]
+pub struct Remap {
+    pub types: Vec<Option<TypeId>>,
+    pub interfaces: Vec<Option<InterfaceId>>,
+    pub worlds: Vec<Option<WorldId>>,
+    pub packages: Vec<PackageId>,
+}
+
+/// The functions that a world imports and exports, with their names in core wasm.
+#[derive(Clone, Debug, Default, PartialEq, Eq, Deserialize)]
+#[allow(missing_docs)]
+pub struct CoreNames {
+    pub imports: Vec<CoreImport>,
+    pub exports: Vec<CoreExport>,
+}
+
+/// A function that a world imports.
+#[derive(Clone, Debug, PartialEq, Eq, Deserialize)]
+pub struct CoreImport {
+    /// The entry of its interface, `interface-3` or a label; none of a function of the world itself.
+    pub interface: Option<String>,
+    /// Its name in its interface.
+    pub function: String,
+    /// The module that core wasm imports it from.
+    pub module: String,
+    /// The name under which core wasm imports it.
+    pub field: String,
+}
+
+/// A function that a world exports.
+#[derive(Clone, Debug, PartialEq, Eq, Deserialize)]
+pub struct CoreExport {
+    /// The entry of its interface, `interface-3` or a label; none of a function of the world itself.
+    pub interface: Option<String>,
+    /// Its name in its interface.
+    pub function: String,
+    /// The name under which core wasm exports it.
+    pub name: String,
+}
+
+/// Why a command is refused.
+#[derive(Clone, Debug, PartialEq, Eq, Deserialize)]
+#[serde(from = "Written")]
+pub struct Refusal {
+    /// Its number in docs/SCRIPT.md.
+    pub number: u32,
+    /// The word for its cause.
+    pub cause: String,
+    /// What is wrong, in a sentence.
+    pub text: String,
+    /// Where, among the files of the graph.
+    pub span: Span,
+    /// The sentence with the file, the line and a mark, where the place is known.
+    pub rendered: String,
+}
+
+#[derive(Deserialize)]
+struct Written {
+    error: WrittenError,
+    rendered: String,
+}
+
+#[derive(Deserialize)]
+struct WrittenError {
+    number: u32,
+    cause: String,
+    text: String,
+    #[serde(default)]
+    span: Span,
+}
+
+impl From<Written> for Refusal {
+    fn from(written: Written) -> Self {
+        let Written { error, rendered } = written;
+        Refusal {
+            number: error.number,
+            cause: error.cause,
+            text: error.text,
+            span: error.span,
+            rendered,
+        }
+    }
+}
+
+impl fmt::Display for Refusal {
+    fn fmt(&self, f: &mut fmt::Formatter<'_>) -> fmt::Result {
+        f.write_str(&self.rendered)
+    }
+}
+
+impl Error for Refusal {}

@@ -1,0 +1,204 @@
+//! Commands carried out.
+
+use crate::commands::{Command, Reply};
+use crate::resolve::Resolve;
+use serde::{Deserialize, Serialize};
+use std::error::Error;
+use std::fmt;
+use std::io::{self, Write};
+use std::process::{self, Stdio};
+use std::thread;
+
+/// What comes out of a list of commands.
+#[derive(Clone, Debug, PartialEq, Eq)]
+pub struct Run {
+    /// The answers, one for each command.
+    pub replies: Vec<Reply>,
+    /// The graph then.
+    pub graph: Resolve,
+}
+
+impl Run {
+    /// Reads the document that comes out.
+    ///
+    /// ```
+    /// let run = witgraph::Run::from_json(r#"
+    ///     {"replies": ["done"], "resolve": {
+    ///         "graph": {"worlds": [], "interfaces": [], "types": [], "packages": []},
+    ///         "details": {"worlds": [], "interfaces": [], "types": []},
+    ///         "features": {"all": false, "names": ["fancy"]}, "files": []}}"#)?;
+    /// assert_eq!(run.replies, [witgraph::Reply::Done]);
+    /// assert_eq!(run.graph.features, ["fancy"]);
+    /// # Ok::<(), witgraph::RunError>(())
+    /// ```
+    ///
+    /// # Errors
+    ///
+    /// [`RunError::Fault`] where the document tells one, [`RunError::Json`] where it is another document.
+    pub fn from_json(document: &str) -> Result<Run, RunError> {
+        let output: Output = serde_json::from_str(document).map_err(RunError::Json)?;
+        match output {
+            Output {
+                fault: Some(fault), ..
+            } => Err(RunError::Fault(fault)),
+            Output {
+                replies,
+                resolve: graph,
+                ..
+            } => Ok(Run { replies, graph }),
+        }
+    }
+}
+
+/// A run or a fault.
+#[derive(Deserialize)]
+struct Output {
+    fault: Option<Fault>,
+    #[serde(default)]
+    replies: Vec<Reply>,
+    #[serde(default)]
+    resolve: Resolve,
+}
+
+/// Why a document of commands can't be read: the first place, and what was expected there.
+#[derive(Clone, Debug, PartialEq, Eq, Deserialize)]
+pub struct Fault {
+    /// The names and the numbers that lead to a value.
+    pub path: Vec<serde_json::Value>,
+    /// The byte at which it begins.
+    pub offset: u64,
+    /// What was expected.
+    pub expected: String,
+}
+
+/// Why commands weren't carried out. A refused command is a reply, not an error.
+#[derive(Debug)]
+#[non_exhaustive]
+pub enum RunError {
+    /// The document of commands couldn't be read.
+    Fault(Fault),
+    /// What came out isn't such a document.
+    Json(serde_json::Error),
+    /// The program couldn't be run.
+    Program(io::Error),
+    /// Memory was refused outside a command.
+    OutOfMemory,
+}
+
+impl fmt::Display for RunError {
+    fn fmt(&self, f: &mut fmt::Formatter<'_>) -> fmt::Result {
+        match self {
+            RunError::Fault(Fault {
+                path,
+                offset,
+                expected,
+            }) => {
+                let steps: Vec<String> = path.iter().map(ToString::to_string).collect();
+                let path = steps.join(".");
+                write!(f, "expected {expected} at byte {offset}, at {path}")
+            }
+            RunError::Json(_) => f.write_str("the document that came out can't be read"),
+            RunError::Program(_) => f.write_str("the program can't be run"),
+            RunError::OutOfMemory => f.write_str("there is no memory"),
+        }
+    }
+}
+
+impl Error for RunError {
+    fn source(&self) -> Option<&(dyn Error + 'static)> {
+        match self {
+            RunError::Json(error) => Some(error),
+            RunError::Program(error) => Some(error),
+            RunError::Fault(_) | RunError::OutOfMemory => None,
+        }
+    }
+}
+
+#[derive(Serialize)]
+struct Document<'a> {
+    commands: &'a [Command],
+}
+
+/// The document of these commands, as `witgraph_json` reads it.
+pub fn to_json(commands: &[Command]) -> String {
+    serde_json::to_string(&Document { commands }).expect("texts, numbers and names as keys")
+}
+
+/// Carries out commands on an empty graph, by the static library.
+///
+/// ```
+/// use witgraph::{Command, PackageBuilder, Reply, Type};
+///
+/// let mut shop = PackageBuilder::new("shop:api".parse()?);
+/// let types = shop.interface("types");
+/// shop.record(types, "item", [("name", Type::String), ("price", Type::U32)]);
+/// let cart = shop.interface("cart");
+/// let item = shop.use_type(cart, types, "item");
+/// shop.function(cart, "add", [("it", item)], None);
+/// let world = shop.world("client");
+/// shop.import(world, cart);
+///
+/// let run = witgraph::run(&[
+///     Command::PushGroups { main: shop.finish().into(), deps: vec![] },
+///     Command::Select { packages: vec!["shop:api".parse()?], world: None },
+/// ])?;
+/// let Reply::World(client) = run.replies[1] else { panic!("{:?}", run.replies) };
+/// let imports: Vec<_> = run.graph.worlds[client].imports.keys().map(|key| run.graph.name_world_key(key)).collect();
+/// assert_eq!(imports, ["shop:api/types", "shop:api/cart"]);
+/// # Ok::<(), Box<dyn std::error::Error>>(())
+/// ```
+///
+/// # Errors
+///
+/// Where memory is refused outside a command. Refusals of commands are replies.
+#[cfg(witgraph_json)]
+pub fn run(commands: &[Command]) -> Result<Run, RunError> {
+    let document = to_json(commands);
+    let mut output = vec![0; 16 * 1024];
+    loop {
+        let (status, needed) = crate::ffi::json(document.as_bytes(), &mut output);
+        match status {
+            crate::ffi::OUTPUT_TOO_SMALL => output.resize(needed, 0),
+            crate::ffi::UNDERSTOOD | crate::ffi::NOT_UNDERSTOOD => {
+                return Run::from_json(&String::from_utf8_lossy(&output[..needed]));
+            }
+            _ => return Err(RunError::OutOfMemory),
+        }
+    }
+}
+
+/// Carries out commands on an empty graph, by a build of the program `witgraph_json`.
+///
+/// ```no_run
+/// use std::process;
+///
+/// let mut program = process::Command::new("/tmp/witgraph_json");
+/// let run = witgraph::run_by(&mut program, &[witgraph::Command::PackageOrder])?;
+/// assert_eq!(run.replies, [witgraph::Reply::Packages(vec![])]);
+/// # Ok::<(), witgraph::RunError>(())
+/// ```
+///
+/// # Errors
+///
+/// Where the program can't be run, and where it writes nothing.
+pub fn run_by(program: &mut process::Command, commands: &[Command]) -> Result<Run, RunError> {
+    let output = output_of(program, to_json(commands)).map_err(RunError::Program)?;
+    if output.is_empty() {
+        return Err(RunError::OutOfMemory);
+    }
+    Run::from_json(&output)
+}
+
+/// What a program writes of an input.
+fn output_of(program: &mut process::Command, document: String) -> io::Result<String> {
+    let mut child = program
+        .stdin(Stdio::piped())
+        .stdout(Stdio::piped())
+        .stderr(Stdio::null())
+        .spawn()?;
+    let mut input = child.stdin.take().expect("a pipe");
+    let writer = thread::spawn(move || input.write_all(document.as_bytes()));
+    let output = child.wait_with_output()?;
+    writer.join().expect("the writer ends")?;
+    Ok(String::from_utf8_lossy(&output.stdout).into_owned())
+}
