@@ -5,7 +5,7 @@ set -eu
 WIT_PARSER=$(cd "${1:?usage: build.sh WIT_PARSER OUT}" && pwd)
 OUT=${2:?usage: build.sh WIT_PARSER OUT}
 HERE=$(cd "$(dirname "$0")" && pwd)
-BUILD=${TMPDIR:-/tmp}/witgraph-original
+BUILD=${TMPDIR:-/tmp}/witgraph-original-build
 DEBIAN=/usr/share/cargo/registry
 mkdir -p "$BUILD"
 cp -r "$HERE/Cargo.toml" "$HERE/src" "$BUILD/"

@@ -18,10 +18,17 @@ fn main() {
     let mut document = String::new();
     std::io::stdin().read_to_string(&mut document).unwrap();
     let document: Value = serde_json::from_str(&document).unwrap();
-    std::panic::set_hook(Box::new(|it| *TOLD.lock().unwrap() = it.to_string().replace('\n', " ")));
+    std::panic::set_hook(Box::new(|it| tell(it.to_string())));
     let mut resolve = Resolve::new();
     let replies = run(&mut resolve, &document["commands"], "");
     println!("{}", json!({ "replies": replies, "resolve": layout::whole(&resolve) }));
+}
+
+/// Keeps what a panic told, which is also written to standard error.
+fn tell(text: String) {
+    let text = text.replace('\n', " ");
+    eprintln!("{text}");
+    *TOLD.lock().unwrap() = text;
 }
 
 /// The replies to commands. Each is told on standard error before it is begun, so that a reader knows which one ends

@@ -1,0 +1,199 @@
+#!/usr/bin/env python3
+"""Compares `witgraph_json` with wit-parser itself (check/original) on random documents, in all that both write.
+
+    python3 check/whole.py PATH/TO/witgraph_json PATH/TO/witgraph-original [--first N] [--many N] [--jobs N]
+
+Replies are compared with texts, spans and how they are shown, graphs in all data (check/graphs.py says what is free), of
+the second graphs of merges, too. Where the two differ the tool tells of which row of docs/DIFFERENCES.md that is, and
+goes on with the document without that command. A document with a difference of no row is printed, and the status is 1.
+"""
+import argparse
+import collections
+import json
+import multiprocessing
+import re
+import subprocess
+import sys
+
+from documents import document
+from graphs import Differ, paired
+
+PATIENCE = 10
+
+
+def run(program, commands):
+    """What a program writes, and the place of the command in which it ended without, if so."""
+    text = json.dumps({"commands": commands})
+    try:
+        done = subprocess.run([program], input=text, capture_output=True, text=True, timeout=PATIENCE)
+        if done.returncode == 0:
+            return json.loads(done.stdout), None
+        told = done.stderr
+    except subprocess.TimeoutExpired as fault:
+        told = (fault.stderr or b"").decode()
+    places = re.findall(r"(?m)^[\d.]+$", told)
+    return None, tuple(int(it) for it in places[-1].split(".")) if places else ()
+
+
+class Difference:
+    """A command that the two answer otherwise: its place, and what both say. The graphs may differ alone."""
+
+    def __init__(self, commands, place, ours, theirs):
+        self.commands, self.place, self.ours, self.theirs = commands, place, ours, theirs
+
+    def command(self):
+        command = self.commands[self.place[0]]
+        return command["merge"][self.place[1]] if len(self.place) > 1 else command
+
+
+def replies_of(commands, replies):
+    """Each reply with the place of its command, those within a merge before that of the merge."""
+    for at, (command, reply) in enumerate(zip(commands, replies)):
+        if isinstance(command, dict) and "merge" in command:
+            for inner, it in enumerate(reply["merge"]["replies"]):
+                yield (at, inner), it
+            yield (at,), reply["merge"]["reply"]
+        else:
+            yield (at,), reply
+
+
+def are_same(ours, theirs):
+    """Whether two replies are the same, but for numbers of types, which are compared with the graphs."""
+    if not (isinstance(ours, dict) and isinstance(theirs, dict)):
+        return ours == theirs
+    if "refused" in ours and "refused" in theirs:
+        one, other = dict(ours["refused"]["error"]), dict(theirs["refused"]["error"])
+        number = other.pop("number")
+        is_number = number in (None, one.pop("number"))
+        del one["cause"]
+        other = {key: it for key, it in other.items() if it is not None}
+        return is_number and one == other and ours["refused"]["rendered"] == theirs["refused"]["rendered"]
+    if "types" in ours and "types" in theirs:
+        return len(ours["types"]) == len(theirs["types"])
+    if "merged" in ours and "merged" in theirs:
+        return ours["merged"]["packages"] == theirs["merged"]["packages"]
+    return ours == theirs
+
+
+def first_difference(programs, commands):
+    """The first command that the two answer otherwise, or after which their graphs differ; None where there is none."""
+    ours, _ = run(programs[0], commands)
+    theirs, ended = run(programs[1], commands)
+    if theirs is None:
+        if not ended:
+            return Difference(commands, (0,), ours, "no answer")
+        before = first_difference(programs, commands[: ended[0]])
+        reply = dict(replies_of(commands, ours["replies"])).get(ended)
+        return before or Difference(commands, ended, reply, "no return")
+    pairs = list(zip(replies_of(commands, ours["replies"]), replies_of(commands, theirs["replies"])))
+    found = next((Difference(commands, place, one, other) for (place, one), (_, other) in pairs if not are_same(one, other)), None)
+    return graph_difference(programs, commands[: found.place[0]] if found else commands, ours, theirs, found)
+
+
+def graph_difference(programs, commands, ours, theirs, later):
+    """The first command after which the graphs differ, else the one that is answered otherwise later."""
+    for at, command in enumerate(commands):
+        if isinstance(command, dict) and "merge" in command:
+            inner = first_difference(programs, command["merge"])
+            if inner:
+                return Difference(commands, (at, *inner.place), inner.ours, inner.theirs)
+    told = difference_after(programs, commands)
+    if told is None:
+        return later
+    least, most = 0, len(commands)
+    while least < most:
+        middle = (least + most) // 2
+        if difference_after(programs, commands[:middle]):
+            most = middle
+        else:
+            least = middle + 1
+    ours, theirs = (run(it, commands[:least])[0]["replies"][-1] for it in programs)
+    return Difference(commands, (least - 1,), ours, {"graph": difference_after(programs, commands[:least]), "reply": theirs})
+
+
+def difference_after(programs, commands):
+    """Where the graphs differ after commands that both answer the same, None where they don't."""
+    ours, theirs = (run(it, commands)[0] for it in programs)
+    try:
+        pairing = paired(ours["resolve"], theirs["resolve"])
+        for command, one, other in zip(commands, ours["replies"], theirs["replies"]):
+            check_numbers(programs, pairing, command, one, other)
+    except Differ as fault:
+        return str(fault)
+    return None
+
+
+def check_numbers(programs, pairing, command, ours, theirs):
+    """The numbers of types in replies, and those of a merge."""
+    if isinstance(ours, dict) and "types" in ours:
+        if not all(map(pairing.is_same_type, ours["types"], theirs["types"])):
+            raise Differ(f"types: {ours['types']} is {theirs['types']}")
+    if isinstance(ours, dict) and "merge" in ours and "merged" in ours["merge"]["reply"]:
+        inner = paired(*(run(it, command["merge"])[0]["resolve"] for it in programs))
+        check_remap(pairing, inner, ours["merge"]["reply"]["merged"], theirs["merge"]["reply"]["merged"])
+
+
+def check_remap(pairing, inner, ours, theirs):
+    """Where the things of a second graph went."""
+    for one, other in inner.there["type"].items():
+        if not pairing.is_same_type(ours["types"][one], theirs["types"][other]):
+            raise Differ(f"merged type {one}/{other}: {ours['types'][one]} is {theirs['types'][other]}")
+    for sort in ("interface", "world"):
+        for one, other in inner.there[sort].items():
+            to, also = ours[sort + "s"][one], theirs[sort + "s"][other]
+            if to is None or pairing.there[sort][to] != also:
+                raise Differ(f"merged {sort} {one}/{other}: {to} is {also}")
+
+
+def without(commands, place):
+    """Commands without the one at a place."""
+    at, *inner = place
+    if inner:
+        command = {"merge": without(commands[at]["merge"], inner)}
+        return [*commands[:at], command, *commands[at + 1 :]]
+    return commands[:at] + commands[at + 1 :]
+
+
+def rows_of(programs, commands, row_of):
+    """The rows of all differences, one after another; the last is a `Difference` where that is of no row."""
+    found = []
+    while True:
+        difference = first_difference(programs, commands)
+        if difference is None:
+            return found
+        difference.commands = commands
+        row = row_of(difference)
+        found.append(row or difference)
+        if row is None:
+            return found
+        commands = without(commands, difference.place)
+
+
+def no_row(difference):
+    return None
+
+
+def main():
+    parser = argparse.ArgumentParser()
+    parser.add_argument("program")
+    parser.add_argument("original")
+    parser.add_argument("--first", type=int, default=1)
+    parser.add_argument("--many", type=int, default=100)
+    parser.add_argument("--jobs", type=int, default=1)
+    asked = parser.parse_args()
+    counts = collections.Counter()
+    for number in range(asked.first, asked.first + asked.many):
+        found = rows_of((asked.program, asked.original), document(number)["commands"], no_row)
+        for it in found:
+            if isinstance(it, Difference):
+                word = it.command() if isinstance(it.command(), str) else next(iter(it.command()))
+                print(number, it.place, word, json.dumps(it.ours)[:300], "|", json.dumps(it.theirs)[:600])
+                counts["of no row"] += 1
+            else:
+                counts[it] += 1
+        counts["equal"] += not found
+    print(counts)
+
+
+if __name__ == "__main__":
+    sys.exit(main())
