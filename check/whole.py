@@ -17,6 +17,7 @@ import sys
 
 from documents import document
 from graphs import Differ, paired
+from rows import row_of
 
 PATIENCE = 10
 
@@ -154,7 +155,7 @@ def without(commands, place):
     return commands[:at] + commands[at + 1 :]
 
 
-def rows_of(programs, commands, row_of):
+def rows_of(programs, commands):
     """The rows of all differences, one after another; the last is a `Difference` where that is of no row."""
     found = []
     while True:
@@ -169,10 +170,6 @@ def rows_of(programs, commands, row_of):
         commands = without(commands, difference.place)
 
 
-def no_row(difference):
-    return None
-
-
 def main():
     parser = argparse.ArgumentParser()
     parser.add_argument("program")
@@ -183,7 +180,7 @@ def main():
     asked = parser.parse_args()
     counts = collections.Counter()
     for number in range(asked.first, asked.first + asked.many):
-        found = rows_of((asked.program, asked.original), document(number)["commands"], no_row)
+        found = rows_of((asked.program, asked.original), document(number)["commands"])
         for it in found:
             if isinstance(it, Difference):
                 word = it.command() if isinstance(it.command(), str) else next(iter(it.command()))

@@ -86,13 +86,13 @@ class Addition:
 
     def ask_package(self):
         package = self.package
-        for it in [*package.types, *package.interfaces.values(), *package.worlds.values()]:
+        for it in [*package.types, *package.all_interfaces(), *package.worlds.values()]:
             self.ask(it, it.note)
         for ty in package.types:
             if self.active[ty]:
                 self.ask_references(ty)
                 self.ask_owner(ty)
-        for interface in package.interfaces.values():
+        for interface in package.all_interfaces():
             if self.active[interface]:
                 for it in interface.functions.values():
                     if self.ask(it, it.note):
@@ -171,16 +171,18 @@ class Addition:
         own = [it for it in self.package.types if self.active[it] and not isinstance(it.owner, Foreign)]
         for it in own:
             self.images[it] = Type(it.name, None, None, it.note, it.fields)
-        for it in [*self.package.interfaces.values(), *self.package.worlds.values()]:
+        for it in [*self.package.all_interfaces(), *self.package.worlds.values()]:
             if self.active[it]:
                 self.images[it] = type(it)(it.name, it.note, self.package.name)
         for it in own:
             # (a type is after those that it names)
             self.images[it].kind = with_values((it.kind[0], *(self.image(part) for part in it.kind[1:])))
             self.images[it].owner = self.image(it.owner)
-        for interface in self.package.interfaces.values():
+        for interface in self.package.all_interfaces():
             if self.active[interface]:
-                made = self.made.interfaces[interface.name] = self.images[interface]
+                made = self.images[interface]
+                if interface.name:
+                    self.made.interfaces[interface.name] = made
                 made.types = {n: self.image(it) for n, it in interface.types.items() if self.active[it]}
                 made.functions = {n: self.moved(it) for n, it in interface.functions.items() if self.active[it]}
 
