@@ -163,8 +163,14 @@ class Package:
         own = [it.thing for it in self.scopes if it.sort == "interface" and it.thing["name"]]
         others = [(package, name) for package, it in self.known.items() for name in it["interfaces"]]
         if others and (not own or chances.may(0.5)):
-            return self.foreign(self.foreign_interfaces, "interface", *chances.one(others), gate)
+            return self.foreign(self.foreign_interfaces, "interface", *chances.one(self.likely(chances, others)), gate)
         return chances.one(own) if own else None
+
+    def likely(self, chances, others):
+        """Sometimes those alone whose package has an item that is named already, so that tracks of it meet."""
+        named = {package.partition("@")[0] for package in self.deps}
+        found = [it for it in others if it[0].partition("@")[0] in named]
+        return found if found and chances.may(0.6) else others
 
     def other_type(self, chances, scope, gate):
         """A type of another interface."""
@@ -541,24 +547,26 @@ class Graph:
         return [*texts, *LABELS]
 
     def ask(self):
-        """A question."""
-        packages = [*self.known, "no:package"]
-        package = self.chances.one(packages)
-        interface = self.chances.one(INTERFACES)
-        named = {"package": package, "world": self.chances.one(WORLDS)}
-        place = {"package": package, "name": self.chances.one([*INTERFACES, *WORLDS]), "function": self.chances.one(LABELS)}
+        """A question, mostly of what is there."""
+        package = self.chances.one(self.known) if self.known and self.chances.may(0.95) else "no:package"
+        known = self.known.get(package, {"interfaces": {}, "worlds": {}})
+        interface = self.chances.one([*known["interfaces"], *known["interfaces"], self.chances.one(INTERFACES)])
+        world = self.chances.one([*known["worlds"], *known["worlds"], self.chances.one(WORLDS)])
         mangling = self.chances.one(["standard32", "legacy-sync", "legacy-async-callback", "legacy-async-stackful"])
-        world = {"world": self.chances.one([*WORLDS, *[f"a:x/{it}" for it in WORLDS], "b:z/left@0.2.0"])} if self.chances.may(0.8) else {}
+        sort = self.chances.one(["interface", "import", "export"])
+        place = {"package": package, "name": interface if sort == "interface" else world, "function": self.chances.one(LABELS)}
+        name, at, version = package.partition("@")
+        path = self.chances.one([world, f"{name}/{world}{at}{version}", f"{name}/{world}"])
         self.commands.append(
             self.chances.one(
                 [
                     "package-order",
-                    {"select": {"packages": [package] * self.chances.one([0, 1, 1, 1, 2])} | world},
+                    {"select": {"packages": [package] * self.chances.one([0, 1, 1, 1, 2])} | ({"world": path} if self.chances.may(0.8) else {})},
                     {"package-dependencies": {"package": package}},
                     {"interface-dependencies": {"package": package, "interface": interface}},
                     {"canonical-id": {"package": package, "name": interface}},
-                    {"core-names": named | {"mangling": mangling}},
-                    {"futures-and-streams": {self.chances.one(["interface", "import", "export"]): place}},
+                    {"core-names": {"package": package, "world": world, "mangling": mangling}},
+                    {"futures-and-streams": {sort: place}},
                 ]
             )
         )

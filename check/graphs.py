@@ -195,13 +195,15 @@ class Pairing:
                     raise Differ(f"number of {sort} {one}/{other} {self.ours.things[sort][one]}")
 
     def check_owns(self):
-        """The same `own`s are those of documents; of those that values need wit-parser may have fewer."""
+        """Of the `own`s that values need, and that are copied, wit-parser may have fewer, as long as it has one."""
         ours = Counter((self.there["type"][of], repr(more)) for of, more in self.ours.owns)
         theirs = Counter((of, repr(more)) for of, more in self.theirs.owns)
-        new = repr(beside({}, {}))
+        named, new = {of for of, _ in theirs}, repr(beside({}, {}))
         for it in ours.keys() | theirs.keys():
-            if theirs[it] > ours[it] or it[1] != new and theirs[it] != ours[it]:
-                raise Differ(f"own of type {it[0]} {it[1]}: {ours[it]} is {theirs[it]}")
+            of, more = it
+            is_less = theirs[it] < ours[it] and of in named and (more == new or self.theirs.is_copied("type", of))
+            if theirs[it] != ours[it] and not is_less:
+                raise Differ(f"own of type {of} {more}: {ours[it]} is {theirs[it]}")
 
     def is_same_type(self, one, other):
         """Whether two numbers of types, or None, name the same."""

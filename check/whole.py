@@ -9,6 +9,7 @@ goes on with the document without that command. A document with a difference of 
 """
 import argparse
 import collections
+import functools
 import json
 import multiprocessing
 import re
@@ -19,21 +20,35 @@ from documents import document
 from graphs import Differ, paired
 from rows import row_of
 
-PATIENCE = 10
+PATIENCE = 30
+EQUAL, NO_ROW = "equal", "of no row"
 
 
-def run(program, commands):
-    """What a program writes, and the place of the command in which it ended without, if so."""
-    text = json.dumps({"commands": commands})
+class Answers:
+    """What a program writes: the replies, and the graph with what stands beside it, as text and read."""
+
+    def __init__(self, text):
+        self.text = text.partition(',"resolve":')[2]
+        read = json.loads(text)
+        self.replies, self.resolve = read["replies"], read["resolve"]
+
+
+@functools.lru_cache(maxsize=64)
+def run_text(program, text):
+    """What a program writes, None where it ended without, and the place of the command that did so."""
     try:
         done = subprocess.run([program], input=text, capture_output=True, text=True, timeout=PATIENCE)
         if done.returncode == 0:
-            return json.loads(done.stdout), None
+            return Answers(done.stdout), None
         told = done.stderr
     except subprocess.TimeoutExpired as fault:
         told = (fault.stderr or b"").decode()
     places = re.findall(r"(?m)^[\d.]+$", told)
     return None, tuple(int(it) for it in places[-1].split(".")) if places else ()
+
+
+def run(program, commands):
+    return run_text(program, json.dumps({"commands": commands}))
 
 
 class Difference:
@@ -84,9 +99,9 @@ def first_difference(programs, commands):
         if not ended:
             return Difference(commands, (0,), ours, "no answer")
         before = first_difference(programs, commands[: ended[0]])
-        reply = dict(replies_of(commands, ours["replies"])).get(ended)
+        reply = dict(replies_of(commands, ours.replies)).get(ended)
         return before or Difference(commands, ended, reply, "no return")
-    pairs = list(zip(replies_of(commands, ours["replies"]), replies_of(commands, theirs["replies"])))
+    pairs = list(zip(replies_of(commands, ours.replies), replies_of(commands, theirs.replies)))
     found = next((Difference(commands, place, one, other) for (place, one), (_, other) in pairs if not are_same(one, other)), None)
     return graph_difference(programs, commands[: found.place[0]] if found else commands, ours, theirs, found)
 
@@ -108,16 +123,18 @@ def graph_difference(programs, commands, ours, theirs, later):
             most = middle
         else:
             least = middle + 1
-    ours, theirs = (run(it, commands[:least])[0]["replies"][-1] for it in programs)
+    ours, theirs = (run(it, commands[:least])[0].replies[-1] for it in programs)
     return Difference(commands, (least - 1,), ours, {"graph": difference_after(programs, commands[:least]), "reply": theirs})
 
 
 def difference_after(programs, commands):
     """Where the graphs differ after commands that both answer the same, None where they don't."""
     ours, theirs = (run(it, commands)[0] for it in programs)
+    if ours.text == theirs.text and ours.replies == theirs.replies:
+        return None
     try:
-        pairing = paired(ours["resolve"], theirs["resolve"])
-        for command, one, other in zip(commands, ours["replies"], theirs["replies"]):
+        pairing = paired(ours.resolve, theirs.resolve)
+        for command, one, other in zip(commands, ours.replies, theirs.replies):
             check_numbers(programs, pairing, command, one, other)
     except Differ as fault:
         return str(fault)
@@ -130,7 +147,7 @@ def check_numbers(programs, pairing, command, ours, theirs):
         if not all(map(pairing.is_same_type, ours["types"], theirs["types"])):
             raise Differ(f"types: {ours['types']} is {theirs['types']}")
     if isinstance(ours, dict) and "merge" in ours and "merged" in ours["merge"]["reply"]:
-        inner = paired(*(run(it, command["merge"])[0]["resolve"] for it in programs))
+        inner = paired(*(run(it, command["merge"])[0].resolve for it in programs))
         check_remap(pairing, inner, ours["merge"]["reply"]["merged"], theirs["merge"]["reply"]["merged"])
 
 
@@ -170,6 +187,16 @@ def rows_of(programs, commands):
         commands = without(commands, difference.place)
 
 
+def told(number, programs):
+    """The rows of a document, and what is printed where a difference is of none."""
+    found = rows_of(programs, document(number)["commands"])
+    if not found or not isinstance(found[-1], Difference):
+        return found, None
+    it = found.pop()
+    print_of = {"document": number, "place": it.place, "command": it.command(), "ours": it.ours, "theirs": it.theirs}
+    return [*found, NO_ROW], json.dumps(print_of)
+
+
 def main():
     parser = argparse.ArgumentParser()
     parser.add_argument("program")
@@ -178,18 +205,17 @@ def main():
     parser.add_argument("--many", type=int, default=100)
     parser.add_argument("--jobs", type=int, default=1)
     asked = parser.parse_args()
-    counts = collections.Counter()
-    for number in range(asked.first, asked.first + asked.many):
-        found = rows_of((asked.program, asked.original), document(number)["commands"])
-        for it in found:
-            if isinstance(it, Difference):
-                word = it.command() if isinstance(it.command(), str) else next(iter(it.command()))
-                print(number, it.place, word, json.dumps(it.ours)[:300], "|", json.dumps(it.theirs)[:600])
-                counts["of no row"] += 1
-            else:
-                counts[it] += 1
-        counts["equal"] += not found
-    print(counts)
+    numbers = range(asked.first, asked.first + asked.many)
+    documents, differences = collections.Counter(), collections.Counter()
+    with multiprocessing.Pool(asked.jobs) as pool:
+        for found, text in pool.imap(functools.partial(told, programs=(asked.program, asked.original)), numbers, 8):
+            documents[found[0] if found else EQUAL] += 1
+            differences.update(found)
+            if text:
+                print(text, flush=True)
+    for row in [EQUAL, *sorted(differences)]:
+        print(f"| {row} | {documents[row]} | {differences[row]} |")
+    return 1 if differences[NO_ROW] else 0
 
 
 if __name__ == "__main__":

@@ -22,40 +22,45 @@ pub fn whole(resolve: &Resolve) -> Value {
     })
 }
 
-/// Members, of which those that are null may be left out.
-fn object<const N: usize, const M: usize>(always: [(&str, Value); N], where_there: [(&str, Value); M]) -> Value {
-    let there = where_there.into_iter().filter(|(_, value)| !value.is_null());
-    Value::Object(always.into_iter().chain(there).map(|(name, value)| (name.to_string(), value)).collect())
+/// The members that are there.
+fn object<const N: usize>(members: [(&str, Option<Value>); N]) -> Value {
+    let there = members.into_iter().filter_map(|(name, value)| Some((name.to_string(), value?)));
+    Value::Object(there.collect())
+}
+
+/// A member that is always there, if only as `null`.
+fn some(value: impl Into<Value>) -> Option<Value> {
+    Some(value.into())
 }
 
 fn package(it: &Package) -> Value {
-    let ids = |it: Vec<(&String, usize)>| Value::Object(it.into_iter().map(|(name, id)| (name.clone(), id.into())).collect());
-    object(
-        [
-            ("name", it.name.to_string().into()),
-            ("interfaces", ids(it.interfaces.iter().map(|(name, id)| (name, id.index())).collect())),
-            ("worlds", ids(it.worlds.iter().map(|(name, id)| (name, id.index())).collect())),
-        ],
-        [("docs", docs(&it.docs))],
-    )
+    let interfaces: Map<_, _> = it.interfaces.iter().map(|(name, id)| (name.clone(), id.index().into())).collect();
+    let worlds: Map<_, _> = it.worlds.iter().map(|(name, id)| (name.clone(), id.index().into())).collect();
+    object([
+        ("name", some(it.name.to_string())),
+        ("docs", docs(&it.docs)),
+        ("interfaces", some(interfaces)),
+        ("worlds", some(worlds)),
+    ])
 }
 
 fn world(it: &World) -> Value {
-    object(
-        [
-            ("name", it.name.clone().into()),
-            ("imports", entries(&it.imports, item)),
-            ("exports", entries(&it.exports, item)),
-            ("package", it.package.map(Id::index).into()),
-        ],
-        [("docs", docs(&it.docs)), ("stability", gate(&it.stability))],
-    )
+    object([
+        ("name", some(it.name.clone())),
+        ("imports", some(entries(&it.imports, item))),
+        ("exports", some(entries(&it.exports, item))),
+        ("package", some(it.package.map(Id::index))),
+        ("docs", docs(&it.docs)),
+        ("stability", gate(&it.stability)),
+    ])
 }
 
 fn world_details(it: &World) -> Value {
-    let imports = entries(&it.imports, item_details);
-    let exports = entries(&it.exports, item_details);
-    object([("imports", imports), ("exports", exports)], [("span", span(it.span))])
+    object([
+        ("span", span(it.span)),
+        ("imports", some(entries(&it.imports, item_details))),
+        ("exports", some(entries(&it.exports, item_details))),
+    ])
 }
 
 fn entries(of: &IndexMap<WorldKey, WorldItem>, written: fn(&WorldItem) -> Value) -> Value {
@@ -73,7 +78,7 @@ pub fn key(it: &WorldKey) -> String {
 fn item(it: &WorldItem) -> Value {
     match it {
         WorldItem::Interface { id, stability, .. } => {
-            json!({ "interface": object([("id", id.index().into())], [("stability", gate(stability))]) })
+            json!({ "interface": object([("id", some(id.index())), ("stability", gate(stability))]) })
         }
         WorldItem::Function(it) => json!({ "function": function(it) }),
         WorldItem::Type { id, .. } => json!({ "type": id.index() }),
@@ -82,55 +87,52 @@ fn item(it: &WorldItem) -> Value {
 
 fn item_details(it: &WorldItem) -> Value {
     match it {
-        WorldItem::Interface { docs: of, span: at, external_id, .. } => {
-            object([], [("docs", docs(of)), ("span", span(*at)), ("external-id", external_id.clone().into())])
-        }
+        WorldItem::Interface { docs: of, span: at, external_id, .. } => object([
+            ("docs", docs(of)),
+            ("span", span(*at)),
+            ("external-id", text(external_id)),
+        ]),
         WorldItem::Function(it) => function_details(it),
-        WorldItem::Type { span: at, .. } => object([], [("span", span(*at))]),
+        WorldItem::Type { span: at, .. } => object([("span", span(*at))]),
     }
 }
 
 fn interface(it: &Interface) -> Value {
     let types: Map<_, _> = it.types.iter().map(|(name, id)| (name.clone(), id.index().into())).collect();
     let functions: Map<_, _> = it.functions.iter().map(|(name, it)| (name.clone(), function(it))).collect();
-    object(
-        [
-            ("name", it.name.clone().into()),
-            ("types", types.into()),
-            ("functions", functions.into()),
-            ("package", it.package.map(Id::index).into()),
-        ],
-        [("docs", docs(&it.docs)), ("stability", gate(&it.stability))],
-    )
+    object([
+        ("name", some(it.name.clone())),
+        ("types", some(types)),
+        ("functions", some(functions)),
+        ("docs", docs(&it.docs)),
+        ("stability", gate(&it.stability)),
+        ("package", some(it.package.map(Id::index))),
+    ])
 }
 
 fn interface_details(it: &Interface) -> Value {
     let functions: Map<_, _> = it.functions.iter().map(|(name, it)| (name.clone(), function_details(it))).collect();
-    object([("functions", functions.into())], [("span", span(it.span))])
+    object([("span", span(it.span)), ("functions", some(functions))])
 }
 
 fn function(it: &Function) -> Value {
     let param = |it: &Param| json!({ "name": it.name, "type": ty(&it.ty) });
-    object(
-        [
-            ("name", it.name.clone().into()),
-            ("kind", function_kind(&it.kind)),
-            ("params", it.params.iter().map(param).collect::<Vec<_>>().into()),
-        ],
-        [
-            ("result", optional_type(&it.result)),
-            ("docs", docs(&it.docs)),
-            ("stability", gate(&it.stability)),
-        ],
-    )
+    object([
+        ("name", some(it.name.clone())),
+        ("kind", some(function_kind(&it.kind))),
+        ("params", some(it.params.iter().map(param).collect::<Vec<_>>())),
+        ("result", it.result.as_ref().map(ty)),
+        ("docs", docs(&it.docs)),
+        ("stability", gate(&it.stability)),
+    ])
 }
 
 fn function_details(it: &Function) -> Value {
-    let params: Vec<_> = it.params.iter().map(|it| span(it.span)).collect();
-    object(
-        [("params", params.into())],
-        [("span", span(it.span)), ("external-id", it.external_id.clone().into())],
-    )
+    object([
+        ("span", span(it.span)),
+        ("external-id", text(&it.external_id)),
+        ("params", some(it.params.iter().map(|it| span(it.span)).collect::<Vec<_>>())),
+    ])
 }
 
 fn function_kind(kind: &FunctionKind) -> Value {
@@ -158,10 +160,13 @@ fn type_def(it: &TypeDef) -> Value {
         TypeOwner::Interface(id) => json!({ "interface": id.index() }),
         TypeOwner::None => Value::Null,
     };
-    object(
-        [("name", it.name.clone().into()), ("kind", kind(&it.kind)), ("owner", owner)],
-        [("docs", docs(&it.docs)), ("stability", gate(&it.stability))],
-    )
+    object([
+        ("name", some(it.name.clone())),
+        ("kind", some(kind(&it.kind))),
+        ("owner", some(owner)),
+        ("docs", docs(&it.docs)),
+        ("stability", gate(&it.stability)),
+    ])
 }
 
 fn type_details(it: &TypeDef) -> Value {
@@ -172,14 +177,11 @@ fn type_details(it: &TypeDef) -> Value {
         TypeDefKind::Enum(of) => Some(of.cases.iter().map(|it| span(it.span)).collect()),
         _ => None,
     };
-    object(
-        [],
-        [
-            ("span", span(it.span)),
-            ("external-id", it.external_id.clone().into()),
-            ("parts", parts.into()),
-        ],
-    )
+    object([
+        ("span", span(it.span)),
+        ("external-id", text(&it.external_id)),
+        ("parts", parts.map(Value::from)),
+    ])
 }
 
 fn kind(kind: &TypeDefKind) -> Value {
@@ -210,11 +212,7 @@ fn kind(kind: &TypeDefKind) -> Value {
 fn parts<T>(word: &str, name: &str, of: &[T], part: fn(&T) -> (&String, &Docs, Option<Value>)) -> Value {
     let written = |it: &T| {
         let (name, of, ty) = part(it);
-        let mut made = object([("name", name.clone().into())], [("docs", docs(of))]);
-        if let Some(ty) = ty {
-            made["type"] = ty;
-        }
-        made
+        object([("name", some(name.clone())), ("type", ty), ("docs", docs(of))])
     };
     json!({ word: { name: of.iter().map(written).collect::<Vec<_>>() } })
 }
@@ -244,28 +242,25 @@ fn ty(it: &Type) -> Value {
     name.into()
 }
 
-fn docs(it: &Docs) -> Value {
-    it.contents.as_ref().map_or(Value::Null, |it| json!({ "contents": it }))
+fn text(it: &Option<String>) -> Option<Value> {
+    it.clone().map(Value::from)
 }
 
-fn gate(it: &Stability) -> Value {
-    let version = |it: &Option<semver::Version>| it.as_ref().map(|it| it.to_string()).into();
-    match it {
-        Stability::Unknown => Value::Null,
-        Stability::Stable { since, deprecated } => {
-            json!({ "stable": object([("since", since.to_string().into())], [("deprecated", version(deprecated))]) })
-        }
-        Stability::Unstable { feature, deprecated } => {
-            json!({ "unstable": object([("feature", feature.clone().into())], [("deprecated", version(deprecated))]) })
-        }
-    }
+fn docs(it: &Docs) -> Option<Value> {
+    it.contents.as_ref().map(|it| json!({ "contents": it }))
 }
 
-/// A span, `null` where it is unknown.
-pub fn span(it: Span) -> Value {
-    if it.is_known() {
-        json!([it.start(), it.end()])
-    } else {
-        Value::Null
-    }
+fn gate(it: &Stability) -> Option<Value> {
+    let (word, name, value, deprecated) = match it {
+        Stability::Unknown => return None,
+        Stability::Stable { since, deprecated } => ("stable", "since", since.to_string(), deprecated),
+        Stability::Unstable { feature, deprecated } => ("unstable", "feature", feature.clone(), deprecated),
+    };
+    let deprecated = deprecated.as_ref().map(|it| it.to_string().into());
+    Some(json!({ word: object([(name, some(value)), ("deprecated", deprecated)]) }))
+}
+
+/// A span, where it is known.
+pub fn span(it: Span) -> Option<Value> {
+    it.is_known().then(|| json!([it.start(), it.end()]))
 }

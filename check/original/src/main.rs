@@ -127,7 +127,7 @@ fn remap(map: &Remap) -> Value {
 fn refusal(resolve: &Resolve, error: &anyhow::Error) -> Value {
     let text = error.chain().map(|it| it.to_string()).collect::<Vec<_>>().join(": ");
     let found = error.chain().find_map(|it| it.downcast_ref::<ResolveError>());
-    let span = found.map_or(Value::Null, |it| layout::span(it.kind().span()));
+    let span = found.and_then(|it| layout::span(it.kind().span()));
     let rendered = found.map_or(text.clone(), |it| it.render(&resolve.source_map));
     json!({ "error": { "number": found.and_then(number), "text": text, "span": span }, "rendered": rendered })
 }
