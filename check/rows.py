@@ -69,18 +69,18 @@ def is_question(command):
     return isinstance(command, str) or packages.command_of(command) is None and "merge" not in command
 
 
-def files_of_merge(difference):
-    """Whether a merge is refused by both, of whose files the original has none."""
-    graph = difference.theirs.get("graph", "") if isinstance(difference.theirs, dict) else ""
-    reply = difference.ours.get("merge", {}).get("reply", {}) if isinstance(difference.ours, dict) else {}
-    is_refused = isinstance(reply, dict) and reply.get("refused", {}).get("error", {}).get("number") == 24
-    return is_refused and graph.startswith((".files", ".files[")) 
+def is_mismatch(difference):
+    """Whether a merge is refused by both for the same mismatch; the original has none of its files then."""
+    refused = [it["refused"]["error"] if isinstance(it, dict) and "refused" in it else {} for it in (difference.ours, difference.theirs)]
+    return refused[0].get("number") == 24 and refused[0]["text"] == refused[1].get("text")
 
 
 def row_of(difference):
     """The row of a difference, None where there is none."""
     if isinstance(difference.theirs, dict) and "graph" in difference.theirs:
-        return "the files of a refused merge" if files_of_merge(difference) else None
+        return None
+    if is_mismatch(difference):
+        return "the files of a refused merge"
     if is_question(difference.command()):
         return None
     asked = Refused(difference)

@@ -91,31 +91,38 @@ def are_same(ours, theirs):
     return ours == theirs
 
 
-def first_difference(programs, commands):
-    """The first command that the two answer otherwise, or after which their graphs differ; None where there is none."""
+def reply_difference(programs, commands):
+    """The first command that the two answer otherwise, None where there is none."""
     ours, _ = run(programs[0], commands)
     theirs, ended = run(programs[1], commands)
     if theirs is None:
-        if not ended:
-            return Difference(commands, (0,), ours, "no answer")
-        before = first_difference(programs, commands[: ended[0]])
+        before = reply_difference(programs, commands[: ended[0]])
         reply = dict(replies_of(commands, ours.replies)).get(ended)
         return before or Difference(commands, ended, reply, "no return")
-    pairs = list(zip(replies_of(commands, ours.replies), replies_of(commands, theirs.replies)))
-    found = next((Difference(commands, place, one, other) for (place, one), (_, other) in pairs if not are_same(one, other)), None)
-    return graph_difference(programs, commands[: found.place[0]] if found else commands, ours, theirs, found)
+    pairs = zip(replies_of(commands, ours.replies), replies_of(commands, theirs.replies))
+    differ = (Difference(commands, place, one, other) for (place, one), (_, other) in pairs if is_otherwise(one, other))
+    return next(differ, None)
 
 
-def graph_difference(programs, commands, ours, theirs, later):
-    """The first command after which the graphs differ, else the one that is answered otherwise later."""
+def is_otherwise(ours, theirs):
+    """Whether two replies differ; after a merge with a mismatch the files do."""
+    return not are_same(ours, theirs) or number_of(ours) == 24
+
+
+def number_of(reply):
+    """The number of a refusal."""
+    return reply["refused"]["error"]["number"] if isinstance(reply, dict) and "refused" in reply else None
+
+
+def graph_difference(programs, commands):
+    """The first command after which the graphs differ, where both answer all of them the same."""
     for at, command in enumerate(commands):
         if isinstance(command, dict) and "merge" in command:
-            inner = first_difference(programs, command["merge"])
+            inner = graph_difference(programs, command["merge"])
             if inner:
                 return Difference(commands, (at, *inner.place), inner.ours, inner.theirs)
-    told = difference_after(programs, commands)
-    if told is None:
-        return later
+    if difference_after(programs, commands) is None:
+        return None
     least, most = 0, len(commands)
     while least < most:
         middle = (least + most) // 2
@@ -123,8 +130,8 @@ def graph_difference(programs, commands, ours, theirs, later):
             most = middle
         else:
             least = middle + 1
-    ours, theirs = (run(it, commands[:least])[0].replies[-1] for it in programs)
-    return Difference(commands, (least - 1,), ours, {"graph": difference_after(programs, commands[:least]), "reply": theirs})
+    reply = run(programs[0], commands[:least])[0].replies[-1]
+    return Difference(commands, (least - 1,), reply, {"graph": difference_after(programs, commands[:least])})
 
 
 def difference_after(programs, commands):
@@ -173,14 +180,21 @@ def without(commands, place):
 
 
 def rows_of(programs, commands):
-    """The rows of all differences, one after another; the last is a `Difference` where that is of no row."""
+    """The rows of all differences, one after another; the last is a `Difference` where that is of no row.
+
+    Where answers differ graphs are compared before, unless a row tells it: what is left of the document is compared whole.
+    """
     found = []
     while True:
-        difference = first_difference(programs, commands)
-        if difference is None:
-            return found
-        difference.commands = commands
-        row = row_of(difference)
+        difference = reply_difference(programs, commands)
+        row = difference and row_of(difference)
+        if row is None:
+            before = commands[: difference.place[0]] if difference else commands
+            difference = graph_difference(programs, before) or difference
+            if difference is None:
+                return found
+            difference.commands = commands
+            row = row_of(difference)
         found.append(row or difference)
         if row is None:
             return found
