@@ -4,6 +4,7 @@ external ids, unnamed interfaces and includes, in groups and nested, and what is
 What a package has is told by its `seed` alone, so that it can be made again under another version, or for another graph:
 each item comes of a number of its own, and `less` is the chance that one is left out.
 """
+import itertools
 import random
 import string
 
@@ -64,8 +65,8 @@ class File:
     def __init__(self, chances, path):
         self.chances, self.path = chances, path
         words = ["func", "interface i {", "}", "\n", "\n\n", "  type t = u8;", "// ü\n", "", "world"]
-        self.text = " ".join(chances.one(words) for _ in chances.some(0, 60))
-        self.places = [len(self.text[:at].encode()) for at in range(len(self.text) + 1)]
+        self.text = " ".join(chances.one(words) for _ in chances.some(0, 40))
+        self.places = [0, *itertools.accumulate(len(it.encode()) for it in self.text)]
 
     def span(self):
         if self.chances.may(0.1):
@@ -575,8 +576,8 @@ class Graph:
 def package_names(chances):
     """Names of packages, of which some have several versions."""
     names = []
-    for it in chances.random.sample(PACKAGES, chances.random.randint(1, 4)):
-        versions = chances.random.sample(VERSIONS, chances.one([0, 1, 1, 2, 3]))
+    for it in chances.random.sample(PACKAGES, chances.random.randint(1, 3)):
+        versions = chances.random.sample(VERSIONS, chances.one([0, 1, 1, 2, 2]))
         names += [f"{it}@{version}" for version in versions] or [it]
     chances.random.shuffle(names)
     return names
