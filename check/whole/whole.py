@@ -1,9 +1,9 @@
 #!/usr/bin/env python3
-"""Compares `witgraph_json` with wit-parser itself (check/original) on random documents, in all that both write.
+"""Compares `witgraph_json` with wit-parser itself (check/whole/original) on random documents, in all that both write.
 
-    python3 check/whole.py PATH/TO/witgraph_json PATH/TO/witgraph-original [--first N] [--many N] [--jobs N]
+    python3 check/whole/whole.py PATH/TO/witgraph_json PATH/TO/witgraph-original [--first N] [--many N] [--jobs N]
 
-Replies are compared with texts, spans and how they are shown, graphs in all data (check/graphs.py says what is free), of
+Replies are compared with texts, spans and how they are shown, graphs in all data (check/whole/graphs.py says what is free), of
 the second graphs of merges, too. Where the two differ the tool tells of which row of docs/DIFFERENCES.md that is, and
 goes on with the document without that command. A document with a difference of no row is printed, and the status is 1.
 """

@@ -1,7 +1,7 @@
 #!/usr/bin/env python3
 """Tests that a comparison of graphs sees every datum: of a graph that `witgraph_json` writes each leaf is changed in turn.
 
-    python3 check/test_graphs.py PATH/TO/witgraph_json [--many N]
+    python3 check/whole/test_graphs.py PATH/TO/witgraph_json [--many N]
 
 What may stay unseen is told: the span, docs and gate of an `own` that a value needs, and numbers of copies.
 """

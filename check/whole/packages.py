@@ -2,7 +2,7 @@
 import pathlib
 import sys
 
-sys.path.insert(0, str(pathlib.Path(__file__).parent.parent / "bench"))
+sys.path.insert(0, str(pathlib.Path(__file__).parent.parent.parent / "bench"))
 
 from model import data
 from model.names import PackageName
