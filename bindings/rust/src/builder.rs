@@ -3,6 +3,7 @@
 use crate::arena::{Arena, Id};
 use crate::data::*;
 use crate::names::{Docs, PackageName, Span, Stability};
+use crate::renumber::NewIds;
 use crate::unresolved::{AstItem, ForeignItem, UnresolvedPackage};
 use indexmap::IndexMap;
 use std::collections::HashMap;
@@ -420,7 +421,7 @@ impl PackageBuilder {
                     .map(|(_, it)| it.kind == TypeDefKind::Unknown),
             ),
         };
-        ids.renumber(&mut package);
+        ids.unresolved(&mut package);
         package
     }
 }
@@ -458,125 +459,4 @@ fn new_ids<T>(comes_first: impl Iterator<Item = bool>) -> Vec<Id<T>> {
         Id::from_index(*at - 1)
     };
     comes_first.iter().map(&mut next).collect()
-}
-
-/// The things of a list, each at the place of its new id.
-fn reordered<T>(list: &mut Arena<T>, ids: &[Id<T>]) -> Arena<T> {
-    let mut placed: Vec<(Id<T>, T)> = ids.iter().copied().zip(list.take()).collect();
-    placed.sort_by_key(|(id, _)| *id);
-    placed.into_iter().map(|(_, it)| it).collect()
-}
-
-/// The new id of each interface, world and type.
-struct NewIds {
-    interfaces: Vec<InterfaceId>,
-    worlds: Vec<WorldId>,
-    types: Vec<TypeId>,
-}
-
-impl NewIds {
-    fn renumber(&self, package: &mut UnresolvedPackage) {
-        package.interfaces = reordered(&mut package.interfaces, &self.interfaces);
-        package.worlds = reordered(&mut package.worlds, &self.worlds);
-        package.types = reordered(&mut package.types, &self.types);
-        package.types.items_mut().for_each(|it| self.type_def(it));
-        for interface in package.interfaces.items_mut() {
-            interface.types.values_mut().for_each(|id| self.id(id));
-            interface
-                .functions
-                .values_mut()
-                .for_each(|it| self.function(it));
-        }
-        package.worlds.items_mut().for_each(|it| self.world(it));
-        package
-            .required_resource_types
-            .iter_mut()
-            .for_each(|(id, _)| self.id(id));
-        let items = package
-            .foreign_deps
-            .values_mut()
-            .flat_map(|named| named.values_mut());
-        items.for_each(|it| match &mut it.0 {
-            AstItem::Interface(id) => *id = self.interfaces[id.index()],
-            AstItem::World(id) => *id = self.worlds[id.index()],
-        });
-    }
-
-    fn id(&self, id: &mut TypeId) {
-        *id = self.types[id.index()];
-    }
-
-    fn ty(&self, ty: &mut Type) {
-        if let Type::Id(id) = ty {
-            self.id(id);
-        }
-    }
-
-    fn type_def(&self, ty: &mut TypeDef) {
-        match &mut ty.owner {
-            TypeOwner::Interface(id) => *id = self.interfaces[id.index()],
-            TypeOwner::World(id) => *id = self.worlds[id.index()],
-            TypeOwner::None => {}
-        }
-        self.kind(&mut ty.kind);
-    }
-
-    fn kind(&self, kind: &mut TypeDefKind) {
-        match kind {
-            TypeDefKind::Record(it) => it.fields.iter_mut().for_each(|it| self.ty(&mut it.ty)),
-            TypeDefKind::Handle(Handle::Own(id) | Handle::Borrow(id)) => self.id(id),
-            TypeDefKind::Tuple(it) => it.types.iter_mut().for_each(|it| self.ty(it)),
-            TypeDefKind::Variant(it) => {
-                it.cases
-                    .iter_mut()
-                    .filter_map(|it| it.ty.as_mut())
-                    .for_each(|it| self.ty(it));
-            }
-            TypeDefKind::Result(Result_ { ok, err }) => {
-                ok.iter_mut().chain(err).for_each(|it| self.ty(it));
-            }
-            TypeDefKind::Map(key, value) => [key, value].into_iter().for_each(|it| self.ty(it)),
-            TypeDefKind::Option(ty)
-            | TypeDefKind::List(ty)
-            | TypeDefKind::FixedLengthList(ty, _)
-            | TypeDefKind::Type(ty) => self.ty(ty),
-            TypeDefKind::Future(ty) | TypeDefKind::Stream(ty) => {
-                ty.iter_mut().for_each(|it| self.ty(it));
-            }
-            TypeDefKind::Resource
-            | TypeDefKind::Flags(_)
-            | TypeDefKind::Enum(_)
-            | TypeDefKind::Unknown => {}
-        }
-    }
-
-    fn function(&self, function: &mut Function) {
-        if let Some(id) = function.kind.resource_mut() {
-            self.id(id);
-        }
-        let types = function.params.iter_mut().map(|it| &mut it.ty);
-        types.chain(&mut function.result).for_each(|it| self.ty(it));
-    }
-
-    fn world(&self, world: &mut World) {
-        for entries in [&mut world.imports, &mut world.exports] {
-            let old = std::mem::take(entries);
-            entries.extend(old.into_iter().map(|(key, item)| self.entry(key, item)));
-        }
-        for include in &mut world.includes {
-            include.id = self.worlds[include.id.index()];
-        }
-    }
-
-    fn entry(&self, key: WorldKey, mut item: WorldItem) -> (WorldKey, WorldItem) {
-        match &mut item {
-            WorldItem::Interface { id, .. } => *id = self.interfaces[id.index()],
-            WorldItem::Function(function) => self.function(function),
-            WorldItem::Type { id, .. } => self.id(id),
-        }
-        match key {
-            WorldKey::Interface(id) => (WorldKey::Interface(self.interfaces[id.index()]), item),
-            label => (label, item),
-        }
-    }
 }

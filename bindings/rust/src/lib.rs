@@ -1,9 +1,13 @@
-//! The resolve layer of WIT, asked by scripts.
+//! The resolve layer of WIT, asked by commands or by scripts.
 //!
-//! A script describes packages of WIT and says what to do with them: add them to a graph, print what a world imports
-//! and exports with all that it needs, merge two graphs, make imports of exports or exports of imports, merge imports
-//! by semver. `docs/SCRIPT.md` of the repository has the language. [`execute`] runs a script on an empty graph and
-//! gives its answers:
+//! Packages of WIT are added to a graph, which tells what a world imports and exports with all that it needs; graphs are
+//! merged, imports made of exports and exports of imports, imports merged by semver.
+//!
+//! **By commands**: [`PackageBuilder`] makes packages, [`commands_from_json`] reads them as `tools/wit2json.py` of the
+//! repository writes them of WIT. `run` (where the library has `witgraph_json`) and [`run_by`] carry out [`Command`]s on
+//! an empty graph, and give a [`Run`]: a [`Reply`] for each, and the graph, a [`Resolve`] under the names of wit-parser.
+//!
+//! **By scripts**, in the language of `docs/SCRIPT.md`: [`execute`] runs one on an empty graph and gives its answers:
 //!
 //! ```
 //! let script = "
@@ -47,6 +51,7 @@ mod commands;
 mod data;
 mod ffi;
 mod names;
+mod renumber;
 mod resolve;
 mod run;
 mod unresolved;
@@ -63,7 +68,7 @@ pub use names::{Docs, NotAPackageName, PackageName, Span, Stability};
 pub use resolve::{Package, Resolve};
 #[cfg(witgraph_json)]
 pub use run::run;
-pub use run::{run_by, to_json, Fault, Run, RunError};
+pub use run::{commands_from_json, run_by, to_json, Fault, Run, RunError};
 pub use semver::Version;
 pub use unresolved::{AstItem, ForeignItem, Source, UnresolvedPackage, UnresolvedPackageGroup};
 

@@ -1,13 +1,15 @@
 //! A graph of packages, as it comes out.
 
-use crate::arena::Arena;
+use crate::arena::{Arena, Id};
 use crate::data::{
     Function, Interface, InterfaceId, PackageId, TypeDef, TypeDefKind, TypeId, World, WorldId,
     WorldItem, WorldKey,
 };
 use crate::names::{Docs, PackageName, Span};
+use crate::renumber::NewIds;
 use indexmap::IndexMap;
 use serde::{Deserialize, Serialize};
+use std::collections::BTreeSet;
 
 /// A package of a graph.
 #[derive(Clone, Debug, PartialEq, Eq, Serialize, Deserialize)]
@@ -73,6 +75,33 @@ impl Resolve {
         }
         end
     }
+}
+
+impl Resolve {
+    /// The same graph, with other numbers for types and interfaces: at the place of an id is the new one. Of several
+    /// that get one number the first is left.
+    ///
+    /// # Panics
+    ///
+    /// Where these aren't the numbers from 0 on, or there aren't as many as types or interfaces.
+    pub fn renumbered(mut self, types: Vec<TypeId>, interfaces: Vec<InterfaceId>) -> Self {
+        assert!(are_all_numbers(&types, self.types.len()));
+        assert!(are_all_numbers(&interfaces, self.interfaces.len()));
+        let worlds = self.worlds.iter().map(|(id, _)| id).collect();
+        let ids = NewIds {
+            types,
+            interfaces,
+            worlds,
+        };
+        ids.graph(&mut self);
+        self
+    }
+}
+
+/// Whether these are so many ids, and of the numbers from 0 on none lacks.
+fn are_all_numbers<T>(ids: &[Id<T>], length: usize) -> bool {
+    let met: BTreeSet<usize> = ids.iter().map(|id| id.index()).collect();
+    ids.len() == length && met.iter().copied().eq(0..met.len())
 }
 
 /// The name of an interface or a world with that of its package.

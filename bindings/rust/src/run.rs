@@ -114,14 +114,30 @@ impl Error for RunError {
     }
 }
 
-#[derive(Serialize)]
-struct Document<'a> {
-    commands: &'a [Command],
+#[derive(Serialize, Deserialize)]
+struct Document<T> {
+    commands: T,
 }
 
 /// The document of these commands, as `witgraph_json` reads it.
 pub fn to_json(commands: &[Command]) -> String {
     serde_json::to_string(&Document { commands }).expect("texts, numbers and names as keys")
+}
+
+/// The commands of a document, as `tools/wit2json.py` writes it.
+///
+/// ```
+/// let commands = witgraph::commands_from_json(r#"{"commands": ["package-order"]}"#)?;
+/// assert_eq!(commands, [witgraph::Command::PackageOrder]);
+/// # Ok::<(), serde_json::Error>(())
+/// ```
+///
+/// # Errors
+///
+/// Where it isn't such a document.
+pub fn commands_from_json(document: &str) -> Result<Vec<Command>, serde_json::Error> {
+    let document: Document<Vec<Command>> = serde_json::from_str(document)?;
+    Ok(document.commands)
 }
 
 /// Carries out commands on an empty graph, by the static library.

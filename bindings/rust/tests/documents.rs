@@ -34,15 +34,21 @@ fn carried_out(commands: &[Command]) -> Option<Run> {
 
 /// The commands of the stored document.
 fn kinds() -> Vec<Command> {
-    let document: Value = serde_json::from_str(&stored("kinds.json")).expect("JSON");
-    serde_json::from_value(document["commands"].clone()).expect("commands")
+    commands_from_json(&stored("kinds.json")).expect("commands")
 }
 
 #[test]
 fn a_document_is_the_same_again() {
-    let written: Value = serde_json::from_str(&to_json(&kinds())).expect("JSON");
-    let document: Value = serde_json::from_str(&stored("kinds.json")).expect("JSON");
-    assert_eq!(written, document);
+    let (written, document) = (to_json(&kinds()), stored("kinds.json"));
+    let value = |text: &str| serde_json::from_str::<Value>(text).expect("JSON");
+    assert_eq!(value(&written), value(&document));
+    // the order of members is that of the tables
+    assert_eq!(
+        commands_from_json(&written)
+            .map(|it| format!("{it:?}"))
+            .ok(),
+        Some(format!("{:?}", kinds()))
+    );
 }
 
 #[test]
@@ -234,7 +240,7 @@ fn aliases_lead_to_the_type() {
 #[test]
 fn the_stored_graph_is_what_comes_out() {
     if let Some(run) = carried_out(&kinds()) {
-        assert_eq!(run, whole());
+        assert_eq!(format!("{run:?}"), format!("{:?}", whole()));
     }
 }
 

@@ -1,0 +1,388 @@
+//! Unresolved packages as wit-parser's own.
+
+use crate::ids::Ids;
+use wit_parser as wp;
+use witgraph as wg;
+
+pub fn group(from: &wg::UnresolvedPackageGroup) -> wp::UnresolvedPackageGroup {
+    let mut source_map = wp::SourceMap::default();
+    for source in &from.sources {
+        source_map.push_str(&source.path, source.text.clone());
+    }
+    wp::UnresolvedPackageGroup {
+        main: package(&from.main),
+        nested: from.nested.iter().map(package).collect(),
+        source_map,
+    }
+}
+
+pub fn package_name(from: &wg::PackageName) -> wp::PackageName {
+    wp::PackageName {
+        namespace: from.namespace.clone(),
+        name: from.name.clone(),
+        version: from.version.clone(),
+    }
+}
+
+fn package(from: &wg::UnresolvedPackage) -> wp::UnresolvedPackage {
+    let mut made = empty(from);
+    let ids = Ids {
+        types: (from.types.iter())
+            .map(|_| made.types.alloc(no_type()))
+            .collect(),
+        interfaces: (from.interfaces.iter())
+            .map(|_| made.interfaces.alloc(no_interface()))
+            .collect(),
+        worlds: (from.worlds.iter())
+            .map(|_| made.worlds.alloc(no_world()))
+            .collect(),
+    };
+    for (id, it) in from.types.iter() {
+        made.types[ids.ty(id)] = type_def(it, &ids);
+    }
+    for (id, it) in from.interfaces.iter() {
+        made.interfaces[ids.interface(id)] = interface(it, &ids);
+    }
+    for (id, it) in from.worlds.iter() {
+        made.worlds[ids.world(id)] = world(it, &ids);
+    }
+    for (name, named) in &from.foreign_deps {
+        let items = named
+            .iter()
+            .map(|(name, it)| (name.clone(), foreign(it, &ids)));
+        made.foreign_deps
+            .insert(package_name(name), items.collect());
+    }
+    let required = from.required_resource_types.iter();
+    made.required_resource_types = required.map(|(id, it)| (ids.ty(*id), span(*it))).collect();
+    made
+}
+
+fn empty(from: &wg::UnresolvedPackage) -> wp::UnresolvedPackage {
+    let spans = |all: &[wg::Span]| all.iter().map(|it| span(*it)).collect();
+    wp::UnresolvedPackage {
+        name: package_name(&from.name),
+        docs: docs(&from.docs),
+        worlds: wp::Arena::new(),
+        interfaces: wp::Arena::new(),
+        types: wp::Arena::new(),
+        foreign_deps: Default::default(),
+        package_name_span: span(from.package_name_span),
+        unknown_type_spans: spans(&from.unknown_type_spans),
+        foreign_dep_spans: spans(&from.foreign_dep_spans),
+        required_resource_types: Vec::new(),
+    }
+}
+
+fn no_type() -> wp::TypeDef {
+    wp::TypeDef {
+        name: None,
+        kind: wp::TypeDefKind::Unknown,
+        owner: wp::TypeOwner::None,
+        docs: wp::Docs::default(),
+        stability: wp::Stability::Unknown,
+        span: wp::Span::default(),
+        external_id: None,
+    }
+}
+
+fn no_interface() -> wp::Interface {
+    wp::Interface {
+        name: None,
+        types: Default::default(),
+        functions: Default::default(),
+        docs: wp::Docs::default(),
+        stability: wp::Stability::Unknown,
+        package: None,
+        span: wp::Span::default(),
+        clone_of: None,
+    }
+}
+
+fn no_world() -> wp::World {
+    wp::World {
+        name: String::new(),
+        imports: Default::default(),
+        exports: Default::default(),
+        package: None,
+        docs: wp::Docs::default(),
+        stability: wp::Stability::Unknown,
+        includes: Vec::new(),
+        span: wp::Span::default(),
+    }
+}
+
+// small values
+
+fn span(from: wg::Span) -> wp::Span {
+    match (from.start(), from.end()) {
+        (Some(start), Some(end)) => wp::Span::new(start, end),
+        _ => wp::Span::default(),
+    }
+}
+
+fn docs(from: &wg::Docs) -> wp::Docs {
+    wp::Docs {
+        contents: from.contents.clone(),
+    }
+}
+
+fn stability(from: &wg::Stability) -> wp::Stability {
+    match from.clone() {
+        wg::Stability::Unknown => wp::Stability::Unknown,
+        wg::Stability::Stable { since, deprecated } => wp::Stability::Stable { since, deprecated },
+        wg::Stability::Unstable {
+            feature,
+            deprecated,
+        } => wp::Stability::Unstable {
+            feature,
+            deprecated,
+        },
+    }
+}
+
+fn foreign(from: &wg::ForeignItem, ids: &Ids) -> (wp::AstItem, Vec<wp::Stability>) {
+    let item = match from.0 {
+        wg::AstItem::Interface(id) => wp::AstItem::Interface(ids.interface(id)),
+        wg::AstItem::World(id) => wp::AstItem::World(ids.world(id)),
+    };
+    (item, from.1.iter().map(stability).collect())
+}
+
+// types
+
+fn ty(from: wg::Type, ids: &Ids) -> wp::Type {
+    match from {
+        wg::Type::Bool => wp::Type::Bool,
+        wg::Type::U8 => wp::Type::U8,
+        wg::Type::U16 => wp::Type::U16,
+        wg::Type::U32 => wp::Type::U32,
+        wg::Type::U64 => wp::Type::U64,
+        wg::Type::S8 => wp::Type::S8,
+        wg::Type::S16 => wp::Type::S16,
+        wg::Type::S32 => wp::Type::S32,
+        wg::Type::S64 => wp::Type::S64,
+        wg::Type::F32 => wp::Type::F32,
+        wg::Type::F64 => wp::Type::F64,
+        wg::Type::Char => wp::Type::Char,
+        wg::Type::String => wp::Type::String,
+        wg::Type::ErrorContext => wp::Type::ErrorContext,
+        wg::Type::Id(id) => wp::Type::Id(ids.ty(id)),
+    }
+}
+
+fn type_def(from: &wg::TypeDef, ids: &Ids) -> wp::TypeDef {
+    wp::TypeDef {
+        name: from.name.clone(),
+        kind: kind(&from.kind, ids),
+        owner: match from.owner {
+            wg::TypeOwner::World(id) => wp::TypeOwner::World(ids.world(id)),
+            wg::TypeOwner::Interface(id) => wp::TypeOwner::Interface(ids.interface(id)),
+            wg::TypeOwner::None => wp::TypeOwner::None,
+        },
+        docs: docs(&from.docs),
+        stability: stability(&from.stability),
+        span: span(from.span),
+        external_id: from.external_id.clone(),
+    }
+}
+
+fn kind(from: &wg::TypeDefKind, ids: &Ids) -> wp::TypeDefKind {
+    let of = |it: wg::Type| ty(it, ids);
+    let maybe = |it: &Option<wg::Type>| it.map(of);
+    match from {
+        wg::TypeDefKind::Record(it) => wp::TypeDefKind::Record(record(it, ids)),
+        wg::TypeDefKind::Resource => wp::TypeDefKind::Resource,
+        wg::TypeDefKind::Handle(wg::Handle::Own(id)) => {
+            wp::TypeDefKind::Handle(wp::Handle::Own(ids.ty(*id)))
+        }
+        wg::TypeDefKind::Handle(wg::Handle::Borrow(id)) => {
+            wp::TypeDefKind::Handle(wp::Handle::Borrow(ids.ty(*id)))
+        }
+        wg::TypeDefKind::Flags(it) => wp::TypeDefKind::Flags(flags(it)),
+        wg::TypeDefKind::Tuple(it) => wp::TypeDefKind::Tuple(wp::Tuple {
+            types: it.types.iter().map(|it| of(*it)).collect(),
+        }),
+        wg::TypeDefKind::Variant(it) => wp::TypeDefKind::Variant(variant(it, ids)),
+        wg::TypeDefKind::Enum(it) => wp::TypeDefKind::Enum(enumeration(it)),
+        wg::TypeDefKind::Option(it) => wp::TypeDefKind::Option(of(*it)),
+        wg::TypeDefKind::Result(it) => wp::TypeDefKind::Result(wp::Result_ {
+            ok: maybe(&it.ok),
+            err: maybe(&it.err),
+        }),
+        wg::TypeDefKind::List(it) => wp::TypeDefKind::List(of(*it)),
+        wg::TypeDefKind::Map(key, value) => wp::TypeDefKind::Map(of(*key), of(*value)),
+        wg::TypeDefKind::FixedLengthList(it, length) => {
+            wp::TypeDefKind::FixedLengthList(of(*it), *length)
+        }
+        wg::TypeDefKind::Future(it) => wp::TypeDefKind::Future(maybe(it)),
+        wg::TypeDefKind::Stream(it) => wp::TypeDefKind::Stream(maybe(it)),
+        wg::TypeDefKind::Type(it) => wp::TypeDefKind::Type(of(*it)),
+        wg::TypeDefKind::Unknown => wp::TypeDefKind::Unknown,
+    }
+}
+
+fn record(from: &wg::Record, ids: &Ids) -> wp::Record {
+    let field = |it: &wg::Field| wp::Field {
+        name: it.name.clone(),
+        ty: ty(it.ty, ids),
+        docs: docs(&it.docs),
+        span: span(it.span),
+    };
+    wp::Record {
+        fields: from.fields.iter().map(field).collect(),
+    }
+}
+
+fn flags(from: &wg::Flags) -> wp::Flags {
+    let flag = |it: &wg::Flag| wp::Flag {
+        name: it.name.clone(),
+        docs: docs(&it.docs),
+        span: span(it.span),
+    };
+    wp::Flags {
+        flags: from.flags.iter().map(flag).collect(),
+    }
+}
+
+fn variant(from: &wg::Variant, ids: &Ids) -> wp::Variant {
+    let case = |it: &wg::Case| wp::Case {
+        name: it.name.clone(),
+        ty: it.ty.map(|it| ty(it, ids)),
+        docs: docs(&it.docs),
+        span: span(it.span),
+    };
+    wp::Variant {
+        cases: from.cases.iter().map(case).collect(),
+    }
+}
+
+fn enumeration(from: &wg::Enum) -> wp::Enum {
+    let case = |it: &wg::EnumCase| wp::EnumCase {
+        name: it.name.clone(),
+        docs: docs(&it.docs),
+        span: span(it.span),
+    };
+    wp::Enum {
+        cases: from.cases.iter().map(case).collect(),
+    }
+}
+
+// functions, interfaces and worlds
+
+fn function(from: &wg::Function, ids: &Ids) -> wp::Function {
+    let param = |it: &wg::Param| wp::Param {
+        name: it.name.clone(),
+        ty: ty(it.ty, ids),
+        span: span(it.span),
+    };
+    wp::Function {
+        name: from.name.clone(),
+        kind: function_kind(from.kind, ids),
+        params: from.params.iter().map(param).collect(),
+        result: from.result.map(|it| ty(it, ids)),
+        docs: docs(&from.docs),
+        stability: stability(&from.stability),
+        span: span(from.span),
+        external_id: from.external_id.clone(),
+    }
+}
+
+fn function_kind(from: wg::FunctionKind, ids: &Ids) -> wp::FunctionKind {
+    match from {
+        wg::FunctionKind::Freestanding => wp::FunctionKind::Freestanding,
+        wg::FunctionKind::AsyncFreestanding => wp::FunctionKind::AsyncFreestanding,
+        wg::FunctionKind::Method(id) => wp::FunctionKind::Method(ids.ty(id)),
+        wg::FunctionKind::AsyncMethod(id) => wp::FunctionKind::AsyncMethod(ids.ty(id)),
+        wg::FunctionKind::Static(id) => wp::FunctionKind::Static(ids.ty(id)),
+        wg::FunctionKind::AsyncStatic(id) => wp::FunctionKind::AsyncStatic(ids.ty(id)),
+        wg::FunctionKind::Constructor(id) => wp::FunctionKind::Constructor(ids.ty(id)),
+        wg::FunctionKind::Getter => wp::FunctionKind::Getter,
+        wg::FunctionKind::Setter => wp::FunctionKind::Setter,
+        wg::FunctionKind::MethodGetter(id) => wp::FunctionKind::MethodGetter(ids.ty(id)),
+        wg::FunctionKind::MethodSetter(id) => wp::FunctionKind::MethodSetter(ids.ty(id)),
+        wg::FunctionKind::StaticGetter(id) => wp::FunctionKind::StaticGetter(ids.ty(id)),
+        wg::FunctionKind::StaticSetter(id) => wp::FunctionKind::StaticSetter(ids.ty(id)),
+    }
+}
+
+fn interface(from: &wg::Interface, ids: &Ids) -> wp::Interface {
+    let functions = from.functions.iter();
+    wp::Interface {
+        name: from.name.clone(),
+        types: from
+            .types
+            .iter()
+            .map(|(name, id)| (name.clone(), ids.ty(*id)))
+            .collect(),
+        functions: functions
+            .map(|(name, it)| (name.clone(), function(it, ids)))
+            .collect(),
+        docs: docs(&from.docs),
+        stability: stability(&from.stability),
+        span: span(from.span),
+        ..no_interface()
+    }
+}
+
+fn world(from: &wg::World, ids: &Ids) -> wp::World {
+    wp::World {
+        name: from.name.clone(),
+        imports: from
+            .imports
+            .iter()
+            .map(|(key, it)| entry(key, it, ids))
+            .collect(),
+        exports: from
+            .exports
+            .iter()
+            .map(|(key, it)| entry(key, it, ids))
+            .collect(),
+        docs: docs(&from.docs),
+        stability: stability(&from.stability),
+        includes: from.includes.iter().map(|it| include(it, ids)).collect(),
+        span: span(from.span),
+        ..no_world()
+    }
+}
+
+fn include(from: &wg::WorldInclude, ids: &Ids) -> wp::WorldInclude {
+    let name = |it: &wg::IncludeName| wp::IncludeName {
+        name: it.name.clone(),
+        as_: it.as_.clone(),
+    };
+    wp::WorldInclude {
+        stability: stability(&from.stability),
+        id: ids.world(from.id),
+        names: from.names.iter().map(name).collect(),
+        span: span(from.span),
+    }
+}
+
+fn entry(key: &wg::WorldKey, item: &wg::WorldItem, ids: &Ids) -> (wp::WorldKey, wp::WorldItem) {
+    let key = match key {
+        wg::WorldKey::Name(label) => wp::WorldKey::Name(label.clone()),
+        wg::WorldKey::Interface(id) => wp::WorldKey::Interface(ids.interface(*id)),
+    };
+    let item = match item {
+        wg::WorldItem::Interface {
+            id,
+            stability: gate,
+            docs: text,
+            span: at,
+            external_id,
+        } => wp::WorldItem::Interface {
+            id: ids.interface(*id),
+            stability: stability(gate),
+            docs: docs(text),
+            span: span(*at),
+            external_id: external_id.clone(),
+        },
+        wg::WorldItem::Function(it) => wp::WorldItem::Function(function(it, ids)),
+        wg::WorldItem::Type { id, span: at } => wp::WorldItem::Type {
+            id: ids.ty(*id),
+            span: span(*at),
+        },
+    };
+    (key, item)
+}
