@@ -605,8 +605,8 @@ def document(number):
 def merge(chances, graph, seeds, names):
     """Another graph of some of the packages, and maybe others, that is merged into the first."""
     other = Graph(chances, seeds, chances.one([0, 0, 0.1]))
-    other.features = graph.features
-    other.commands = [it for it in graph.commands if not isinstance(it, str) and ("add-feature" in it or "set-all-features" in it)]
+    other.features = [it for it in FEATURES if it in graph.features or chances.may(0.15)]
+    other.commands = [{"add-feature": it} for it in other.features]
     kept = [it for it in names if chances.may(0.7)] + [it for it in package_names(chances) if it not in names][:2]
     other.push_some(dict.fromkeys(kept))
     if chances.may(0.15):

@@ -4,6 +4,7 @@ Free are the numbers of copies that an include makes, and which unnamed `own` of
 so each such `own` is read as part of what names it, and their types are compared beside. A renumbering of the rest is
 searched for, from packages down, and has to leave all numbers but those of copies as they are.
 """
+import copy
 from collections import Counter
 
 
@@ -216,6 +217,18 @@ class Pairing:
         sort, of = graph.reference(at)
         number = of[1] if sort == "own" else of
         return sort, map[number] if map else number
+
+
+def without_gated(ours, theirs):
+    """A graph without the functions that are gated off and that the other doesn't have."""
+    made, features = copy.deepcopy(ours), ours["features"]
+    listed = zip(made["graph"]["interfaces"], made["details"]["interfaces"], theirs["graph"]["interfaces"])
+    for it, more, other in listed:
+        for name in it["functions"].keys() - other["functions"].keys():
+            gate = it["functions"][name].get("stability", {}).get("unstable")
+            if gate and not features["all"] and gate["feature"] not in features["names"]:
+                del it["functions"][name], more["functions"][name]
+    return made
 
 
 def is_reference(value):

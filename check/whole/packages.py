@@ -18,18 +18,19 @@ def note(gate):
 
 
 class Read:
-    """A package of a document as the model has it."""
+    """A package of a document as the model has it, whose file begins at a position. Things have `spans`, those that a
+    reason to refuse the package may be told at."""
 
-    def __init__(self, package):
-        self.raw, self.made = package, data.Package(PackageName.read(package["name"]))
+    def __init__(self, package, begin=0):
+        self.raw, self.begin, self.made = package, begin, data.Package(PackageName.read(package["name"]))
         self.interfaces, self.worlds, self.types = {}, {}, {}
         self.read_foreign()
         for at, it in enumerate(package["interfaces"]):
             if at not in self.interfaces:
-                self.interfaces[at] = data.Interface(it["name"], note(it.get("stability")), self.made.name)
+                self.interfaces[at] = self.at(it, data.Interface(it["name"], note(it.get("stability")), self.made.name))
         for at, it in enumerate(package["worlds"]):
             if at not in self.worlds:
-                self.worlds[at] = data.World(it["name"], note(it.get("stability")), self.made.name)
+                self.worlds[at] = self.at(it, data.World(it["name"], note(it.get("stability")), self.made.name))
         self.read_types()
         for at, it in self.interfaces.items():
             self.fill_interface(it, package["interfaces"][at])
@@ -37,20 +38,34 @@ class Read:
             if isinstance(it, data.World):
                 self.fill_world(it, package["worlds"][at])
         self.made.required = [self.types[at] for at, _ in package["required-resources"]]
+        for at, span in package["required-resources"]:
+            self.types[at].spans.append(self.span(span))
+        for at, span in enumerate(package["unknown-type-spans"]):
+            self.types[at].spans.append(self.span(span))
+
+    def span(self, span):
+        return span and [it + self.begin for it in span]
+
+    def at(self, raw, thing, more=()):
+        """A thing that is told at the span of what is read, or at those of its parts."""
+        thing.spans = [self.span(it.get("span")) for it in [raw, *more]]
+        return thing
 
     def read_foreign(self):
-        for package, items in self.raw["foreign-deps"].items():
+        for (package, items), span in zip(self.raw["foreign-deps"].items(), self.raw["foreign-dep-spans"]):
             for name, (item, gates) in items.items():
                 [(sort, at)] = item.items()
                 notes = [note(it) for it in gates]
                 made = data.Foreign(PackageName.read(package), name, sort + "s", notes)
+                self.at(self.raw[sort + "s"][at], made).spans.append(self.span(span))
                 getattr(self, sort + "s")[at] = self.made.foreign[package, name] = made
 
     def read_types(self):
         for at, it in enumerate(self.raw["types"]):
             owner = it["owner"] and next(getattr(self, sort + "s")[of] for sort, of in it["owner"].items())
             kind, fields = self.kind(it["kind"])
-            self.types[at] = data.Type(it["name"], kind, owner, note(it.get("stability")), fields)
+            parts = it["kind"]["record"]["fields"] if kind[0] == "record" else ()
+            self.types[at] = self.at(it, data.Type(it["name"], kind, owner, note(it.get("stability")), fields), parts)
         self.made.types = list(self.types.values())
 
     def type(self, value):
@@ -86,7 +101,7 @@ class Read:
         word, resource = (kind, None) if isinstance(kind, str) else next(iter(kind.items()))
         names, parts = [of["name"] for of in it["params"]], [self.type(of["type"]) for of in it["params"]]
         result, gate = self.type(it.get("result")), note(it.get("stability"))
-        return data.Function(it["name"], self.type(resource), names, parts, result, gate, word)
+        return self.at(it, data.Function(it["name"], self.type(resource), names, parts, result, gate, word))
 
     def fill_interface(self, made, it):
         made.types = {name: self.types[at] for name, at in it["types"].items()}
@@ -101,27 +116,39 @@ class Read:
         made.types = {of.label: of.item for of in made.imports if isinstance(of.item, data.Type)}
         for of in it["includes"]:
             names = [(name["name"], name["as"]) for name in of["names"]]
-            made.includes.append(data.Include(self.worlds[of["id"]], names, note(of.get("stability"))))
+            made.includes.append(self.at(of, data.Include(self.worlds[of["id"]], names, note(of.get("stability")))))
         self.made.worlds[made.name] = made
 
     def entry(self, key, item):
         [(sort, of)] = item.items()
         if sort == "function":
             made = self.function(of)
-            return data.Entry(key, made, made.note)
+            return self.at(of, data.Entry(key, made, made.note))
         if sort == "type":
             ty = self.types[of["id"]]
-            return data.Entry(key, ty, ty.note)
+            return self.at(of, data.Entry(key, ty, ty.note))
         label = None if key == f"interface-{of['id']}" else key
-        return data.Entry(label, self.interfaces[of["id"]], note(of.get("stability")))
+        return self.at(of, data.Entry(label, self.interfaces[of["id"]], note(of.get("stability"))))
 
 
-def packages_of(group):
-    return [Read(it).made for it in [group["main"], *group["nested"]]]
+def groups_of(command):
+    return [command["push-groups"]["main"], *command["push-groups"]["deps"]] if "push-groups" in command else []
 
 
-def command_of(command):
-    """A command as the model has it, with its packages; None of a question."""
+def size(group):
+    """How many positions its files take."""
+    return sum(len(it["text"].encode()) + 1 for it in group["sources"])
+
+
+def packages_of(groups, begin):
+    """The packages of groups, whose files begin at a position."""
+    for it in groups:
+        yield from (Read(package, begin).made for package in [it["main"], *it["nested"]])
+        begin += size(it)
+
+
+def command_of(command, begin=0):
+    """A command as the model has it, with its packages, whose files begin at a position; None of a question."""
     if isinstance(command, str):
         return None
     [(word, of)] = command.items()
@@ -131,7 +158,7 @@ def command_of(command):
         case "set-all-features":
             return ["all-features"], []
         case "push-groups":
-            return ["push"], [made for it in [of["main"], *of["deps"]] for made in packages_of(it)]
+            return ["push"], list(packages_of(groups_of(command), begin))
         case "semver":
             return [word, PackageName.read(of["package"]), of["world"]], []
         case "importize":
@@ -145,13 +172,16 @@ def command_of(command):
 
 def commands_of(commands, place=()):
     """The commands as the model has them, each with its place; a merge is what begins another graph, its commands, and
-    what ends it."""
+    what ends it. Answers how many positions the files take."""
+    begin = 0
     for at, command in enumerate(commands):
         if isinstance(command, dict) and "merge" in command:
             yield None, (["other"], [])
-            yield from commands_of(command["merge"], (at,))
+            begin += yield from commands_of(command["merge"], (at,))
             yield (at,), (["merge"], [])
         else:
-            made = command_of(command)
+            made = command_of(command, begin)
             if made:
                 yield (*place, at), made
+            begin += sum(map(size, groups_of(command)))
+    return begin

@@ -7,9 +7,13 @@ import re
 
 import packages
 import original
+from graphs import Differ, paired, without_gated
+from model import adding
+from model.data import Type
 from model import Rules
 from model.scripts import Session
 
+OTHER_REASON = "another of several reasons"
 DEPRECATED = r"(?:None|Some\(Version \{ (.*?) \}\))"
 STABILITY = rf'Stable \{{ since: Version \{{ (.*?) \}}, deprecated: {DEPRECATED} \}}|Unstable \{{ feature: "(.*?)", deprecated: {DEPRECATED} \}}'
 
@@ -77,8 +81,8 @@ def is_mismatch(difference):
 
 def row_of(difference):
     """The row of a difference, None where there is none."""
-    if isinstance(difference.theirs, dict) and "graph" in difference.theirs:
-        return None
+    if difference.graphs:
+        return "a function that a merge leaves out" if is_left_out(difference) else None
     if is_mismatch(difference):
         return "the files of a refused merge"
     if is_question(difference.command()):
@@ -89,7 +93,58 @@ def row_of(difference):
         it = asked.made(text)
         if text != asked.theirs and (it.theirs in it.texts or it.theirs == it.ours):
             return "the text of stabilities"
-        row = next((name for name, is_row in original.ROWS.items() if is_row(it)), None)
+        found = (row for row, is_row in original.ROWS.items() if is_row(it))
+        row = next((row for row in found if AT_PLACES.get(row, is_anywhere)(difference, it)), None)
         if row:
             return row
     return None
+
+
+def is_anywhere(difference, it):
+    return True
+
+
+def is_at_gated_type(difference, it):
+    """Whether the original tells its reason at the entry of a type in a world."""
+    worlds = [world for package in it.packages for world in package.worlds.values()]
+    spans = [span for world in worlds for of in world.entries() if isinstance(of.item, Type) for span in of.spans]
+    return difference.theirs["refused"]["error"].get("span") in spans
+
+
+def is_left_out(difference):
+    """Whether the graphs are the same but for functions that are gated off, after a merge."""
+    if "merge" not in difference.command():
+        return False
+    try:
+        ours, theirs = difference.graphs
+        paired(without_gated(ours, theirs), theirs)
+        return True
+    except Differ:
+        return False
+
+
+def is_told_there(difference, it):
+    """Whether the model has the original's reason at the span that the original tells it at, too."""
+    ours, theirs = (of["refused"]["error"] for of in (difference.ours, difference.theirs))
+    one, other = ((of["text"], of.get("span")) for of in (ours, theirs))
+    if one == other:
+        return False
+    places = places_of(it, theirs["text"])
+    # (of sorting, of labels and of merges the model knows no places)
+    is_unknown = not places or theirs["number"] in (5, 6) or "(names must be" in theirs["text"] or "corresponding" in theirs["text"]
+    return is_unknown and one[0] != other[0] or any(theirs.get("span") in spans for spans in places)
+
+
+# what is asked of the place of a row's reason, too
+AT_PLACES = {OTHER_REASON: is_told_there, "a gated type of a world": is_at_gated_type}
+
+
+def places_of(it, text):
+    """The spans of each thing that has a reason with a text."""
+    found = []
+    adding.WATCHERS.append(lambda _, told, place: found.append((told, getattr(place, "spans", [None]))))
+    try:
+        it.session().answer(it.words, it.packages)
+    finally:
+        adding.WATCHERS.clear()
+    return [spans for told, spans in found if told == text]

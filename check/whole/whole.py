@@ -54,8 +54,9 @@ def run(program, commands):
 class Difference:
     """A command that the two answer otherwise: its place, and what both say. The graphs may differ alone."""
 
-    def __init__(self, commands, place, ours, theirs):
+    def __init__(self, commands, place, ours, theirs, graphs=None):
         self.commands, self.place, self.ours, self.theirs = commands, place, ours, theirs
+        self.graphs = graphs
 
     def command(self):
         command = self.commands[self.place[0]]
@@ -120,7 +121,7 @@ def graph_difference(programs, commands):
         if isinstance(command, dict) and "merge" in command:
             inner = graph_difference(programs, command["merge"])
             if inner:
-                return Difference(commands, (at, *inner.place), inner.ours, inner.theirs)
+                return Difference(commands, (at, *inner.place), inner.ours, inner.theirs, inner.graphs)
     if difference_after(programs, commands) is None:
         return None
     least, most = 0, len(commands)
@@ -130,8 +131,9 @@ def graph_difference(programs, commands):
             most = middle
         else:
             least = middle + 1
-    reply = run(programs[0], commands[:least])[0].replies[-1]
-    return Difference(commands, (least - 1,), reply, {"graph": difference_after(programs, commands[:least])})
+    made = [run(it, commands[:least])[0] for it in programs]
+    told = {"graph": difference_after(programs, commands[:least])}
+    return Difference(commands, (least - 1,), made[0].replies[-1], told, [it.resolve for it in made])
 
 
 def difference_after(programs, commands):
@@ -207,8 +209,8 @@ def told(number, programs):
     if not found or not isinstance(found[-1], Difference):
         return found, None
     it = found.pop()
-    print_of = {"document": number, "place": it.place, "command": it.command(), "ours": it.ours, "theirs": it.theirs}
-    return [*found, NO_ROW], json.dumps(print_of)
+    shown = {"document": number, "place": it.place, "ours": it.ours, "theirs": it.theirs, "command": it.command()}
+    return [*found, NO_ROW], json.dumps(shown)
 
 
 def main():
