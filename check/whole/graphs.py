@@ -94,11 +94,12 @@ class Graph:
         return named if key == f"interface-{of['id']}" else key, named, beside(of, more)
 
     def package(self, it):
-        made = {sort + "s": [(name, (sort, at)) for name, at in it[sort + "s"].items()] for sort in ("interface", "world")}
+        sorts = ("interface", "world")
+        made = {sort + "s": [(name, (sort, at)) for name, at in it[sort + "s"].items()] for sort in sorts}
         return {"name": it["name"]} | made | beside(it, {})
 
     def is_copied(self, sort, at):
-        """Whether a thing may be a copy: what a world or an unnamed interface owns, or an unnamed type that names such."""
+        """Whether a thing may be a copy: what a world or an unnamed interface owns, or an unnamed type naming it."""
         thing = self.things[sort][at]
         if sort == "type" and thing["owner"]:
             owner, of = thing["owner"]
@@ -108,7 +109,9 @@ class Graph:
 
 
 def is_own(it):
-    return it["name"] is None and it["owner"] is None and "own" in (it["kind"].get("handle", ()) if isinstance(it["kind"], dict) else ())
+    """Whether a type is an `own` without a name."""
+    is_handle = isinstance(it["kind"], dict) and "own" in it["kind"].get("handle", ())
+    return is_handle and it["name"] is None and it["owner"] is None
 
 
 def beside(it, more):
@@ -232,7 +235,8 @@ def without_gated(ours, theirs):
 
 
 def is_reference(value):
-    return isinstance(value, tuple) and len(value) == 2 and value[0] in SORTS and (value[1] is None or isinstance(value[1], int))
+    is_pair = isinstance(value, tuple) and len(value) == 2
+    return is_pair and value[0] in SORTS and (value[1] is None or isinstance(value[1], int))
 
 
 def paired(ours, theirs):

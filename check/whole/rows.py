@@ -1,7 +1,7 @@
 """Tells of which row of docs/DIFFERENCES.md a difference between two answers to a document is.
 
-Most are told by bench/original.py, which asks the model of the rules. What scripts can't show is told here: of texts with
-deprecations, of files, of places and of graphs.
+Most are told by bench/original.py, which asks the model of the rules. What scripts can't show is told here: of texts
+with deprecations, of files, of places and of graphs.
 """
 import re
 
@@ -15,7 +15,8 @@ from model.scripts import Session
 
 OTHER_REASON = "another of several reasons"
 DEPRECATED = r"(?:None|Some\(Version \{ (.*?) \}\))"
-STABILITY = rf'Stable \{{ since: Version \{{ (.*?) \}}, deprecated: {DEPRECATED} \}}|Unstable \{{ feature: "(.*?)", deprecated: {DEPRECATED} \}}'
+STABLE = rf"Stable \{{ since: Version \{{ (.*?) \}}, deprecated: {DEPRECATED} \}}"
+UNSTABLE = rf'Unstable \{{ feature: "(.*?)", deprecated: {DEPRECATED} \}}'
 
 
 def version(parts):
@@ -34,7 +35,7 @@ def gate_in_words(found):
 
 def in_words(text):
     """A text, in which gates are told as this project tells them."""
-    return re.sub(STABILITY, gate_in_words, text).replace("'Unknown'", "'unknown'")
+    return re.sub(f"{STABLE}|{UNSTABLE}", gate_in_words, text).replace("'Unknown'", "'unknown'")
 
 
 def line(difference, reply, command):
@@ -75,8 +76,12 @@ def is_question(command):
 
 def is_mismatch(difference):
     """Whether a merge is refused by both for the same mismatch; the original has none of its files then."""
-    refused = [it["refused"]["error"] if isinstance(it, dict) and "refused" in it else {} for it in (difference.ours, difference.theirs)]
-    return refused[0].get("number") == 24 and refused[0]["text"] == refused[1].get("text")
+    ours, theirs = map(error_of, (difference.ours, difference.theirs))
+    return ours.get("number") == 24 and ours["text"] == theirs.get("text")
+
+
+def error_of(reply):
+    return reply["refused"]["error"] if isinstance(reply, dict) and "refused" in reply else {}
 
 
 def row_of(difference):
@@ -131,7 +136,7 @@ def is_told_there(difference, it):
         return False
     places = places_of(it, theirs["text"])
     # (of sorting, of labels and of merges the model knows no places)
-    is_unknown = not places or theirs["number"] in (5, 6) or "(names must be" in theirs["text"] or "corresponding" in theirs["text"]
+    is_unknown = not places or theirs["number"] in (5, 6) or re.search("strongly unique|corresponding", theirs["text"])
     return is_unknown and one[0] != other[0] or any(theirs.get("span") in spans for spans in places)
 
 

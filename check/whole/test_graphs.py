@@ -1,5 +1,6 @@
 #!/usr/bin/env python3
-"""Tests that a comparison of graphs sees every datum: of a graph that `witgraph_json` writes each leaf is changed in turn.
+"""Tests that a comparison of graphs sees every datum: of a graph that `witgraph_json` writes each leaf is changed in
+turn, and the order of each table.
 
     python3 check/whole/test_graphs.py PATH/TO/witgraph_json [--many N]
 

@@ -3,9 +3,10 @@
 
     python3 check/whole/whole.py PATH/TO/witgraph_json PATH/TO/witgraph-original [--first N] [--many N] [--jobs N]
 
-Replies are compared with texts, spans and how they are shown, graphs in all data (check/whole/graphs.py says what is free), of
-the second graphs of merges, too. Where the two differ the tool tells of which row of docs/DIFFERENCES.md that is, and
-goes on with the document without that command. A document with a difference of no row is printed, and the status is 1.
+Replies are compared with texts, spans and how they are shown, graphs in all data (check/whole/graphs.py says what is
+free), of the second graphs of merges, too. Where the two differ the tool tells of which row of docs/DIFFERENCES.md that
+is, and goes on with the document without that command. One with a difference of no row is printed, and the status
+is 1 then.
 """
 import argparse
 import collections
@@ -184,7 +185,8 @@ def without(commands, place):
 def rows_of(programs, commands):
     """The rows of all differences, one after another; the last is a `Difference` where that is of no row.
 
-    Where answers differ graphs are compared before, unless a row tells it: what is left of the document is compared whole.
+    Where answers differ graphs are compared before, unless a row tells it: what is left of the document is compared
+    whole.
     """
     found = []
     while True:

@@ -105,7 +105,8 @@ fn turn(resolve: &mut Resolve, word: &str, of: &Value) -> anyhow::Result<Value> 
         _ => {
             let keys: Vec<_> = packages::list(&of["keys"]).iter().map(packages::text).collect();
             let imports = resolve.worlds[world].imports.keys();
-            let moved: HashSet<_> = imports.filter(|it| keys.contains(&resolve.name_world_key(it).as_str())).cloned().collect();
+            let is_named = |it: &&WorldKey| keys.contains(&resolve.name_world_key(it).as_str());
+            let moved: HashSet<_> = imports.filter(is_named).cloned().collect();
             let filter = |key: &WorldKey, _: &WorldItem| moved.contains(key);
             resolve.exportize(world, out, of["keys"].is_array().then_some(&filter))?
         }
