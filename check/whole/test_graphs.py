@@ -11,7 +11,7 @@ import copy
 import json
 import sys
 
-from documents import document
+from random_documents import document
 from graphs import Differ, is_own, paired
 from whole import run
 

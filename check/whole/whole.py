@@ -2,6 +2,9 @@
 """Compares `witgraph_json` with wit-parser itself (check/whole/original) on random documents, in all that both write.
 
     python3 check/whole/whole.py PATH/TO/witgraph_json PATH/TO/witgraph-original [--first N] [--many N] [--jobs N]
+    python3 check/whole/whole.py PATH/TO/witgraph_json PATH/TO/witgraph-original DOCUMENT..
+
+With `--scripts` documents are those of the random scripts of bench/compare.py; files with documents may be named.
 
 Replies are compared with texts, spans and how they are shown, graphs in all data (check/whole/graphs.py says what is
 free), of the second graphs of merges, too. Where the two differ the tool tells of which row of docs/DIFFERENCES.md that
@@ -17,7 +20,7 @@ import re
 import subprocess
 import sys
 
-from documents import document
+from random_documents import document
 from graphs import Differ, paired
 from rows import row_of
 
@@ -205,9 +208,22 @@ def rows_of(programs, commands):
         commands = without(commands, difference.place)
 
 
-def told(number, programs):
+def script_document(number):
+    """The document of a random script, an empty one where that isn't understood."""
+    import compare
+    import documents
+
+    return documents.document_of(compare.written(number, compare.KINDS)) or {"commands": []}
+
+
+def stored_document(path):
+    with open(path, encoding="utf-8") as file:
+        return json.load(file)
+
+
+def told(number, programs, made):
     """The rows of a document, and what is printed where a difference is of none."""
-    found = rows_of(programs, document(number)["commands"])
+    found = rows_of(programs, made(number)["commands"])
     if not found or not isinstance(found[-1], Difference):
         return found, None
     it = found.pop()
@@ -219,14 +235,18 @@ def main():
     parser = argparse.ArgumentParser()
     parser.add_argument("program")
     parser.add_argument("original")
+    parser.add_argument("documents", nargs="*")
+    parser.add_argument("--scripts", action="store_true")
     parser.add_argument("--first", type=int, default=1)
     parser.add_argument("--many", type=int, default=100)
     parser.add_argument("--jobs", type=int, default=1)
     asked = parser.parse_args()
-    numbers = range(asked.first, asked.first + asked.many)
+    numbers = asked.documents or range(asked.first, asked.first + asked.many)
+    made = stored_document if asked.documents else script_document if asked.scripts else document
+    tell = functools.partial(told, programs=(asked.program, asked.original), made=made)
     documents, differences = collections.Counter(), collections.Counter()
     with multiprocessing.Pool(asked.jobs) as pool:
-        for found, text in pool.imap(functools.partial(told, programs=(asked.program, asked.original)), numbers, 8):
+        for found, text in pool.imap(tell, numbers, 8):
             documents[found[0] if found else EQUAL] += 1
             differences.update(found)
             if text:
