@@ -157,6 +157,8 @@ def command_of(command, begin=0):
             return ["feature", of], []
         case "set-all-features":
             return ["all-features"], []
+        case "set-track-rule":
+            return ["tracks", of], []
         case "push-groups":
             return ["push"], list(packages_of(groups_of(command), begin))
         case "semver":

@@ -4,7 +4,8 @@
     python3 check/whole/whole.py PATH/TO/witgraph_json PATH/TO/witgraph-original [--first N] [--many N] [--jobs N]
     python3 check/whole/whole.py PATH/TO/witgraph_json PATH/TO/witgraph-original DOCUMENT..
 
-With `--scripts` documents are those of the random scripts of bench/compare.py; files with documents may be named.
+With `--scripts` documents are those of the random scripts of bench/compare.py, with `--stored` those of a file of cases;
+files with documents may be named.
 
 Replies are compared with texts, spans and how they are shown, graphs in all data (check/whole/graphs.py says what is
 free), of the second graphs of merges, too. Where the two differ the tool tells of which row of docs/DIFFERENCES.md that
@@ -25,7 +26,7 @@ from graphs import Differ, paired
 from rows import row_of
 
 PATIENCE = 30
-EQUAL, NO_ROW = "equal", "of no row"
+EQUAL, NO_ROW, OTHER_RULE = "equal", "of no row", "the second rule of tracks"
 
 
 class Answers:
@@ -201,7 +202,7 @@ def rows_of(programs, commands):
             if difference is None:
                 return found
             difference.commands = commands
-            row = row_of(difference)
+            row = row_of(difference) or (OTHER_RULE if is_other_rule(programs, difference) else None)
         found.append(row or difference)
         if row is None:
             return found
@@ -216,9 +217,35 @@ def script_document(number):
     return documents.document_of(compare.written(number, compare.KINDS)) or {"commands": []}
 
 
-def stored_document(path):
+def case_document(name, path):
+    """The document of a case of a file, an empty one where that isn't understood."""
+    import compare
+    import documents
+
+    return documents.document_of(compare.stored(compare.read(path))[0][name]) or {"commands": []}
+
+
+def case_names(path):
+    import compare
+
+    return list(compare.stored(compare.read(path))[0])
+
+
+def file_document(path):
     with open(path, encoding="utf-8") as file:
         return json.load(file)
+
+
+def is_other_rule(programs, difference):
+    """Whether the graphs are the same where no command sets a rule of tracks."""
+    commands = difference.commands[: difference.place[0] + 1]
+    kept = without_rules(commands)
+    return kept != commands and graph_difference(programs, kept) is None
+
+
+def without_rules(commands):
+    kept = [it for it in commands if isinstance(it, str) or "set-track-rule" not in it]
+    return [{"merge": without_rules(it["merge"])} if isinstance(it, dict) and "merge" in it else it for it in kept]
 
 
 def told(number, programs, made):
@@ -237,22 +264,25 @@ def main():
     parser.add_argument("original")
     parser.add_argument("documents", nargs="*")
     parser.add_argument("--scripts", action="store_true")
+    parser.add_argument("--stored")
     parser.add_argument("--first", type=int, default=1)
     parser.add_argument("--many", type=int, default=100)
     parser.add_argument("--jobs", type=int, default=1)
     asked = parser.parse_args()
-    numbers = asked.documents or range(asked.first, asked.first + asked.many)
-    made = stored_document if asked.documents else script_document if asked.scripts else document
+    names = asked.documents or range(asked.first, asked.first + asked.many)
+    made = file_document if asked.documents else script_document if asked.scripts else document
+    if asked.stored:
+        names, made = case_names(asked.stored), functools.partial(case_document, path=asked.stored)
     tell = functools.partial(told, programs=(asked.program, asked.original), made=made)
-    documents, differences = collections.Counter(), collections.Counter()
+    firsts, differences = collections.Counter(), collections.Counter()
     with multiprocessing.Pool(asked.jobs) as pool:
-        for found, text in pool.imap(tell, numbers, 8):
-            documents[found[0] if found else EQUAL] += 1
+        for found, text in pool.imap(tell, names, 8):
+            firsts[found[0] if found else EQUAL] += 1
             differences.update(found)
             if text:
                 print(text, flush=True)
     for row in [EQUAL, *sorted(differences)]:
-        print(f"| {row} | {documents[row]} | {differences[row]} |")
+        print(f"| {row} | {firsts[row]} | {differences[row]} |")
     return 1 if differences[NO_ROW] else 0
 
 
