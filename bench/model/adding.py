@@ -6,6 +6,8 @@ from .including import include
 from .labels import label_causes, place_setters
 from .names import version_key
 
+# what is called with each reason to refuse a package: its number, its text and what it lies in
+WATCHERS = []
 # the causes with which it can't be said what the package becomes
 WITHOUT_IMAGE = {1, 2, 3, 9, 10, 11, 12, 13}
 
@@ -32,14 +34,16 @@ class Addition:
             if self.active[world]:
                 self.finish(world)
 
-    def refuse(self, number, text):
+    def refuse(self, number, text, place=None):
         self.causes.add((number, text))
+        for watch in WATCHERS:
+            watch(number, text, place)
 
     # what is there
 
     def look_up(self):
         if self.graph.find(self.package.name):
-            self.refuse(*defined_twice(self.package.name))
+            self.refuse(*defined_twice(self.package.name), self.package)
         for foreign in self.package.foreign.values():
             of = self.package_of(foreign)
             # (a foreign thing takes part where one of the lines that name it does)
@@ -47,7 +51,7 @@ class Addition:
                 item = getattr(of, foreign.table).get(foreign.name)
                 if item is None:
                     number, word = (3, "interface") if foreign.table == "interfaces" else (2, "world")
-                    self.refuse(number, f"{word} '{foreign.name}' not found in package '{foreign.package}'")
+                    self.refuse(number, f"{word} '{foreign.name}' not found in package '{foreign.package}'", foreign)
                 else:
                     self.found[foreign] = item
 
@@ -60,7 +64,7 @@ class Addition:
         if of is None:
             known = {it.key: str(it) for it in [*(it.name for it in self.graph.packages), name]}
             listed = "".join(f"\n    {it}" for it in known.values())
-            self.refuse(1, f"package '{foreign.package}' not found. known packages:{listed}")
+            self.refuse(1, f"package '{foreign.package}' not found. known packages:{listed}", foreign)
         return of
 
     # what takes part
@@ -72,27 +76,27 @@ class Addition:
         if note[0] == "unstable":
             is_active = self.graph.all_features or note[1] in self.graph.features
         elif note[0] == "stable" and name.version is None:
-            self.refuse(
-                9, f"package [{name}] contains a feature gate with a version specifier, so it must have a version"
-            )
+            text = f"package [{name}] contains a feature gate with a version specifier, so it must have a version"
+            self.refuse(9, text, thing)
         elif note[0] == "stable" and version_key(note[1]) > version_key(name.version):
             self.refuse(
                 10,
                 f"feature gate cannot reference unreleased version {note[1]} of package [{name}]"
                 f" (current version {name.version})",
+                thing,
             )
         self.active[thing] = is_active
         return is_active
 
     def ask_package(self):
         package = self.package
-        for it in [*package.types, *package.interfaces.values(), *package.worlds.values()]:
+        for it in [*package.types, *package.all_interfaces(), *package.worlds.values()]:
             self.ask(it, it.note)
         for ty in package.types:
             if self.active[ty]:
                 self.ask_references(ty)
                 self.ask_owner(ty)
-        for interface in package.interfaces.values():
+        for interface in package.all_interfaces():
             if self.active[interface]:
                 for it in interface.functions.values():
                     if self.ask(it, it.note):
@@ -103,18 +107,18 @@ class Addition:
 
     def ask_references(self, thing):
         if any(not self.active[it] for it in thing.references()):
-            self.refuse(*excluded("type"))
+            self.refuse(*excluded("type"), thing)
 
     def ask_owner(self, ty):
         owner = ty.owner
         if isinstance(owner, Foreign):
             if not self.active[owner]:
-                self.refuse(*excluded("interface"))
+                self.refuse(*excluded("interface"))  # which lies nowhere
             elif owner in self.found and ty.name not in self.found[owner].types:
-                self.refuse(13, f"type `{ty.name}` not defined in interface")
+                self.refuse(13, f"type `{ty.name}` not defined in interface", ty)
         elif owner is not None and not self.active[owner]:
             word = "interface" if isinstance(owner, Interface) else "world"
-            self.refuse(12, f"{excluded(word)[1]}; this type is not gated by a feature but its {word} is")
+            self.refuse(12, f"{excluded(word)[1]}; this type is not gated by a feature but its {word} is", ty)
 
     def ask_world(self, world):
         for it in world.entries():
@@ -125,10 +129,10 @@ class Addition:
                     self.active[it.item] = True
                     self.ask_references(it.item)
                 elif not self.active[it.item]:
-                    self.refuse(*excluded("interface"))
+                    self.refuse(*excluded("interface"), it)
         for it in world.includes:
             if self.ask(it, it.note) and not self.active[it.world]:
-                self.refuse(*excluded("world"))
+                self.refuse(*excluded("world"), it)
 
     # resources
 
@@ -141,13 +145,13 @@ class Addition:
         for ty in self.package.required:
             is_there = self.seen_as(ty) is not ty
             if self.active[ty] and is_there and ty.end(self.seen_as).kind[0] != "resource":
-                self.refuse(14, "type used in a handle must be a resource")
+                self.refuse(14, "type used in a handle must be a resource", ty)
 
     def check_results(self):
         for it, is_active in self.active.items():
             if is_active and isinstance(it, Function) and isinstance(it.result, Type):
                 if it.result.holds_borrow(self.seen_as):
-                    self.refuse(*returns_borrow(it.name))
+                    self.refuse(*returns_borrow(it.name), it)
 
     # what comes of it
 
@@ -171,16 +175,18 @@ class Addition:
         own = [it for it in self.package.types if self.active[it] and not isinstance(it.owner, Foreign)]
         for it in own:
             self.images[it] = Type(it.name, None, None, it.note, it.fields)
-        for it in [*self.package.interfaces.values(), *self.package.worlds.values()]:
+        for it in [*self.package.all_interfaces(), *self.package.worlds.values()]:
             if self.active[it]:
                 self.images[it] = type(it)(it.name, it.note, self.package.name)
         for it in own:
             # (a type is after those that it names)
             self.images[it].kind = with_values((it.kind[0], *(self.image(part) for part in it.kind[1:])))
             self.images[it].owner = self.image(it.owner)
-        for interface in self.package.interfaces.values():
+        for interface in self.package.all_interfaces():
             if self.active[interface]:
-                made = self.made.interfaces[interface.name] = self.images[interface]
+                made = self.images[interface]
+                if interface.name:
+                    self.made.interfaces[interface.name] = made
                 made.types = {n: self.image(it) for n, it in interface.types.items() if self.active[it]}
                 made.functions = {n: self.moved(it) for n, it in interface.functions.items() if self.active[it]}
 
@@ -190,20 +196,24 @@ class Addition:
             self.finish_image(world, self.images[world])
         elif not world.includes:
             for word, entries in world.lists():
-                self.causes |= set(label_causes(world.name, word, [it for it in entries if self.active[it]]))
+                self.refuse_labels(world, word, [it for it in entries if self.active[it]])
 
     def finish_image(self, world, made):
         self.fill(made, world)
         if not self.include_all(made, world):
             return
         for word, entries in made.lists():
-            self.causes |= set(label_causes(world.name, word, entries))
+            self.refuse_labels(world, word, entries)
             place_setters(entries)
         try:
             made.imports, made.exports = elaborate(made.imports, made.exports)
             self.made.worlds[world.name] = made
         except Conflict as error:
-            self.refuse(*error.cause)
+            self.refuse(*error.cause, world)
+
+    def refuse_labels(self, world, word, entries):
+        for number, text in label_causes(world.name, word, entries):
+            self.refuse(number, text, world)
 
     def fill(self, made, world):
         """Gives an empty image what the world itself lists."""
@@ -222,6 +232,6 @@ class Addition:
                     return False
                 cause = include(made, of, it.names)
                 if cause:
-                    self.refuse(*cause)
+                    self.refuse(*cause, it)
                     return False
         return True

@@ -21,7 +21,7 @@ class Type:
     kind: tuple  # its word and what it names; what is named of another package is of the kind ("unknown",)
     owner: object  # an interface, a world or something foreign, None where it is written in place
     note: tuple
-    fields: tuple = None  # the names of those of a record
+    fields: tuple = None  # the names of its parts, or the length of a list
 
     def references(self):
         return [it for it in self.kind[1:] if isinstance(it, Type)]
@@ -67,6 +67,7 @@ class Function:
     parts: list  # a reference for each parameter
     result: object  # a reference, or None
     note: tuple
+    kind: str = None  # where its name doesn't tell it
 
     def references(self):
         return [it for it in [*self.parts, self.result, self.resource] if isinstance(it, Type)]
@@ -74,7 +75,7 @@ class Function:
     def moved(self, name, image):
         """The function under a name, what it refers to being what `image` makes of it."""
         parts = [image(it) for it in self.parts]
-        return Function(name, image(self.resource), self.names, parts, image(self.result), self.note)
+        return Function(name, image(self.resource), self.names, parts, image(self.result), self.note, self.kind)
 
     def take_values(self):
         """Puts values at the places of its parameters and its result."""
@@ -83,11 +84,15 @@ class Function:
 
 @dataclass(eq=False)
 class Interface:
-    name: str
+    name: str  # None where it is written in place, in a world
     note: tuple
     package: PackageName = None
     types: dict = field(default_factory=dict)
     functions: dict = field(default_factory=dict)
+
+    def shown_types(self):
+        """Its types, and those that its functions refer to."""
+        return [*self.types.values(), *(ty for it in self.functions.values() for ty in it.references())]
 
     def direct_uses(self):
         """The other interfaces of whose types it has aliases, again for each alias."""
@@ -104,6 +109,10 @@ class World:
     imports: list = field(default_factory=list)
     exports: list = field(default_factory=list)
     includes: list = field(default_factory=list)
+
+    def unnamed(self):
+        """The interfaces that are written in place."""
+        return [it.item for it in self.entries() if isinstance(it.item, Interface) and it.item.name is None]
 
     def lists(self):
         return [("import", self.imports), ("export", self.exports)]
@@ -150,13 +159,15 @@ class Entry:
         """The types that it shows, or that its function refers to."""
         if isinstance(self.item, Type):
             return [self.item]
+        if isinstance(self.item, Interface) and self.item.name is None:
+            return self.item.shown_types()
         return self.item.references() if isinstance(self.item, Function) else []
 
     def shown(self):
         if self.label is None:
             return self.key_text()
         if isinstance(self.item, Interface):
-            return f"{self.label} = {self.item.package.id_of(self.item.name)}"
+            return f"{self.label} = {self.item.package.id_of(self.item.name)}" if self.item.name else self.label
         return f"{'type' if isinstance(self.item, Type) else 'func'} {self.label}"
 
 
@@ -175,6 +186,10 @@ class Package:
     worlds: dict = field(default_factory=dict)
     foreign: dict = field(default_factory=dict)
     required: list = field(default_factory=list)  # foreign types that have to be resources
+
+    def all_interfaces(self):
+        """Its interfaces, and those that are written in place."""
+        return [*self.interfaces.values(), *(it for world in self.worlds.values() for it in world.unnamed())]
 
     def is_shaped(self):
         """Whether its names are well written, and no world includes itself."""

@@ -10,8 +10,7 @@ def all_types(graph):
     shown = []
     for package in graph.packages:
         for interface in package.interfaces.values():
-            shown += interface.types.values()
-            shown += [ty for it in interface.functions.values() for ty in it.references()]
+            shown += interface.shown_types()
         for world in package.worlds.values():
             shown += world.types.values()
             shown += [ty for it in world.entries() for ty in it.types()]
@@ -19,7 +18,7 @@ def all_types(graph):
 
 
 def interfaces_of(graph):
-    return [it for package in graph.packages for it in package.interfaces.values()]
+    return [it for package in graph.packages for it in package.all_interfaces()]
 
 
 def worlds_of(graph):
@@ -46,7 +45,7 @@ def package_needs(graph):
 def finish(graph, causes, listed):
     """The graph and all causes against it, after its worlds were elaborated from the lists that `listed` tells."""
     interfaces = in_cycles(interfaces_of(graph), Interface.direct_uses)
-    cyclic = {(22, f"interface `{it.package.id_of(it.name)}` would depend on itself") for it in interfaces}
+    cyclic = {(22, f"interface `{it.package.id_of(it.name)}` would depend on itself") for it in interfaces if it.name}
     types = in_cycles(all_types(graph), Type.references)
     cyclic |= {(23, f"type `{it.name}` would refer to itself") for it in types if it.name}
     causes |= cyclic | {package_cycle(it.name) for it in in_cycles(graph.packages, package_needs(graph))}

@@ -1,23 +1,27 @@
 """Includes: what a world lists goes into another, which gets copies of the types that the former owns."""
 from .causes import note_mismatch
-from .data import UNKNOWN, Entry, Function, Type
+from .data import UNKNOWN, Entry, Function, Interface, Type
 from .labels import renamed
 
 
 class Copier:
-    """Copies what a world that is included owns."""
+    """Copies what a world that is included owns, and the interfaces that are written in it.
+
+    `owners` has, by what owned types, what owns the copies.
+    """
 
     def __init__(self, of, to):
-        self.of, self.to, self.copies = of, to, {}
+        self.owners = {of: to} | {it: Interface(None, it.note, to.package) for it in of.unnamed()}
+        self.copies = {}
 
     def belongs(self, ty):
-        return ty.owner is self.of or ty.owner is None and any(self.belongs(it) for it in ty.references())
+        return ty.owner in self.owners or ty.owner is None and any(self.belongs(it) for it in ty.references())
 
     def type(self, ty):
         if not isinstance(ty, Type) or not self.belongs(ty):
             return ty
         if ty not in self.copies:
-            copy = self.copies[ty] = Type(ty.name, None, ty.owner and self.to, ty.note, ty.fields)
+            copy = self.copies[ty] = Type(ty.name, None, ty.owner and self.owners[ty.owner], ty.note, ty.fields)
             copy.kind = ty.kind[0], *(self.type(it) for it in ty.kind[1:])
         return self.copies[ty]
 
@@ -25,6 +29,11 @@ class Copier:
         if isinstance(item, Type):
             copy = self.type(item)
             copy.name = label
+            return copy
+        if item in self.owners:
+            copy = self.owners[item]
+            copy.types = {name: self.type(it) for name, it in item.types.items()}
+            copy.functions = {name: it.moved(name, self.type) for name, it in item.functions.items()}
             return copy
         return item.moved(label, self.type) if isinstance(item, Function) else item
 

@@ -59,8 +59,8 @@ class Merge:
         self.partner[id(one)] = into
         self.join_notes(into, one)
 
-    def match_interface(self, package, interface, into):
-        what = f"interface `{interface.name}`"
+    def match_interface(self, package, interface, into, what=None):
+        what = what or f"interface `{interface.name}`"
         self.match(interface, into)
         for ty in interface.types.values():
             if ty.name in into.types:
@@ -89,6 +89,8 @@ class Merge:
         what = f"{what} didn't match target world"
         if type(into.item) is not type(entry.item):
             self.mismatch(package, what, "world items do not have the same type")
+        elif isinstance(entry.item, Interface) and entry.item.name is None and into.item.name is None:
+            self.match_interface(package, entry.item, into.item, what)
         elif isinstance(entry.item, Interface):
             if not self.are_one(entry.item, into.item):
                 self.mismatch(package, what, "interfaces are not the same")
@@ -135,6 +137,8 @@ class Merge:
             for it in package.interfaces.values():
                 functions += self.unite_interface(into, it)
             for it in package.worlds.values():
+                for interface in it.unnamed():
+                    functions += self.unite_interface(into, interface)
                 if it.name not in into.worlds:
                     functions += self.unite_world(into, it)
         for it in functions:
@@ -150,7 +154,8 @@ class Merge:
         """Puts an interface into a package, and answers the functions that are new there."""
         into = self.at(interface)
         if into is interface:
-            package.interfaces[interface.name] = interface
+            if interface.name:
+                package.interfaces[interface.name] = interface
             return list(interface.functions.values())
         into.types.update({it.name: it for it in interface.types.values() if id(it) not in self.partner})
         new = {name: it for name, it in interface.functions.items() if name not in into.functions}

@@ -2,8 +2,8 @@
 from .data import Type
 from .labels import groups_of
 
-# what the single part of a kind is called
-STEPS = {"alias": "alias", "own": "handle", "borrow": "handle"}
+# what the parts of a kind are called that have no names
+STEPS = {"alias": ["alias"], "own": ["handle"], "borrow": ["handle"], "map": ["key", "value"], "result": ["ok", "err"]}
 OTHER_KINDS = "different kinds of types"
 
 
@@ -14,7 +14,7 @@ def same_sort(one, other):
 
 def function_mismatches(one, other):
     """What two functions of one name disagree in; the names of the first are told first."""
-    if groups_of(one.name)[0] != groups_of(other.name)[0]:
+    if groups_of(one.name)[0] != groups_of(other.name)[0] or one.kind != other.kind:
         yield "different function kind types"
     if len(one.parts) != len(other.parts):
         yield "different number of function parameters"
@@ -37,15 +37,22 @@ def type_mismatch(one, other, are_one):
     if one.kind[0] != other.kind[0]:
         return [], OTHER_KINDS
     if one.fields != other.fields:
-        return [], "different names or number of parts"
+        return [], "different lengths" if one.kind[0] == "fixed-length-list" else "different names or number of parts"
     if len(one.kind) != len(other.kind):
         return ["element"], OTHER_KINDS
-    steps = one.fields if one.kind[0] == "record" else [STEPS.get(one.kind[0], "element")]
+    steps = steps_of(one)
     for step, part, other_part in zip(steps, one.kind[1:], other.kind[1:]):
         found = part_mismatch(part, other_part, are_one)
         if found:
             return [step, *found[0]], found[1]
     return None
+
+
+def steps_of(ty):
+    """What the parts of a type are called."""
+    if ty.kind[0] in ("record", "variant"):
+        return ty.fields
+    return [str(n) for n in range(len(ty.kind))] if ty.kind[0] == "tuple" else STEPS.get(ty.kind[0], ["element"])
 
 
 def part_mismatch(one, other, are_one):
