@@ -143,11 +143,7 @@ fn core_names(alloc: Global, value: &Value<'_>) -> Result<Question, ReadError>
 }
 
 #[tactic(auto, unfolding(crate::specs::Questions::place_of))]
-fn place(
-    alloc: Global,
-    site: FunctionSite,
-    value: &Value<'_>,
-) -> Result<FunctionPlace, ReadError>
+fn place(alloc: Global, site: FunctionSite, value: &Value<'_>) -> Result<FunctionPlace, ReadError>
     ensures { Reads result (place_of site (value_view value.now)) }
 {
     only(alloc, value, &["package", "name", "function"])?;

@@ -14,8 +14,8 @@ use wit_core_names::{
     wasm_import_name,
 };
 use wit_data::{
-    Function, InterfaceId, Items, LiftLowerAbi, ManglingAndAbi, PackageName, Table, Text, TryClone, WorldItem,
-    WorldKey,
+    Function, InterfaceId, Items, LiftLowerAbi, ManglingAndAbi, PackageName, Table, Text, TryClone,
+    WorldItem, WorldKey,
 };
 use wit_graph_data::{Graph, ResolveResult};
 use wit_json_commands::Mangling;

@@ -28,11 +28,7 @@ pub fn package_dependencies(
 }
 
 /// The packages that a package depends on.
-fn packages_of(
-    alloc: Global,
-    graph: &Graph,
-    id: PackageId,
-) -> Result<Items<PackageId>, AllocError>
+fn packages_of(alloc: Global, graph: &Graph, id: PackageId) -> Result<Items<PackageId>, AllocError>
     requires { id < length graph.now.packages }
     ensures { IfOk result (λ ids. ids ≡ package_direct_deps graph.now.types graph.now.interfaces graph.now.worlds graph.now.packages id) }
 {

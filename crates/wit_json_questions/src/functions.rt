@@ -52,7 +52,11 @@ fn interface_function<'a>(
     ensures { option_copied result ≡ interface_function graph.now «package».now name.now function.now }
 {
     let id = interface_named(graph, package, name)?;
-    graph.interfaces.get(id.index())?.functions.get(function.as_str())
+    graph
+        .interfaces
+        .get(id.index())?
+        .functions
+        .get(function.as_str())
 }
 
 /// A function that a world imports.
@@ -82,10 +86,7 @@ fn export_function<'a>(
 }
 
 /// The first function under a label.
-fn function_under<'a>(
-    entries: &'a Table<WorldKey, WorldItem>,
-    label: &Text,
-) -> Option<&'a Function>
+fn function_under<'a>(entries: &'a Table<WorldKey, WorldItem>, label: &Text) -> Option<&'a Function>
     ensures { option_copied result ≡ function_under label.now entries.now }
 {
     for (key, item) in entries.iter() {
@@ -97,22 +98,12 @@ fn function_under<'a>(
 }
 
 /// The function that an entry is, where it has this label.
-fn entry_function<'a>(
-    key: &WorldKey,
-    item: &'a WorldItem,
-    label: &Text,
-) -> Option<&'a Function>
+fn entry_function<'a>(key: &WorldKey, item: &'a WorldItem, label: &Text) -> Option<&'a Function>
     ensures { option_copied result ≡ entry_function label.now (key.now, item.now) }
 {
     match key {
         WorldKey::Name(name) => match item {
-            WorldItem::Function(function) => {
-                if name == label {
-                    Some(function)
-                } else {
-                    None
-                }
-            }
+            WorldItem::Function(function) => { if name == label { Some(function) } else { None } }
             _ => None,
         },
         WorldKey::Interface(_) => None,

@@ -10,11 +10,7 @@ use wit_json::{JsonText, WriteJson};
 use wit_remap::Remap;
 
 /// Writes a member whose value is a list.
-fn write_list<T: WriteJson>(
-    out: &mut JsonText,
-    name: &str,
-    items: &[T],
-) -> Result<(), AllocError>
+fn write_list<T: WriteJson>(out: &mut JsonText, name: &str, items: &[T]) -> Result<(), AllocError>
     ensures { OnOk result (Adds out.old out.new (member name.now (list_of T.json items.now))) }
 {
     out.key(name)?;

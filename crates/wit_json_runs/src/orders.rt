@@ -37,11 +37,7 @@ fn response_to(alloc: Global, resolve: &mut Resolve, order: Order) -> ResolveRes
 }
 
 /// Carries out requests on an empty graph, and merges that into this one.
-fn merge(
-    alloc: Global,
-    resolve: &mut Resolve,
-    requests: Items<Request>,
-) -> ResolveResult<Response>
+fn merge(alloc: Global, resolve: &mut Resolve, requests: Items<Request>) -> ResolveResult<Response>
     ensures { IfOk result (λ reply. Responds resolve.old (order.Merge requests) reply resolve.new) }
 {
     let mut other = Resolve::new(alloc);
@@ -72,8 +68,6 @@ fn answer_to(alloc: Global, resolve: &mut Resolve, request: Request) -> ResolveR
 {
     match request {
         Request::Change(change) => answer_change(alloc, resolve, change),
-        Request::Ask(question) => {
-            tell(alloc, resolve.graph(), resolve.source_map(), &question)
-        }
+        Request::Ask(question) => { tell(alloc, resolve.graph(), resolve.source_map(), &question) }
     }
 }

@@ -24,5 +24,5 @@ returns c =
     let a : List Token = c.args.out.now in
     let over : c.loop-index.index ≡ 0 = let end = c.loop-index-test.false in omega arith in
     let written : c.loop-index.out ≡ a ++ begin_array ∷ steps_tokens (reverse steps) =
-        c.loop-index.invariant ∙ ap (λ (n : ℕ). a ++ begin_array ∷ steps_tokens (reverse (drop n steps))) over in
+    c.loop-index.invariant ∙ ap (λ (n : ℕ). a ++ begin_array ∷ steps_tokens (reverse (drop n steps))) over in
     path_ended c.end_array.result a c.end_array.new.self steps written c.end_array.ensures
