@@ -24,7 +24,9 @@ pub fn whole(resolve: &Resolve) -> Value {
 
 /// The members that are there.
 fn object<const N: usize>(members: [(&str, Option<Value>); N]) -> Value {
-    let there = members.into_iter().filter_map(|(name, value)| Some((name.to_string(), value?)));
+    let there = members
+        .into_iter()
+        .filter_map(|(name, value)| Some((name.to_string(), value?)));
     Value::Object(there.collect())
 }
 
@@ -34,8 +36,16 @@ fn some(value: impl Into<Value>) -> Option<Value> {
 }
 
 fn package(it: &Package) -> Value {
-    let interfaces: Map<_, _> = it.interfaces.iter().map(|(name, id)| (name.clone(), id.index().into())).collect();
-    let worlds: Map<_, _> = it.worlds.iter().map(|(name, id)| (name.clone(), id.index().into())).collect();
+    let interfaces: Map<_, _> = it
+        .interfaces
+        .iter()
+        .map(|(name, id)| (name.clone(), id.index().into()))
+        .collect();
+    let worlds: Map<_, _> = it
+        .worlds
+        .iter()
+        .map(|(name, id)| (name.clone(), id.index().into()))
+        .collect();
     object([
         ("name", some(it.name.to_string())),
         ("docs", docs(&it.docs)),
@@ -87,7 +97,12 @@ fn item(it: &WorldItem) -> Value {
 
 fn item_details(it: &WorldItem) -> Value {
     match it {
-        WorldItem::Interface { docs: of, span: at, external_id, .. } => object([
+        WorldItem::Interface {
+            docs: of,
+            span: at,
+            external_id,
+            ..
+        } => object([
             ("docs", docs(of)),
             ("span", span(*at)),
             ("external-id", text(external_id)),
@@ -98,8 +113,16 @@ fn item_details(it: &WorldItem) -> Value {
 }
 
 fn interface(it: &Interface) -> Value {
-    let types: Map<_, _> = it.types.iter().map(|(name, id)| (name.clone(), id.index().into())).collect();
-    let functions: Map<_, _> = it.functions.iter().map(|(name, it)| (name.clone(), function(it))).collect();
+    let types: Map<_, _> = it
+        .types
+        .iter()
+        .map(|(name, id)| (name.clone(), id.index().into()))
+        .collect();
+    let functions: Map<_, _> = it
+        .functions
+        .iter()
+        .map(|(name, it)| (name.clone(), function(it)))
+        .collect();
     object([
         ("name", some(it.name.clone())),
         ("types", some(types)),
@@ -111,7 +134,11 @@ fn interface(it: &Interface) -> Value {
 }
 
 fn interface_details(it: &Interface) -> Value {
-    let functions: Map<_, _> = it.functions.iter().map(|(name, it)| (name.clone(), function_details(it))).collect();
+    let functions: Map<_, _> = it
+        .functions
+        .iter()
+        .map(|(name, it)| (name.clone(), function_details(it)))
+        .collect();
     object([("span", span(it.span)), ("functions", some(functions))])
 }
 
@@ -120,7 +147,10 @@ fn function(it: &Function) -> Value {
     object([
         ("name", some(it.name.clone())),
         ("kind", some(function_kind(&it.kind))),
-        ("params", some(it.params.iter().map(param).collect::<Vec<_>>())),
+        (
+            "params",
+            some(it.params.iter().map(param).collect::<Vec<_>>()),
+        ),
         ("result", it.result.as_ref().map(ty)),
         ("docs", docs(&it.docs)),
         ("stability", gate(&it.stability)),
@@ -131,7 +161,10 @@ fn function_details(it: &Function) -> Value {
     object([
         ("span", span(it.span)),
         ("external-id", text(&it.external_id)),
-        ("params", some(it.params.iter().map(|it| span(it.span)).collect::<Vec<_>>())),
+        (
+            "params",
+            some(it.params.iter().map(|it| span(it.span)).collect::<Vec<_>>()),
+        ),
     ])
 }
 
@@ -192,27 +225,46 @@ fn kind(kind: &TypeDefKind) -> Value {
         TypeDefKind::List(it) => json!({ "list": ty(it) }),
         TypeDefKind::Option(it) => json!({ "option": ty(it) }),
         TypeDefKind::Map(key, value) => json!({ "map": [ty(key), ty(value)] }),
-        TypeDefKind::FixedLengthList(it, length) => json!({ "fixed-length-list": [ty(it), length] }),
+        TypeDefKind::FixedLengthList(it, length) => {
+            json!({ "fixed-length-list": [ty(it), length] })
+        }
         TypeDefKind::Future(it) => json!({ "future": optional_type(it) }),
         TypeDefKind::Stream(it) => json!({ "stream": optional_type(it) }),
         TypeDefKind::Handle(Handle::Own(id)) => json!({ "handle": { "own": id.index() } }),
         TypeDefKind::Handle(Handle::Borrow(id)) => json!({ "handle": { "borrow": id.index() } }),
-        TypeDefKind::Tuple(of) => json!({ "tuple": { "types": of.types.iter().map(ty).collect::<Vec<_>>() } }),
-        TypeDefKind::Result(of) => json!({ "result": { "ok": optional_type(&of.ok), "err": optional_type(&of.err) } }),
-        TypeDefKind::Record(of) => parts("record", "fields", &of.fields, |it| (&it.name, &it.docs, Some(ty(&it.ty)))),
-        TypeDefKind::Variant(of) => {
-            parts("variant", "cases", &of.cases, |it| (&it.name, &it.docs, Some(optional_type(&it.ty))))
+        TypeDefKind::Tuple(of) => {
+            json!({ "tuple": { "types": of.types.iter().map(ty).collect::<Vec<_>>() } })
         }
-        TypeDefKind::Flags(of) => parts("flags", "flags", &of.flags, |it| (&it.name, &it.docs, None)),
+        TypeDefKind::Result(of) => {
+            json!({ "result": { "ok": optional_type(&of.ok), "err": optional_type(&of.err) } })
+        }
+        TypeDefKind::Record(of) => parts("record", "fields", &of.fields, |it| {
+            (&it.name, &it.docs, Some(ty(&it.ty)))
+        }),
+        TypeDefKind::Variant(of) => parts("variant", "cases", &of.cases, |it| {
+            (&it.name, &it.docs, Some(optional_type(&it.ty)))
+        }),
+        TypeDefKind::Flags(of) => {
+            parts("flags", "flags", &of.flags, |it| (&it.name, &it.docs, None))
+        }
         TypeDefKind::Enum(of) => parts("enum", "cases", &of.cases, |it| (&it.name, &it.docs, None)),
     }
 }
 
 /// A kind that has parts with names.
-fn parts<T>(word: &str, name: &str, of: &[T], part: fn(&T) -> (&String, &Docs, Option<Value>)) -> Value {
+fn parts<T>(
+    word: &str,
+    name: &str,
+    of: &[T],
+    part: fn(&T) -> (&String, &Docs, Option<Value>),
+) -> Value {
     let written = |it: &T| {
         let (name, of, ty) = part(it);
-        object([("name", some(name.clone())), ("type", ty), ("docs", docs(of))])
+        object([
+            ("name", some(name.clone())),
+            ("type", ty),
+            ("docs", docs(of)),
+        ])
     };
     json!({ word: { name: of.iter().map(written).collect::<Vec<_>>() } })
 }
@@ -253,8 +305,13 @@ fn docs(it: &Docs) -> Option<Value> {
 fn gate(it: &Stability) -> Option<Value> {
     let (word, name, value, deprecated) = match it {
         Stability::Unknown => return None,
-        Stability::Stable { since, deprecated } => ("stable", "since", since.to_string(), deprecated),
-        Stability::Unstable { feature, deprecated } => ("unstable", "feature", feature.clone(), deprecated),
+        Stability::Stable { since, deprecated } => {
+            ("stable", "since", since.to_string(), deprecated)
+        }
+        Stability::Unstable {
+            feature,
+            deprecated,
+        } => ("unstable", "feature", feature.clone(), deprecated),
     };
     let deprecated = deprecated.as_ref().map(|it| it.to_string().into());
     Some(json!({ word: object([(name, some(value)), ("deprecated", deprecated)]) }))

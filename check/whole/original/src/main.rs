@@ -21,7 +21,10 @@ fn main() {
     std::panic::set_hook(Box::new(|it| tell(it.to_string())));
     let mut resolve = Resolve::new();
     let replies = run(&mut resolve, &document["commands"], "");
-    println!("{}", json!({ "replies": replies, "resolve": layout::whole(&resolve) }));
+    println!(
+        "{}",
+        json!({ "replies": replies, "resolve": layout::whole(&resolve) })
+    );
 }
 
 /// Keeps what a panic told, which is also written to standard error.
@@ -54,19 +57,27 @@ fn reply(resolve: &mut Resolve, command: &Value, place: &str) -> Value {
     let mut other = Resolve::new();
     let replies = run(&mut other, of, &format!("{place}."));
     eprintln!("{place}");
-    let last = guarded(resolve, |it| Ok(json!({ "merged": remap(&it.merge(other)?) })));
+    let last = guarded(resolve, |it| {
+        Ok(json!({ "merged": remap(&it.merge(other)?) }))
+    });
     json!({ "merge": { "replies": replies, "reply": last } })
 }
 
 /// What a call answers. After a refusal and a panic all but the source map is as before it.
-fn guarded(resolve: &mut Resolve, call: impl FnOnce(&mut Resolve) -> anyhow::Result<Value>) -> Value {
+fn guarded(
+    resolve: &mut Resolve,
+    call: impl FnOnce(&mut Resolve) -> anyhow::Result<Value>,
+) -> Value {
     let before = resolve.clone();
     let answered = catch_unwind(AssertUnwindSafe(|| call(resolve)));
     if let Ok(Ok(value)) = answered {
         return value;
     }
     let source_map = std::mem::take(&mut resolve.source_map);
-    *resolve = Resolve { source_map, ..before };
+    *resolve = Resolve {
+        source_map,
+        ..before
+    };
     match answered {
         Ok(Err(error)) => json!({ "refused": refusal(resolve, &error) }),
         _ => json!({ "panic": *TOLD.lock().unwrap() }),
@@ -84,7 +95,10 @@ fn step(resolve: &mut Resolve, word: &str, of: &Value) -> anyhow::Result<Value> 
         "set-track-rule" => {}
         "push-groups" => {
             let main = packages::group_of(&of["main"]);
-            let deps = packages::list(&of["deps"]).iter().map(packages::group_of).collect();
+            let deps = packages::list(&of["deps"])
+                .iter()
+                .map(packages::group_of)
+                .collect();
             return Ok(json!({ "pushed": resolve.push_groups(main, deps)?.index() }));
         }
         "importize" | "exportize" | "semver" => return turn(resolve, word, of),
@@ -103,7 +117,10 @@ fn turn(resolve: &mut Resolve, word: &str, of: &Value) -> anyhow::Result<Value> 
         "importize" => resolve.importize(world, out)?,
         "semver" => resolve.merge_world_imports_based_on_semver(world)?,
         _ => {
-            let keys: Vec<_> = packages::list(&of["keys"]).iter().map(packages::text).collect();
+            let keys: Vec<_> = packages::list(&of["keys"])
+                .iter()
+                .map(packages::text)
+                .collect();
             let imports = resolve.worlds[world].imports.keys();
             let is_named = |it: &&WorldKey| keys.contains(&resolve.name_world_key(it).as_str());
             let moved: HashSet<_> = imports.filter(is_named).cloned().collect();
@@ -126,8 +143,14 @@ fn remap(map: &Remap) -> Value {
 
 /// A refusal: its number where wit-parser has a kind of its own for it, its text, and how it is shown.
 fn refusal(resolve: &Resolve, error: &anyhow::Error) -> Value {
-    let text = error.chain().map(|it| it.to_string()).collect::<Vec<_>>().join(": ");
-    let found = error.chain().find_map(|it| it.downcast_ref::<ResolveError>());
+    let text = error
+        .chain()
+        .map(|it| it.to_string())
+        .collect::<Vec<_>>()
+        .join(": ");
+    let found = error
+        .chain()
+        .find_map(|it| it.downcast_ref::<ResolveError>());
     let span = found.and_then(|it| layout::span(it.kind().span()));
     let rendered = found.map_or(text.clone(), |it| it.render(&resolve.source_map));
     json!({ "error": { "number": found.and_then(number), "text": text, "span": span }, "rendered": rendered })

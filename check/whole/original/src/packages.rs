@@ -44,9 +44,18 @@ fn package_of(value: &Value) -> UnresolvedPackage {
     let mut worlds = Arena::new();
     // what things refer to is there before they are read
     let ids = Ids {
-        types: list(&value["types"]).iter().map(|_| types.alloc(no_type())).collect(),
-        interfaces: list(&value["interfaces"]).iter().map(|_| interfaces.alloc(no_interface())).collect(),
-        worlds: list(&value["worlds"]).iter().map(|_| worlds.alloc(no_world())).collect(),
+        types: list(&value["types"])
+            .iter()
+            .map(|_| types.alloc(no_type()))
+            .collect(),
+        interfaces: list(&value["interfaces"])
+            .iter()
+            .map(|_| interfaces.alloc(no_interface()))
+            .collect(),
+        worlds: list(&value["worlds"])
+            .iter()
+            .map(|_| worlds.alloc(no_world()))
+            .collect(),
     };
     for (id, it) in ids.types.iter().zip(list(&value["types"])) {
         types[*id] = ids.type_def(it);
@@ -65,8 +74,14 @@ fn package_of(value: &Value) -> UnresolvedPackage {
         types,
         foreign_deps: ids.foreign_deps(&value["foreign-deps"]),
         package_name_span: span(value),
-        unknown_type_spans: list(&value["unknown-type-spans"]).iter().map(span_of).collect(),
-        foreign_dep_spans: list(&value["foreign-dep-spans"]).iter().map(span_of).collect(),
+        unknown_type_spans: list(&value["unknown-type-spans"])
+            .iter()
+            .map(span_of)
+            .collect(),
+        foreign_dep_spans: list(&value["foreign-dep-spans"])
+            .iter()
+            .map(span_of)
+            .collect(),
         required_resource_types: list(&value["required-resources"])
             .iter()
             .map(|it| (ids.types[number(&it[0])], span_of(&it[1])))
@@ -117,9 +132,18 @@ impl Ids {
         self.types[number(value)]
     }
 
-    fn foreign_deps(&self, value: &Value) -> IndexMap<PackageName, IndexMap<String, (AstItem, Vec<Stability>)>> {
-        let items = |value: &Value| members(value).map(|(name, it)| (name.clone(), self.foreign(it))).collect();
-        members(value).map(|(name, it)| (package_name(name), items(it))).collect()
+    fn foreign_deps(
+        &self,
+        value: &Value,
+    ) -> IndexMap<PackageName, IndexMap<String, (AstItem, Vec<Stability>)>> {
+        let items = |value: &Value| {
+            members(value)
+                .map(|(name, it)| (name.clone(), self.foreign(it)))
+                .collect()
+        };
+        members(value)
+            .map(|(name, it)| (package_name(name), items(it)))
+            .collect()
     }
 
     fn foreign(&self, value: &Value) -> (AstItem, Vec<Stability>) {
@@ -164,7 +188,9 @@ impl Ids {
             "list" => TypeDefKind::List(self.ty(of)),
             "option" => TypeDefKind::Option(self.ty(of)),
             "map" => TypeDefKind::Map(self.ty(&of[0]), self.ty(&of[1])),
-            "fixed-length-list" => TypeDefKind::FixedLengthList(self.ty(&of[0]), number(&of[1]) as u32),
+            "fixed-length-list" => {
+                TypeDefKind::FixedLengthList(self.ty(&of[0]), number(&of[1]) as u32)
+            }
             "future" => TypeDefKind::Future(self.optional_type(of)),
             "stream" => TypeDefKind::Stream(self.optional_type(of)),
             "result" => TypeDefKind::Result(Result_ {
@@ -185,7 +211,10 @@ impl Ids {
     fn kind_with_names(&self, word: &str, of: &Value) -> TypeDefKind {
         match word {
             "record" => TypeDefKind::Record(Record {
-                fields: list(&of["fields"]).iter().map(|it| self.field(it)).collect(),
+                fields: list(&of["fields"])
+                    .iter()
+                    .map(|it| self.field(it))
+                    .collect(),
             }),
             "variant" => TypeDefKind::Variant(Variant {
                 cases: list(&of["cases"]).iter().map(|it| self.case(it)).collect(),
@@ -232,8 +261,12 @@ impl Ids {
     fn interface(&self, value: &Value) -> Interface {
         Interface {
             name: optional_text(&value["name"]),
-            types: members(&value["types"]).map(|(name, id)| (name.clone(), self.type_id(id))).collect(),
-            functions: members(&value["functions"]).map(|(name, it)| (name.clone(), self.function(it))).collect(),
+            types: members(&value["types"])
+                .map(|(name, id)| (name.clone(), self.type_id(id)))
+                .collect(),
+            functions: members(&value["functions"])
+                .map(|(name, it)| (name.clone(), self.function(it)))
+                .collect(),
             docs: docs(value),
             stability: gate(&value["stability"]),
             package: None,
@@ -292,13 +325,18 @@ impl Ids {
             package: None,
             docs: docs(value),
             stability: gate(&value["stability"]),
-            includes: list(&value["includes"]).iter().map(|it| self.include(it)).collect(),
+            includes: list(&value["includes"])
+                .iter()
+                .map(|it| self.include(it))
+                .collect(),
             span: span(value),
         }
     }
 
     fn entries(&self, value: &Value) -> IndexMap<WorldKey, WorldItem> {
-        members(value).map(|(key, it)| (self.key(key, it), self.item(it))).collect()
+        members(value)
+            .map(|(key, it)| (self.key(key, it), self.item(it)))
+            .collect()
     }
 
     /// A text that begins with `interface-` is the key of an interface, or a label that looks so.

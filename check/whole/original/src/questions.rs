@@ -8,13 +8,17 @@ use wit_parser::*;
 pub fn answer(resolve: &Resolve, word: &str, of: &Value) -> Option<Result<Value, anyhow::Error>> {
     Some(Ok(match word {
         "select" => return select(resolve, of),
-        "package-order" => json!({ "packages": indices(resolve.topological_packages().into_iter()) }),
+        "package-order" => {
+            json!({ "packages": indices(resolve.topological_packages().into_iter()) })
+        }
         "package-dependencies" => {
             json!({ "packages": indices(resolve.package_direct_deps(package(resolve, &of["package"])?)) })
         }
         "interface-dependencies" => {
             let package = package(resolve, &of["package"])?;
-            let id = *resolve.packages[package].interfaces.get(text(&of["interface"]))?;
+            let id = *resolve.packages[package]
+                .interfaces
+                .get(text(&of["interface"]))?;
             json!({ "interfaces": indices(resolve.interface_direct_deps(id)) })
         }
         "canonical-id" => {
@@ -31,11 +35,17 @@ pub fn answer(resolve: &Resolve, word: &str, of: &Value) -> Option<Result<Value,
 /// The world that a command names.
 pub fn world(resolve: &Resolve, of: &Value) -> Option<WorldId> {
     let package = package(resolve, &of["package"])?;
-    resolve.packages[package].worlds.get(text(&of["world"])).copied()
+    resolve.packages[package]
+        .worlds
+        .get(text(&of["world"]))
+        .copied()
 }
 
 fn package(resolve: &Resolve, name: &Value) -> Option<PackageId> {
-    resolve.package_names.get(&package_name(text(name))).copied()
+    resolve
+        .package_names
+        .get(&package_name(text(name)))
+        .copied()
 }
 
 fn indices<T>(ids: impl Iterator<Item = Id<T>>) -> Vec<usize> {
@@ -43,9 +53,16 @@ fn indices<T>(ids: impl Iterator<Item = Id<T>>) -> Vec<usize> {
 }
 
 fn select(resolve: &Resolve, of: &Value) -> Option<Result<Value, anyhow::Error>> {
-    let mains: Option<Vec<_>> = list(&of["packages"]).iter().map(|it| package(resolve, it)).collect();
+    let mains: Option<Vec<_>> = list(&of["packages"])
+        .iter()
+        .map(|it| package(resolve, it))
+        .collect();
     let asked = optional_text(&of["world"]);
-    Some(resolve.select_world(&mains?, asked.as_deref()).map(|id| json!({ "world": id.index() })))
+    Some(
+        resolve
+            .select_world(&mains?, asked.as_deref())
+            .map(|id| json!({ "world": id.index() })),
+    )
 }
 
 fn function<'a>(resolve: &'a Resolve, of: &Value) -> Option<&'a Function> {
@@ -54,10 +71,16 @@ fn function<'a>(resolve: &'a Resolve, of: &Value) -> Option<&'a Function> {
     let name = text(&place["name"]);
     let function = text(&place["function"]);
     if word == "interface" {
-        return resolve.interfaces[*package.interfaces.get(name)?].functions.get(function);
+        return resolve.interfaces[*package.interfaces.get(name)?]
+            .functions
+            .get(function);
     }
     let world = &resolve.worlds[*package.worlds.get(name)?];
-    let entries = if word == "import" { &world.imports } else { &world.exports };
+    let entries = if word == "import" {
+        &world.imports
+    } else {
+        &world.exports
+    };
     match entries.get(&WorldKey::Name(function.to_string()))? {
         WorldItem::Function(it) => Some(it),
         _ => None,
@@ -73,16 +96,30 @@ fn core_names(resolve: &Resolve, world: WorldId, mangling: &str) -> Value {
     };
     let world = &resolve.worlds[world];
     let import = |(interface, func): (Option<&WorldKey>, &Function)| {
-        let (module, field) = resolve.wasm_import_name(mangling, WasmImport::Func { interface, func });
+        let (module, field) =
+            resolve.wasm_import_name(mangling, WasmImport::Func { interface, func });
         json!({ "interface": interface.map(key), "function": func.name, "module": module, "field": field })
     };
     let export = |(interface, func): (Option<&WorldKey>, &Function)| {
         let kind = WasmExportKind::Normal;
-        let name = resolve.wasm_export_name(mangling, WasmExport::Func { interface, func, kind });
+        let name = resolve.wasm_export_name(
+            mangling,
+            WasmExport::Func {
+                interface,
+                func,
+                kind,
+            },
+        );
         json!({ "interface": interface.map(key), "function": func.name, "name": name })
     };
-    let imports: Vec<_> = functions(resolve, &world.imports).into_iter().map(import).collect();
-    let exports: Vec<_> = functions(resolve, &world.exports).into_iter().map(export).collect();
+    let imports: Vec<_> = functions(resolve, &world.imports)
+        .into_iter()
+        .map(import)
+        .collect();
+    let exports: Vec<_> = functions(resolve, &world.exports)
+        .into_iter()
+        .map(export)
+        .collect();
     json!({ "core-names": { "imports": imports, "exports": exports } })
 }
 
@@ -96,7 +133,12 @@ fn functions<'a>(
         match item {
             WorldItem::Function(it) => found.push((None, it)),
             WorldItem::Interface { id, .. } => {
-                found.extend(resolve.interfaces[*id].functions.values().map(|it| (Some(key), it)));
+                found.extend(
+                    resolve.interfaces[*id]
+                        .functions
+                        .values()
+                        .map(|it| (Some(key), it)),
+                );
             }
             WorldItem::Type { .. } => {}
         }
