@@ -39,33 +39,22 @@ pub fn package_name(value: &str) -> PackageName {
 }
 
 fn package_of(value: &Value) -> UnresolvedPackage {
-    let mut types = Arena::new();
-    let mut interfaces = Arena::new();
-    let mut worlds = Arena::new();
     // what things refer to is there before they are read
+    let (mut types, type_ids) = places(&value["types"], no_type);
+    let (mut interfaces, interface_ids) = places(&value["interfaces"], no_interface);
+    let (mut worlds, world_ids) = places(&value["worlds"], no_world);
     let ids = Ids {
-        types: list(&value["types"])
-            .iter()
-            .map(|_| types.alloc(no_type()))
-            .collect(),
-        interfaces: list(&value["interfaces"])
-            .iter()
-            .map(|_| interfaces.alloc(no_interface()))
-            .collect(),
-        worlds: list(&value["worlds"])
-            .iter()
-            .map(|_| worlds.alloc(no_world()))
-            .collect(),
+        types: type_ids,
+        interfaces: interface_ids,
+        worlds: world_ids,
     };
-    for (id, it) in ids.types.iter().zip(list(&value["types"])) {
-        types[*id] = ids.type_def(it);
-    }
-    for (id, it) in ids.interfaces.iter().zip(list(&value["interfaces"])) {
-        interfaces[*id] = ids.interface(it);
-    }
-    for (id, it) in ids.worlds.iter().zip(list(&value["worlds"])) {
-        worlds[*id] = ids.world(it);
-    }
+    fill(&mut types, &value["types"], |it| ids.type_def(it));
+    fill(&mut interfaces, &value["interfaces"], |it| {
+        ids.interface(it)
+    });
+    fill(&mut worlds, &value["worlds"], |it| ids.world(it));
+    let spans = |it: &Value| list(it).iter().map(span_of).collect();
+    let required = |it: &Value| (ids.type_id(&it[0]), span_of(&it[1]));
     UnresolvedPackage {
         name: package_name(text(&value["name"])),
         docs: docs(value),
@@ -74,18 +63,26 @@ fn package_of(value: &Value) -> UnresolvedPackage {
         types,
         foreign_deps: ids.foreign_deps(&value["foreign-deps"]),
         package_name_span: span(value),
-        unknown_type_spans: list(&value["unknown-type-spans"])
-            .iter()
-            .map(span_of)
-            .collect(),
-        foreign_dep_spans: list(&value["foreign-dep-spans"])
-            .iter()
-            .map(span_of)
-            .collect(),
+        unknown_type_spans: spans(&value["unknown-type-spans"]),
+        foreign_dep_spans: spans(&value["foreign-dep-spans"]),
         required_resource_types: list(&value["required-resources"])
             .iter()
-            .map(|it| (ids.types[number(&it[0])], span_of(&it[1])))
+            .map(required)
             .collect(),
+    }
+}
+
+/// An arena with a place for each thing of a list, and their ids.
+fn places<T>(value: &Value, empty: fn() -> T) -> (Arena<T>, Vec<Id<T>>) {
+    let mut arena = Arena::new();
+    let ids = list(value).iter().map(|_| arena.alloc(empty())).collect();
+    (arena, ids)
+}
+
+/// Puts what is read of a list into its places.
+fn fill<T>(arena: &mut Arena<T>, value: &Value, read: impl Fn(&Value) -> T) {
+    for ((_, place), it) in arena.iter_mut().zip(list(value)) {
+        *place = read(it);
     }
 }
 
