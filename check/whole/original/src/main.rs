@@ -152,8 +152,13 @@ fn refusal(resolve: &Resolve, error: &anyhow::Error) -> Value {
         .chain()
         .find_map(|it| it.downcast_ref::<ResolveError>());
     let span = found.and_then(|it| layout::span(it.kind().span()));
-    let rendered = found.map_or(text.clone(), |it| it.render(&resolve.source_map));
+    let rendered = found.map_or(Some(text.clone()), |it| shown(resolve, it));
     json!({ "error": { "number": found.and_then(number), "text": text, "span": span }, "rendered": rendered })
+}
+
+/// How a refusal is shown, None where that panics: a merge tells spans of the other source map, which may cut a character.
+fn shown(resolve: &Resolve, error: &ResolveError) -> Option<String> {
+    catch_unwind(AssertUnwindSafe(|| error.render(&resolve.source_map))).ok()
 }
 
 fn number(error: &ResolveError) -> Option<u32> {
