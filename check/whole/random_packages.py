@@ -1,8 +1,8 @@
 """Random packages of docs/JSON.md: every kind of type and function, docs, spans, gates, deprecation, external ids,
 unnamed interfaces and includes.
 
-What a package has is told by its `seed` alone, so that it can be made again under another version, or for another graph:
-each item comes of a number of its own, and `less` is the chance that a function is left out.
+What a package has is told by its `seed` alone, so that it can be made again under another version, or for another
+graph: each item comes of a number of its own, and `less` is the chance that a function is left out.
 """
 import itertools
 import random

@@ -4,7 +4,7 @@
     python3 check/whole/whole.py PATH/TO/witgraph_json PATH/TO/witgraph-original [--first N] [--many N] [--jobs N]
     python3 check/whole/whole.py PATH/TO/witgraph_json PATH/TO/witgraph-original DOCUMENT..
 
-With `--scripts` documents are those of the random scripts of bench/compare.py, with `--stored` those of a file of cases;
+With `--scripts` documents are those of random scripts of bench/compare.py, with `--stored` those of a file of cases;
 files with documents may be named.
 
 Replies are compared with texts, spans and how they are shown, graphs in all data (check/whole/graphs.py says what is

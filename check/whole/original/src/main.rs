@@ -156,7 +156,8 @@ fn refusal(resolve: &Resolve, error: &anyhow::Error) -> Value {
     json!({ "error": { "number": found.and_then(number), "text": text, "span": span }, "rendered": rendered })
 }
 
-/// How a refusal is shown, None where that panics: a merge tells spans of the other source map, which may cut a character.
+/// How a refusal is shown, None where that panics: a merge tells spans of the other source map, which may cut a
+/// character of this one.
 fn shown(resolve: &Resolve, error: &ResolveError) -> Option<String> {
     catch_unwind(AssertUnwindSafe(|| error.render(&resolve.source_map))).ok()
 }
