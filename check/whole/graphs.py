@@ -199,14 +199,16 @@ class Pairing:
                     raise Differ(f"number of {sort} {one}/{other} {self.ours.things[sort][one]}")
 
     def check_owns(self):
-        """Of the `own`s that values need, and that are copied, wit-parser may have fewer, as long as it has one."""
+        """Of the `own`s that values need, and that are copied, wit-parser may have fewer, as long as it has one. Which one is
+        copied with a resource follows from which one a value names."""
         ours = Counter((self.there["type"][of], repr(more)) for of, more in self.ours.owns)
         theirs = Counter((of, repr(more)) for of, more in self.theirs.owns)
-        named, new = {of for of, _ in theirs}, repr(beside({}, {}))
+        ours_of, theirs_of, new = {of for of, _ in ours}, {of for of, _ in theirs}, repr(beside({}, {}))
         for it in ours.keys() | theirs.keys():
             of, more = it
-            is_less = theirs[it] < ours[it] and of in named and (more == new or self.theirs.is_copied("type", of))
-            if theirs[it] != ours[it] and not is_less:
+            is_copied = of in theirs_of and self.theirs.is_copied("type", of)
+            is_less = theirs[it] < ours[it] and of in theirs_of and more == new
+            if theirs[it] != ours[it] and not is_less and not (is_copied and of in ours_of):
                 raise Differ(f"own of type {of} {more}: {ours[it]} is {theirs[it]}")
 
     def is_same_type(self, one, other):
