@@ -27,56 +27,56 @@ module _ {A B : Type 0} where
   followed m k x r first next = ap (λ (it : Reading A). it >>= k) first ∙ next
 
 -- so many things are read one after another, of which something is made
-pub all_1 : {T0 R : Type 0} {m0 : Reading T0} {v0 : T0} (f : T0 → R) → m0 ≡ Ok v0
+pub all_1 : {A R : Type 0} {m0 : Reading A} {v0 : A} (f : A → R) → m0 ≡ Ok v0
     → (m0 >>= λ x0. Ok (f x0)) ≡ Ok (f v0)
 all_1 {m0 = m0} {v0 = v0} f e0 = followed m0 (λ x0. Ok (f x0)) v0 (Ok (f v0)) e0 refl
 
-pub all_2 : {T0 T1 R : Type 0} {m0 : Reading T0} {m1 : Reading T1} {v0 : T0} {v1 : T1} (f : T0 → T1 → R) → m0 ≡ Ok v0 → m1 ≡ Ok v1
+pub all_2 : {A B R : Type 0} {m0 : Reading A} {m1 : Reading B} {v0 : A} {v1 : B} (f : A → B → R) → m0 ≡ Ok v0 → m1 ≡ Ok v1
     → (m0 >>= λ x0. m1 >>= λ x1. Ok (f x0 x1)) ≡ Ok (f v0 v1)
 all_2 {m0 = m0} {m1 = m1} {v0 = v0} {v1 = v1} f e0 e1 =
     followed m0 (λ x0. m1 >>= λ x1. Ok (f x0 x1)) v0 (Ok (f v0 v1)) e0 (all_1 {m0 = m1} (f v0) e1)
 
-pub all_3 : {T0 T1 T2 R : Type 0} {m0 : Reading T0} {m1 : Reading T1} {m2 : Reading T2} {v0 : T0} {v1 : T1} {v2 : T2} (f : T0 → T1 → T2 → R) → m0 ≡ Ok v0 → m1 ≡ Ok v1 → m2 ≡ Ok v2
+pub all_3 : {A B C R : Type 0} {m0 : Reading A} {m1 : Reading B} {m2 : Reading C} {v0 : A} {v1 : B} {v2 : C} (f : A → B → C → R) → m0 ≡ Ok v0 → m1 ≡ Ok v1 → m2 ≡ Ok v2
     → (m0 >>= λ x0. m1 >>= λ x1. m2 >>= λ x2. Ok (f x0 x1 x2)) ≡ Ok (f v0 v1 v2)
 all_3 {m0 = m0} {m1 = m1} {m2 = m2} {v0 = v0} {v1 = v1} {v2 = v2} f e0 e1 e2 =
     followed m0 (λ x0. m1 >>= λ x1. m2 >>= λ x2. Ok (f x0 x1 x2)) v0 (Ok (f v0 v1 v2)) e0 (all_2 {m0 = m1} {m1 = m2} (f v0) e1 e2)
 
-pub all_4 : {T0 T1 T2 T3 R : Type 0} {m0 : Reading T0} {m1 : Reading T1} {m2 : Reading T2} {m3 : Reading T3} {v0 : T0} {v1 : T1} {v2 : T2} {v3 : T3} (f : T0 → T1 → T2 → T3 → R) → m0 ≡ Ok v0 → m1 ≡ Ok v1 → m2 ≡ Ok v2 → m3 ≡ Ok v3
+pub all_4 : {A B C D R : Type 0} {m0 : Reading A} {m1 : Reading B} {m2 : Reading C} {m3 : Reading D} {v0 : A} {v1 : B} {v2 : C} {v3 : D} (f : A → B → C → D → R) → m0 ≡ Ok v0 → m1 ≡ Ok v1 → m2 ≡ Ok v2 → m3 ≡ Ok v3
     → (m0 >>= λ x0. m1 >>= λ x1. m2 >>= λ x2. m3 >>= λ x3. Ok (f x0 x1 x2 x3)) ≡ Ok (f v0 v1 v2 v3)
 all_4 {m0 = m0} {m1 = m1} {m2 = m2} {m3 = m3} {v0 = v0} {v1 = v1} {v2 = v2} {v3 = v3} f e0 e1 e2 e3 =
     followed m0 (λ x0. m1 >>= λ x1. m2 >>= λ x2. m3 >>= λ x3. Ok (f x0 x1 x2 x3)) v0 (Ok (f v0 v1 v2 v3)) e0 (all_3 {m0 = m1} {m1 = m2} {m2 = m3} (f v0) e1 e2 e3)
 
-pub all_5 : {T0 T1 T2 T3 T4 R : Type 0} {m0 : Reading T0} {m1 : Reading T1} {m2 : Reading T2} {m3 : Reading T3} {m4 : Reading T4} {v0 : T0} {v1 : T1} {v2 : T2} {v3 : T3} {v4 : T4} (f : T0 → T1 → T2 → T3 → T4 → R) → m0 ≡ Ok v0 → m1 ≡ Ok v1 → m2 ≡ Ok v2 → m3 ≡ Ok v3 → m4 ≡ Ok v4
+pub all_5 : {A B C D E R : Type 0} {m0 : Reading A} {m1 : Reading B} {m2 : Reading C} {m3 : Reading D} {m4 : Reading E} {v0 : A} {v1 : B} {v2 : C} {v3 : D} {v4 : E} (f : A → B → C → D → E → R) → m0 ≡ Ok v0 → m1 ≡ Ok v1 → m2 ≡ Ok v2 → m3 ≡ Ok v3 → m4 ≡ Ok v4
     → (m0 >>= λ x0. m1 >>= λ x1. m2 >>= λ x2. m3 >>= λ x3. m4 >>= λ x4. Ok (f x0 x1 x2 x3 x4)) ≡ Ok (f v0 v1 v2 v3 v4)
 all_5 {m0 = m0} {m1 = m1} {m2 = m2} {m3 = m3} {m4 = m4} {v0 = v0} {v1 = v1} {v2 = v2} {v3 = v3} {v4 = v4} f e0 e1 e2 e3 e4 =
     followed m0 (λ x0. m1 >>= λ x1. m2 >>= λ x2. m3 >>= λ x3. m4 >>= λ x4. Ok (f x0 x1 x2 x3 x4)) v0 (Ok (f v0 v1 v2 v3 v4)) e0 (all_4 {m0 = m1} {m1 = m2} {m2 = m3} {m3 = m4} (f v0) e1 e2 e3 e4)
 
-pub all_6 : {T0 T1 T2 T3 T4 T5 R : Type 0} {m0 : Reading T0} {m1 : Reading T1} {m2 : Reading T2} {m3 : Reading T3} {m4 : Reading T4} {m5 : Reading T5} {v0 : T0} {v1 : T1} {v2 : T2} {v3 : T3} {v4 : T4} {v5 : T5} (f : T0 → T1 → T2 → T3 → T4 → T5 → R) → m0 ≡ Ok v0 → m1 ≡ Ok v1 → m2 ≡ Ok v2 → m3 ≡ Ok v3 → m4 ≡ Ok v4 → m5 ≡ Ok v5
+pub all_6 : {A B C D E F R : Type 0} {m0 : Reading A} {m1 : Reading B} {m2 : Reading C} {m3 : Reading D} {m4 : Reading E} {m5 : Reading F} {v0 : A} {v1 : B} {v2 : C} {v3 : D} {v4 : E} {v5 : F} (f : A → B → C → D → E → F → R) → m0 ≡ Ok v0 → m1 ≡ Ok v1 → m2 ≡ Ok v2 → m3 ≡ Ok v3 → m4 ≡ Ok v4 → m5 ≡ Ok v5
     → (m0 >>= λ x0. m1 >>= λ x1. m2 >>= λ x2. m3 >>= λ x3. m4 >>= λ x4. m5 >>= λ x5. Ok (f x0 x1 x2 x3 x4 x5)) ≡ Ok (f v0 v1 v2 v3 v4 v5)
 all_6 {m0 = m0} {m1 = m1} {m2 = m2} {m3 = m3} {m4 = m4} {m5 = m5} {v0 = v0} {v1 = v1} {v2 = v2} {v3 = v3} {v4 = v4} {v5 = v5} f e0 e1 e2 e3 e4 e5 =
     followed m0 (λ x0. m1 >>= λ x1. m2 >>= λ x2. m3 >>= λ x3. m4 >>= λ x4. m5 >>= λ x5. Ok (f x0 x1 x2 x3 x4 x5)) v0 (Ok (f v0 v1 v2 v3 v4 v5)) e0 (all_5 {m0 = m1} {m1 = m2} {m2 = m3} {m3 = m4} {m4 = m5} (f v0) e1 e2 e3 e4 e5)
 
-pub all_7 : {T0 T1 T2 T3 T4 T5 T6 R : Type 0} {m0 : Reading T0} {m1 : Reading T1} {m2 : Reading T2} {m3 : Reading T3} {m4 : Reading T4} {m5 : Reading T5} {m6 : Reading T6} {v0 : T0} {v1 : T1} {v2 : T2} {v3 : T3} {v4 : T4} {v5 : T5} {v6 : T6} (f : T0 → T1 → T2 → T3 → T4 → T5 → T6 → R) → m0 ≡ Ok v0 → m1 ≡ Ok v1 → m2 ≡ Ok v2 → m3 ≡ Ok v3 → m4 ≡ Ok v4 → m5 ≡ Ok v5 → m6 ≡ Ok v6
+pub all_7 : {A B C D E F G R : Type 0} {m0 : Reading A} {m1 : Reading B} {m2 : Reading C} {m3 : Reading D} {m4 : Reading E} {m5 : Reading F} {m6 : Reading G} {v0 : A} {v1 : B} {v2 : C} {v3 : D} {v4 : E} {v5 : F} {v6 : G} (f : A → B → C → D → E → F → G → R) → m0 ≡ Ok v0 → m1 ≡ Ok v1 → m2 ≡ Ok v2 → m3 ≡ Ok v3 → m4 ≡ Ok v4 → m5 ≡ Ok v5 → m6 ≡ Ok v6
     → (m0 >>= λ x0. m1 >>= λ x1. m2 >>= λ x2. m3 >>= λ x3. m4 >>= λ x4. m5 >>= λ x5. m6 >>= λ x6. Ok (f x0 x1 x2 x3 x4 x5 x6)) ≡ Ok (f v0 v1 v2 v3 v4 v5 v6)
 all_7 {m0 = m0} {m1 = m1} {m2 = m2} {m3 = m3} {m4 = m4} {m5 = m5} {m6 = m6} {v0 = v0} {v1 = v1} {v2 = v2} {v3 = v3} {v4 = v4} {v5 = v5} {v6 = v6} f e0 e1 e2 e3 e4 e5 e6 =
     followed m0 (λ x0. m1 >>= λ x1. m2 >>= λ x2. m3 >>= λ x3. m4 >>= λ x4. m5 >>= λ x5. m6 >>= λ x6. Ok (f x0 x1 x2 x3 x4 x5 x6)) v0 (Ok (f v0 v1 v2 v3 v4 v5 v6)) e0 (all_6 {m0 = m1} {m1 = m2} {m2 = m3} {m3 = m4} {m4 = m5} {m5 = m6} (f v0) e1 e2 e3 e4 e5 e6)
 
-pub all_8 : {T0 T1 T2 T3 T4 T5 T6 T7 R : Type 0} {m0 : Reading T0} {m1 : Reading T1} {m2 : Reading T2} {m3 : Reading T3} {m4 : Reading T4} {m5 : Reading T5} {m6 : Reading T6} {m7 : Reading T7} {v0 : T0} {v1 : T1} {v2 : T2} {v3 : T3} {v4 : T4} {v5 : T5} {v6 : T6} {v7 : T7} (f : T0 → T1 → T2 → T3 → T4 → T5 → T6 → T7 → R) → m0 ≡ Ok v0 → m1 ≡ Ok v1 → m2 ≡ Ok v2 → m3 ≡ Ok v3 → m4 ≡ Ok v4 → m5 ≡ Ok v5 → m6 ≡ Ok v6 → m7 ≡ Ok v7
+pub all_8 : {A B C D E F G H R : Type 0} {m0 : Reading A} {m1 : Reading B} {m2 : Reading C} {m3 : Reading D} {m4 : Reading E} {m5 : Reading F} {m6 : Reading G} {m7 : Reading H} {v0 : A} {v1 : B} {v2 : C} {v3 : D} {v4 : E} {v5 : F} {v6 : G} {v7 : H} (f : A → B → C → D → E → F → G → H → R) → m0 ≡ Ok v0 → m1 ≡ Ok v1 → m2 ≡ Ok v2 → m3 ≡ Ok v3 → m4 ≡ Ok v4 → m5 ≡ Ok v5 → m6 ≡ Ok v6 → m7 ≡ Ok v7
     → (m0 >>= λ x0. m1 >>= λ x1. m2 >>= λ x2. m3 >>= λ x3. m4 >>= λ x4. m5 >>= λ x5. m6 >>= λ x6. m7 >>= λ x7. Ok (f x0 x1 x2 x3 x4 x5 x6 x7)) ≡ Ok (f v0 v1 v2 v3 v4 v5 v6 v7)
 all_8 {m0 = m0} {m1 = m1} {m2 = m2} {m3 = m3} {m4 = m4} {m5 = m5} {m6 = m6} {m7 = m7} {v0 = v0} {v1 = v1} {v2 = v2} {v3 = v3} {v4 = v4} {v5 = v5} {v6 = v6} {v7 = v7} f e0 e1 e2 e3 e4 e5 e6 e7 =
     followed m0 (λ x0. m1 >>= λ x1. m2 >>= λ x2. m3 >>= λ x3. m4 >>= λ x4. m5 >>= λ x5. m6 >>= λ x6. m7 >>= λ x7. Ok (f x0 x1 x2 x3 x4 x5 x6 x7)) v0 (Ok (f v0 v1 v2 v3 v4 v5 v6 v7)) e0 (all_7 {m0 = m1} {m1 = m2} {m2 = m3} {m3 = m4} {m4 = m5} {m5 = m6} {m6 = m7} (f v0) e1 e2 e3 e4 e5 e6 e7)
 
-pub all_9 : {T0 T1 T2 T3 T4 T5 T6 T7 T8 R : Type 0} {m0 : Reading T0} {m1 : Reading T1} {m2 : Reading T2} {m3 : Reading T3} {m4 : Reading T4} {m5 : Reading T5} {m6 : Reading T6} {m7 : Reading T7} {m8 : Reading T8} {v0 : T0} {v1 : T1} {v2 : T2} {v3 : T3} {v4 : T4} {v5 : T5} {v6 : T6} {v7 : T7} {v8 : T8} (f : T0 → T1 → T2 → T3 → T4 → T5 → T6 → T7 → T8 → R) → m0 ≡ Ok v0 → m1 ≡ Ok v1 → m2 ≡ Ok v2 → m3 ≡ Ok v3 → m4 ≡ Ok v4 → m5 ≡ Ok v5 → m6 ≡ Ok v6 → m7 ≡ Ok v7 → m8 ≡ Ok v8
+pub all_9 : {A B C D E F G H I R : Type 0} {m0 : Reading A} {m1 : Reading B} {m2 : Reading C} {m3 : Reading D} {m4 : Reading E} {m5 : Reading F} {m6 : Reading G} {m7 : Reading H} {m8 : Reading I} {v0 : A} {v1 : B} {v2 : C} {v3 : D} {v4 : E} {v5 : F} {v6 : G} {v7 : H} {v8 : I} (f : A → B → C → D → E → F → G → H → I → R) → m0 ≡ Ok v0 → m1 ≡ Ok v1 → m2 ≡ Ok v2 → m3 ≡ Ok v3 → m4 ≡ Ok v4 → m5 ≡ Ok v5 → m6 ≡ Ok v6 → m7 ≡ Ok v7 → m8 ≡ Ok v8
     → (m0 >>= λ x0. m1 >>= λ x1. m2 >>= λ x2. m3 >>= λ x3. m4 >>= λ x4. m5 >>= λ x5. m6 >>= λ x6. m7 >>= λ x7. m8 >>= λ x8. Ok (f x0 x1 x2 x3 x4 x5 x6 x7 x8)) ≡ Ok (f v0 v1 v2 v3 v4 v5 v6 v7 v8)
 all_9 {m0 = m0} {m1 = m1} {m2 = m2} {m3 = m3} {m4 = m4} {m5 = m5} {m6 = m6} {m7 = m7} {m8 = m8} {v0 = v0} {v1 = v1} {v2 = v2} {v3 = v3} {v4 = v4} {v5 = v5} {v6 = v6} {v7 = v7} {v8 = v8} f e0 e1 e2 e3 e4 e5 e6 e7 e8 =
     followed m0 (λ x0. m1 >>= λ x1. m2 >>= λ x2. m3 >>= λ x3. m4 >>= λ x4. m5 >>= λ x5. m6 >>= λ x6. m7 >>= λ x7. m8 >>= λ x8. Ok (f x0 x1 x2 x3 x4 x5 x6 x7 x8)) v0 (Ok (f v0 v1 v2 v3 v4 v5 v6 v7 v8)) e0 (all_8 {m0 = m1} {m1 = m2} {m2 = m3} {m3 = m4} {m4 = m5} {m5 = m6} {m6 = m7} {m7 = m8} (f v0) e1 e2 e3 e4 e5 e6 e7 e8)
 
-pub all_10 : {T0 T1 T2 T3 T4 T5 T6 T7 T8 T9 R : Type 0} {m0 : Reading T0} {m1 : Reading T1} {m2 : Reading T2} {m3 : Reading T3} {m4 : Reading T4} {m5 : Reading T5} {m6 : Reading T6} {m7 : Reading T7} {m8 : Reading T8} {m9 : Reading T9} {v0 : T0} {v1 : T1} {v2 : T2} {v3 : T3} {v4 : T4} {v5 : T5} {v6 : T6} {v7 : T7} {v8 : T8} {v9 : T9} (f : T0 → T1 → T2 → T3 → T4 → T5 → T6 → T7 → T8 → T9 → R) → m0 ≡ Ok v0 → m1 ≡ Ok v1 → m2 ≡ Ok v2 → m3 ≡ Ok v3 → m4 ≡ Ok v4 → m5 ≡ Ok v5 → m6 ≡ Ok v6 → m7 ≡ Ok v7 → m8 ≡ Ok v8 → m9 ≡ Ok v9
+pub all_10 : {A B C D E F G H I J R : Type 0} {m0 : Reading A} {m1 : Reading B} {m2 : Reading C} {m3 : Reading D} {m4 : Reading E} {m5 : Reading F} {m6 : Reading G} {m7 : Reading H} {m8 : Reading I} {m9 : Reading J} {v0 : A} {v1 : B} {v2 : C} {v3 : D} {v4 : E} {v5 : F} {v6 : G} {v7 : H} {v8 : I} {v9 : J} (f : A → B → C → D → E → F → G → H → I → J → R) → m0 ≡ Ok v0 → m1 ≡ Ok v1 → m2 ≡ Ok v2 → m3 ≡ Ok v3 → m4 ≡ Ok v4 → m5 ≡ Ok v5 → m6 ≡ Ok v6 → m7 ≡ Ok v7 → m8 ≡ Ok v8 → m9 ≡ Ok v9
     → (m0 >>= λ x0. m1 >>= λ x1. m2 >>= λ x2. m3 >>= λ x3. m4 >>= λ x4. m5 >>= λ x5. m6 >>= λ x6. m7 >>= λ x7. m8 >>= λ x8. m9 >>= λ x9. Ok (f x0 x1 x2 x3 x4 x5 x6 x7 x8 x9)) ≡ Ok (f v0 v1 v2 v3 v4 v5 v6 v7 v8 v9)
 all_10 {m0 = m0} {m1 = m1} {m2 = m2} {m3 = m3} {m4 = m4} {m5 = m5} {m6 = m6} {m7 = m7} {m8 = m8} {m9 = m9} {v0 = v0} {v1 = v1} {v2 = v2} {v3 = v3} {v4 = v4} {v5 = v5} {v6 = v6} {v7 = v7} {v8 = v8} {v9 = v9} f e0 e1 e2 e3 e4 e5 e6 e7 e8 e9 =
     followed m0 (λ x0. m1 >>= λ x1. m2 >>= λ x2. m3 >>= λ x3. m4 >>= λ x4. m5 >>= λ x5. m6 >>= λ x6. m7 >>= λ x7. m8 >>= λ x8. m9 >>= λ x9. Ok (f x0 x1 x2 x3 x4 x5 x6 x7 x8 x9)) v0 (Ok (f v0 v1 v2 v3 v4 v5 v6 v7 v8 v9)) e0 (all_9 {m0 = m1} {m1 = m2} {m2 = m3} {m3 = m4} {m4 = m5} {m5 = m6} {m6 = m7} {m7 = m8} {m8 = m9} (f v0) e1 e2 e3 e4 e5 e6 e7 e8 e9)
 
-pub all_11 : {T0 T1 T2 T3 T4 T5 T6 T7 T8 T9 T10 R : Type 0} {m0 : Reading T0} {m1 : Reading T1} {m2 : Reading T2} {m3 : Reading T3} {m4 : Reading T4} {m5 : Reading T5} {m6 : Reading T6} {m7 : Reading T7} {m8 : Reading T8} {m9 : Reading T9} {m10 : Reading T10} {v0 : T0} {v1 : T1} {v2 : T2} {v3 : T3} {v4 : T4} {v5 : T5} {v6 : T6} {v7 : T7} {v8 : T8} {v9 : T9} {v10 : T10} (f : T0 → T1 → T2 → T3 → T4 → T5 → T6 → T7 → T8 → T9 → T10 → R) → m0 ≡ Ok v0 → m1 ≡ Ok v1 → m2 ≡ Ok v2 → m3 ≡ Ok v3 → m4 ≡ Ok v4 → m5 ≡ Ok v5 → m6 ≡ Ok v6 → m7 ≡ Ok v7 → m8 ≡ Ok v8 → m9 ≡ Ok v9 → m10 ≡ Ok v10
+pub all_11 : {A B C D E F G H I J K R : Type 0} {m0 : Reading A} {m1 : Reading B} {m2 : Reading C} {m3 : Reading D} {m4 : Reading E} {m5 : Reading F} {m6 : Reading G} {m7 : Reading H} {m8 : Reading I} {m9 : Reading J} {m10 : Reading K} {v0 : A} {v1 : B} {v2 : C} {v3 : D} {v4 : E} {v5 : F} {v6 : G} {v7 : H} {v8 : I} {v9 : J} {v10 : K} (f : A → B → C → D → E → F → G → H → I → J → K → R) → m0 ≡ Ok v0 → m1 ≡ Ok v1 → m2 ≡ Ok v2 → m3 ≡ Ok v3 → m4 ≡ Ok v4 → m5 ≡ Ok v5 → m6 ≡ Ok v6 → m7 ≡ Ok v7 → m8 ≡ Ok v8 → m9 ≡ Ok v9 → m10 ≡ Ok v10
     → (m0 >>= λ x0. m1 >>= λ x1. m2 >>= λ x2. m3 >>= λ x3. m4 >>= λ x4. m5 >>= λ x5. m6 >>= λ x6. m7 >>= λ x7. m8 >>= λ x8. m9 >>= λ x9. m10 >>= λ x10. Ok (f x0 x1 x2 x3 x4 x5 x6 x7 x8 x9 x10)) ≡ Ok (f v0 v1 v2 v3 v4 v5 v6 v7 v8 v9 v10)
 all_11 {m0 = m0} {m1 = m1} {m2 = m2} {m3 = m3} {m4 = m4} {m5 = m5} {m6 = m6} {m7 = m7} {m8 = m8} {m9 = m9} {m10 = m10} {v0 = v0} {v1 = v1} {v2 = v2} {v3 = v3} {v4 = v4} {v5 = v5} {v6 = v6} {v7 = v7} {v8 = v8} {v9 = v9} {v10 = v10} f e0 e1 e2 e3 e4 e5 e6 e7 e8 e9 e10 =
     followed m0 (λ x0. m1 >>= λ x1. m2 >>= λ x2. m3 >>= λ x3. m4 >>= λ x4. m5 >>= λ x5. m6 >>= λ x6. m7 >>= λ x7. m8 >>= λ x8. m9 >>= λ x9. m10 >>= λ x10. Ok (f x0 x1 x2 x3 x4 x5 x6 x7 x8 x9 x10)) v0 (Ok (f v0 v1 v2 v3 v4 v5 v6 v7 v8 v9 v10)) e0 (all_10 {m0 = m1} {m1 = m2} {m2 = m3} {m3 = m4} {m4 = m5} {m5 = m6} {m6 = m7} {m7 = m8} {m8 = m9} {m9 = m10} (f v0) e1 e2 e3 e4 e5 e6 e7 e8 e9 e10)
