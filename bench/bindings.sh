@@ -37,6 +37,8 @@ cargo() {
     cargo test --quiet --doc
     cargo doc --quiet --no-deps
     cargo run --quiet --example script < "$top/crates/witgraph/stdin" | cmp - "$top/crates/witgraph/stdout"
+    "$top/tools/wit2json.py" "$top"/examples/wasi/wit/0.2.0/*.wit > "$work/wasi.json"
+    cargo run --quiet --example graph < "$work/wasi.json" > "$work/graph"
     [ -z "${1:-}" ] || cargo run --quiet --release --example compare -- "$1" --explained "$top/docs/DIFFERENCES.md"
 )
 
@@ -46,4 +48,5 @@ export WITGRAPH_SHARED
 cc -shared -Wl,--whole-archive "$WITGRAPH_LIBRARY/libwitgraph_c.a" -Wl,--no-whole-archive \
     "$(dirname "$(rt doc)")/c/liblibc_c.a" -o "$WITGRAPH_SHARED"
 python3 bindings/python/test_witgraph.py
+python3 bindings/python/graph.py < "$work/wasi.json" | cmp - "$work/graph"
 echo "bindings: all built and run"

@@ -27,7 +27,7 @@ def run(script):
     return ran.returncode, ran.stdout.decode(), ran.stderr.decode()
 
 cases = {"witgraph": (open("crates/witgraph/stdin").read(), open("crates/witgraph/stdout").read())}
-for case in open("crates/witgraph_cases/stdin").read().split("=== ")[1:]:
+for case in open("crates/test_cases/stdin").read().split("=== ")[1:]:
     name, rest = case.split("\n", 1)
     script, _, answers = rest.partition("---\n")
     cases[name] = script, answers

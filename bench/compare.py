@@ -1,8 +1,8 @@
 #!/usr/bin/env python3
 """Compares the program with an independent model of the rules (`bench/model`) on random scripts, or with the original.
 
-    python3 bench/compare.py PATH/TO/witgraph_cases [--first N] [--many N] [--kind KIND]..
-    python3 bench/compare.py --stored crates/witgraph_cases/stdin
+    python3 bench/compare.py PATH/TO/test_cases [--first N] [--many N] [--kind KIND]..
+    python3 bench/compare.py --stored crates/test_cases/stdin
     python3 bench/compare.py PATH/TO/witgraph --original PROGRAM [--first N] [--many N] [--kind KIND].. [--jobs N]
 
 With the model the program is that of the stored cases, which runs many scripts at once. Scripts are told by their

@@ -2,7 +2,7 @@
 """Turns scripts into JSON documents of the same commands (docs/JSON.md), and compares what is answered with the model.
 
     python3 bench/documents.py SCRIPT
-    python3 bench/documents.py --program WITGRAPH_JSON --stored crates/witgraph_cases/stdin
+    python3 bench/documents.py --program WITGRAPH_JSON --stored crates/test_cases/stdin
     python3 bench/documents.py --program WITGRAPH_JSON [--first N] [--many N]
 
 The first form writes the document of a script. The others compare what the program answers, for the stored cases or for

@@ -13,7 +13,7 @@ All others lie in crates/NAME/must-fail-in-turn, and come by whole crates, since
 edits, however many they are. The hash puts the crates in an order, and each whose edits still fit into the minutes of one
 run is chosen: the same ones for one commit, others for another, so that each comes again and again.
 
-What a crate costs is reckoned, in seconds of the processor (docs/log/times.md): an edit EDIT; a second proof, where no
+What a crate costs is reckoned, in seconds of the processor (measured in November 2026): an edit EDIT; a second proof, where no
 edit in must-fail asks for one already, PROOF, and LINE for each line of src.
 
 What was tried by hand and refused on this machine is not tried again; the libraries below are built as `rt lib` does.

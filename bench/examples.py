@@ -1,20 +1,20 @@
 #!/usr/bin/env python3
-"""Compares the examples of the documents with the stored cases of `witgraph_cases`.
+"""Compares the examples of the documents with the stored cases of `test_cases`.
 
     python3 bench/examples.py        # at the top of the repository
 
-In docs/FROM_WIT_PARSER.md an example is a line `**N**, `CASE`` and the block below it: without its lines that begin with
-`# ` it is the script of the case, and those lines, without the `# `, are what the case prints. In docs/SCRIPT.md it is a
+In docs/REFUSALS.md an example is a line `**N**, `CASE`` and the block below it: without its lines that begin with `# `
+it is the script of the case, and those lines, without the `# `, are what the case prints. In docs/SCRIPT.md it is a
 block, a line `answers` and a second block: the script of some case, and what that prints. Ends with status 1 where one
-differs, where an example of a number doesn't print a refusal of that number, where a number of the table of refusals
-has no example but 27 and 28, which have no script, or where the two documents have not the same numbers.
+differs, where an example of a number doesn't print a refusal of that number, where the table of refusals isn't of 1 to
+28 in order, or where one of them but 27 and 28, which have no script, has no example.
 """
 import re
 import sys
 
-REFUSALS = "docs/FROM_WIT_PARSER.md"
+REFUSALS = "docs/REFUSALS.md"
 LANGUAGE = "docs/SCRIPT.md"
-CASES = "crates/witgraph_cases/stdin"
+CASES = "crates/test_cases/stdin"
 
 
 def cases():
@@ -26,8 +26,10 @@ def cases():
 def wrong_refusals(document, stored):
     """The examples of refusals, and what is wrong with them."""
     examples = re.findall(r"(?ms)^\*\*(\d+)\*\*, `([^`]+)`\n\n```\n(.*?)^```$", document)
-    listed = set(re.findall(r"(?m)^\| (\d+) \| `", document)) - {"27", "28"}
-    wrong = [f"no example of {number}" for number in sorted(listed - {example[0] for example in examples})]
+    listed = re.findall(r"(?m)^\| (\d+) \| `", document)
+    wrong = ["the table isn't of 1 to 28 in order"] * (listed != [str(number) for number in range(1, 29)])
+    lacking = set(listed) - {"27", "28"} - {example[0] for example in examples}
+    wrong += [f"no example of {number}" for number in sorted(lacking, key=int)]
     for number, case, block in examples:
         lines = block.splitlines(keepends=True)
         script = "".join(line for line in lines if not line.startswith("# "))
@@ -46,18 +48,11 @@ def wrong_scripts(document, stored):
     return examples, wrong + [f"{unpaired} ends of blocks that are of no example"] * (unpaired != 0)
 
 
-def numbers_of(document):
-    """The numbers of a table of refusals, whose rows may be of several."""
-    return {number for row in re.findall(r"(?m)^\| (\d+(?:, \d+)*) \|", document) for number in row.split(", ")}
-
-
 def main():
     stored = cases()
     refusals, language = open(REFUSALS).read(), open(LANGUAGE).read()
     examples, wrong = wrong_refusals(refusals, stored)
     scripts, wrong_of_scripts = wrong_scripts(language, stored)
-    if numbers_of(refusals) != numbers_of(language):
-        wrong_of_scripts.append(f"other refusals than in {REFUSALS}")
     for path, those in (REFUSALS, wrong), (LANGUAGE, wrong_of_scripts):
         for one in those:
             print(f"{path}: {one}")

@@ -9,7 +9,7 @@ JSON for each process that it started: of which crate, for its proof, its tests 
 
     bench/gate.py RECORD [--edits]
 
-prints from such a record the rows of the table in docs/log/times.md, the sums and the longest chain of proofs, and with
+prints from such a record a row for each crate, the sums and the longest chain of proofs, and with
 --edits the seconds of each edit.
 
 Seconds are of user and system together; a busy machine shows up to twice what a quiet one does.

@@ -5,8 +5,8 @@ what a block has, which gives memory back, is none of these.
     python3 bench/sweep.py [--calls PROGRAM] [--scripts PROGRAM] [--documents PROGRAM] [--jobs N]
     python3 bench/sweep.py --planted BUILD
 
-The programs are those that `rt ci` leaves in the folders `out`: `wit_sweep`, which makes each call on the graphs of
-worked scripts, `witgraph`, which runs the scripts of `witgraph_cases`, and `witgraph_json`. `bench/refuse.c` is compiled and laid over
+The programs are those that `rt ci` leaves in the folders `out`: `test_sweep`, which makes each call on the graphs of
+worked scripts, `witgraph`, which runs the scripts of `test_cases`, and `witgraph_json`. `bench/refuse.c` is compiled and laid over
 their allocator. Each round is a process of its own. The script ends with status 1 where a round isn't answered so:
 
 Calls. In the round of number N the Nth request for memory within one call is refused, for N from 1 until none is; then
@@ -400,7 +400,7 @@ class Sweep:
 
     def calls(self, path, stored):
         program = self.program(path)
-        for name, script in cases_of(f"{TOP}/crates/wit_sweep/stdin").items():
+        for name, script in cases_of(f"{TOP}/crates/test_sweep/stdin").items():
             made = Calls(program, name, script, stored and stored.get(name, ""))
             self.add(f"calls of {name}", made)
             for call, (asked, _) in zip(made.calls, made.plain.counts):
@@ -409,14 +409,14 @@ class Sweep:
         self.tell(f"{sum(takes for takes, _ in self.asked)} calls that take memory, {sum(not takes for takes, _ in self.asked)} that take none")
 
     def scripts(self, path):
-        program, scripts = self.program(path), cases_of(f"{TOP}/crates/witgraph_cases/stdin")
+        program, scripts = self.program(path), cases_of(f"{TOP}/crates/test_cases/stdin")
         for name, case in scripts.items():
             script, _, stored = case.partition("---\n")
             self.add(f"script {name}", Script(program, script, stored))
         self.tell(f"{len(scripts)} scripts more")
 
     def documents(self, path):
-        program, scripts = self.program(path), cases_of(f"{TOP}/crates/witgraph_cases/stdin")
+        program, scripts = self.program(path), cases_of(f"{TOP}/crates/test_cases/stdin")
         made = {name: documents.document_of(case.partition("---\n")[0]) for name, case in scripts.items()}
         chosen = [name for name, document in made.items() if document][::8]
         for name in chosen:
@@ -439,7 +439,7 @@ def planted(sweep, build):
         with open(f"{copy}/{words['file']}", "w", encoding="utf-8") as file:
             file.write(text.replace(words["old"], words["new"]))
         calls[name] = words["call"]
-    subprocess.run([build, f"{copy}/crates/wit_sweep", f"{sweep.folder}/planted"], check=True)
+    subprocess.run([build, f"{copy}/crates/test_sweep", f"{sweep.folder}/planted"], check=True)
     sweep.calls(f"{sweep.folder}/planted", None)
     missed = 0
     for name, call in calls.items():
@@ -451,7 +451,7 @@ def planted(sweep, build):
 
 def main():
     parser = argparse.ArgumentParser()
-    parser.add_argument("--calls", default=f"{TOP}/crates/wit_sweep/out/wit_sweep")
+    parser.add_argument("--calls", default=f"{TOP}/crates/test_sweep/out/test_sweep")
     parser.add_argument("--scripts", default=f"{TOP}/crates/witgraph/out/witgraph")
     parser.add_argument("--documents", default=f"{TOP}/crates/witgraph_json/out/witgraph_json")
     parser.add_argument("--jobs", type=int, default=os.cpu_count())
@@ -461,7 +461,7 @@ def main():
         sweep = Sweep(asked.jobs, folder)
         if asked.planted:
             return planted(sweep, asked.planted)
-        sweep.calls(asked.calls, cases_of(f"{TOP}/crates/wit_sweep/stdout"))
+        sweep.calls(asked.calls, cases_of(f"{TOP}/crates/test_sweep/stdout"))
         sweep.scripts(asked.scripts)
         sweep.documents(asked.documents)
     for it in sweep.faults[:40]:

@@ -7,7 +7,7 @@ The texts are the equations of FILES that give a text and hold literals, `codes 
 say `text ≡ codes "TEXT"`. Between its literals a text may have anything, but in place of a definition that it calls one
 of the texts of that, and in place of a parameter of which the comment above says that it is `WORD` or `WORD` one of
 these; each of them has to be met. A text is met where all of a refusal is made of it, or a line of it, or what stands
-between two `: ` of a line. Refusals are those that the cases of `witgraph_cases` print, and the literals of the crates
+between two `: ` of a line. Refusals are those that the cases of `test_cases` print, and the literals of the crates
 of tests. Ends with status 1 where a text isn't met.
 """
 import glob
@@ -16,11 +16,11 @@ import sys
 
 FILES = """
 wit_graph_data/specs/ErrorText wit_link_spec/specs/CauseText wit_remap_spec/specs/FunctionMismatch
-wit_merge_spec/specs/MismatchText wit_merge_structure/specs/Structure wit_semver_spec/specs/Rewritten
-wit_elaboration/specs/AllElaborated wit_transform/specs/Transformed wit_selection/specs/Selection
+wit_merge_spec/specs/MismatchText wit_merge_spec/specs/Structure wit_semver_spec/specs/Rewritten
+wit_elaboration/specs/AllElaborated wit_transform/specs/Transformed wit_queries/specs/Selection
 """.split()
-CASES = "crates/witgraph_cases/stdin"
-TESTS = "crates/*_tests/src/*.rt"
+CASES = "crates/test_cases/stdin"
+TESTS = "crates/test_*/src/*.rt"
 LITERAL = r'"((?:[^"\\]|\\(?:.|\n))*)"'
 # The words of a parameter of which no comment tells them.
 WORDS = {"item_type": ["import", "export"]}

@@ -2,8 +2,8 @@
 """Tests of witgraph.py: `python3 bindings/python/test_witgraph.py`.
 
 What needs no library is always tested, over the stored documents of examples/kinds. WITGRAPH_SHARED, the path of a
-libwitgraph.so, adds the scripts, and commands where it has `witgraph_json`; WITGRAPH_JSON, the path of a build of the
-program `witgraph_json`, adds commands carried out by that.
+libwitgraph.so, adds scripts and commands; WITGRAPH_JSON, the path of a build of the program `witgraph_json`, adds commands
+carried out by that.
 """
 import doctest
 import json
@@ -26,13 +26,9 @@ def stored(name):
         return file.read()
 
 
-def has_json():
-    return bool(SHARED) and hasattr(wg.library()._library, "witgraph_json")
-
-
 def runners():
     """All that carries out commands here."""
-    return [wg.run] * has_json() + [lambda commands: wg.run_by(PROGRAM, commands)] * bool(PROGRAM)
+    return [wg.run] * bool(SHARED) + [lambda commands: wg.run_by(PROGRAM, commands)] * bool(PROGRAM)
 
 
 class Documents(unittest.TestCase):
@@ -91,12 +87,25 @@ class Documents(unittest.TestCase):
     def test_a_fault_is_raised(self):
         with self.assertRaises(wg.Fault) as raised:
             wg.run_of('{"fault": {"path": ["commands", 0], "offset": 13, "expected": "a command"}}')
-        self.assertEqual(str(raised.exception), "expected a command at byte 13, at commands.0")
+        self.assertEqual(str(raised.exception), "expected a command at byte 13, at commands[0]")
+
+    def test_a_package_without_its_shape_is_raised(self):
+        with self.assertRaises(wg.ShapeFault):
+            wg.accepted(wg.from_json(wg.Reply, "not-shaped"))
 
     def test_other_forms_are_told(self):
         for hint, value in ((wg.TypeDefKind, {"no": 1}), (wg.Type, None), (wg.Field, {"name": "x"}), (wg.Type, True)):
             with self.assertRaises(wg.Unreadable):
                 wg.from_json(hint, value)
+
+
+    def test_a_graph_is_the_same_again(self):
+        value = json.loads(stored("kinds.out.json"))["resolve"]
+        graph = wg.graph_of(value)
+        self.assertEqual(wg.whole_of(graph), value)
+        self.assertEqual(wg.graph_of(wg.whole_of(graph)), graph)
+        alone = wg.graph_of({"graph": value["graph"]})
+        self.assertEqual([it.name for it in alone.types], [it.name for it in graph.types])
 
 
 class Graphs(unittest.TestCase):
@@ -111,7 +120,7 @@ class Graphs(unittest.TestCase):
     def test_packages(self):
         package = self.graph.packages[self.run_.replies[0].id]
         self.assertEqual((package.name, package.docs[:22]), ("example:kinds@1.2.0", "Every kind of type, fu"))
-        self.assertEqual(self.graph.package_named("other:things@0.1.0"), 0)
+        self.assertEqual(self.graph.package_names["other:things@0.1.0"], 0)
         self.assertEqual(self.graph.id_of(package.interfaces["all"]), "example:kinds/all@1.2.0")
 
     def test_types(self):
@@ -185,7 +194,7 @@ class Walk(unittest.TestCase):
     @unittest.skipUnless(runners(), "nothing that carries out commands")
     def test_readme(self):
         """The walk through in README.md prints what stands there."""
-        if PROGRAM and not has_json():
+        if not SHARED:
             wg.run = lambda commands: wg.run_by(PROGRAM, commands)
         at = os.getcwd()
         os.chdir(TOP)

@@ -5,9 +5,9 @@
     run = wg.run([{"push-groups": ..}, wg.Select(["wasi:cli@0.2.0"], "command")])
     command = run.graph.worlds[run.replies[1].id]
 
-`run` carries out commands on an empty graph. A command is one of the classes here, or a dict as docs/JSON.md says and as
-`tools/wit2json.py` writes. It gives a `Run`: a reply for each command, and the graph. The classes have the names of
-wit-parser; an id is an index in its list. `execute` and `explain` run scripts (docs/SCRIPT.md).
+`run` carries out commands on an empty graph. A command is one of the classes here, or a
+dict as docs/JSON.md says and as `tools/wit2json.py` writes. It gives a `Run`: a reply for each command, and the graph. The
+classes have the names of wit-parser; an id is an index in its list. `execute` and `explain` run scripts (docs/SCRIPT.md).
 
 The library is a shared one, `libwitgraph.so` beside this file or where WITGRAPH_SHARED says; README.md has the command
 that makes it. `run_by` takes a build of the program `witgraph_json` instead. Needs Python 3.10 and nothing else.
@@ -76,6 +76,8 @@ Stability = Union[Stable, Unstable]
 
 @dataclass
 class Field:
+    """A field of a record."""
+
     name: str
     type: Type
     docs: Optional[str] = None
@@ -84,6 +86,8 @@ class Field:
 
 @dataclass
 class Case:
+    """A case of a variant, with the type of its payload where it has one."""
+
     name: str
     type: Optional[Type] = None
     docs: Optional[str] = None
@@ -92,6 +96,8 @@ class Case:
 
 @dataclass
 class Flag:
+    """One of several flags."""
+
     name: str
     docs: Optional[str] = None
     span: Optional[Span] = None
@@ -99,6 +105,8 @@ class Flag:
 
 @dataclass
 class EnumCase:
+    """A case of an enum."""
+
     name: str
     docs: Optional[str] = None
     span: Optional[Span] = None
@@ -107,66 +115,86 @@ class EnumCase:
 @tagged("record")
 @dataclass
 class Record:
+    """A record."""
+
     fields: list[Field]
 
 
 @tagged("resource", "alone-tag")
 @dataclass
 class Resource:
-    pass
+    """A resource."""
 
 
 @tagged("own", "field")
 @dataclass
 class Own:
+    """`own<T>`, which may also be written `T`: the resource itself."""
+
     id: TypeId
 
 
 @tagged("borrow", "field")
 @dataclass
 class Borrow:
+    """`borrow<T>`: a loan of it."""
+
     id: TypeId
 
 
 @tagged("handle", "field")
 @dataclass
 class Handle:
+    """A handle of a resource."""
+
     handle: Union[Own, Borrow]
 
 
 @tagged("flags")
 @dataclass
 class Flags:
+    """Flags."""
+
     flags: list[Flag]
 
 
 @tagged("tuple")
 @dataclass
 class Tuple:
+    """A tuple."""
+
     types: list[Type]
 
 
 @tagged("variant")
 @dataclass
 class Variant:
+    """A variant."""
+
     cases: list[Case]
 
 
 @tagged("enum")
 @dataclass
 class Enum:
+    """An enum."""
+
     cases: list[EnumCase]
 
 
 @tagged("option", "field")
 @dataclass
 class Option:
+    """`option<T>`."""
+
     type: Type
 
 
 @tagged("result")
 @dataclass
 class Result:
+    """`result<T, E>`."""
+
     ok: Optional[Type] = None
     err: Optional[Type] = None
 
@@ -174,12 +202,16 @@ class Result:
 @tagged("list", "field")
 @dataclass
 class List:
+    """`list<T>`."""
+
     type: Type
 
 
 @tagged("map", "list")
 @dataclass
 class Map:
+    """`map<K, V>`."""
+
     key: Type
     value: Type
 
@@ -187,6 +219,8 @@ class Map:
 @tagged("fixed-length-list", "list")
 @dataclass
 class FixedLengthList:
+    """`list<T, N>`."""
+
     type: Type
     length: int
 
@@ -194,12 +228,16 @@ class FixedLengthList:
 @tagged("future", "field")
 @dataclass
 class Future:
+    """`future<T>`."""
+
     type: Optional[Type] = None
 
 
 @tagged("stream", "field")
 @dataclass
 class Stream:
+    """`stream<T>`."""
+
     type: Optional[Type] = None
 
 
@@ -226,12 +264,16 @@ TypeDefKind = Union[
 @tagged("interface", "field")
 @dataclass
 class InterfaceOwner:
+    """The interface that lists a type."""
+
     id: InterfaceId
 
 
 @tagged("world", "field")
 @dataclass
 class WorldOwner:
+    """The world that lists a type among its imports."""
+
     id: WorldId
 
 
@@ -253,6 +295,8 @@ class TypeDef:
 
 @dataclass
 class Param:
+    """A parameter of a function."""
+
     name: str
     type: Type
     span: Optional[Span] = None
@@ -291,6 +335,8 @@ class Interface:
 @tagged("interface")
 @dataclass
 class InterfaceItem:
+    """An interface that a world imports or exports."""
+
     id: InterfaceId
     stability: Optional[Stability] = None
     docs: Optional[str] = None
@@ -301,12 +347,16 @@ class InterfaceItem:
 @tagged("function", "field")
 @dataclass
 class FunctionItem:
+    """A function of a world itself."""
+
     function: Function
 
 
 @tagged("type")
 @dataclass
 class TypeItem:
+    """A type of a world itself."""
+
     id: TypeId
     span: Optional[Span] = None
 
@@ -317,12 +367,16 @@ WorldItem = Union[InterfaceItem, FunctionItem, TypeItem]
 
 @dataclass
 class IncludeName:
+    """A label of an included world, and the one that it gets."""
+
     name: str
     new: str
 
 
 @dataclass
 class WorldInclude:
+    """A world that another one includes."""
+
     id: WorldId
     names: list[IncludeName] = field(default_factory=list)
     stability: Optional[Stability] = None
@@ -331,6 +385,8 @@ class WorldInclude:
 
 @dataclass
 class World:
+    """A world; one of a graph has no includes."""
+
     name: str
     imports: dict[str, WorldItem] = field(default_factory=dict)
     exports: dict[str, WorldItem] = field(default_factory=dict)
@@ -346,6 +402,8 @@ class World:
 
 @dataclass
 class Package:
+    """A package of a graph."""
+
     name: str
     docs: Optional[str] = None
     interfaces: dict[str, InterfaceId] = field(default_factory=dict)
@@ -370,12 +428,17 @@ class UnresolvedPackage:
 
 @dataclass
 class Source:
+    """A file."""
+
     path: str
     text: str
 
 
 @dataclass
 class UnresolvedPackageGroup:
+    """A package, those that are nested in its files, and the files. A span is a position in the files, one behind the other, each of
+    which takes its bytes and one more."""
+
     main: UnresolvedPackage
     nested: list[UnresolvedPackage] = field(default_factory=list)
     sources: list[Source] = field(default_factory=list)
@@ -393,22 +456,28 @@ class Resolve:
     all_features: bool = False
     source_names: list[str] = field(default_factory=list)
 
+    @property
+    def package_names(self) -> dict[str, PackageId]:
+        """The packages by their names."""
+        return {it.name: PackageId(n) for n, it in enumerate(self.packages)}
+
     def id_of(self, id: InterfaceId) -> Optional[str]:
         """The full name of an interface, `namespace:package/name@1.0.0`, where it has one."""
         interface = self.interfaces[id]
         if interface.package is None or interface.name is None:
             return None
-        name, at, version = self.packages[interface.package].name.partition("@")
-        return f"{name}/{interface.name}{at}{version}"
+        return self.id_of_name(interface.package, interface.name)
+
+    def id_of_name(self, package: PackageId, name: str) -> str:
+        """The full name of an interface or a world of a package, `namespace:package/name@1.0.0`."""
+        base, at, version = self.packages[package].name.partition("@")
+        return f"{base}/{name}{at}{version}"
 
     def entry_name(self, key: str, item: WorldItem) -> str:
         """What an entry of a world is called: a label, or the full name of an interface."""
         if isinstance(item, InterfaceItem) and key == f"interface-{item.id}":
             return self.id_of(item.id) or key
         return key
-
-    def package_named(self, name: str) -> Optional[PackageId]:
-        return next((PackageId(n) for n, it in enumerate(self.packages) if it.name == name), None)
 
 
 # Commands
@@ -417,24 +486,32 @@ class Resolve:
 @tagged("add-feature", "field")
 @dataclass
 class AddFeature:
+    """Turns a feature on: `Done`."""
+
     name: str
 
 
 @tagged("set-all-features", "field")
 @dataclass
 class SetAllFeatures:
+    """Turns all features on, or off but for those that were added: `Done`."""
+
     all: bool
 
 
 @tagged("set-track-rule", "field")
 @dataclass
 class SetTrackRule:
+    """Says which versions are of one track: `Done`."""
+
     rule: str  # "published" or "with-prereleases"
 
 
 @tagged("push-groups")
 @dataclass
 class PushGroups:
+    """Adds groups of packages, all or none: `Pushed`."""
+
     main: UnresolvedPackageGroup
     deps: list[UnresolvedPackageGroup] = field(default_factory=list)
 
@@ -442,7 +519,7 @@ class PushGroups:
 @tagged("merge", "field")
 @dataclass
 class MergeGraph:
-    """Carries out commands on an empty graph, and merges that into this one."""
+    """Carries out commands on an empty graph, and merges that into this one: `Merge`."""
 
     commands: list[Any]
 
@@ -450,6 +527,8 @@ class MergeGraph:
 @tagged("importize")
 @dataclass
 class Importize:
+    """Makes the exports of a world its imports: `Done` or `NoWorld`."""
+
     package: str
     world: str
     out: Optional[str] = None
@@ -458,6 +537,8 @@ class Importize:
 @tagged("exportize")
 @dataclass
 class Exportize:
+    """Makes imports of a world its exports: `Done` or `NoWorld`."""
+
     package: str
     world: str
     out: Optional[str] = None
@@ -467,6 +548,8 @@ class Exportize:
 @tagged("semver")
 @dataclass
 class Semver:
+    """Leaves of a world's imports the newest version on each track: `Done` or `NoWorld`."""
+
     package: str
     world: str
 
@@ -474,6 +557,8 @@ class Semver:
 @tagged("select")
 @dataclass
 class Select:
+    """Which world a name chooses among main packages: `WorldReply`."""
+
     packages: list[str]
     world: Optional[str] = None
 
@@ -481,12 +566,16 @@ class Select:
 @tagged("package-dependencies")
 @dataclass
 class PackageDependencies:
+    """On which packages a package depends directly: `Packages`."""
+
     package: str
 
 
 @tagged("interface-dependencies")
 @dataclass
 class InterfaceDependencies:
+    """On which interfaces an interface depends directly: `Interfaces`."""
+
     package: str
     interface: str
 
@@ -494,12 +583,14 @@ class InterfaceDependencies:
 @tagged("package-order", "alone-tag")
 @dataclass
 class PackageOrder:
-    pass
+    """All packages, each behind those that it depends on: `Packages`."""
 
 
 @tagged("canonical-id")
 @dataclass
 class CanonicalId:
+    """The id of an interface or a world with its track for a version: `Text`."""
+
     package: str
     name: str
 
@@ -507,6 +598,8 @@ class CanonicalId:
 @tagged("core-names")
 @dataclass
 class CoreNamesOf:
+    """The names in core wasm of what a world imports and exports: `CoreNames`."""
+
     package: str
     world: str
     mangling: str  # "standard32", "legacy-sync", "legacy-async-callback" or "legacy-async-stackful"
@@ -515,6 +608,8 @@ class CoreNamesOf:
 @tagged("futures-and-streams", "field")
 @dataclass
 class FuturesAndStreams:
+    """The futures and streams of a function: `Types`."""
+
     place: dict[str, dict[str, str]]  # {"import": {"package": .., "name": .., "function": ..}}
 
 
@@ -524,30 +619,40 @@ class FuturesAndStreams:
 @tagged("done", "alone-tag")
 @dataclass
 class Done:
-    pass
+    """It is carried out."""
 
 
 @tagged("no-world", "alone-tag")
 @dataclass
 class NoWorld:
-    pass
+    """The package has no such world."""
 
 
 @tagged("not-found", "alone-tag")
 @dataclass
 class NotFound:
-    pass
+    """What a question names isn't there."""
+
+
+class ShapeFault(Exception):
+    """A pushed package hasn't the shape that it must have."""
 
 
 @tagged("not-shaped", "alone-tag")
 @dataclass
 class NotShaped:
-    pass
+    """A package hasn't its shape, and nothing is added."""
+
+    @property
+    def fault(self) -> ShapeFault:
+        return ShapeFault("a package hasn't the shape that it must have")
 
 
 @tagged("pushed", "field")
 @dataclass
 class Pushed:
+    """The main package that was added."""
+
     id: PackageId
 
 
@@ -572,6 +677,8 @@ class Refusal(Exception):
 
 @dataclass
 class RefusedError:
+    """Why a command is refused."""
+
     number: int
     cause: str
     text: str
@@ -595,35 +702,47 @@ class Refused:
 @tagged("world", "field")
 @dataclass
 class WorldReply:
+    """A world."""
+
     id: WorldId
 
 
 @tagged("packages", "field")
 @dataclass
 class Packages:
+    """Packages."""
+
     ids: list[PackageId]
 
 
 @tagged("interfaces", "field")
 @dataclass
 class Interfaces:
+    """Interfaces."""
+
     ids: list[InterfaceId]
 
 
 @tagged("types", "field")
 @dataclass
 class Types:
+    """Types."""
+
     ids: list[TypeId]
 
 
 @tagged("text", "field")
 @dataclass
 class Text:
+    """A text."""
+
     text: str
 
 
 @dataclass
 class CoreImport:
+    """A function that a world imports, with the module and the name under which core wasm imports it."""
+
     interface: Optional[str]
     function: str
     module: str
@@ -632,6 +751,8 @@ class CoreImport:
 
 @dataclass
 class CoreExport:
+    """A function that a world exports, with the name under which core wasm exports it."""
+
     interface: Optional[str]
     function: str
     name: str
@@ -640,6 +761,8 @@ class CoreExport:
 @tagged("core-names")
 @dataclass
 class CoreNames:
+    """The functions that a world imports and exports, with their names in core wasm."""
+
     imports: list[CoreImport]
     exports: list[CoreExport]
 
@@ -662,11 +785,13 @@ Reply = Union[Plain, Merge]
 
 
 def accepted(reply: Reply) -> Reply:
-    """The reply; of a merge its own. Raises the `Refusal` that it is."""
+    """The reply; of a merge its own. Raises the `Refusal` or the `ShapeFault` that it is."""
     if isinstance(reply, Merge):
         return accepted(reply.reply)
     if isinstance(reply, Refused):
         raise reply.refusal
+    if isinstance(reply, NotShaped):
+        raise reply.fault
     return reply
 
 
@@ -791,29 +916,29 @@ def read_object(cls, members: dict[str, Any]) -> Any:
     return cls(**parts)
 
 
+GRAPH_LISTS = ("worlds", "interfaces", "types", "packages")
+
+
 def graph_of(whole: dict[str, Any]) -> Resolve:
-    """A graph, with what stands beside it put where it belongs."""
-    graph, details, features = whole["graph"], whole["details"], whole["features"]
+    """The graph of a member `resolve`, with what stands beside it put where it belongs; all but `graph` may lack."""
+    graph, details = whole["graph"], whole.get("details", {})
+    features = whole.get("features", {"all": False, "names": []})
     made = Resolve(
-        *(from_json(list[it], graph[name]) for it, name in zip((World, Interface, TypeDef, Package), graph_lists())),
-        features["names"], features["all"], whole["files"],
+        *(from_json(list[it], graph[name]) for it, name in zip((World, Interface, TypeDef, Package), GRAPH_LISTS)),
+        features["names"], features["all"], whole.get("files", []),
     )  # fmt: skip
-    for world, more in zip(made.worlds, details["worlds"]):
+    for world, more in zip(made.worlds, details.get("worlds", [])):
         world.span = span_of(more)
         for entries, of in ((world.imports, more["imports"]), (world.exports, more["exports"])):
             for key, item in entries.items():
                 add_details(item.function if isinstance(item, FunctionItem) else item, of.get(key, {}))
-    for interface, more in zip(made.interfaces, details["interfaces"]):
+    for interface, more in zip(made.interfaces, details.get("interfaces", [])):
         interface.span = span_of(more)
         for name, function in interface.functions.items():
             add_details(function, more["functions"].get(name, {}))
-    for ty, more in zip(made.types, details["types"]):
+    for ty, more in zip(made.types, details.get("types", [])):
         add_details(ty, more)
     return made
-
-
-def graph_lists() -> tuple[str, ...]:
-    return "worlds", "interfaces", "types", "packages"
 
 
 def span_of(more: dict[str, Any]) -> Optional[Span]:
@@ -838,23 +963,82 @@ def parts_of(thing: Any) -> list:
     return kind.fields if isinstance(kind, Record) else kind.flags if isinstance(kind, Flags) else []
 
 
+def whole_of(graph: Resolve) -> dict[str, Any]:
+    """A graph as the member `resolve` of what comes out: in the layout of `wasm-tools component wit --json`, with what that
+    leaves out beside it."""
+    made = {name: to_json(getattr(graph, name)) for name in GRAPH_LISTS}
+    return {
+        "graph": made,
+        "details": {
+            "worlds": [take_world(it) for it in made["worlds"]],
+            "interfaces": [take_functions(it) | taken(it) for it in made["interfaces"]],
+            "types": [take_parts(it) | taken(it) for it in made["types"]],
+        },
+        "features": {"all": graph.all_features, "names": graph.features},
+        "files": graph.source_names,
+    }
+
+
+def taken(thing: dict[str, Any], *names: str) -> dict[str, Any]:
+    """The members that the layout leaves out, which are taken away."""
+    return {name: thing.pop(name) for name in ("span", "external-id", *names) if name in thing}
+
+
+def take_world(world: dict[str, Any]) -> dict[str, Any]:
+    del world["includes"]
+    sides = {side: {key: take_item(item) for key, item in world[side].items()} for side in ("imports", "exports")}
+    return sides | taken(world)
+
+
+def take_item(item: dict[str, Any]) -> dict[str, Any]:
+    if "function" in item:
+        return take_params(item["function"])
+    if "interface" in item:
+        return taken(item["interface"], "docs")
+    more = taken(item["type"])
+    item["type"] = item["type"]["id"]
+    return more
+
+
+def take_functions(interface: dict[str, Any]) -> dict[str, Any]:
+    return {"functions": {name: take_params(it) for name, it in interface["functions"].items()}}
+
+
+def take_params(function: dict[str, Any]) -> dict[str, Any]:
+    return {"params": [it.pop("span", None) for it in function["params"]]} | taken(function)
+
+
+def take_parts(ty: dict[str, Any]) -> dict[str, Any]:
+    kind = ty["kind"]
+    word = next(iter(kind)) if isinstance(kind, dict) else kind
+    if word not in ("record", "variant", "enum", "flags"):
+        return {}
+    (parts,) = kind[word].values()
+    return {"parts": [it.pop("span", None) for it in parts]}
+
+
 # Calls
+
+
+def path_text(path: list[Union[str, int]]) -> str:
+    """The names and the numbers that lead to a value: `commands[0].select`, say."""
+    return "".join(f"[{it}]" if isinstance(it, int) else f".{it}" for it in path).removeprefix(".")
 
 
 class Fault(Exception):
     """A document of commands that can't be read: `path`, `offset` and what was `expected` there."""
 
-    def __init__(self, path: list, offset: int, expected: str):
-        super().__init__(f"expected {expected} at byte {offset}, at {'.'.join(map(str, path))}")
+    def __init__(self, path: list[Union[str, int]], offset: int, expected: str):
+        super().__init__(f"expected {expected} at byte {offset}, at {path_text(path)}")
         self.path, self.offset, self.expected = path, offset, expected
 
 
 class NotUnderstood(Exception):
-    """A script of which this line isn't understood; nothing of it was run."""
+    """A script of which a line isn't understood: its number, and what is told of it. Nothing of it was run."""
 
-    def __init__(self, line: int):
-        super().__init__(f"line {line}: not understood")
-        self.line = line
+    def __init__(self, line: int, text: str):
+        super().__init__(text)
+        self.line, self.text = line, text
 
 
 def document_of(commands: list[Any]) -> bytes:
@@ -904,7 +1088,8 @@ class Library:
     def _script(self, name: str, script: str) -> str:
         status, output = self._call(name, script.encode())
         if status == NOT_UNDERSTOOD:
-            raise NotUnderstood(int(output.split()[1].rstrip(b":")))
+            told = output.decode().rstrip()
+            raise NotUnderstood(int(told.split()[1].rstrip(":")), told)
         return output.decode()
 
     def execute(self, script: str) -> str:
@@ -912,7 +1097,7 @@ class Library:
         return self._script("witgraph_execute", script)
 
     def explain(self, script: str) -> str:
-        """The refusals of a script, each with its line. Raises `NotUnderstood`."""
+        """The refusals of a script, each with its lines. Raises `NotUnderstood`."""
         return self._script("witgraph_explain", script)
 
 
@@ -933,12 +1118,12 @@ def execute(script: str) -> str:
 
 
 def explain(script: str) -> str:
-    """The refusals of a script, each with its line. Raises `NotUnderstood`."""
+    """The refusals of a script, each with its lines. Raises `NotUnderstood`."""
     return library().explain(script)
 
 
 def run_by(program: str, commands: list[Any]) -> Run:
-    """Carries out commands on an empty graph, by a build of the program `witgraph_json`."""
+    """As `run`, by a build of the program `witgraph_json`."""
     ran = subprocess.run([program], input=document_of(commands), stdout=subprocess.PIPE, check=False)
     if not ran.stdout:
         raise MemoryError("witgraph: memory was refused")

@@ -1,15 +1,19 @@
-//! Tells cargo where the static library is, and the toolchain's part that gets memory for it.
+//! Tells cargo where the static library is, and the toolchain's part that gets memory for it. Without the feature
+//! `library` there is nothing to tell.
 //!
 //! `WITGRAPH_LIBRARY` is the folder of `libwitgraph_c.a`: where it isn't set, that in which `rt lib` builds it.
 //! `WITGRAPH_HEAP` is the folder of the toolchain's `liblibc_c.a`: where it isn't set, `rt doc` is asked, which prints
 //! the path of a page at the top of the toolchain.
 
 use std::env;
-use std::fs;
 use std::path::{Path, PathBuf};
 use std::process::Command;
 
 fn main() {
+    println!("cargo:rerun-if-changed=build.rs");
+    if env::var_os("CARGO_FEATURE_LIBRARY").is_none() {
+        return;
+    }
     let here = PathBuf::from(env::var_os("CARGO_MANIFEST_DIR").expect("cargo sets it"));
     let library =
         folder("WITGRAPH_LIBRARY").unwrap_or_else(|| here.join("../../crates/witgraph_c/out"));
@@ -17,22 +21,14 @@ fn main() {
     link(
         &library,
         "witgraph_c",
-        "build it by `rt lib` in crates/witgraph_c, or set WITGRAPH_LIBRARY",
+        "build it by `tools/trial-build witgraph_c /tmp/libwitgraph_c.a` and set WITGRAPH_LIBRARY=/tmp, \
+         or by `rt lib` in crates/witgraph_c",
     );
-    if has_json(&library.join("libwitgraph_c.a")) {
-        println!("cargo:rustc-cfg=witgraph_json");
-    }
     link(
         &heap,
         "libc_c",
         "set WITGRAPH_HEAP to the folder `c` of the toolchain",
     );
-}
-
-/// Whether the library has the call `witgraph_json`.
-fn has_json(archive: &Path) -> bool {
-    let name = b"witgraph_json";
-    fs::read(archive).is_ok_and(|bytes| bytes.windows(name.len()).any(|it| it == name))
 }
 
 /// A folder that the environment names.

@@ -1,17 +1,42 @@
 """Random documents of docs/JSON.md: packages in groups and nested, in several versions, and what is done with them:
-merges, transformations, semver merges and questions.
+merges, transformations, semver merges and questions. Packages are those of random_packages.py or of random_texts.py.
 """
 from random_packages import FEATURES, INTERFACES, LABELS, VERSIONS, WORLDS, Chances, File, Package
+from random_texts import TextGroup
 
 PACKAGES = ["a:x", "a:y", "b:z", "c:w"]
 
 
-class Graph:
-    """Commands on one graph, and what is in it."""
+class MadeGroup:
+    """A group of packages that are made as JSON, and are of one file."""
 
-    def __init__(self, chances, seeds, less=0.0):
-        self.chances, self.seeds, self.less = chances, seeds, less
+    def __init__(self, graph, name):
+        self.graph, self.file, self.packages = graph, File(graph.chances, f"{name}.wit"), []
+
+    def add(self, name, known):
+        """Adds a package. Answers what packages made later can name of it."""
+        graph = self.graph
+        made = Package(graph.seed_of(name), name, known, self.file, graph.less, graph.features, graph.chances)
+        self.packages.append(made)
+        return made.known_parts()
+
+    def document(self):
+        main, *nested = [it.document() for it in self.packages]
+        sources = [{"path": self.file.path, "text": self.file.text}]
+        sources += [{"path": "more.wit", "text": "x\n"}] * self.graph.chances.may(0.1)
+        return {"main": main, "nested": nested, "sources": sources}
+
+
+class Graph:
+    """Commands on one graph, and what is in it. `seeds` and `texts` are those of the document, `texts` where packages
+    are to be texts of WIT."""
+
+    def __init__(self, chances, seeds, texts=None, less=0.0):
+        self.chances, self.seeds, self.texts, self.less = chances, seeds, texts, less
         self.known, self.commands, self.features = {}, [], []
+
+    def seed_of(self, name):
+        return self.seeds.setdefault(name.partition("@")[0], self.chances.random.random())
 
     def set_features(self):
         for it in FEATURES:
@@ -25,19 +50,11 @@ class Graph:
         """Pushes packages, some of them nested in the group of another."""
         groups, known = [], dict(self.known)
         for name in names:
-            is_nested = bool(groups) and self.chances.may(0.25)
-            file = groups[-1]["file"] if is_nested else File(self.chances, f"{name}.wit")
-            seed = self.seeds.setdefault(name.partition("@")[0], self.chances.random.random())
-            made = Package(seed, name, known, file, self.less, self.features, self.chances)
-            known = known | {name: made.known_parts()}
-            if is_nested:
-                groups[-1]["nested"].append(made.document())
-            else:
-                sources = [{"path": file.path, "text": file.text}]
-                sources += [{"path": "more.wit", "text": "x\n"}] * self.chances.may(0.1)
-                groups.append({"main": made.document(), "nested": [], "sources": sources, "file": file})
+            if not groups or not self.chances.may(0.25):
+                groups.append((MadeGroup if self.texts is None else TextGroup)(self, name))
+            known[name] = groups[-1].add(name, known)
         self.known = known
-        groups = [{key: it for key, it in of.items() if key != "file"} for of in groups]
+        groups = [it.document() for it in groups]
         self.chances.random.shuffle(groups)
         self.commands.append({"push-groups": {"main": groups[0], "deps": groups[1:]}})
 
@@ -116,10 +133,10 @@ def package_names(chances):
     return names
 
 
-def document(number):
-    """The document of a number."""
-    chances, seeds = Chances("document", number), {}
-    graph, names = Graph(chances, seeds), package_names(chances)
+def document(number, are_texts=False):
+    """The document of a number, whose packages are made as JSON or as texts of WIT."""
+    chances, seeds = Chances("texts" if are_texts else "document", number), {}
+    graph, names = Graph(chances, seeds, {} if are_texts else None), package_names(chances)
     graph.set_features()
     graph.push_some(names)
     for _ in chances.some(0, 4):
@@ -129,15 +146,16 @@ def document(number):
         elif kind < 0.75:
             graph.ask()
         else:
-            merge(chances, graph, seeds, names)
+            merge(graph, names)
     for _ in chances.some(0, 2):
         graph.ask()
     return {"commands": graph.commands}
 
 
-def merge(chances, graph, seeds, names):
+def merge(graph, names):
     """Another graph of some of the packages, and maybe others, that is merged into the first."""
-    other = Graph(chances, seeds, chances.one([0, 0, 0.1]))
+    chances = graph.chances
+    other = Graph(chances, graph.seeds, graph.texts, chances.one([0, 0, 0.1]))
     other.features = [it for it in FEATURES if it in graph.features or chances.may(0.15)]
     other.commands = [{"add-feature": it} for it in other.features]
     kept = [it for it in names if chances.may(0.7)] + [it for it in package_names(chances) if it not in names][:2]

@@ -1,11 +1,11 @@
 #!/usr/bin/env python3
-"""Compares `witgraph_json` with wit-parser itself (check/whole/original) on random documents, in all that both write.
+"""Compares `witgraph_json` with wit-parser itself (check/original) on random documents, in all that both write.
 
     python3 check/whole/whole.py PATH/TO/witgraph_json PATH/TO/witgraph-original [--first N] [--many N] [--jobs N]
     python3 check/whole/whole.py PATH/TO/witgraph_json PATH/TO/witgraph-original DOCUMENT..
 
-With `--scripts` documents are those of random scripts of bench/compare.py, with `--stored` those of a file of cases;
-files with documents may be named.
+With `--texts` packages are texts of WIT, read by tools/wit2json.py. With `--scripts` documents are those of random scripts
+of bench/compare.py, with `--stored` those of a file of cases; files with documents may be named.
 
 Replies are compared with texts, spans and how they are shown, graphs in all data (check/whole/graphs.py says what is
 free), of the second graphs of merges, too. Where the two differ the tool tells of which row of docs/DIFFERENCES.md that
@@ -263,6 +263,7 @@ def main():
     parser.add_argument("program")
     parser.add_argument("original")
     parser.add_argument("documents", nargs="*")
+    parser.add_argument("--texts", action="store_true")
     parser.add_argument("--scripts", action="store_true")
     parser.add_argument("--stored")
     parser.add_argument("--first", type=int, default=1)
@@ -270,7 +271,9 @@ def main():
     parser.add_argument("--jobs", type=int, default=1)
     asked = parser.parse_args()
     names = asked.documents or range(asked.first, asked.first + asked.many)
-    made = file_document if asked.documents else script_document if asked.scripts else document
+    made = functools.partial(document, are_texts=asked.texts)
+    if asked.documents or asked.scripts:
+        made = file_document if asked.documents else script_document
     if asked.stored:
         names, made = case_names(asked.stored), functools.partial(case_document, path=asked.stored)
     tell = functools.partial(told, programs=(asked.program, asked.original), made=made)

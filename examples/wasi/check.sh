@@ -3,10 +3,12 @@
 #
 # Makes the scripts of the packages anew from the texts in wit, and what the tool tells of them (notes.txt). Runs the
 # program on each walk-through, and asks the model of the rules (bench/model), too. Compares the cases of
-# crates/witgraph_cases. Names what differs, and then ends with status 1. With --store it is stored, but for the cases.
+# crates/test_cases. Names what differs, and then ends with status 1. With --store it is stored, but for the cases.
 #
 # Where WITGRAPH_JSON is the path of a build of witgraph_json, that runs the walk-throughs with nothing substituted, and its
 # graph of all packages is compared with the texts.
+#
+# Where OBJECTS has paths of objects with published worlds (compare_object.py), that graph is compared with them, too.
 #
 # Where ORIGINAL is the path of the original that reads scripts (bench/original.py), that is asked too; it answers the
 # same but for the numbers of refusals, which it doesn't have.
@@ -28,7 +30,7 @@ same() {
 
 # the case of a name: its script, a line ---, and its answers
 case_of() {
-    awk -v name="=== wasi-$1" '/^=== / { inside = $0 == name; next } inside' ../../crates/witgraph_cases/stdin
+    awk -v name="=== wasi-$1" '/^=== / { inside = $0 == name; next } inside' ../../crates/test_cases/stdin
 }
 
 for version in 0.2.0 0.2.3; do
@@ -54,7 +56,7 @@ for walk in ${WITGRAPH_JSON:+features merge proxy tool}; do
     ./walk_json.py $walk "$WITGRAPH_JSON" | cmp -s - $walk.out || { echo "$walk: witgraph_json answers otherwise"; status=1; }
 done
 if [ -n "${WITGRAPH_JSON:-}" ]; then
-    ../../tools/wit2json.py wit/0.2.?/*.wit | "$WITGRAPH_JSON" | ./compare_graph.py 0.2.0 0.2.3 || status=1
+    ../../tools/wit2json.py wit/0.2.?/*.wit | "$WITGRAPH_JSON" | ./compare_graph.py 0.2.0 0.2.3 ${OBJECTS:-} || status=1
 fi
 for walk in ${ORIGINAL:+features merge proxy tool}; do
     sed 's/^refused [0-9]* /refused ? /' "$made/$walk.out" > "$made/expected"

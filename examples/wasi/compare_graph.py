@@ -1,17 +1,20 @@
 #!/usr/bin/env python3
-"""Compares a graph that came out of witgraph_json with the texts in `wit`: all types, functions and parameters.
+"""Compares a graph that came out of witgraph_json with the texts in `wit`, or with the published packages as an object
+file carries them: all types, functions and parameters.
 
-    tools/wit2json.py examples/wasi/wit/0.2.?/*.wit | PATH/TO/witgraph_json | examples/wasi/compare_graph.py 0.2.0 0.2.3
+    tools/wit2json.py examples/wasi/wit/0.2.?/*.wit | PATH/TO/witgraph_json | examples/wasi/compare_graph.py WHAT..
 
-Of each interface of these versions' packages its uses, its types with all their parts, and its functions with their
-parameters and results are written from the graph, and from the text by way of compare_object.py. What differs is shown
-as `diff` does, the text first, and the status is 1 then. What a feature gates is left out; functions of resources are
-compared before all others, wherever a text has them.
+Each WHAT is a version, as 0.2.0, or the path of an object (compare_object.py tells where one is). Of each interface there
+its uses, its types with all their parts, and its functions with their parameters and results are written from the graph,
+and from the text or the object by way of compare_object.py; of an object's world also what it imports and exports, in
+order. What differs is shown as `diff` does, the graph last, and the status is 1 then. What a feature gates is left out;
+functions of resources are compared before all others, wherever a text has them.
 """
 import json
+import os
 import sys
 
-from compare_object import differs, texts_of
+from compare_object import differs, texts_of, world_of
 
 
 class Graph:
@@ -68,23 +71,42 @@ class Graph:
         parameters = ", ".join(f"{param['name']}: {self.type(param['type'])}" for param in it["params"])
         return f"{it['name']}: func({parameters})" + (f" -> {self.type(it['result'])}" if "result" in it else "")
 
+    def entries(self, world):
+        """What a world imports and exports, in order."""
+        sides = (("import", world["imports"]), ("export", world["exports"]))
+        return [f"{word} {self.entry(*it)}" for word, entries in sides for it in entries.items()]
+
+    def entry(self, key, item):
+        id = item.get("interface", {}).get("id")
+        return self.name_of(self.graph["interfaces"][id]) if key == f"interface-{id}" else key
+
     def lines(self, interface):
         functions = sorted(interface["functions"].values(), key=lambda it: not it["name"].startswith("["))
         definitions = [self.definition(name, id) for name, id in interface["types"].items()]
         return [*definitions, *map(self.function, functions)]
 
 
-def main(*versions):
+def found_there(what):
+    """The lines of each interface and world, of a version's texts or of an object."""
+    if not os.path.isfile(what):
+        return texts_of(what)
+    world, entries = world_of(what)
+    found = {name: scope.entries for _, name, scope in entries}
+    return found | {world: [f"{word} {name}" for word, name, _ in entries]}
+
+
+def main(*asked):
     graph = Graph(json.load(sys.stdin)["resolve"]["graph"])
     found = {graph.name_of(it): graph.lines(it) for it in graph.graph["interfaces"] if it["name"]}
+    found |= {graph.name_of(it): graph.entries(it) for it in graph.graph["worlds"]}
     count = lines = 0
-    for version in versions:
-        texts = texts_of(version)
-        for name, text in texts.items():
+    for what in asked:
+        there = found_there(what)
+        for name, text in there.items():
             count += differs(name, text, found.get(name, []))
             lines += len(text)
-        print(f"{version}: {len(texts)} interfaces")
-    print(f"{lines} types and functions, {count} interfaces differ")
+        print(f"{what}: {len(there)} interfaces and worlds")
+    print(f"{lines} types, functions and entries, {count} interfaces and worlds differ")
     return 1 if count else 0
 
 

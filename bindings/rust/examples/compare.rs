@@ -6,7 +6,7 @@
 //!
 //! PROGRAM reads a script from standard input and writes its answers, as `witgraph` does: for instance the original
 //! `Resolve` of wit-parser behind a reader of the same scripts, where who leaves wit-parser sees what changes. A file of
-//! SCRIPTS is one script, or several below lines `=== NAME`; without any, those of `crates/witgraph_cases` are run.
+//! SCRIPTS is one script, or several below lines `=== NAME`; without any, those of `crates/test_cases` are run.
 //!
 //! The numbers of refusals are not compared, since wit-parser has none: `refused N TEXT` is `refused TEXT`. Lines
 //! `tracks ..` are left out for PROGRAM, since wit-parser has one rule of tracks, `published`.
@@ -53,7 +53,7 @@ fn asked() -> Outcome<Asked> {
     }
     if asked.files.is_empty() {
         let worked =
-            Path::new(env!("CARGO_MANIFEST_DIR")).join("../../crates/witgraph_cases/stdin");
+            Path::new(env!("CARGO_MANIFEST_DIR")).join("../../crates/test_cases/stdin");
         asked.files.push(worked.to_string_lossy().into_owned());
     }
     Ok(asked)

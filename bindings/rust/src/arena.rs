@@ -134,6 +134,11 @@ impl<T> Arena<T> {
         std::mem::take(&mut self.items)
     }
 
+    /// All things, in order.
+    pub(crate) fn into_items(self) -> impl Iterator<Item = T> {
+        self.items.into_iter()
+    }
+
     /// All things, to be changed.
     pub(crate) fn items_mut(&mut self) -> impl Iterator<Item = &mut T> {
         self.items.iter_mut()

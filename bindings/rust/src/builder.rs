@@ -261,11 +261,26 @@ impl PackageBuilder {
     ///
     /// Where the interface is of this package and has no such type.
     pub fn use_type(&mut self, owner: impl Into<TypeOwner>, from: InterfaceId, name: &str) -> Type {
+        self.use_type_as(owner, from, name, name)
+    }
+
+    /// Uses a type of an interface under another name.
+    ///
+    /// # Panics
+    ///
+    /// Where the interface is of this package and has no such type.
+    pub fn use_type_as(
+        &mut self,
+        owner: impl Into<TypeOwner>,
+        from: InterfaceId,
+        name: &str,
+        new: &str,
+    ) -> Type {
         let target = match self.package.interfaces[from].types.get(name) {
             Some(id) => *id,
             None => self.add_foreign_type(from, name),
         };
-        self.define(owner, name, TypeDefKind::Type(Type::Id(target)))
+        self.define(owner, new, TypeDefKind::Type(Type::Id(target)))
     }
 
     fn add_foreign_type(&mut self, from: InterfaceId, name: &str) -> TypeId {
@@ -358,22 +373,77 @@ impl PackageBuilder {
 
     // worlds
 
-    /// Imports an interface.
+    /// Imports an interface under its own name.
     pub fn import(&mut self, world: WorldId, interface: InterfaceId) -> &mut WorldItem {
-        let imports = &mut self.package.worlds[world].imports;
         let key = WorldKey::Interface(interface);
-        imports
-            .entry(key)
-            .or_insert(WorldItem::interface(interface))
+        self.add_import(world, key, WorldItem::interface(interface))
     }
 
-    /// Exports an interface.
+    /// Exports an interface under its own name.
     pub fn export(&mut self, world: WorldId, interface: InterfaceId) -> &mut WorldItem {
-        let exports = &mut self.package.worlds[world].exports;
         let key = WorldKey::Interface(interface);
-        exports
-            .entry(key)
-            .or_insert(WorldItem::interface(interface))
+        self.add_export(world, key, WorldItem::interface(interface))
+    }
+
+    /// Imports an interface under a label: one with a name, or an inline one.
+    ///
+    /// ```
+    /// use witgraph::{Function, FunctionKind, PackageBuilder, WorldKey};
+    ///
+    /// let mut package = PackageBuilder::new("shop:orders".parse()?);
+    /// let world = package.world("shop");
+    /// let log = package.inline_interface();
+    /// package.function(log, "say", [], None);
+    /// package.import_as(world, "log", log);
+    /// package.export_function(world, Function::new("run", FunctionKind::Freestanding, vec![], None));
+    ///
+    /// let made = package.finish();
+    /// let (_, world) = made.worlds.iter().next().expect("a world");
+    /// assert!(world.imports.contains_key(&WorldKey::Name("log".to_owned())));
+    /// assert!(world.exports.contains_key(&WorldKey::Name("run".to_owned())));
+    /// # Ok::<(), witgraph::NotAPackageName>(())
+    /// ```
+    pub fn import_as(
+        &mut self,
+        world: WorldId,
+        label: impl Into<String>,
+        interface: InterfaceId,
+    ) -> &mut WorldItem {
+        let key = WorldKey::Name(label.into());
+        self.add_import(world, key, WorldItem::interface(interface))
+    }
+
+    /// Exports an interface under a label: one with a name, or an inline one.
+    pub fn export_as(
+        &mut self,
+        world: WorldId,
+        label: impl Into<String>,
+        interface: InterfaceId,
+    ) -> &mut WorldItem {
+        let key = WorldKey::Name(label.into());
+        self.add_export(world, key, WorldItem::interface(interface))
+    }
+
+    /// Imports a function of the world itself.
+    pub fn import_function(&mut self, world: WorldId, function: Function) -> &mut WorldItem {
+        let key = WorldKey::Name(function.name.clone());
+        self.add_import(world, key, WorldItem::Function(function))
+    }
+
+    /// Exports a function of the world itself.
+    pub fn export_function(&mut self, world: WorldId, function: Function) -> &mut WorldItem {
+        let key = WorldKey::Name(function.name.clone());
+        self.add_export(world, key, WorldItem::Function(function))
+    }
+
+    fn add_import(&mut self, world: WorldId, key: WorldKey, item: WorldItem) -> &mut WorldItem {
+        let imports = &mut self.package.worlds[world].imports;
+        imports.entry(key).or_insert(item)
+    }
+
+    fn add_export(&mut self, world: WorldId, key: WorldKey, item: WorldItem) -> &mut WorldItem {
+        let exports = &mut self.package.worlds[world].exports;
+        exports.entry(key).or_insert(item)
     }
 
     /// Includes another world.
@@ -395,7 +465,7 @@ impl PackageBuilder {
         &mut self.package.interfaces[id]
     }
 
-    /// A world, to add what the builder has no call for: labels, functions of its own.
+    /// A world, to add what the builder has no call for.
     pub fn world_mut(&mut self, id: WorldId) -> &mut World {
         &mut self.package.worlds[id]
     }

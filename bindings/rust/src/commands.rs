@@ -99,10 +99,11 @@ pub enum Command {
 }
 
 /// Which versions are of one track.
-#[derive(Clone, Copy, Debug, PartialEq, Eq, Hash, Serialize, Deserialize)]
+#[derive(Clone, Copy, Debug, Default, PartialEq, Eq, Hash, Serialize, Deserialize)]
 #[serde(rename_all = "kebab-case")]
 pub enum TrackRule {
     /// As the component model says: a prerelease is on no track.
+    #[default]
     Published,
     /// Prereleases are on the tracks of their versions.
     WithPrereleases,
@@ -111,11 +112,14 @@ pub enum TrackRule {
 /// By which rules names of core wasm are made.
 #[derive(Clone, Copy, Debug, PartialEq, Eq, Hash, Serialize, Deserialize)]
 #[serde(rename_all = "kebab-case")]
-#[allow(missing_docs)]
 pub enum Mangling {
+    /// The names of the component model for 32-bit memories: `cm32p2|..`.
     Standard32,
+    /// The names of before, all calls synchronous.
     LegacySync,
+    /// The names of before, async calls by a callback.
     LegacyAsyncCallback,
+    /// The names of before, async calls with stacks of their own.
     LegacyAsyncStackful,
 }
 
@@ -133,10 +137,12 @@ pub enum FunctionPlace {
 
 /// The name of a function with that of its interface or world.
 #[derive(Clone, Debug, PartialEq, Eq, Hash, Serialize, Deserialize)]
-#[allow(missing_docs)]
 pub struct FunctionName {
+    /// The package.
     pub package: PackageName,
+    /// The interface or the world.
     pub name: String,
+    /// The function.
     pub function: String,
 }
 
@@ -151,7 +157,7 @@ pub enum Reply {
     NoWorld,
     /// What a question names isn't there.
     NotFound,
-    /// A package hasn't the shape that it must have.
+    /// A package hasn't the shape that it must have, and nothing is added.
     NotShaped,
     /// The main package that was added.
     Pushed(PackageId),
@@ -181,35 +187,97 @@ pub enum Reply {
 }
 
 impl Reply {
-    /// The reply, or the refusal that it is; of a merge its own.
+    /// The reply, of a merge the one to the merge itself; an error where the command changed nothing.
+    ///
+    /// ```
+    /// # use witgraph::{Command, CommandError, Reply};
+    /// let reply: Reply = serde_json::from_str(r#"{"refused": {"rendered": "World `v` not found in package `a:b`",
+    ///     "error": {"number": 26, "cause": "world-selection", "text": "World `v` not found in package `a:b`"}}}"#)?;
+    /// let Err(CommandError::Refused(refusal)) = reply.accepted() else { panic!() };
+    /// assert_eq!((refusal.number, refusal.cause.as_str()), (26, "world-selection"));
+    /// # Ok::<(), serde_json::Error>(())
+    /// ```
     ///
     /// # Errors
     ///
-    /// Where it is a refusal.
-    pub fn accepted(self) -> Result<Reply, Refusal> {
+    /// Where it is [`Reply::Refused`] or [`Reply::NotShaped`].
+    pub fn accepted(self) -> Result<Reply, CommandError> {
         match self {
-            Reply::Refused(refusal) => Err(refusal),
+            Reply::Refused(refusal) => Err(CommandError::Refused(refusal)),
+            Reply::NotShaped => Err(CommandError::NotShaped),
             Reply::Merge { reply, .. } => reply.accepted(),
             other => Ok(other),
         }
     }
 }
 
+/// Why a command changed nothing.
+#[derive(Clone, Debug, PartialEq, Eq)]
+pub enum CommandError {
+    /// It is refused.
+    Refused(Refusal),
+    /// It pushes a package that hasn't its shape.
+    NotShaped,
+}
+
+impl fmt::Display for CommandError {
+    fn fmt(&self, f: &mut fmt::Formatter<'_>) -> fmt::Result {
+        match self {
+            CommandError::Refused(refusal) => refusal.fmt(f),
+            CommandError::NotShaped => f.write_str("a package hasn't the shape that it must have"),
+        }
+    }
+}
+
+impl Error for CommandError {}
+
+/// The names and the numbers that lead to a value of a document: `commands[0].select`, say.
+#[derive(Clone, Debug, Default, PartialEq, Eq, Hash, Serialize, Deserialize)]
+#[serde(transparent)]
+pub struct JsonPath(pub Vec<JsonStep>);
+
+/// A step of a [`JsonPath`].
+#[derive(Clone, Debug, PartialEq, Eq, Hash, Serialize, Deserialize)]
+#[serde(untagged)]
+pub enum JsonStep {
+    /// To an element of a list.
+    Element(u64),
+    /// To a member of an object.
+    Member(String),
+}
+
+impl fmt::Display for JsonPath {
+    fn fmt(&self, f: &mut fmt::Formatter<'_>) -> fmt::Result {
+        for (at, step) in self.0.iter().enumerate() {
+            match step {
+                JsonStep::Element(number) => write!(f, "[{number}]")?,
+                JsonStep::Member(name) if at == 0 => f.write_str(name)?,
+                JsonStep::Member(name) => write!(f, ".{name}")?,
+            }
+        }
+        Ok(())
+    }
+}
+
 /// Where each thing of a merged graph stands: at its old place is its new id.
 #[derive(Clone, Debug, Default, PartialEq, Eq, Deserialize)]
-#[allow(missing_docs)]
 pub struct Remap {
+    /// Of each type; none where it is left out.
     pub types: Vec<Option<TypeId>>,
+    /// Of each interface.
     pub interfaces: Vec<Option<InterfaceId>>,
+    /// Of each world.
     pub worlds: Vec<Option<WorldId>>,
+    /// Of each package.
     pub packages: Vec<PackageId>,
 }
 
 /// The functions that a world imports and exports, with their names in core wasm.
 #[derive(Clone, Debug, Default, PartialEq, Eq, Deserialize)]
-#[allow(missing_docs)]
 pub struct CoreNames {
+    /// What it imports.
     pub imports: Vec<CoreImport>,
+    /// What it exports.
     pub exports: Vec<CoreExport>,
 }
 
@@ -241,7 +309,7 @@ pub struct CoreExport {
 #[derive(Clone, Debug, PartialEq, Eq, Deserialize)]
 #[serde(from = "Written")]
 pub struct Refusal {
-    /// Its number in docs/SCRIPT.md.
+    /// Its number in docs/REFUSALS.md.
     pub number: u32,
     /// The word for its cause.
     pub cause: String,

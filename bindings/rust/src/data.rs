@@ -2,7 +2,7 @@
 
 use crate::arena::Id;
 use crate::names::{Docs, Span, Stability};
-use crate::resolve::Package;
+use crate::resolve::{Package, Resolve};
 use indexmap::IndexMap;
 use serde::de::Error as _;
 use serde::{Deserialize, Deserializer, Serialize, Serializer};
@@ -18,22 +18,36 @@ pub type TypeId = Id<TypeDef>;
 
 /// What a value is of: a primitive of WIT, or a type of the list of types.
 #[derive(Clone, Copy, Debug, PartialEq, Eq, Hash)]
-#[allow(missing_docs)]
 pub enum Type {
+    /// `bool`.
     Bool,
+    /// `u8`.
     U8,
+    /// `u16`.
     U16,
+    /// `u32`.
     U32,
+    /// `u64`.
     U64,
+    /// `s8`.
     S8,
+    /// `s16`.
     S16,
+    /// `s32`.
     S32,
+    /// `s64`.
     S64,
+    /// `f32`.
     F32,
+    /// `f64`.
     F64,
+    /// `char`.
     Char,
+    /// `string`.
     String,
+    /// `error-context`.
     ErrorContext,
+    /// A type of the list.
     Id(TypeId),
 }
 
@@ -173,9 +187,10 @@ pub enum TypeDefKind {
 /// A handle of a resource: the resource itself, or a loan of it.
 #[derive(Clone, Copy, Debug, PartialEq, Eq, Hash, Serialize, Deserialize)]
 #[serde(rename_all = "kebab-case")]
-#[allow(missing_docs)]
 pub enum Handle {
+    /// `own<T>`, which may also be written `T`: the resource itself.
     Own(TypeId),
+    /// `borrow<T>`: a loan of it.
     Borrow(TypeId),
 }
 
@@ -188,13 +203,16 @@ pub struct Record {
 
 /// A field of a record.
 #[derive(Clone, Debug, PartialEq, Eq, Hash, Serialize, Deserialize)]
-#[allow(missing_docs)]
 pub struct Field {
+    /// Its name.
     pub name: String,
+    /// Its type.
     #[serde(rename = "type")]
     pub ty: Type,
+    /// Its documentation.
     #[serde(default, skip_serializing_if = "Docs::is_empty")]
     pub docs: Docs,
+    /// Where it stands.
     #[serde(default, skip_serializing_if = "Span::is_unknown")]
     pub span: Span,
 }
@@ -208,11 +226,13 @@ pub struct Flags {
 
 /// One of several flags.
 #[derive(Clone, Debug, PartialEq, Eq, Hash, Serialize, Deserialize)]
-#[allow(missing_docs)]
 pub struct Flag {
+    /// Its name.
     pub name: String,
+    /// Its documentation.
     #[serde(default, skip_serializing_if = "Docs::is_empty")]
     pub docs: Docs,
+    /// Where it stands.
     #[serde(default, skip_serializing_if = "Span::is_unknown")]
     pub span: Span,
 }
@@ -233,13 +253,16 @@ pub struct Variant {
 
 /// A case of a variant, with the type of its payload where it has one.
 #[derive(Clone, Debug, PartialEq, Eq, Hash, Serialize, Deserialize)]
-#[allow(missing_docs)]
 pub struct Case {
+    /// Its name.
     pub name: String,
+    /// The type of its payload, where it has one.
     #[serde(rename = "type")]
     pub ty: Option<Type>,
+    /// Its documentation.
     #[serde(default, skip_serializing_if = "Docs::is_empty")]
     pub docs: Docs,
+    /// Where it stands.
     #[serde(default, skip_serializing_if = "Span::is_unknown")]
     pub span: Span,
 }
@@ -253,20 +276,23 @@ pub struct Enum {
 
 /// A case of an enum.
 #[derive(Clone, Debug, PartialEq, Eq, Hash, Serialize, Deserialize)]
-#[allow(missing_docs)]
 pub struct EnumCase {
+    /// Its name.
     pub name: String,
+    /// Its documentation.
     #[serde(default, skip_serializing_if = "Docs::is_empty")]
     pub docs: Docs,
+    /// Where it stands.
     #[serde(default, skip_serializing_if = "Span::is_unknown")]
     pub span: Span,
 }
 
 /// What a result has where it is well, and where it isn't.
 #[derive(Clone, Debug, Default, PartialEq, Eq, Hash, Serialize, Deserialize)]
-#[allow(missing_docs)]
 pub struct Result_ {
+    /// What it has where it is well.
     pub ok: Option<Type>,
+    /// What it has where it isn't.
     pub err: Option<Type>,
 }
 
@@ -358,13 +384,22 @@ impl Function {
     }
 }
 
+impl Function {
+    /// The types of the parameters, in order, and then that of the result.
+    pub fn parameter_and_result_types(&self) -> impl Iterator<Item = Type> + '_ {
+        self.params.iter().map(|it| it.ty).chain(self.result)
+    }
+}
+
 /// A parameter of a function.
 #[derive(Clone, Debug, PartialEq, Eq, Serialize, Deserialize)]
-#[allow(missing_docs)]
 pub struct Param {
+    /// Its name.
     pub name: String,
+    /// Its type.
     #[serde(rename = "type")]
     pub ty: Type,
+    /// Where it stands.
     #[serde(default, skip_serializing_if = "Span::is_unknown")]
     pub span: Span,
 }
@@ -381,20 +416,32 @@ impl Param {
 /// Of which kind a function is.
 #[derive(Clone, Copy, Debug, PartialEq, Eq, Hash, Serialize, Deserialize)]
 #[serde(rename_all = "kebab-case")]
-#[allow(missing_docs)]
 pub enum FunctionKind {
+    /// A function of an interface or a world.
     Freestanding,
+    /// The same, `async`.
     AsyncFreestanding,
+    /// A method of a resource, whose first parameter is `self`.
     Method(TypeId),
+    /// The same, `async`.
     AsyncMethod(TypeId),
+    /// A function of a resource without `self`.
     Static(TypeId),
+    /// The same, `async`.
     AsyncStatic(TypeId),
+    /// The constructor of a resource.
     Constructor(TypeId),
+    /// It reads a property: `[get]p`.
     Getter,
+    /// It writes a property: `[set]p`.
     Setter,
+    /// A method that reads a property: `[method][get]r.p`.
     MethodGetter(TypeId),
+    /// A method that writes one.
     MethodSetter(TypeId),
+    /// A function of a resource that reads a property: `[static][get]r.p`.
     StaticGetter(TypeId),
+    /// One that writes it.
     StaticSetter(TypeId),
 }
 
@@ -475,6 +522,18 @@ pub enum WorldKey {
 }
 
 impl WorldKey {
+    /// The label.
+    ///
+    /// # Panics
+    ///
+    /// Where it is an interface under its own name.
+    pub fn unwrap_name(self) -> String {
+        match self {
+            WorldKey::Name(label) => label,
+            WorldKey::Interface(id) => panic!("{id:?} stands under its own name"),
+        }
+    }
+
     /// The name of an entry in JSON: a label as it is, `interface-3` of an interface.
     pub(crate) fn to_text(&self) -> String {
         match self {
@@ -538,6 +597,23 @@ impl WorldItem {
         }
     }
 
+    /// The gate of the entry; of a type that of the type.
+    pub fn stability<'a>(&'a self, resolve: &'a Resolve) -> &'a Stability {
+        match self {
+            WorldItem::Interface { stability, .. } => stability,
+            WorldItem::Function(function) => &function.stability,
+            WorldItem::Type { id, .. } => &resolve.types[*id].stability,
+        }
+    }
+
+    /// Where the entry stands.
+    pub fn span(&self) -> Span {
+        match self {
+            WorldItem::Interface { span, .. } | WorldItem::Type { span, .. } => *span,
+            WorldItem::Function(function) => function.span,
+        }
+    }
+
     fn interface_id(&self) -> Option<InterfaceId> {
         match self {
             WorldItem::Interface { id, .. } => Some(*id),
@@ -580,7 +656,7 @@ mod type_entry {
 }
 
 /// The entries of a world by their names in JSON.
-mod entries {
+pub(crate) mod entries {
     use super::{WorldItem, WorldKey};
     use indexmap::IndexMap;
     use serde::{Deserialize, Deserializer, Serializer};
@@ -617,9 +693,10 @@ pub struct WorldInclude {
 
 /// A label of an included world, and the one that it gets.
 #[derive(Clone, Debug, PartialEq, Eq, Serialize, Deserialize)]
-#[allow(missing_docs)]
 pub struct IncludeName {
+    /// The label.
     pub name: String,
+    /// The new label.
     #[serde(rename = "as")]
     pub as_: String,
 }

@@ -36,7 +36,6 @@ extern "C" {
         needed: *mut usize,
     ) -> u32;
 
-    #[cfg(witgraph_json)]
     fn witgraph_json(
         input: *const u8,
         length: usize,
@@ -57,7 +56,6 @@ pub fn explain(script: &[u8], output: &mut [u8]) -> (u32, usize) {
 }
 
 /// Carries out a document of commands, and writes the one that comes out: the status, and how many bytes are needed.
-#[cfg(witgraph_json)]
 pub fn json(document: &[u8], output: &mut [u8]) -> (u32, usize) {
     call(witgraph_json, document, output)
 }

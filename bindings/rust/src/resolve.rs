@@ -1,14 +1,14 @@
-//! A graph of packages, as it comes out.
+//! A graph of packages.
 
 use crate::arena::{Arena, Id};
 use crate::data::{
-    Function, Interface, InterfaceId, PackageId, TypeDef, TypeDefKind, TypeId, World, WorldId,
-    WorldItem, WorldKey,
+    Interface, InterfaceId, PackageId, Type, TypeDef, TypeDefKind, TypeId, World, WorldId, WorldKey,
 };
-use crate::names::{Docs, PackageName, Span};
+use crate::names::{Docs, PackageName};
 use crate::renumber::NewIds;
-use indexmap::IndexMap;
-use serde::{Deserialize, Serialize};
+use crate::whole::Whole;
+use indexmap::{IndexMap, IndexSet};
+use serde::{Deserialize, Serialize, Serializer};
 use std::collections::BTreeSet;
 
 /// A package of a graph.
@@ -26,6 +26,25 @@ pub struct Package {
 }
 
 /// A graph: packages, interfaces, types and worlds, each at the place that is its id.
+///
+/// It is written in JSON as docs/JSON.md of the repository says of the member `resolve`, whose `graph` has the layout of
+/// `wasm-tools component wit --json`, and read from that.
+///
+/// ```
+/// use witgraph::{PackageName, Resolve};
+///
+/// let graph: Resolve = serde_json::from_str(r#"{"graph": {
+///     "worlds": [], "types": [], "packages": [{"name": "a:b", "interfaces": {"i": 0}, "worlds": {}}],
+///     "interfaces": [{"name": "i", "types": {}, "functions": {}, "package": 0}]}}"#)?;
+/// let id = graph.package_names[&"a:b".parse::<PackageName>()?];
+/// let interface = graph.packages[id].interfaces["i"];
+/// assert_eq!(graph.interfaces[interface].package, Some(id));
+/// assert_eq!(graph.id_of(interface).as_deref(), Some("a:b/i"));
+///
+/// let again: Resolve = serde_json::from_str(&serde_json::to_string(&graph)?)?;
+/// assert_eq!(again, graph);
+/// # Ok::<(), Box<dyn std::error::Error>>(())
+/// ```
 #[derive(Clone, Debug, Default, PartialEq, Eq, Deserialize)]
 #[serde(from = "Whole")]
 pub struct Resolve {
@@ -37,26 +56,37 @@ pub struct Resolve {
     pub types: Arena<TypeDef>,
     /// The packages.
     pub packages: Arena<Package>,
+    /// The packages by their names.
+    pub package_names: IndexMap<PackageName, PackageId>,
     /// The features that are on.
-    pub features: Vec<String>,
+    pub features: IndexSet<String>,
     /// Whether all features are on.
     pub all_features: bool,
     /// The paths of the files, in the order of their positions.
     pub source_names: Vec<String>,
 }
 
+impl Serialize for Resolve {
+    fn serialize<S: Serializer>(&self, serializer: S) -> Result<S::Ok, S::Error> {
+        Whole::from(self.clone()).serialize(serializer)
+    }
+}
+
 impl Resolve {
-    /// The package of a name.
-    pub fn package_named(&self, name: &PackageName) -> Option<PackageId> {
-        let found = self.packages.iter().find(|(_, it)| it.name == *name);
-        found.map(|(id, _)| id)
+    /// The full name of an interface, `namespace:package/name@1.0.0`, where it has one.
+    pub fn id_of(&self, interface: InterfaceId) -> Option<String> {
+        let interface = &self.interfaces[interface];
+        Some(self.id_of_name(interface.package?, interface.name.as_ref()?))
     }
 
-    /// The full name of an interface, `namespace:package/name@1.0.0`, where it has one.
-    pub fn id_of(&self, id: InterfaceId) -> Option<String> {
-        let interface = &self.interfaces[id];
-        let package = &self.packages[interface.package?];
-        Some(full_name(&package.name, interface.name.as_ref()?))
+    /// The full name of an interface or a world of a package, `namespace:package/name@1.0.0`.
+    pub fn id_of_name(&self, package: PackageId, name: &str) -> String {
+        let of = &self.packages[package].name;
+        let base = format!("{}:{}/{name}", of.namespace, of.name);
+        match &of.version {
+            Some(version) => format!("{base}@{version}"),
+            None => base,
+        }
     }
 
     /// What a key of a world is called: a label, or the full name of an interface.
@@ -70,14 +100,12 @@ impl Resolve {
     /// The type that a name leads to, through all its other names.
     pub fn without_aliases(&self, id: TypeId) -> TypeId {
         let mut end = id;
-        while let TypeDefKind::Type(crate::Type::Id(next)) = self.types[end].kind {
+        while let TypeDefKind::Type(Type::Id(next)) = self.types[end].kind {
             end = next;
         }
         end
     }
-}
 
-impl Resolve {
     /// The same graph, with other numbers for types and interfaces: at the place of an id is the new one. Of several
     /// that get one number the first is left.
     ///
@@ -102,154 +130,4 @@ impl Resolve {
 fn are_all_numbers<T>(ids: &[Id<T>], length: usize) -> bool {
     let met: BTreeSet<usize> = ids.iter().map(|id| id.index()).collect();
     ids.len() == length && met.iter().copied().eq(0..met.len())
-}
-
-/// The name of an interface or a world with that of its package.
-fn full_name(package: &PackageName, name: &str) -> String {
-    let (namespace, of) = (&package.namespace, &package.name);
-    match &package.version {
-        Some(version) => format!("{namespace}:{of}/{name}@{version}"),
-        None => format!("{namespace}:{of}/{name}"),
-    }
-}
-
-// What comes out: the graph in the layout that other tools read, and beside it what that leaves out.
-
-#[derive(Deserialize)]
-struct Whole {
-    graph: Graph,
-    details: Details,
-    features: Features,
-    files: Vec<String>,
-}
-
-#[derive(Deserialize)]
-struct Graph {
-    worlds: Arena<World>,
-    interfaces: Arena<Interface>,
-    types: Arena<TypeDef>,
-    packages: Arena<Package>,
-}
-
-#[derive(Deserialize)]
-struct Features {
-    all: bool,
-    names: Vec<String>,
-}
-
-#[derive(Deserialize)]
-struct Details {
-    worlds: Vec<WorldDetails>,
-    interfaces: Vec<InterfaceDetails>,
-    types: Vec<ItemDetails>,
-}
-
-#[derive(Deserialize)]
-struct WorldDetails {
-    #[serde(default)]
-    span: Span,
-    imports: IndexMap<String, ItemDetails>,
-    exports: IndexMap<String, ItemDetails>,
-}
-
-#[derive(Deserialize)]
-struct InterfaceDetails {
-    #[serde(default)]
-    span: Span,
-    functions: IndexMap<String, ItemDetails>,
-}
-
-/// What is left out of a type, a function or an entry of a world.
-#[derive(Default, Deserialize)]
-#[serde(default, rename_all = "kebab-case")]
-struct ItemDetails {
-    docs: Docs,
-    span: Span,
-    external_id: Option<String>,
-    /// The places of the fields, the cases or the flags of a type.
-    parts: Vec<Span>,
-    /// The places of the parameters of a function.
-    params: Vec<Span>,
-}
-
-impl From<Whole> for Resolve {
-    fn from(whole: Whole) -> Self {
-        let Graph {
-            mut worlds,
-            mut interfaces,
-            mut types,
-            packages,
-        } = whole.graph;
-        for (world, details) in worlds.items_mut().zip(whole.details.worlds) {
-            world.span = details.span;
-            add_to_entries(&mut world.imports, details.imports);
-            add_to_entries(&mut world.exports, details.exports);
-        }
-        for (interface, mut details) in interfaces.items_mut().zip(whole.details.interfaces) {
-            interface.span = details.span;
-            for (name, function) in &mut interface.functions {
-                add_to_function(function, take(&mut details.functions, name));
-            }
-        }
-        for (ty, details) in types.items_mut().zip(whole.details.types) {
-            add_to_type(ty, details);
-        }
-        Resolve {
-            worlds,
-            interfaces,
-            types,
-            packages,
-            features: whole.features.names,
-            all_features: whole.features.all,
-            source_names: whole.files,
-        }
-    }
-}
-
-/// What is left out of the thing of a name.
-fn take(details: &mut IndexMap<String, ItemDetails>, name: &str) -> ItemDetails {
-    details
-        .get_mut(name)
-        .map(std::mem::take)
-        .unwrap_or_default()
-}
-
-fn add_to_entries(
-    entries: &mut IndexMap<WorldKey, WorldItem>,
-    mut details: IndexMap<String, ItemDetails>,
-) {
-    for (key, item) in entries {
-        let found = take(&mut details, &key.to_text());
-        match item {
-            WorldItem::Interface {
-                docs,
-                span,
-                external_id,
-                ..
-            } => (*docs, *span, *external_id) = (found.docs, found.span, found.external_id),
-            WorldItem::Function(function) => add_to_function(function, found),
-            WorldItem::Type { span, .. } => *span = found.span,
-        }
-    }
-}
-
-fn add_to_function(function: &mut Function, details: ItemDetails) {
-    (function.span, function.external_id) = (details.span, details.external_id);
-    for (param, span) in function.params.iter_mut().zip(details.params) {
-        param.span = span;
-    }
-}
-
-fn add_to_type(ty: &mut TypeDef, details: ItemDetails) {
-    (ty.span, ty.external_id) = (details.span, details.external_id);
-    let spans: Vec<&mut Span> = match &mut ty.kind {
-        TypeDefKind::Record(it) => it.fields.iter_mut().map(|it| &mut it.span).collect(),
-        TypeDefKind::Flags(it) => it.flags.iter_mut().map(|it| &mut it.span).collect(),
-        TypeDefKind::Variant(it) => it.cases.iter_mut().map(|it| &mut it.span).collect(),
-        TypeDefKind::Enum(it) => it.cases.iter_mut().map(|it| &mut it.span).collect(),
-        _ => Vec::new(),
-    };
-    for (at, span) in spans.into_iter().zip(details.parts) {
-        *at = span;
-    }
 }

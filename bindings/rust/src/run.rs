@@ -1,6 +1,6 @@
 //! Commands carried out.
 
-use crate::commands::{Command, Reply};
+use crate::commands::{Command, JsonPath, Reply};
 use crate::resolve::Resolve;
 use serde::{Deserialize, Serialize};
 use std::error::Error;
@@ -28,7 +28,7 @@ impl Run {
     ///         "details": {"worlds": [], "interfaces": [], "types": []},
     ///         "features": {"all": false, "names": ["fancy"]}, "files": []}}"#)?;
     /// assert_eq!(run.replies, [witgraph::Reply::Done]);
-    /// assert_eq!(run.graph.features, ["fancy"]);
+    /// assert!(run.graph.features.contains("fancy"));
     /// # Ok::<(), witgraph::RunError>(())
     /// ```
     ///
@@ -63,8 +63,8 @@ struct Output {
 /// Why a document of commands can't be read: the first place, and what was expected there.
 #[derive(Clone, Debug, PartialEq, Eq, Deserialize)]
 pub struct Fault {
-    /// The names and the numbers that lead to a value.
-    pub path: Vec<serde_json::Value>,
+    /// What leads to a value.
+    pub path: JsonPath,
     /// The byte at which it begins.
     pub offset: u64,
     /// What was expected.
@@ -93,8 +93,6 @@ impl fmt::Display for RunError {
                 offset,
                 expected,
             }) => {
-                let steps: Vec<String> = path.iter().map(ToString::to_string).collect();
-                let path = steps.join(".");
                 write!(f, "expected {expected} at byte {offset}, at {path}")
             }
             RunError::Json(_) => f.write_str("the document that came out can't be read"),
@@ -114,30 +112,44 @@ impl Error for RunError {
     }
 }
 
-#[derive(Serialize, Deserialize)]
-struct Document<T> {
-    commands: T,
-}
-
-/// The document of these commands, as `witgraph_json` reads it.
-pub fn to_json(commands: &[Command]) -> String {
-    serde_json::to_string(&Document { commands }).expect("texts, numbers and names as keys")
-}
-
-/// The commands of a document, as `tools/wit2json.py` writes it.
+/// A document of commands, as `witgraph_json` reads it and `tools/wit2json.py` of the repository writes it of WIT.
 ///
 /// ```
-/// let commands = witgraph::commands_from_json(r#"{"commands": ["package-order"]}"#)?;
-/// assert_eq!(commands, [witgraph::Command::PackageOrder]);
+/// use witgraph::{Command, Document};
+///
+/// let document = Document::from_json(r#"{"commands": ["package-order"]}"#)?;
+/// assert_eq!(document.commands, [Command::PackageOrder]);
+/// assert_eq!(document.to_json(), r#"{"commands":["package-order"]}"#);
 /// # Ok::<(), serde_json::Error>(())
 /// ```
-///
-/// # Errors
-///
-/// Where it isn't such a document.
-pub fn commands_from_json(document: &str) -> Result<Vec<Command>, serde_json::Error> {
-    let document: Document<Vec<Command>> = serde_json::from_str(document)?;
-    Ok(document.commands)
+#[derive(Clone, Debug, Default, PartialEq, Eq, Serialize, Deserialize)]
+pub struct Document {
+    /// The commands, in order.
+    pub commands: Vec<Command>,
+}
+
+impl Document {
+    /// Reads a document.
+    ///
+    /// # Errors
+    ///
+    /// Where it is no such document.
+    pub fn from_json(document: &str) -> Result<Document, serde_json::Error> {
+        serde_json::from_str(document)
+    }
+
+    /// The document.
+    pub fn to_json(&self) -> String {
+        json_of(&self.commands)
+    }
+}
+
+fn json_of(commands: &[Command]) -> String {
+    #[derive(Serialize)]
+    struct Borrowed<'a> {
+        commands: &'a [Command],
+    }
+    serde_json::to_string(&Borrowed { commands }).expect("texts, numbers and names as keys")
 }
 
 /// Carries out commands on an empty graph, by the static library.
@@ -167,9 +179,13 @@ pub fn commands_from_json(document: &str) -> Result<Vec<Command>, serde_json::Er
 /// # Errors
 ///
 /// Where memory is refused outside a command. Refusals of commands are replies.
-#[cfg(witgraph_json)]
+#[cfg(feature = "library")]
 pub fn run(commands: &[Command]) -> Result<Run, RunError> {
-    let document = to_json(commands);
+    carried_out(&json_of(commands))
+}
+
+#[cfg(feature = "library")]
+fn carried_out(document: &str) -> Result<Run, RunError> {
     let mut output = vec![0; 16 * 1024];
     loop {
         let (status, needed) = crate::ffi::json(document.as_bytes(), &mut output);
@@ -183,22 +199,23 @@ pub fn run(commands: &[Command]) -> Result<Run, RunError> {
     }
 }
 
-/// Carries out commands on an empty graph, by a build of the program `witgraph_json`.
+/// Carries out a document by a build of the program `witgraph_json`.
 ///
 /// ```no_run
 /// use std::process;
+/// use witgraph::{Command, Document, Reply};
 ///
-/// let mut program = process::Command::new("/tmp/witgraph_json");
-/// let run = witgraph::run_by(&mut program, &[witgraph::Command::PackageOrder])?;
-/// assert_eq!(run.replies, [witgraph::Reply::Packages(vec![])]);
+/// let document = Document { commands: vec![Command::PackageOrder] };
+/// let run = witgraph::run_by(&mut process::Command::new("/tmp/witgraph_json"), &document)?;
+/// assert_eq!(run.replies, [Reply::Packages(vec![])]);
 /// # Ok::<(), witgraph::RunError>(())
 /// ```
 ///
 /// # Errors
 ///
 /// Where the program can't be run, and where it writes nothing.
-pub fn run_by(program: &mut process::Command, commands: &[Command]) -> Result<Run, RunError> {
-    let output = output_of(program, to_json(commands)).map_err(RunError::Program)?;
+pub fn run_by(program: &mut process::Command, document: &Document) -> Result<Run, RunError> {
+    let output = output_of(program, document.to_json()).map_err(RunError::Program)?;
     if output.is_empty() {
         return Err(RunError::OutOfMemory);
     }

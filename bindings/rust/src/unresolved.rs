@@ -3,21 +3,22 @@
 use crate::arena::Arena;
 use crate::data::{Interface, InterfaceId, TypeDef, TypeId, World, WorldId};
 use crate::names::{gates, Docs, PackageName, Span, Stability};
+use crate::sources::SourceMap;
 use indexmap::IndexMap;
 use serde::{Deserialize, Serialize};
 
 /// An interface or a world of an unresolved package.
 #[derive(Clone, Copy, Debug, PartialEq, Eq, Hash, Serialize, Deserialize)]
 #[serde(rename_all = "kebab-case")]
-#[allow(missing_docs)]
 pub enum AstItem {
+    /// An interface.
     Interface(InterfaceId),
+    /// A world.
     World(WorldId),
 }
 
 /// What is named of another package, and the gates under which it is named, at least one.
 #[derive(Clone, Debug, PartialEq, Eq, Serialize, Deserialize)]
-#[allow(missing_docs)]
 pub struct ForeignItem(pub AstItem, #[serde(with = "gates")] pub Vec<Stability>);
 
 /// A package before its foreign names are looked up. Its ids are places in its own lists, in which what it names of
@@ -50,22 +51,17 @@ pub struct UnresolvedPackage {
     pub required_resource_types: Vec<(TypeId, Span)>,
 }
 
-/// A file.
-#[derive(Clone, Debug, PartialEq, Eq, Serialize, Deserialize)]
-#[allow(missing_docs)]
-pub struct Source {
-    pub path: String,
-    pub text: String,
-}
-
 /// The packages of one reading: the main one, those that are nested in its files, and the files. A span is a position
 /// in the files, one behind the other, each of which takes its bytes and one more.
 #[derive(Clone, Debug, PartialEq, Eq, Serialize, Deserialize)]
-#[allow(missing_docs)]
 pub struct UnresolvedPackageGroup {
+    /// The main package.
     pub main: UnresolvedPackage,
+    /// The packages that are nested in its files.
     pub nested: Vec<UnresolvedPackage>,
-    pub sources: Vec<Source>,
+    /// The files.
+    #[serde(rename = "sources")]
+    pub source_map: SourceMap,
 }
 
 impl From<UnresolvedPackage> for UnresolvedPackageGroup {
@@ -74,7 +70,7 @@ impl From<UnresolvedPackage> for UnresolvedPackageGroup {
         UnresolvedPackageGroup {
             main,
             nested: Vec::new(),
-            sources: Vec::new(),
+            source_map: SourceMap::new(),
         }
     }
 }

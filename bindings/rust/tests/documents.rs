@@ -20,35 +20,49 @@ fn name(text: &str) -> PackageName {
     text.parse().expect("a name")
 }
 
-/// What comes out of commands, where something is here that carries them out.
-fn carried_out(commands: &[Command]) -> Option<Run> {
+/// What comes out of a document, where something is here that carries it out.
+fn carried_out(document: &Document) -> Option<Run> {
     if let Some(program) = env::var_os("WITGRAPH_JSON") {
-        let run = run_by(&mut process::Command::new(program), commands);
+        let run = run_by(&mut process::Command::new(program), document);
         return Some(run.expect("a run"));
     }
-    #[cfg(witgraph_json)]
-    return Some(run(commands).expect("a run"));
-    #[cfg(not(witgraph_json))]
+    #[cfg(feature = "library")]
+    return Some(run(&document.commands).expect("a run"));
+    #[cfg(not(feature = "library"))]
     None
 }
 
-/// The commands of the stored document.
-fn kinds() -> Vec<Command> {
-    commands_from_json(&stored("kinds.json")).expect("commands")
+fn of_commands(commands: &[Command]) -> Document {
+    Document {
+        commands: commands.to_vec(),
+    }
+}
+
+/// The stored document.
+fn kinds() -> Document {
+    Document::from_json(&stored("kinds.json")).expect("a document")
+}
+
+fn value(text: &str) -> Value {
+    serde_json::from_str(text).expect("JSON")
 }
 
 #[test]
 fn a_document_is_the_same_again() {
-    let (written, document) = (to_json(&kinds()), stored("kinds.json"));
-    let value = |text: &str| serde_json::from_str::<Value>(text).expect("JSON");
-    assert_eq!(value(&written), value(&document));
+    let written = kinds().to_json();
+    assert_eq!(value(&written), value(&stored("kinds.json")));
     // the order of members is that of the tables
-    assert_eq!(
-        commands_from_json(&written)
-            .map(|it| format!("{it:?}"))
-            .ok(),
-        Some(format!("{:?}", kinds()))
-    );
+    let again = Document::from_json(&written).expect("a document");
+    assert_eq!(format!("{again:?}"), format!("{:?}", kinds()));
+}
+
+#[test]
+fn a_graph_is_the_same_again() {
+    let (graph, out) = (whole().graph, stored("kinds.out.json"));
+    let written = serde_json::to_string(&graph).expect("JSON");
+    assert_eq!(value(&written), value(&out)["resolve"]);
+    // the order of members, too: it is the text that came out
+    assert!(out.contains(&written));
 }
 
 #[test]
@@ -135,6 +149,7 @@ fn each_reply_is_read_as_docs_json_says() {
         (r#"{"world":0}"#, Reply::World(Id::from_index(0))),
         (r#"{"packages":[1,0]}"#, Reply::Packages(vec![id(1), id(0)])),
         (r#"{"text":"a:b/i"}"#, Reply::Text("a:b/i".to_owned())),
+        (r#""not-shaped""#, Reply::NotShaped),
         (
             r#"{"merge":{"replies":["done"],"reply":{"merged":{"types":[null,2],"interfaces":[],"worlds":[],"packages":[0]}}}}"#,
             Reply::Merge {
@@ -161,9 +176,15 @@ fn a_refusal_is_an_error() {
     let reply: Reply = serde_json::from_str(written).expect("a reply");
     let error: Box<dyn std::error::Error> = Box::new(reply.accepted().expect_err("refused"));
     assert_eq!(error.to_string(), "no at 1");
-    let refusal = error.downcast::<Refusal>().expect("a refusal");
+    let error = *error
+        .downcast::<CommandError>()
+        .expect("an error of a command");
+    let CommandError::Refused(refusal) = error else {
+        panic!("{error}")
+    };
     assert_eq!((refusal.number, refusal.span), (26, Span::new(1, 2)));
     assert_eq!(Reply::Done.accepted(), Ok(Reply::Done));
+    assert_eq!(Reply::NotShaped.accepted(), Err(CommandError::NotShaped));
 }
 
 #[test]
@@ -172,7 +193,7 @@ fn a_fault_is_an_error() {
     let error = Run::from_json(written).expect_err("a fault");
     assert_eq!(
         error.to_string(),
-        "expected a command at byte 13, at \"commands\".0"
+        "expected a command at byte 13, at commands[0]"
     );
     assert!(matches!(Run::from_json("{"), Err(RunError::Json(_))));
 }
@@ -217,6 +238,14 @@ fn a_graph_is_read_with_what_stands_beside_it() {
         panic!("no interface")
     };
     assert_eq!(external_id.as_deref(), Some("kinds/second"));
+    let session = WorldKey::Name("session".to_owned());
+    assert!(world.imports[&session].stability(&graph).is_unknown());
+    assert!(world.imports[&session].span().is_known());
+    assert_eq!(session.unwrap_name(), "session");
+    let types: Vec<_> = interface.functions["count"]
+        .parameter_and_result_types()
+        .collect();
+    assert_eq!(types[2], Type::Id(interface.types["length"]));
     assert_eq!(
         docs.contents.as_deref(),
         Some("An interface under a label.")
@@ -229,10 +258,8 @@ fn a_graph_is_read_with_what_stands_beside_it() {
 #[test]
 fn aliases_lead_to_the_type() {
     let graph = whole().graph;
-    let all = graph
-        .package_named(&name("example:kinds@1.2.0"))
-        .expect("it is there");
-    let all = &graph.interfaces[graph.packages[all].interfaces["all"]];
+    let package = graph.package_names[&name("example:kinds@1.2.0")];
+    let all = &graph.interfaces[graph.packages[package].interfaces["all"]];
     let size = graph.without_aliases(all.types["length"]);
     assert_eq!(graph.types[size].name.as_deref(), Some("size"));
 }
@@ -240,7 +267,12 @@ fn aliases_lead_to_the_type() {
 #[test]
 fn the_stored_graph_is_what_comes_out() {
     if let Some(run) = carried_out(&kinds()) {
-        assert_eq!(format!("{run:?}"), format!("{:?}", whole()));
+        assert_eq!(run.replies, whole().replies);
+        // the order of tables, too
+        assert!(
+            format!("{run:?}") == format!("{:?}", whole()),
+            "another graph"
+        );
     }
 }
 
@@ -276,10 +308,7 @@ fn built() -> UnresolvedPackage {
         vec![Param::new("it", item)],
         None,
     );
-    let key = WorldKey::Name("sent".to_owned());
-    made.world_mut(world)
-        .exports
-        .insert(key, WorldItem::Function(send));
+    made.export_function(world, send);
     made.finish()
 }
 
@@ -321,7 +350,7 @@ fn what_is_built_is_pushed() {
         deps: vec![api.finish().into()],
     };
     let again = push.clone();
-    let Some(Run { replies, graph }) = carried_out(&[push, again]) else {
+    let Some(Run { replies, graph }) = carried_out(&of_commands(&[push, again])) else {
         return;
     };
     assert!(matches!(replies[0], Reply::Pushed(_)), "{replies:?}");

@@ -13,13 +13,18 @@ pub fn resolve(from: &wp::Resolve) -> wg::Resolve {
             .collect(),
         types: from.types.iter().map(|(_, it)| type_def(it)).collect(),
         packages: from.packages.iter().map(|(_, it)| package(it)).collect(),
+        package_names: from
+            .package_names
+            .iter()
+            .map(|(name, id)| (package_name(name), place(*id)))
+            .collect(),
         features: from.features.iter().cloned().collect(),
         all_features: from.all_features,
         source_names: from.source_map.source_names().map(str::to_owned).collect(),
     }
 }
 
-pub fn place<T, U>(from: wp::Id<T>) -> wg::Id<U> {
+fn place<T, U>(from: wp::Id<T>) -> wg::Id<U> {
     wg::Id::from_index(from.index())
 }
 

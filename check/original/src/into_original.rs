@@ -6,7 +6,7 @@ use witgraph as wg;
 
 pub fn group(from: &wg::UnresolvedPackageGroup) -> wp::UnresolvedPackageGroup {
     let mut source_map = wp::SourceMap::default();
-    for source in &from.sources {
+    for source in from.source_map.sources() {
         source_map.push_str(&source.path, source.text.clone());
     }
     wp::UnresolvedPackageGroup {

@@ -1,162 +1,193 @@
-//! Runs documents of commands through the `Resolve` of wit-parser, and compares the whole graph that comes out with
-//! that of `witgraph_json`: `check-original PROGRAM DOCUMENT..`, or `-` for documents on standard input, a line each.
+//! Reads a document of docs/JSON.md from standard input, carries out its commands by wit-parser's `Resolve`, and writes
+//! what it answers and the graph that it has then, as `witgraph_json` does.
+//!
+//! - A document is one that `witgraph_json` reads, with packages that have their shape; neither is asked again.
+//! - Of a refusal it has the text, the span, how it is shown, and the number where wit-parser has a kind of its own for
+//!   it (1 to 8), else `null`.
+//! - Where a call panics the reply is `{"panic": TEXT}`. Before each command its place is written to standard error, as
+//!   `2` or `2.0` of a command within a `merge`, so that what overflows the stack or doesn't end is known.
+//! - After a refusal or a panic all but the source map is as before the command; wit-parser leaves what it had begun.
+//! - `set-track-rule` does nothing: wit-parser has the rule `published` alone.
 
 mod from_original;
 mod ids;
 mod into_original;
-mod numbers;
-mod original;
-mod same;
+mod questions;
 
-use serde::{Deserialize, Serialize};
-use std::collections::BTreeMap;
+use serde_json::{json, Value};
+use std::collections::HashSet;
 use std::error::Error;
-use std::io::{BufRead, BufReader, Write};
-use std::process::{self, Child, ChildStdout, ExitCode, Stdio};
-use std::{env, fs, io, iter, panic};
-use witgraph::{commands_from_json, run_by};
+use std::io;
+use std::panic::{catch_unwind, set_hook, AssertUnwindSafe};
+use std::sync::Mutex;
+use wit_parser::*;
+use witgraph::{Command, Document};
 
-type Outcome<T> = Result<T, Box<dyn Error>>;
+/// What the last panic told.
+static TOLD: Mutex<String> = Mutex::new(String::new());
 
-/// What a worker tells of a document: a word for each answer of the original, and the first difference.
-#[derive(Serialize, Deserialize)]
-struct Found {
-    answers: Vec<String>,
-    difference: Option<(String, String)>,
-}
-
-/// Compares both on a document.
-fn compare(program: &str, document: &str) -> Outcome<Found> {
-    let commands = commands_from_json(document)?;
-    let ours = run_by(&mut process::Command::new(program), &commands)?;
-    let theirs = original::run(&commands);
-    let difference = same::difference(&ours, &theirs);
-    Ok(Found {
-        answers: theirs
-            .answers
-            .iter()
-            .map(|it| it.word().to_owned())
-            .collect(),
-        difference: difference.map(|(kind, shown)| (kind.to_owned(), shown)),
-    })
-}
-
-/// Compares the documents of standard input, a line each, and writes a line of what is found for each.
-fn work(program: &str) -> Outcome<()> {
-    // a panic of the original is an answer
-    panic::set_hook(Box::new(|_| ()));
-    for line in io::stdin().lines() {
-        println!("{}", serde_json::to_string(&compare(program, &line?)?)?);
-    }
+fn main() -> Result<(), Box<dyn Error>> {
+    let document = Document::from_json(&io::read_to_string(io::stdin())?)?;
+    set_hook(Box::new(|it| tell(it.to_string())));
+    let mut resolve = Resolve::new();
+    let replies = run(&mut resolve, &document.commands, "");
+    let replies = serde_json::to_string(&replies)?;
+    let resolve = serde_json::to_string(&from_original::resolve(&resolve))?;
+    println!("{{\"replies\":{replies},\"resolve\":{resolve}}}");
     Ok(())
 }
 
-/// A process that compares. Where the original recurses without end it is this process that ends.
-struct Worker {
-    child: Child,
-    answers: BufReader<ChildStdout>,
+/// Keeps what a panic told, which is also written to standard error.
+fn tell(text: String) {
+    let text = text.replace('\n', " ");
+    eprintln!("{text}");
+    *TOLD.lock().expect("no panic holds it") = text;
 }
 
-impl Worker {
-    fn start(program: &str) -> Outcome<Self> {
-        let mut child = process::Command::new(env::current_exe()?)
-            .args(["--work", program])
-            .stdin(Stdio::piped())
-            .stdout(Stdio::piped())
-            .stderr(Stdio::null())
-            .spawn()?;
-        let answers = BufReader::new(child.stdout.take().ok_or("no pipe")?);
-        Ok(Worker { child, answers })
+/// The replies to commands. Each is told on standard error before it is begun, so that a reader knows which one ends
+/// the process, or doesn't end.
+fn run(resolve: &mut Resolve, commands: &[Command], above: &str) -> Vec<Value> {
+    let mut replies = Vec::new();
+    for (number, command) in commands.iter().enumerate() {
+        let place = format!("{above}{number}");
+        eprintln!("{place}");
+        replies.push(reply(resolve, command, &place));
     }
-
-    /// What is found of a document, nothing where the process ended.
-    fn ask(&mut self, document: &str) -> Outcome<Option<Found>> {
-        let input = self.child.stdin.as_mut().ok_or("no pipe")?;
-        writeln!(input, "{document}")?;
-        let mut line = String::new();
-        if self.answers.read_line(&mut line)? == 0 {
-            self.child.wait()?;
-            return Ok(None);
-        }
-        Ok(Some(serde_json::from_str(&line)?))
-    }
+    replies
 }
 
-/// What was compared.
-struct Check {
-    program: String,
-    worker: Worker,
-    all: usize,
-    answers: BTreeMap<String, usize>,
-    kinds: BTreeMap<String, usize>,
-}
-
-impl Check {
-    /// Compares both on a document, and tells where they differ.
-    fn document(&mut self, name: &str, document: &str) -> Outcome<()> {
-        self.all += 1;
-        let Some(found) = self.worker.ask(document)? else {
-            self.worker = Worker::start(&self.program)?;
-            self.tell(name, "the original ends the process", "");
-            return Ok(());
-        };
-        for word in found.answers {
-            *self.answers.entry(word).or_default() += 1;
-        }
-        if let Some((kind, shown)) = found.difference {
-            self.tell(name, &kind, &shown);
-        }
-        Ok(())
-    }
-
-    fn tell(&mut self, name: &str, kind: &str, shown: &str) {
-        *self.kinds.entry(kind.to_owned()).or_default() += 1;
-        println!("{name}: {kind}: {shown}");
-    }
-}
-
-fn run(program: String, paths: impl Iterator<Item = String>) -> Outcome<bool> {
-    let mut check = Check {
-        worker: Worker::start(&program)?,
-        program,
-        all: 0,
-        answers: BTreeMap::new(),
-        kinds: BTreeMap::new(),
+fn reply(resolve: &mut Resolve, command: &Command, place: &str) -> Value {
+    let Command::Merge(commands) = command else {
+        return guarded(resolve, |it| step(it, command));
     };
-    for path in paths {
-        if path == "-" {
-            for (at, line) in io::stdin().lines().enumerate() {
-                check.document(&format!("line {}", at + 1), &line?)?;
-            }
-        } else {
-            check.document(&path, fs::read_to_string(&path)?.trim_end())?;
-        }
-    }
-    println!("{} documents", check.all);
-    check
-        .answers
-        .iter()
-        .for_each(|(word, count)| println!("{count} answers of the original: {word}"));
-    check
-        .kinds
-        .iter()
-        .for_each(|(kind, count)| println!("{count} documents differ: {kind}"));
-    Ok(check.kinds.is_empty())
+    let mut other = Resolve::new();
+    let replies = run(&mut other, commands, &format!("{place}."));
+    eprintln!("{place}");
+    let last = guarded(resolve, |it| {
+        Ok(json!({ "merged": remap(&it.merge(other)?) }))
+    });
+    json!({ "merge": { "replies": replies, "reply": last } })
 }
 
-fn main() -> ExitCode {
-    let mut words = env::args().skip(1);
-    let outcome = match (words.next(), words.next()) {
-        (Some(first), Some(program)) if first == "--work" => work(&program).map(|()| true),
-        (Some(program), Some(path)) => run(program, iter::once(path).chain(words)),
-        _ => Err("usage: check-original PROGRAM DOCUMENT..".into()),
+/// What a call answers. After a refusal and a panic all but the source map is as before it.
+fn guarded(
+    resolve: &mut Resolve,
+    call: impl FnOnce(&mut Resolve) -> anyhow::Result<Value>,
+) -> Value {
+    let before = resolve.clone();
+    let answered = catch_unwind(AssertUnwindSafe(|| call(resolve)));
+    if let Ok(Ok(value)) = answered {
+        return value;
+    }
+    let source_map = std::mem::take(&mut resolve.source_map);
+    *resolve = Resolve {
+        source_map,
+        ..before
     };
-    match outcome {
-        Ok(true) => ExitCode::SUCCESS,
-        Ok(false) => ExitCode::FAILURE,
-        Err(error) => {
-            eprintln!("{error}");
-            ExitCode::FAILURE
+    match answered {
+        Ok(Err(error)) => json!({ "refused": refusal(resolve, &error) }),
+        _ => json!({ "panic": *TOLD.lock().expect("no panic holds it") }),
+    }
+}
+
+/// A command that isn't a merge.
+fn step(resolve: &mut Resolve, command: &Command) -> anyhow::Result<Value> {
+    match command {
+        Command::AddFeature(name) => {
+            resolve.features.insert(name.clone());
         }
+        Command::SetAllFeatures(all) => resolve.all_features = *all,
+        // there is one rule of tracks
+        Command::SetTrackRule(_) => {}
+        Command::PushGroups { main, deps } => {
+            let deps = deps.iter().map(into_original::group).collect();
+            let main = resolve.push_groups(into_original::group(main), deps)?;
+            return Ok(json!({ "pushed": main.index() }));
+        }
+        Command::Importize { .. } | Command::Exportize { .. } | Command::Semver { .. } => {
+            return turn(resolve, command);
+        }
+        question => return questions::answer(resolve, question).unwrap_or(Ok("not-found".into())),
+    }
+    Ok("done".into())
+}
+
+/// A command that changes a world.
+fn turn(resolve: &mut Resolve, command: &Command) -> anyhow::Result<Value> {
+    let (Command::Importize { package, world, .. }
+    | Command::Exportize { package, world, .. }
+    | Command::Semver { package, world }) = command
+    else {
+        unreachable!("it names a world")
+    };
+    let Some(id) = questions::world(resolve, package, world) else {
+        return Ok("no-world".into());
+    };
+    match command {
+        Command::Importize { out, .. } => resolve.importize(id, out.clone())?,
+        Command::Exportize { out, keys, .. } => exportize(resolve, id, out.clone(), keys)?,
+        _ => resolve.merge_world_imports_based_on_semver(id)?,
+    }
+    Ok("done".into())
+}
+
+fn exportize(
+    resolve: &mut Resolve,
+    world: WorldId,
+    out: Option<String>,
+    keys: &Option<Vec<String>>,
+) -> anyhow::Result<()> {
+    let Some(keys) = keys else {
+        return resolve.exportize(world, out, None);
+    };
+    let imports = resolve.worlds[world].imports.keys();
+    let is_named = |it: &&WorldKey| keys.contains(&resolve.name_world_key(it));
+    let moved: HashSet<_> = imports.filter(is_named).cloned().collect();
+    let filter = |key: &WorldKey, _: &WorldItem| moved.contains(key);
+    resolve.exportize(world, out, Some(&filter))
+}
+
+fn remap(map: &Remap) -> Value {
+    json!({
+        "types": map.types.iter().map(|it| it.map(Id::index)).collect::<Vec<_>>(),
+        "interfaces": map.interfaces.iter().map(|it| it.map(Id::index)).collect::<Vec<_>>(),
+        "worlds": map.worlds.iter().map(|it| it.map(Id::index)).collect::<Vec<_>>(),
+        "packages": map.packages.iter().map(|it| it.index()).collect::<Vec<_>>(),
+    })
+}
+
+/// A refusal: its number where wit-parser has a kind of its own for it, its text, and how it is shown.
+fn refusal(resolve: &Resolve, error: &anyhow::Error) -> Value {
+    let parts: Vec<_> = error.chain().map(ToString::to_string).collect();
+    let text = parts.join(": ");
+    let mut chain = error.chain();
+    let found = chain.find_map(|it| it.downcast_ref::<ResolveError>());
+    let span = found.and_then(|it| span(it.kind().span()));
+    let rendered = found.map_or(Some(text.clone()), |it| shown(resolve, it));
+    json!({ "error": { "number": found.and_then(number), "text": text, "span": span }, "rendered": rendered })
+}
+
+/// A span, where it is known.
+fn span(it: Span) -> Option<[u32; 2]> {
+    it.is_known().then(|| [it.start(), it.end()])
+}
+
+/// How a refusal is shown, None where that panics: a merge tells spans of the other source map, which may cut a
+/// character of this one.
+fn shown(resolve: &Resolve, error: &ResolveError) -> Option<String> {
+    catch_unwind(AssertUnwindSafe(|| error.render(&resolve.source_map))).ok()
+}
+
+fn number(error: &ResolveError) -> Option<u32> {
+    match error.kind() {
+        ResolveErrorKind::PackageNotFound { .. } => Some(1),
+        ResolveErrorKind::WorldNotFound { .. } => Some(2),
+        ResolveErrorKind::InterfaceNotFound { .. } => Some(3),
+        ResolveErrorKind::InvalidTransitiveDependency { .. } => Some(4),
+        ResolveErrorKind::DuplicatePackage { .. } => Some(5),
+        ResolveErrorKind::PackageCycle { .. } => Some(6),
+        ResolveErrorKind::ItemShadowing { .. } => Some(7),
+        ResolveErrorKind::StabilityMismatch { .. } => Some(8),
+        _ => None,
     }
 }

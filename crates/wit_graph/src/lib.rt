@@ -35,6 +35,6 @@ pub use wit_queries::canonical::version_suffix_of;
 pub use wit_queries::entries::{external_id_value, implements_interface};
 pub use wit_queries::interface_deps::{InterfaceDirectDeps, are_uses_acyclic};
 pub use wit_queries::package_deps::PackageDirectDeps;
-pub use wit_selection::select_world;
+pub use wit_queries::selection::select_world;
 pub use wit_validity::is_valid;
 pub use wit_values::NameSet;

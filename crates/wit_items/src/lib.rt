@@ -15,6 +15,8 @@
 //!     group.is_shaped(alloc)
 //! }
 //! ```
+//!
+//! Of a package that lacks it, [`find_shape_fault`] tells the first clause of the shape that it breaks, and where.
 #![tactic(auto)]
 
 pub mod laws;
@@ -29,3 +31,4 @@ pub use wit_data::{
     TypeId, TypeOwner, TypeSort, UnresolvedPackage, UnresolvedPackageGroup, UsePathFault, Version,
     World, WorldId, WorldInclude, WorldItem, WorldKey, WorldSort, is_kebab_name, parse_use_path,
 };
+pub use wit_shape_faults::{ShapeClause, ShapeFault, ShapePlace, find_shape_fault};

@@ -15,7 +15,7 @@ use Rattle.wit_graph_data.specs.Named.{interface_in, package_named, world_named}
 use Rattle.wit_graph_data.specs.Queries.{canonical_id_text, futures_and_streams as function_futures, interface_direct_deps, package_direct_deps, topological_packages}
 use Rattle.wit_graph_data.specs.declared.graph.Graph.{Graph}
 use Rattle.wit_graph_data.specs.declared.error_kind.ResolveErrorKind.{ResolveErrorKind}
-use Rattle.wit_selection.specs.Selection.{IsSelectionError, selected_world}
+use Rattle.wit_queries.specs.Selection.{IsSelectionError, selected_world}
 use Rattle.wit_json_commands.specs.declared.questions.FunctionPlace.{FunctionPlace}
 use Rattle.wit_json_commands.specs.declared.questions.FunctionSite.{FunctionSite}
 use Rattle.wit_json_commands.specs.declared.questions.FunctionSite.TheVariants as site

@@ -7,7 +7,7 @@ use std::alloc::{AllocError, Global};
 use wit_data::{Items, PackageId, PackageName, SourceMap, Text};
 use wit_graph_data::{Graph, ResolveResult};
 use wit_json_replies::{Answer, Refusal};
-use wit_selection::select_world;
+use wit_queries::selection::select_world;
 
 /// The world that a text names among main packages, or why there is none.
 pub fn select(

@@ -9,7 +9,6 @@ ghost use Rattle.wit_labels.specs.steps.Placing.{getters_of, order_after_getters
 ghost use Rattle.wit_labels.specs.Setters.{after, later_getter, setters_placed, wanted_getter};
 
 use crate::setters::{is_setter, wanted_getter};
-use indexmap::IndexMap;
 use std::alloc::{AllocError, Global};
 use wit_data::{Items, Table, WorldItem, WorldKey};
 use wit_digraph::in_order;
@@ -51,19 +50,18 @@ fn moved_setters(
     ensures { IfOk result (λ new. new ≡ setters_placed entries) }
 {
     entries.keys_differ();
-    let map = entries.into_map();
-    let getters = getters_of(alloc, &map)?;
+    let getters = getters_of(alloc, &entries)?;
     let order = order_after_getters(alloc, &getters)?;
-    let items = in_order(alloc, items_of(alloc, map)?, order.as_slice())?;
+    let items = in_order(alloc, items_of(alloc, entries)?, order.as_slice())?;
     table_of(alloc, items)
 }
 
 /// For each entry the index of the getter that it waits for.
 fn getters_of(
     alloc: Global,
-    entries: &IndexMap<WorldKey, WorldItem>,
+    entries: &Table<WorldKey, WorldItem>,
 ) -> Result<Items<Option<usize>>, AllocError>
-    ensures { IfOk result (λ getters. getters ≡ getters_of entries.now.entries) }
+    ensures { IfOk result (λ getters. getters ≡ getters_of entries.now) }
 {
     let mut getters = Items::new(alloc);
     for index in 0..entries.len() {
@@ -72,27 +70,16 @@ fn getters_of(
     Ok(getters)
 }
 
-/// The entry at an index.
-fn entry_at(entries: &IndexMap<WorldKey, WorldItem>, index: usize) -> (&WorldKey, &WorldItem)
-    requires { index < length entries.now.entries }
-    ensures { slice_get entries.now.entries index ≡ Some (result.0.now, result.1.now) }
-{
-    match entries.get_index(index) {
-        Some(entry) => entry,
-        None => unreachable!(),
-    }
-}
-
 /// The index of the getter that the entry at an index waits for.
 fn later_getter(
     alloc: Global,
-    entries: &IndexMap<WorldKey, WorldItem>,
+    entries: &Table<WorldKey, WorldItem>,
     place: usize,
 ) -> Result<Option<usize>, AllocError>
-    requires { place < length entries.now.entries }
-    ensures { IfOk result (λ getter. (e : Entry) → slice_get entries.now.entries place ≡ Some e → getter ≡ later_getter entries.now.entries place e) }
+    requires { place < length entries.now }
+    ensures { IfOk result (λ getter. (e : Entry) → slice_get entries.now place ≡ Some e → getter ≡ later_getter entries.now place e) }
 {
-    let (key, item) = entry_at(entries, place);
+    let (key, item) = entries.entry_at(place);
     match wanted_getter(alloc, key, item)? {
         Some(label) => Ok(after(place, entries.get_index_of(&WorldKey::Name(label)))),
         None => Ok(None),
@@ -202,12 +189,12 @@ fn empty_rows(alloc: Global, count: usize) -> Result<Items<Items<usize>>, AllocE
 /// The entries as a list.
 fn items_of(
     alloc: Global,
-    entries: IndexMap<WorldKey, WorldItem>,
+    entries: Table<WorldKey, WorldItem>,
 ) -> Result<Items<(WorldKey, WorldItem)>, AllocError>
-    ensures { IfOk result (λ items. items ≡ entries.entries) }
+    ensures { IfOk result (λ items. items ≡ entries) }
 {
     let mut items = Items::new(alloc);
-    for (key, item) in entries {
+    for (key, item) in entries.into_pairs() {
         items.push((key, item))?;
     }
     Ok(items)

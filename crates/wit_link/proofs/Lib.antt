@@ -1,5 +1,9 @@
 mod Added
+mod Alone
 mod Checks
 mod FitsIsExact
+mod NameOrders
 mod OneAfterAnother
+mod Orders
+mod Refusals
 mod WorldStages

@@ -4,7 +4,7 @@ use Rattle.wit_graph_data.specs.declared.features.Features.{Features}
 use Rattle.wit_graph_data.specs.declared.graph.Graph.{Graph}
 use Rattle.wit_graph_data.specs.declared.error_kind.ResolveErrorKind.{ResolveErrorKind}
 use Rattle.wit_graph_data.specs.declared.error_kind.ResolveErrorKind.TheVariants.{OutOfMemory}
-use Rattle.wit_link_order.specs.GroupOrder.{Unresolved}
+use Rattle.wit_link.specs.GroupOrder.{Unresolved}
 use Rattle.wit_link_spec.specs.Cause.{IsCause}
 use Rattle.wit_link.specs.Appending.{ArePushed, IsAdded, IsOneRefused, addition}
 

@@ -1,2 +1,3 @@
 pub mod Appending
+pub mod GroupOrder
 pub mod steps

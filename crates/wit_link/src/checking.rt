@@ -14,8 +14,7 @@ ghost use Rattle.wit_remap.specs.Grown.{Begins};
 use std::alloc::Global;
 use wit_data::{Table, TypeId};
 use wit_graph_data::ResolveResult;
-use wit_link_features::{activity, check_references, check_versions};
-use wit_link_foreign::new_ids_of;
+use wit_link_lookup::{activity, check_references, check_versions, new_ids_of};
 use wit_link_resources::{check_resources, check_results, values};
 use wit_link_spec::{Activity, AdditionRef, NewIds, Values};
 

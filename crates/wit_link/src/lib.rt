@@ -22,14 +22,18 @@
 
 mod adding;
 mod checking;
+mod depends;
 mod fits;
 mod including;
 mod labels;
 pub mod laws;
+mod name_order;
+mod refusal;
 mod several;
+mod sort;
 
 pub use crate::adding::{append, append_with};
 pub use crate::labels::rename;
 pub use crate::several::{append_all, append_all_with};
-pub use wit_link_order::sort_groups;
+pub use crate::sort::sort_groups;
 pub use wit_remap::Remap;

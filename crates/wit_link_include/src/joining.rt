@@ -10,7 +10,6 @@ ghost use Rattle.wit_data.specs.facts.WorldKeyFacts.{same_key};
 ghost use Rattle.wit_link_include.specs.steps.Included.{ComeOnce, IsItemError, IsJoinCause, ItemsAgree, JoinIsAccepted};
 
 use crate::stabilities::join_stability;
-use indexmap::IndexMap;
 use std::alloc::{AllocError, Global};
 use wit_data::{Items, Span, Stability, Table, Text, WorldItem, WorldKey};
 use wit_graph_data::{ResolveError, ResolveErrorKind, ResolveResult};
@@ -33,7 +32,7 @@ pub(crate) fn join(
     ensures fine { OnOk result (JoinIsAccepted other span word.now current brought) }
     ensures cause { IfErr result (λ kind. (kind ≡ OutOfMemory) ⊎ IsJoinCause other span word.now current brought kind) }
 {
-    let mut entries = current.into_map();
+    let mut entries = current;
     for (key, item) in brought.into_vec() {
         match entries.get_index_of(&key) {
             None => push_new(other, &mut entries, key, item)?,
@@ -45,21 +44,21 @@ pub(crate) fn join(
             }
         }
     }
-    Ok(Table::from_map(entries))
+    Ok(entries)
 }
 
 /// Adds an entry under a new key to the end.
 fn push_new(
     other: bool,
-    entries: &mut IndexMap<WorldKey, WorldItem>,
+    entries: &mut Table<WorldKey, WorldItem>,
     key: WorldKey,
     item: WorldItem,
 ) -> Result<(), AllocError>
-    requires { lookup (same_key key) entries.old.entries ≡ None }
-    ensures { OnOk result (entries.new.entries ≡ entries.old.entries ++ (key, new_item other key item) ∷ []) }
+    requires { lookup (same_key key) entries.old ≡ None }
+    ensures { OnOk result (entries.new ≡ entries.old ++ (key, new_item other key item) ∷ []) }
 {
     let item = new_item(other, &key, item);
-    entries.insert(key, item)?;
+    entries.push(key, item)?;
     Ok(())
 }
 
@@ -82,17 +81,16 @@ fn new_item(other: bool, key: &WorldKey, item: WorldItem) -> WorldItem
 fn join_at(
     other: bool,
     span: Span,
-    entries: &mut IndexMap<WorldKey, WorldItem>,
+    entries: &mut Table<WorldKey, WorldItem>,
     index: usize,
     item: WorldItem,
 ) -> ResolveResult<()>
-    requires { index < length entries.old.entries }
-    ensures ok { OnOk result ((k : WorldKey) (into : WorldItem) → slice_get entries.old.entries index ≡ Some (k, into) → entries.new.entries ≡ set_value_at entries.old.entries index (joined_item other item into)) }
-    ensures fine { OnOk result ((k : WorldKey) (into : WorldItem) → slice_get entries.old.entries index ≡ Some (k, into) → ItemsAgree other item into) }
-    ensures cause { IfErr result (λ kind. (k : WorldKey) (into : WorldItem) → slice_get entries.old.entries index ≡ Some (k, into) → IsItemError other span item into kind) }
+    requires { index < length entries.old }
+    ensures ok { OnOk result ((k : WorldKey) (into : WorldItem) → slice_get entries.old index ≡ Some (k, into) → entries.new ≡ set_value_at entries.old index (joined_item other item into)) }
+    ensures fine { OnOk result ((k : WorldKey) (into : WorldItem) → slice_get entries.old index ≡ Some (k, into) → ItemsAgree other item into) }
+    ensures cause { IfErr result (λ kind. (k : WorldKey) (into : WorldItem) → slice_get entries.old index ≡ Some (k, into) → IsItemError other span item into kind) }
 {
-    let (_, into) = entries.pair_mut(index);
-    join_item(other, span, item, into)
+    join_item(other, span, item, entries.value_at_mut(index))
 }
 
 /// Joins an item to one that is there: of two interfaces the stability.

@@ -51,7 +51,7 @@ pub(crate) fn leading(
             }
         }
     }
-    Ok(Table::from_map(known))
+    Ok(Table::from_map(known)?)
 }
 
 /// Adds steps into what a type refers to, where it may refer to what goes with the world.

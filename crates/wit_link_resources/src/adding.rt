@@ -15,8 +15,8 @@ use wit_link_spec::{Activity, AdditionRef, NewIds, Values};
 use wit_values::Table;
 
 /// What types are remapped to at value positions, and the `own`s that come for that. The package has its shape, the
-/// graph is valid, what is active of the package and what it is remapped to is told by `activity` of wit_link_features
-/// and `new_ids_of` of wit_link_foreign, and none of 1 to 3 and 9 to 13 holds against the addition. The only error is
+/// graph is valid, what is active of the package and what it is remapped to is told by `activity` of wit_link_lookup
+/// and `new_ids_of` of wit_link_lookup, and none of 1 to 3 and 9 to 13 holds against the addition. The only error is
 /// want of memory.
 ///
 /// It takes a step for each part of the package, and for each alias of the graph on the way from the types of other

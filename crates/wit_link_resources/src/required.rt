@@ -17,7 +17,7 @@ use wit_link_spec::{AdditionRef, NewIds};
 use wit_values::Table;
 
 /// Refuses a type that has to be a resource and doesn't lead to one (14). The package has its
-/// shape, the graph is valid, and what things are remapped to is told by `new_ids_of` of wit_link_foreign. A span that
+/// shape, the graph is valid, and what things are remapped to is told by `new_ids_of` of wit_link_lookup. A span that
 /// would be told and ends past 4294967295 is refused (27), and else want of memory (28) alone.
 ///
 /// It takes a step for each such type, and for each alias of the graph on the way to what they

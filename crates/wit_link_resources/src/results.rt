@@ -20,8 +20,8 @@ use wit_graph_data::ResolveResult;
 use wit_link_spec::{Activity, AdditionRef, NewIds};
 
 /// Refuses a function whose result holds a borrow (15). The package has its shape, the graph is valid, what is active
-/// of the package and what it is remapped to is told by `activity` of wit_link_features and `new_ids_of` of
-/// wit_link_foreign, and none of 1 to 3 and 9 to 13 holds against the addition. A span that would be told and ends past
+/// of the package and what it is remapped to is told by `activity` of wit_link_lookup and `new_ids_of` of
+/// wit_link_lookup, and none of 1 to 3 and 9 to 13 holds against the addition. A span that would be told and ends past
 /// 4294967295 is refused (27), and else want of memory (28) alone.
 ///
 /// It takes a step for each function of the package that is active, and for each type that their results hold, of the

@@ -2,7 +2,7 @@
 -- gate is a note on an item: none, `@since(version = ..)`, or `@unstable(feature = ..)`, of which the deprecation is
 -- never asked. A foreign interface or world has several notes, one for each time that it is named.
 -- Source: the WIT page of the component model, "Feature gates"; `include_stability` of wit-parser 0.263.0.
-pub use Rattle.wit_link_order.specs.GroupOrder.{OptionalSpan}
+pub use Rattle.wit_sources.specs.Span.{OptionalSpan}
 use Rattle.std.specs.Prelude.{◌≡◌, ◌⊎◌, ◌||◌, ℕ, suc, Bool, true, false, List, [], ◌∷◌, length, take, nat_eq, nat_lt, slice_get, Some, Contains, if◌then◌else◌, flat_map, bytes_eq, ◌++◌, map, option_to_list}
 use Rattle.std.specs.List.{list_any, position_or_len}
 use Rattle.std.specs.Option.{option_map_or}

@@ -1,4 +1,10 @@
+mod ClassSteps
+mod CompareSteps
+mod KindParts
 mod Next
+mod PathText
+mod WalkSteps
+mod WalkTurns
 pub mod Apart
 pub mod Mapped
 pub mod Matched

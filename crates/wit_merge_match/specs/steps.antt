@@ -1,3 +1,6 @@
+pub mod Classes
+pub mod ComparisonSteps
+pub mod Kinds
 pub mod Leaving
 pub mod Matched
 pub mod Stabilities

@@ -1,9 +1,14 @@
 //! What of an incoming graph is in a graph already, and what holds against making the two one: which of their things
-//! a merge makes one, where all of them go, what is matched and differs, stabilities that can't be joined, and spans
-//! that would pass the last position.
+//! a merge makes one, where all of them go, what is matched and differs, types by their structure, stabilities that
+//! can't be joined, and spans that would pass the last position.
 #![tactic(auto)]
 
+mod classes;
+mod comparison;
 mod entries;
+mod frames;
+mod heads;
+mod kinds;
 mod leaving;
 mod matched_graphs;
 mod matches;

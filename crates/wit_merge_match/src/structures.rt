@@ -7,13 +7,13 @@ ghost use Rattle.wit_merge_spec.specs.Matches.{entry_pairs, interface_pairs, ite
 ghost use Rattle.wit_merge_match.specs.Differing.{AreKnown, merging_of};
 ghost use Rattle.wit_merge_match.specs.steps.Structures.{AreComparable, FirstMismatch, IsOf, IsThere, ListsThere, NoneDiffer, TypesThere, common_pair, package_interface_pairs, package_world_pairs, side_pairs, unnamed_pairs};
 
+use crate::comparison::Comparison;
 use crate::matched_graphs::MatchedGraphs;
 use crate::messages::{in_entry, in_part, in_type};
 use crate::tables::match_at;
 use std::alloc::{AllocError, Global};
 use wit_data::{InterfaceId, Items, Names, PackageId, Table, TypeId, WorldId, WorldItem, WorldKey};
 use wit_graph_data::Graph;
-use wit_merge_structure::Comparison;
 use wit_queries::package_deps::topological_packages;
 
 impl<'a> MatchedGraphs<'a> {

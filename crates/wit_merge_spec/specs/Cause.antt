@@ -32,7 +32,7 @@ use Rattle.wit_graph_data.specs.IdText.{key_text}
 use Rattle.wit_graph_data.specs.declared.graph.Package.{Package}
 use Rattle.wit_remap_spec.specs.FunctionMismatch.{HaveFunctionMismatch}
 use Rattle.wit_merge_spec.specs.MismatchText.{absent_text, entry_count_text, entry_link, linked, other_interface_text, other_sort_text, part_links, side_word}
-use Rattle.wit_merge_structure.specs.Structure.{DifferInStructure}
+use Rattle.wit_merge_spec.specs.Structure.{DifferInStructure}
 
 -- What has to agree of the things that a merge makes one (24), and what a mismatch says: of functions of one name
 -- in matched interfaces, of the entries of matched worlds, and of matched types. Of several mismatches any may be told,

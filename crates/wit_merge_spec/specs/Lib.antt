@@ -1,6 +1,8 @@
 pub mod Cause
 pub mod Matches
 pub mod MismatchText
+pub mod Structure
 pub mod United
+pub mod examples
 pub mod facts
 pub mod steps

@@ -1,1 +1,3 @@
+pub mod DifferenceFacts
+pub mod StructureFacts
 pub mod Unchanged

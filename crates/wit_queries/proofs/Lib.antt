@@ -1,3 +1,4 @@
+mod Selected
 pub mod PackageRows
 pub mod PackagesOrdered
 pub mod Unfolds

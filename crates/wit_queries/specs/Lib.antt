@@ -1,4 +1,5 @@
 pub mod RemainingUses
+pub mod Selection
 pub mod ValidBits
 pub mod facts
 pub mod laws

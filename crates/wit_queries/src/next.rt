@@ -6,13 +6,12 @@ ghost use Rattle.wit_queries.specs.RemainingUses.{remaining_interfaces, remainin
 
 use crate::interface_deps::InterfaceDirectDeps;
 use crate::world_deps::WorldInterfaces;
-use indexmap::map::Iter;
 use wit_data::{
     Interface, InterfaceId, PackageId, TypeDef, TypeId, WorldId, WorldItem, WorldKey,
     type_interface_dep,
 };
 use wit_graph_data::Graph;
-use wit_values::NamesIter;
+use wit_values::{NamesIter, TableIter};
 
 /// The next interface that the types of a table need.
 pub(crate) fn next_used(types: &[TypeDef], ids: &mut NamesIter<'_, TypeId>) -> Option<InterfaceId>
@@ -42,7 +41,7 @@ fn entry_interface(types: &[TypeDef], item: &WorldItem) -> Option<InterfaceId>
 /// The next interface that entries name.
 pub(crate) fn next_named(
     types: &[TypeDef],
-    entries: &mut Iter<'_, WorldKey, WorldItem>,
+    entries: &mut TableIter<'_, WorldKey, WorldItem>,
 ) -> Option<InterfaceId>
     ensures { MatchOption result
         ((entry_interfaces types.now entries.old ≡ []) × (entries.new ≡ []))

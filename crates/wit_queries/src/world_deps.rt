@@ -5,17 +5,17 @@ ghost use Rattle.std.specs.Option.{option_map};
 ghost use Rattle.wit_graph_data.specs.Queries.{world_interfaces};
 
 use crate::next::next_named;
-use indexmap::map::Iter;
 use std::marker::Model;
 use wit_data::{InterfaceId, TypeDef, WorldId, WorldItem, WorldKey};
 use wit_graph_data::Graph;
+use wit_values::TableIter;
 
 /// The interfaces that the entries of a world name, those of its imports first, with repeats.
 #[derive(Drop)]
 pub(crate) struct WorldInterfaces<'a> {
     types: &'a [TypeDef],
-    imports: Iter<'a, WorldKey, WorldItem>,
-    exports: Iter<'a, WorldKey, WorldItem>,
+    imports: TableIter<'a, WorldKey, WorldItem>,
+    exports: TableIter<'a, WorldKey, WorldItem>,
 }
 
 impl<'a> Model for WorldInterfaces<'a> {

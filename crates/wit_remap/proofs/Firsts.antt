@@ -1,8 +1,6 @@
 -- A list of which the first elements are done, one more at a time.
-use Rattle.std.proofs.Common.{◌≡◌, ℕ, ◌+◌, zero, suc, List, [], ◌∷◌, ◌∙◌, length, map, Some, slice_get, slice_set, refl, ap, sym, subst, add-one, String, string_bytes}
-use Rattle.std.specs.declared.alloc.Global.{Global}
+use Rattle.std.proofs.Common.{◌≡◌, ℕ, ◌+◌, zero, suc, List, [], ◌∷◌, ◌∙◌, length, map, Some, slice_get, slice_set, refl, ap, sym, subst, add-one}
 use Rattle.indexmap.specs.IndexMap.{set_value_at}
-use Rattle.wit_values.specs.Names.{named}
 
 -- the list with f at each of its first so many elements
 abbrev pub map_first : {X : Type 0} → (X → X) → ℕ → List X → List X
@@ -69,14 +67,3 @@ module _ {K V : Type 0} (f : V → V) where
   set_value-next i es now v is at =
       let p = value_there i es now v is at in
       ap (λ (l : List (K × V)). set_value_at l i (f v)) is ∙ rw add-one (value_next i es p.0 v p.1)
-
--- names of done values
-pub named-map : {V : Type 0} (f : V → V) (es : List (String Global × V)) → named (map (at_value f) es) ≡ map (at_value f) (named es)
-named-map f [] = refl
-named-map f (e ∷ es) = ap (λ l. (string_bytes e.0, f e.1) ∷ l) (named-map f es)
-
--- what stands at an index stands there under its name
-pub slice_get-named : {V : Type 0} (es : List (String Global × V)) (i : ℕ) (k : String Global) (v : V) → slice_get es i ≡ Some (k, v) → slice_get (named es) i ≡ Some (string_bytes k, v)
-slice_get-named [] i k v at = cc
-slice_get-named {V} (e ∷ es) zero k v at = let same : e ≡ (k, v) = cc in ap (λ (p : String Global × V). Some (string_bytes p.0, p.1)) same
-slice_get-named (e ∷ es) (suc i) k v at = slice_get-named es i k v at

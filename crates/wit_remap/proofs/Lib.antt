@@ -5,7 +5,6 @@ pub mod KeysApart
 pub mod KindSpans
 pub mod LabelsStay
 pub mod MapsAre
-pub mod NamedFilter
 pub mod NamesApart
 pub mod Places
 pub mod Ready

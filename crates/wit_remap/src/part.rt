@@ -8,11 +8,7 @@ ghost use Rattle.wit_remap_spec.specs.Kept.{cut_interface};
 ghost use Rattle.wit_remap.specs.steps.Parts.{kept_of};
 
 use std::alloc::{AllocError, Global};
-use std::mem;
-use wit_data::{
-    Function, Id, Interface, Items, Names, Stability, Table, TypeId, WorldInclude, WorldItem,
-    WorldKey,
-};
+use wit_data::{Id, Interface, Items, Stability, Table, TypeId, WorldInclude, WorldItem, WorldKey};
 use wit_graph_data::Features;
 use wit_link_spec::{Activity, is_active, is_from, is_new};
 
@@ -56,34 +52,10 @@ impl<'a> Part<'a> {
     pub(crate) fn cut_interface(&self, interface: &mut Interface)
         ensures { interface.new ≡ cut_interface (kept_of self.now) interface.old }
     {
-        self.cut_types(&mut interface.types);
-        self.cut_functions(&mut interface.functions);
-    }
-
-    fn cut_types(&self, types: &mut Names<TypeId>)
-        ensures { types.new ≡ filter (λ e. (kept_of self.now).types e.1) types.old }
-    {
-        let alloc = types.allocator();
-        let mut map = mem::replace(types, Names::new(alloc)).into_map();
-        map.retain(
-            |_name: &String, id: &mut TypeId| -> bool
-                ensures { (result ≡ (kept_of self.entry.now).types id.old) × (id.new ≡ id.old) }
-            { self.has_type(*id) },
-        );
-        *types = Names::from_map(map);
-    }
-
-    fn cut_functions(&self, functions: &mut Names<Function>)
-        ensures { functions.new ≡ filter (λ e. (kept_of self.now).functions e.1) functions.old }
-    {
-        let alloc = functions.allocator();
-        let mut map = mem::replace(functions, Names::new(alloc)).into_map();
-        map.retain(
-            |_name: &String, function: &mut Function| -> bool
-                ensures { (result ≡ (kept_of self.entry.now).functions function.old) × (function.new ≡ function.old) }
-            { self.is_active(&function.stability) },
-        );
-        *functions = Names::from_map(map);
+        interface.types.retain(|id| self.has_type(*id));
+        interface
+            .functions
+            .retain(|function| self.is_active(&function.stability));
     }
 
     /// The entries that are active.
@@ -93,13 +65,9 @@ impl<'a> Part<'a> {
     ) -> Table<WorldKey, WorldItem>
         ensures { result ≡ filter (λ e. (kept_of self.now).items e.1) entries }
     {
-        let mut map = entries.into_map();
-        map.retain(
-            |_key: &WorldKey, item: &mut WorldItem| -> bool
-                ensures { (result ≡ (kept_of self.entry.now).items item.old) × (item.new ≡ item.old) }
-            { self.has_item(&*item) },
-        );
-        Table::from_map(map)
+        let mut entries = entries;
+        entries.retain(|item| self.has_item(item));
+        entries
     }
 
     /// The includes that are active.

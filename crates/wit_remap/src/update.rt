@@ -3,7 +3,6 @@ ghost use Rattle.std.specs.Prelude.{◌≡◌, ℕ, Option};
 ghost use Rattle.wit_remap_spec.specs.Image.{Maps};
 
 use crate::moves::Moves;
-use std::mem;
 use wit_data::{Items, Names, TypeId};
 
 /// What comes to a graph, with ids and spans that are rewritten there, which takes no memory and refuses nothing.
@@ -70,11 +69,8 @@ impl<V: Update + Drop> Update for Names<V> {
     ghost image = { λ m. map (λ (e : List ℕ × V). (e.0, V.image m e.1)) };
 
     fn update<M: Moves>(&mut self, mover: &M) {
-        let alloc = self.allocator();
-        let mut map = mem::replace(self, Names::new(alloc)).into_map();
-        for index in 0..map.len() {
-            map[index].update(mover);
+        for index in 0..self.len() {
+            self.value_at_mut(index).update(mover);
         }
-        *self = Names::from_map(map);
     }
 }

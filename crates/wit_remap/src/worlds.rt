@@ -89,10 +89,10 @@ pub fn updated_entries(
     ensures { IfOk result (λ updated. (w : ℕ) → updated ≡ map (entry_image (maps_of mover.now) w) entries) }
 {
     let mut updated = Table::new(alloc);
-    for (key, item) in entries.into_map() {
+    updated.reserve(entries.len())?;
+    for (key, item) in entries.into_pairs() {
         updated.push(updated_key(mover, key), updated_item(mover, item))?;
     }
-    updated.shrink();
     Ok(updated)
 }
 

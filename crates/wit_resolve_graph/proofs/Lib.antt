@@ -1,4 +1,3 @@
-pub mod ChosenWorlds
 mod EmptyGraph
 mod FilesAfter
 mod Grouped
@@ -8,3 +7,5 @@ mod OneOrder
 mod Runs
 mod RunsKeep
 mod SemverExact
+pub mod ChosenWorlds
+pub mod SourceNamesLemmas

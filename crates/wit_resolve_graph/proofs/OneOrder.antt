@@ -23,7 +23,7 @@ use Rattle.wit_digraph.specs.PostOrder.{first_of_each, post_order}
 use Rattle.wit_names.specs.facts.PackageNameFacts.{same_name}
 use Rattle.wit_names.specs.PackageName.{package_cmp, same_package}
 use Rattle.wit_names.specs.declared.package_name.PackageName.{PackageName}
-use Rattle.wit_link_order.specs.GroupOrder.{AreSorted, IsGroupOrder, Unresolved, group_uses, names_of}
+use Rattle.wit_link.specs.GroupOrder.{AreSorted, IsGroupOrder, Unresolved, group_uses, names_of}
 
 -- ---- lists that rise
 

@@ -14,7 +14,7 @@ use Rattle.wit_data.specs.declared.types.TypeDefKind.{TypeDefKind}
 use Rattle.wit_data.specs.declared.world.World.{World}
 use Rattle.wit_data.specs.declared.world.WorldInclude.{WorldInclude}
 use Rattle.wit_graph_theory.specs.facts.ListFacts.{found_at, same_at, some_at}
-use Rattle.wit_link_order.specs.GroupOrder.{Unresolved}
+use Rattle.wit_link.specs.GroupOrder.{Unresolved}
 use Rattle.wit_link_spec.specs.Addition.{Addition, active_includes, addition_maps, own_worlds, remapped_world}
 use Rattle.wit_link_spec.specs.Include.{PartiallyLinked, lists_of, with_copies, with_world_included}
 use Rattle.wit_link_spec.specs.Pushed.{new_package, pushed, with_all_includes, with_include, with_parts, with_world}
@@ -27,7 +27,7 @@ use Rattle.wit_merge_spec.specs.United.{united}
 use Rattle.wit_merge_laws.specs.facts.KeptFacts.{interfaces_stay, names_stay, packages_stay, types_stay, worlds_stay}
 use Rattle.wit_semver_spec.specs.Rewritten.{rewritten}
 use Rattle.wit_semver_spec.specs.laws.Unchanged.{IsAlias, SameButLists, SameButTarget, SameKind}
-use Rattle.wit_semver_laws.specs.laws.TrackLaws.{KeepsThings, RewrittenKeep}
+use Rattle.wit_semver_spec.specs.laws.TrackLaws.{KeepsThings, RewrittenKeep}
 use Rattle.wit_resolve_graph.specs.Merging.{merge_of}
 use Rattle.wit_resolve_graph.specs.laws.RunLaws.{Keeps, KeepsType, RunsKeep}
 use Rattle.wit_resolve_graph.specs.State.{State}

@@ -4,7 +4,7 @@ use Rattle.wit_elaboration.specs.Valid.{IsValid}
 use Rattle.wit_graph_theory.specs.facts.ListFacts.{found_at, get_at}
 use Rattle.wit_resolve_graph.specs.State.{State}
 use Rattle.wit_resolve_graph.specs.facts.NamedWorlds.{world_within}
-use Rattle.wit_semver_laws.specs.laws.TrackLaws.{KeysAreExact, RewrittenKeep}
+use Rattle.wit_semver_spec.specs.laws.TrackLaws.{KeysAreExact, RewrittenKeep}
 use Rattle.wit_semver_spec.specs.Rewritten.{rewritten}
 use Rattle.wit_semver_spec.specs.laws.Unchanged.{SameButLists}
 use Rattle.wit_resolve_graph.specs.laws.SemverLaws.{CallIsExact, CommandIsExact, ImportsLessReplaced}

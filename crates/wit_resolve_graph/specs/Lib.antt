@@ -1,4 +1,5 @@
 pub mod Merging
+pub mod SourceNames
 pub mod Sources
 pub mod State
 pub mod Step

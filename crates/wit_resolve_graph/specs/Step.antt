@@ -16,7 +16,7 @@ use Rattle.wit_elaboration.specs.Entries.{Entry}
 use Rattle.wit_graph_data.specs.IdText.{key_text}
 use Rattle.wit_graph_data.specs.declared.error_kind.ResolveErrorKind.TheVariants.{OffsetOverflow, OutOfMemory}
 use Rattle.wit_link.specs.Appending.{ArePushed, IsGroupsCause, files_end, packages_of}
-use Rattle.wit_link_order.specs.GroupOrder.{AreSorted, IsSortCause, Unresolved}
+use Rattle.wit_link.specs.GroupOrder.{AreSorted, IsSortCause, Unresolved}
 use Rattle.wit_resolve_graph.specs.Merging.{HasSourcesAfter, Merges, RefusesMerge}
 use Rattle.wit_graph_data.specs.Named.{world_named}
 use Rattle.wit_resolve_graph.specs.State.{State}

@@ -1,3 +1,4 @@
 pub mod Examples
 pub mod FilesExamples
+pub mod SourceNamesExamples
 pub mod SourcesExamples

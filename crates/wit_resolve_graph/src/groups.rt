@@ -9,7 +9,7 @@ ghost use Rattle.wit_remap.specs.Grown.{Begins};
 ghost use Rattle.wit_resolve_graph.specs.steps.Grouping.{AreAdded};
 ghost use Rattle.wit_resolve_graph.specs.State.{AreKept};
 ghost use Rattle.wit_resolve_graph.specs.Step.{with_files};
-ghost use Rattle.wit_link_order.specs.GroupOrder.{IsSortCause, names_of};
+ghost use Rattle.wit_link.specs.GroupOrder.{IsSortCause, names_of};
 ghost use Rattle.wit_sources.specs.SourceMap.{with_sources};
 
 use crate::kept::Kept;

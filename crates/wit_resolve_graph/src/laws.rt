@@ -1,12 +1,13 @@
 //! Laws of runs and of semver merging, and examples of the definitions: the contract of each function is what is proved.
 ghost use Rattle.wit_resolve_graph.specs.examples.Examples.{ExamplesOfRuns, ExamplesOfSelection};
 ghost use Rattle.wit_resolve_graph.specs.examples.FilesExamples.{ExamplesOfFiles};
+ghost use Rattle.wit_resolve_graph.specs.examples.SourceNamesExamples.{ExamplesOfNames};
 ghost use Rattle.wit_resolve_graph.specs.examples.SourcesExamples.{ExamplesOfSources};
 ghost use Rattle.wit_resolve_graph.specs.laws.RunLaws.{AdditionsKeep, GroupsKeep, MergesKeep, RunsKeep, SemverMergesKeep, SourcesKeep, TransformationsKeep};
 ghost use Rattle.wit_resolve_graph.specs.laws.SemverLaws.{CallIsExact, CommandIsExact};
 
 use crate::resolve::Resolve;
-use wit_semver_laws::laws::{keys_are_exact, rewritten_keep};
+use wit_semver_spec::laws::{keys_are_exact, rewritten_keep};
 
 /// What was there before a run is there after it, with the same ids.
 pub fn runs_keep()
@@ -59,4 +60,9 @@ pub fn examples_of_sources()
 /// Files that fit behind others up to the last position.
 pub fn examples_of_files()
     ensures { ExamplesOfFiles }
+{}
+
+/// The names of the sources of two packages.
+pub fn examples_of_names()
+    ensures { ExamplesOfNames }
 {}

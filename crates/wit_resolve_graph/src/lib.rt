@@ -23,14 +23,17 @@ mod groups;
 mod kept;
 pub mod laws;
 mod merged_imports;
+mod package_sources;
 mod push_source;
 mod queries;
 mod resolve;
+mod source_names;
 mod sources;
 mod transformations;
 mod uniting;
 
 pub use crate::command::{Command, Reply, run};
+pub use crate::package_sources::{PackageSourceNames, PackageSources};
 pub use crate::resolve::Resolve;
 pub use crate::sources::{ParseFault, SourceFault};
 pub use wit_graph::{
@@ -41,9 +44,9 @@ pub use wit_graph::{
 pub use wit_items::{
     AccessorKind, AstItem, Case, Docs, EnumCase, Field, Flag, Function, FunctionKind, Handle,
     IncludeName, Interface, InterfaceId, Items, LiftLowerAbi, ManglingAndAbi, MapFault, Names,
-    PackageId, PackageName, Param, Shape, SourceMap, Span, Stability, Table, Text, TrackRule,
-    TryClone, Type_, TypeDef, TypeDefKind, TypeId, TypeOwner, UnresolvedPackage,
-    UnresolvedPackageGroup, Version, World, WorldId, WorldInclude, WorldItem, WorldKey,
+    PackageId, PackageName, Param, Shape, ShapeClause, ShapeFault, ShapePlace, SourceMap, Span,
+    Stability, Table, Text, TrackRule, TryClone, Type_, TypeDef, TypeDefKind, TypeId, TypeOwner,
+    UnresolvedPackage, UnresolvedPackageGroup, Version, World, WorldId, WorldInclude, WorldItem,
+    WorldKey, find_shape_fault,
 };
-pub use wit_package_sources::{PackageSourceNames, PackageSources};
 pub use wit_remap::Remap;

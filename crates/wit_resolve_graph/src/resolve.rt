@@ -1,5 +1,5 @@
 //! A graph of packages with its features and its sources.
-ghost use Rattle.std.specs.Prelude.{◌≡◌, ◌⊎◌, ◌↔◌, ◌<◌, ◌≤◌, ◌+◌, ◌^◌, [], ◌∷◌, Bool, Ok, Err, IfErr, IfOk, IfSome, List, OnErr, OnOk, IsTrue, length, string_bytes};
+ghost use Rattle.std.specs.Prelude.{◌≡◌, ◌⊎◌, ◌↔◌, ◌<◌, ◌≤◌, ◌+◌, ◌^◌, [], ◌∷◌, Bool, Ok, Err, IfErr, IfOk, IfSome, List, OnErr, OnOk, IsTrue, is_some, length, string_bytes};
 ghost use Rattle.std.specs.List.{AllByRecursion};
 ghost use Rattle.std.specs.Option.{option_copied, option_map};
 ghost use Rattle.wit_graph_data.specs.IdText.{id_text, interface_id_at, key_text};
@@ -12,7 +12,7 @@ ghost use Rattle.wit_link_spec.specs.Cause.{IsCause};
 ghost use Rattle.wit_link.specs.Appending.{IsAdded, IsGroupsCause, addition};
 ghost use Rattle.wit_merge_spec.specs.Cause.{IsMergeCause};
 ghost use Rattle.wit_queries.specs.ValidBits.{AreValidBitsOf};
-ghost use Rattle.wit_selection.specs.Selection.{IsSelectionError, selected_world};
+ghost use Rattle.wit_queries.specs.Selection.{IsSelectionError, selected_world};
 ghost use Rattle.wit_resolve_graph.specs.Merging.{FilesPass, Merges, RefusesMerge, merge_of};
 ghost use Rattle.wit_resolve_graph.specs.State.{new_state};
 ghost use Rattle.wit_resolve_graph.specs.Step.{PushesGroups, RefusesGroups, with_feature};
@@ -32,7 +32,7 @@ use wit_data::{
 };
 use wit_graph_data::{Features, Graph, Package, ResolveErrorKind, ResolveResult};
 use wit_link::Remap;
-use wit_selection::select_world;
+use wit_queries::selection::select_world;
 use wit_transform::{exportize_answered_with, exportize_with, importize_with};
 use wit_validity::is_valid;
 use wit_values::try_clone_four;
@@ -74,6 +74,32 @@ impl Resolve {
             source_map: SourceMap::new(alloc),
             track_rule: TrackRule::Published,
         }
+    }
+
+    /// The `Resolve` of a graph with what stands beside it; None where the graph isn't valid: see `is_valid`. The only
+    /// refusal is want of memory (28).
+    pub fn of_graph(
+        alloc: Global,
+        graph: Graph,
+        features: Features,
+        source_map: SourceMap,
+        track_rule: TrackRule,
+    ) -> ResolveResult<Option<Resolve>>
+        ensures value { IfOk result (λ made. IfSome made (λ it. it ≡ record { graph = graph; features = features; source_map = source_map; track_rule = track_rule })) }
+        ensures valid { IfOk result (λ made. IsTrue (is_some made) ↔ IsValid graph) }
+        ensures err { IfErr result (λ kind. kind ≡ OutOfMemory) }
+    {
+        if !is_valid(alloc, &graph)? {
+            return Ok(None);
+        }
+        let kept = Kept::of(alloc, &graph)?;
+        Ok(Some(Resolve {
+            graph,
+            kept,
+            features,
+            source_map,
+            track_rule,
+        }))
     }
 
     /// The graph. A caller learns here that it is valid.

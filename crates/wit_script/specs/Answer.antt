@@ -12,7 +12,7 @@ use Rattle.wit_names.specs.PackageName.{package_name_text}
 use Rattle.wit_names.specs.declared.package_name.PackageName.{PackageName}
 use Rattle.wit_script_lines.specs.declared.request.Request.{Request}
 use Rattle.wit_script_lines.specs.declared.request.Request.TheVariants as request
-use Rattle.wit_selection.specs.Selection.{IsSelection}
+use Rattle.wit_queries.specs.Selection.{IsSelection}
 use Rattle.wit_graph_data.specs.Named.{package_named, world_named}
 use Rattle.wit_resolve_graph.specs.State.{State, new_state}
 use Rattle.wit_resolve_graph.specs.Step.{IsCommandShaped}

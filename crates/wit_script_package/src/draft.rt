@@ -265,11 +265,10 @@ impl Draft {
 fn shrunk(deps: Table<PackageName, ForeignNames>) -> Table<PackageName, ForeignNames>
     ensures { result ≡ deps }
 {
-    let mut map = deps.into_map();
-    for at in 0..map.len() {
-        map[at].shrink();
+    let mut deps = deps;
+    for at in 0..deps.len() {
+        deps.value_at_mut(at).shrink();
     }
-    let mut deps = Table::from_map(map);
     deps.shrink();
     deps
 }

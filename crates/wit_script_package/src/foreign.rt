@@ -1,67 +1,19 @@
 //! What a package knows of other packages by what its lines mention of them.
-ghost use Rattle.std.specs.Prelude.{◌≡◌, [], OnOk, IfOk, Some};
+ghost use Rattle.std.specs.Prelude.{◌≡◌, OnOk, IfOk, Some};
 ghost use Rattle.std.specs.List.{fold};
-ghost use Rattle.std.specs.Str.{bytes_eq};
-ghost use Rattle.wit_names.specs.PackageName.{same_package};
-ghost use Rattle.wit_script_package.specs.steps.Mentioning.{changed_at, with_counted, with_foreign, with_foreign_gate, with_foreign_type, with_gate, with_item_gate, with_key, with_mention, with_mention_of, with_package_gate, with_use_as};
+ghost use Rattle.wit_script_package.specs.steps.Mentioning.{with_counted, with_foreign, with_foreign_gate, with_foreign_type, with_item_gate, with_mention, with_mention_of, with_use_as};
 
 use crate::adding::{new_interface, new_type, new_world};
 use crate::draft::{Draft, ForeignNames, LineContext};
 use crate::mention::{Mention, MentionKind};
 use std::alloc::{AllocError, Global};
-use std::mem;
 use wit_data::{
-    AstItem, InterfaceId, Items, Names, PackageName, Stability, Table, Text, TryClone, TypeDefKind,
-    TypeId, TypeOwner, WorldId,
+    AstItem, InterfaceId, Items, Names, Stability, Text, TryClone, TypeDefKind, TypeId, TypeOwner,
+    WorldId,
 };
 
-/// The interfaces and worlds of a foreign package, of which this one is there.
-fn with_item(
-    alloc: Global,
-    items: ForeignNames,
-    name: &Text,
-    item: AstItem,
-) -> Result<ForeignNames, AllocError>
-    ensures { IfOk result (λ new. new ≡ with_key (bytes_eq name.now) name.now (item, []) items) }
-{
-    if items.contains_key(name.as_str()) {
-        return Ok(items);
-    }
-    let key = String::from_str(alloc, name.as_str())?;
-    let mut items = items;
-    items.push(key, (item, Items::new(alloc)))?;
-    Ok(items)
-}
-
-/// The interfaces and worlds of a foreign package, with one more gate of one that is there.
-fn with_gate(items: ForeignNames, name: &Text, gate: Stability) -> Result<ForeignNames, AllocError>
-    ensures { IfOk result (λ new. new ≡ changed_at (bytes_eq name.now) (with_gate gate) items) }
-{
-    let mut map = items.into_map();
-    match map.get_index_of(name.as_str()) {
-        Some(at) => {
-            map[at].1.push(gate)?;
-            Ok(Names::from_map(map))
-        }
-        None => Ok(Names::from_map(map)),
-    }
-}
-
-/// The interfaces and worlds of a foreign package, with one more gate of one.
-fn with_item_gate(
-    alloc: Global,
-    items: ForeignNames,
-    mention: &Mention,
-    item: AstItem,
-) -> Result<ForeignNames, AllocError>
-    ensures { IfOk result (λ new. new ≡ with_item_gate mention.now.name item mention.now.gate items) }
-{
-    let gate = mention.gate.try_clone()?;
-    let items = with_item(alloc, items, &mention.name, item)?;
-    with_gate(items, &mention.name, gate)
-}
-
-/// Adds one more gate of an interface or world of a foreign package.
+/// Adds one more gate of an interface or world of a foreign package, which comes last where it is
+/// mentioned first.
 fn add_item_gate(
     alloc: Global,
     items: &mut ForeignNames,
@@ -70,58 +22,17 @@ fn add_item_gate(
 ) -> Result<(), AllocError>
     ensures { OnOk result (items.new ≡ with_item_gate mention.now.name item mention.now.gate items.old) }
 {
-    let before = mem::replace(items, Names::new(alloc));
-    *items = with_item_gate(alloc, before, mention, item)?;
-    Ok(())
-}
-
-/// What is named of other packages, where something is named of this one.
-fn with_package(
-    alloc: Global,
-    deps: Table<PackageName, ForeignNames>,
-    parent: &PackageName,
-) -> Result<Table<PackageName, ForeignNames>, AllocError>
-    ensures { IfOk result (λ new. new ≡ with_key (same_package parent.now) parent.now [] deps) }
-{
-    if deps.contains_key(parent) {
-        return Ok(deps);
-    }
-    let key = parent.try_clone()?;
-    let mut deps = deps;
-    deps.push(key, Names::new(alloc))?;
-    Ok(deps)
-}
-
-/// What is named of other packages, with one more gate of an item of a package that is there.
-fn with_foreign_gate_there(
-    alloc: Global,
-    deps: Table<PackageName, ForeignNames>,
-    mention: &Mention,
-    item: AstItem,
-) -> Result<Table<PackageName, ForeignNames>, AllocError>
-    ensures { IfOk result (λ new. new ≡ changed_at (same_package mention.now.parent) (with_item_gate mention.now.name item mention.now.gate) deps) }
-{
-    let mut map = deps.into_map();
-    match map.get_index_of(&mention.parent) {
-        Some(at) => {
-            add_item_gate(alloc, &mut map[at], mention, item)?;
-            Ok(Table::from_map(map))
+    let gate = mention.gate.try_clone()?;
+    let name = mention.name.as_str();
+    match items.get_index_of(name) {
+        Some(at) => items.value_at_mut(at).1.push(gate),
+        None => {
+            let key = String::from_str(alloc, name)?;
+            let mut gates = Items::new(alloc);
+            gates.push(gate)?;
+            items.push(key, (item, gates))
         }
-        None => Ok(Table::from_map(map)),
     }
-}
-
-/// What is named of other packages, with one more gate of an item.
-fn with_package_gate(
-    alloc: Global,
-    deps: Table<PackageName, ForeignNames>,
-    mention: &Mention,
-    item: AstItem,
-) -> Result<Table<PackageName, ForeignNames>, AllocError>
-    ensures { IfOk result (λ new. new ≡ with_package_gate mention.now.parent mention.now.name item mention.now.gate deps) }
-{
-    let deps = with_package(alloc, deps, &mention.parent)?;
-    with_foreign_gate_there(alloc, deps, mention, item)
 }
 
 impl Draft {
@@ -134,12 +45,16 @@ impl Draft {
     ) -> Result<(), AllocError>
         ensures { OnOk result (self.new ≡ with_foreign_gate self.old mention.now item.now) }
     {
-        if !self.foreign.deps.contains_key(&mention.parent) {
-            self.foreign.dep_spans.push(mention.span)?;
+        match self.foreign.deps.get_index_of(&mention.parent) {
+            Some(at) => add_item_gate(alloc, self.foreign.deps.value_at_mut(at), mention, *item),
+            None => {
+                let mut items = Names::new(alloc);
+                add_item_gate(alloc, &mut items, mention, *item)?;
+                let key = mention.parent.try_clone()?;
+                self.foreign.dep_spans.push(mention.span)?;
+                self.foreign.deps.push(key, items)
+            }
         }
-        let deps = mem::replace(&mut self.foreign.deps, Table::new(alloc));
-        self.foreign.deps = with_package_gate(alloc, deps, mention, *item)?;
-        Ok(())
     }
 
     /// Adds the interface or world that a first mention names.

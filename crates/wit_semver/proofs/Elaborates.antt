@@ -22,13 +22,12 @@ use Rattle.wit_graph_theory.specs.facts.ListFacts.{from_row, in_row}
 use Rattle.wit_graph_theory.specs.facts.NamedUses.{used_is_named}
 use Rattle.wit_graph_theory.specs.facts.OptionFacts.{option_cases}
 use Rattle.wit_graph_theory.specs.facts.PackageCycleFacts.{used_package}
-use Rattle.wit_semver_spec.specs.Rewritten.{new_target, retargeted, rewritten, rewritten_types, with_new_entries_at, Upgrade, Disagrees, IsComplete, SemverMergeIsAccepted, UpgradeCause, conflict_4, functions_disagree_25, interface_cycle_22, package_cycle_6, type_cycle_23, type_missing_25}
-use Rattle.wit_semver_laws.specs.facts.Accepting.{id_of_named, in_order, new_aliases, relisted_worlds, rewritten_is}
-use Rattle.wit_semver_laws.specs.facts.TypesAfter.{type_after}
-use Rattle.wit_semver_laws.specs.facts.TypesGood.{refers_in_range, unnamed_plain}
+use Rattle.wit_semver_spec.specs.Rewritten.{new_target, retargeted, rewritten, rewritten_types, with_new_entries_at, Upgrade, Agrees, IsComplete, SemverMergeIsAccepted, UpgradeCause, conflict_4, functions_disagree_25, interface_cycle_22, package_cycle_6, type_cycle_23, type_missing_25, upgrade}
+use Rattle.wit_semver_spec.specs.facts.Accepting.{id_of_named, in_order, new_aliases, relisted_worlds, rewritten_is}
+use Rattle.wit_semver_spec.specs.facts.TypesAfter.{type_after}
+use Rattle.wit_semver_spec.specs.facts.TypesGood.{refers_in_range, unnamed_plain}
 use Rattle.wit_unite_common.specs.steps.Reasons.{CanBeElaborated, ElaborationCause, IsSomeNamed}
 use Rattle.wit_unite_common.specs.steps.Reasons as settles
-use Rattle.wit_semver.specs.steps.Replacing.{upgrade}
 
 module _ (u : Upgrade) (valid : IsValid u.graph) (w : ℕ) (there : slice_get u.graph.worlds w ≡ Some u.world) where
   abbrev types : List TypeDef
@@ -44,7 +43,7 @@ module _ (u : Upgrade) (valid : IsValid u.graph) (w : ℕ) (there : slice_get u.
   plain_edge : (i k : ℕ) (new : TypeDef) → slice_get changed i ≡ Some new → new.name ≡ None → Contains (referred new.kind) k → Contains (direct (type_references types) i) k
   plain_edge i k new at none has =
       let from = type_after u i new at in
-      by from.0 from.1 (new_target u i from.0) from.2 (unnamed_plain u valid w there i new at none)
+      by from.0 from.1 (new_target u i) from.2 (unnamed_plain u valid w there i new at none)
     where
       by : (def : TypeDef) → slice_get types i ≡ Some def → (o : Option ℕ) → new ≡ retargeted def o → IsPlain new.kind → Contains (direct (type_references types) i) k
       by def def_at None is plain = in_row (λ (d : TypeDef). referred d.kind) types i def k def_at (subst (λ (d : TypeDef). Contains (referred d.kind) k) is has)
@@ -91,19 +90,19 @@ cause_from u w complete e (settles.package_cycle_6 home is) = package_cycle_6 ho
 cause_from u w complete e (settles.interface_cycle_22 message is) = interface_cycle_22 message complete is
 cause_from u w complete e (settles.type_cycle_23 message is) = type_cycle_23 message complete is
 
-cause_into : (u : Upgrade) (w : ℕ) → IsComplete u → ((message : List ℕ) → Disagrees u message → ⊥) → ((e : ResolveErrorKind) → ElaborationCause (with_new_entries_at u w) e → ⊥) → (e : ResolveErrorKind) → UpgradeCause u w e → ⊥
+cause_into : (u : Upgrade) (w : ℕ) → IsComplete u → Agrees u → ((e : ResolveErrorKind) → ElaborationCause (with_new_entries_at u w) e → ⊥) → (e : ResolveErrorKind) → UpgradeCause u w e → ⊥
 cause_into u w complete agree none e (conflict_4 span name whole is) = none e (settles.conflict_4 span name is)
 cause_into u w complete agree none e (package_cycle_6 home whole is) = none e (settles.package_cycle_6 home is)
 cause_into u w complete agree none e (interface_cycle_22 message whole is) = none e (settles.interface_cycle_22 message is)
 cause_into u w complete agree none e (type_cycle_23 message whole is) = none e (settles.type_cycle_23 message is)
-cause_into u w complete agree none e (type_missing_25 message lacks) = complete message lacks
-cause_into u w complete agree none e (functions_disagree_25 message differ) = agree message differ
+cause_into u w complete agree none e (type_missing_25 t message follows lacks) = complete t message follows lacks
+cause_into u w complete agree none e (functions_disagree_25 f message differ) = agree f message differ
 
 -- where no cause holds against the steps, no cause holds against the merge
 same_world : (a b : World) → Some a ≡ Some b → a ≡ b
 same_world a b same = cc
 
-pub accepted_from : (rule : TrackRule) (g : Graph) (w : ℕ) (world : World) → slice_get g.worlds w ≡ Some world → IsComplete (upgrade rule g world) → ((message : List ℕ) → Disagrees (upgrade rule g world) message → ⊥)
+pub accepted_from : (rule : TrackRule) (g : Graph) (w : ℕ) (world : World) → slice_get g.worlds w ≡ Some world → IsComplete (upgrade rule g world) → Agrees (upgrade rule g world)
     → ((e : ResolveErrorKind) → ElaborationCause (with_new_entries_at (upgrade rule g world) w) e → ⊥) → SemverMergeIsAccepted rule g w
 accepted_from rule g w world there complete agree none e told =
     let one : told.0 ≡ world = same_world told.0 world (sym told.1 ∙ there) in

@@ -1,6 +1,6 @@
 -- What is made beside a graph, where new entries are found: the imports of the world alone where no type names another one,
 -- and else the graph that has them.
-use Rattle.std.proofs.Common.{◌≡◌, ◌∙◌, ◌⊎◌, inl, inr, ℕ, zero, suc, false, List, [], ◌∷◌, Option, None, Some, get_or, is_some, slice_get, slice_set, refl, sym, ap, subst}
+use Rattle.std.proofs.Common.{◌≡◌, ◌∙◌, ◌⊎◌, inl, inr, ℕ, zero, suc, false, List, [], ◌∷◌, Option, None, Some, get_or, is_some, slice_set, refl, sym, ap, subst}
 use Rattle.std.specs.List.{list_any}
 use Rattle.std.specs.Option.{option_map_or}
 use Rattle.wit_names.specs.declared.track.TrackRule.{TrackRule}
@@ -11,10 +11,10 @@ use Rattle.wit_elaboration.specs.Valid.{IsValid}
 use Rattle.wit_graph_data.specs.declared.graph.Graph.{Graph}
 use Rattle.wit_graph_data.specs.declared.error_kind.ResolveErrorKind.{ResolveErrorKind}
 use Rattle.wit_graph_data.specs.declared.error_kind.ResolveErrorKind.TheVariants.{OutOfMemory}
-use Rattle.wit_semver_spec.specs.Rewritten.{IsTrackCause, SemverMergeIsAccepted, Upgrade, listed_world, new_target, rewritten, with_new_entries_at}
-use Rattle.wit_semver_laws.specs.laws.TrackLaws.{RetargetsNone, RewrittenStayValid, SameTypesKeepWorlds}
+use Rattle.wit_semver_spec.specs.Rewritten.{IsTrackCause, SemverMergeIsAccepted, Upgrade, rewritten, with_new_entries_at, upgrade}
+use Rattle.wit_semver_spec.specs.laws.TrackLaws.{RetargetsNone, RewrittenStayValid, SameTypesKeepWorlds}
 use Rattle.wit_unite_common.specs.steps.Reasons.{CanBeElaborated, ElaborationCause}
-use Rattle.wit_semver.specs.steps.Replacing.{AreNewEntries, upgrade, with_imports, with_lists}
+use Rattle.wit_semver.specs.steps.Replacing.{AreNewEntries, with_imports, with_lists}
 use Rattle.wit_semver.proofs.Elaborates.{accepted_from, can_settle, cause_from, rewritten_from}
 use Rattle.wit_semver.proofs.NewEntries.{relisted_is, target_is}
 
@@ -37,7 +37,7 @@ module _ (rule : TrackRule) (g : Graph) (w : ℕ) (imports : List Entry) (target
 
   module _ (same : SameTypesKeepWorlds) (off : list_any is_some targets ≡ false) where
     retargets_none : RetargetsNone u
-    retargets_none t def at = sym (target_is u valid targets found.targets_are t def at) ∙ none_read targets t off
+    retargets_none t = sym (target_is u targets found.targets_are t) ∙ none_read targets t off
 
     pub kept_accepted : SemverMergeIsAccepted rule g w
     kept_accepted = (same u w valid found.there retargets_none found.complete found.agree).0
@@ -55,7 +55,7 @@ module _ (rule : TrackRule) (g : Graph) (w : ℕ) (imports : List Entry) (target
 
   module _ (made : Graph) (is : made ≡ with_lists g w imports targets) where
     made_is : made ≡ with_new_entries_at u w
-    made_is = is ∙ ap (λ (es : List Entry). with_lists g w es targets) found.imports_are ∙ relisted_is u valid targets found.targets_are w found.there
+    made_is = is ∙ ap (λ (es : List Entry). with_lists g w es targets) found.imports_are ∙ relisted_is u targets found.targets_are w found.there
 
     pub can_be_elaborated : CanBeElaborated made
     can_be_elaborated = subst CanBeElaborated (sym made_is) (can_settle u valid w found.there)

@@ -21,8 +21,8 @@ use Rattle.wit_names.specs.declared.track.TrackRule.{TrackRule}
 use Rattle.wit_elaboration.specs.Valid.{IsValid}
 use Rattle.wit_graph_data.specs.declared.graph.Graph.{Graph}
 use Rattle.wit_semver_spec.specs.Rewritten.{Upgrade, Versioned, both, have_one_track, imported, is_below, is_older_than, is_replaced, newest, versioned}
-use Rattle.wit_semver_laws.specs.facts.Greatest.{any_of, any_with, below_itself, below_trans, both_from, both_into, both_true, inside, newest_stays, stays_from, track_into}
-use Rattle.wit_semver_laws.specs.facts.Merged.{equal_versions, one_track}
+use Rattle.wit_semver_spec.specs.facts.Greatest.{any_of, any_with, below_itself, below_trans, both_from, both_into, both_true, inside, newest_stays, stays_from, track_into}
+use Rattle.wit_semver_spec.specs.facts.Merged.{equal_versions, one_track}
 use Rattle.wit_semver.specs.steps.Replacing.{IsNewestTable, is_newer, is_smaller, key_at, key_of, replacement, same_track}
 use Rattle.wit_semver.specs.declared.tracks.TrackKey.{TrackKey}
 
@@ -53,7 +53,7 @@ last_is i id has = elim (Contains-cons_cases id i [] has) [ inl same ↦ sym sam
 
 module _ (rule : TrackRule) (g : Graph) where
   abbrev at : ℕ → Option Versioned
-  at i = versioned g.packages g.interfaces i
+  at i = versioned g i
 
   -- what has a key is of a version
   pub keyed_from : (i : ℕ) (k : TrackKey) → key_at rule g i ≡ Some k → (v : Versioned) × (at i ≡ Some v) × (k ≡ key_of rule v)
@@ -182,10 +182,10 @@ above_level g valid v w x up level = by (version_cmp w.version x.version) refl
 
 module _ (u : Upgrade) (valid : IsValid u.graph) (table : List (TrackKey × ℕ)) (tells : IsNewestTable u.rule u.graph (imported u) table) (i : ℕ) (has : Contains (imported u) i) where
   abbrev at_ : ℕ → Option Versioned
-  at_ j = versioned u.graph.packages u.graph.interfaces j
+  at_ j = versioned u.graph j
 
   abbrev outdone : ℕ → ℕ → Bool
-  outdone = is_older_than u.rule u.graph.packages u.graph.interfaces
+  outdone = is_older_than u.rule u.graph
 
   abbrev test : Versioned → Versioned → Bool
   test v w = have_one_track u.rule v w && is_below v w

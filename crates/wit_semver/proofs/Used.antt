@@ -1,20 +1,18 @@
--- Types that follow and lack what they use, one after another; interfaces that disagree with what replaces them.
+-- Types that lack what they use, one after another; interfaces that disagree with what replaces them.
 use Rattle.std.proofs.Common.{◌≡◌, ◌∙◌, ◌++◌, ◌∷◌, [], ℕ, Bool, true, false, List, Option, None, Some, get_or, slice_get, inl, inr, refl, sym, ap, subst, if◌then◌else◌}
 use Rattle.std.proofs.lemmas.List.Elements.{Contains-append_cases}
 use Rattle.wit_digraph.specs.facts.MemberFacts.{Contains-cons_cases, Contains-nil}
 use Rattle.wit_data.specs.declared.interface.Interface.{Interface}
-use Rattle.wit_data.specs.declared.world.WorldKey.TheVariants as key
-use Rattle.wit_graph_data.specs.IdText.{key_text}
 use Rattle.wit_remap_spec.specs.FunctionMismatch.{HaveFunctionMismatch}
-use Rattle.wit_semver_spec.specs.Rewritten.{Disagrees, disagreement_text, upgrade_text, Upgrade, is_replaced, newest}
-use Rattle.wit_semver.specs.steps.Replacing.{AreReplacements, DisagreesAt, LackTypes, LacksTypeAt}
+use Rattle.wit_semver_spec.specs.Rewritten.{Disagrees, LacksType, Upgrade, disagreement_text, is_replaced, newest, upgrade_text}
+use Rattle.wit_semver.specs.steps.Replacing.{AreReplacements, LackTypes}
 
 -- one type more, which lacks nothing
-pub none_lacks-next : (u : Upgrade) (ids : List ℕ) (t : ℕ) (message : List ℕ) → ((message : List ℕ) → LackTypes u ids message → ⊥) → ((message : List ℕ) → LacksTypeAt u t message → ⊥) → LackTypes u (ids ++ t ∷ []) message → ⊥
+pub none_lacks-next : (u : Upgrade) (ids : List ℕ) (t : ℕ) (message : List ℕ) → ((message : List ℕ) → LackTypes u ids message → ⊥) → ((message : List ℕ) → LacksType u t message → ⊥) → LackTypes u (ids ++ t ∷ []) message → ⊥
 none_lacks-next u ids t message before here lacks = elim (Contains-append_cases ids (t ∷ []) lacks.0 lacks.1) [
   | inl among ↦ before message (lacks.0, among, lacks.2)
   | inr last ↦ elim (Contains-cons_cases t lacks.0 [] last) [
-    | inl same ↦ here message (subst (λ (x : ℕ). LacksTypeAt u x message) (sym same) lacks.2)
+    | inl same ↦ here message (subst (λ (x : ℕ). LacksType u x message) (sym same) lacks.2)
     | inr none ↦ absurd (Contains-nil none)
   ]
 ]
@@ -43,7 +41,7 @@ module _ (u : Upgrade) (found : List (Option ℕ)) (are : AreReplacements u foun
 
   module _ (from into : Interface) (from_is : slice_get u.graph.interfaces f ≡ Some from) (into_is : slice_get u.graph.interfaces n ≡ Some into) where
     pub they_disagree : (mismatch : List ℕ) → HaveFunctionMismatch from into mismatch
-        → DisagreesAt u f (upgrade_text (key_text u.graph.packages u.graph.interfaces (key.Interface f)) (key_text u.graph.packages u.graph.interfaces (key.Interface n)) (disagreement_text mismatch))
+        → Disagrees u f (upgrade_text u.graph f n (disagreement_text mismatch))
     they_disagree mismatch have = record {
       old = from;
       new = into;
@@ -52,18 +50,11 @@ module _ (u : Upgrade) (found : List (Option ℕ)) (are : AreReplacements u foun
       old_is = from_is;
       new_is = ap (slice_get u.graph.interfaces) (sym told_replaced.1) ∙ into_is;
       have = have;
-      message_is = ap (λ (m : ℕ). upgrade_text (key_text u.graph.packages u.graph.interfaces (key.Interface f)) (key_text u.graph.packages u.graph.interfaces (key.Interface m)) (disagreement_text mismatch)) told_replaced.1;
+      message_is = ap (λ (m : ℕ). upgrade_text u.graph f m (disagreement_text mismatch)) told_replaced.1;
     }
 
-    pub they_agree : ((text : List ℕ) → HaveFunctionMismatch from into text → ⊥) → (message : List ℕ) → DisagreesAt u f message → ⊥
+    pub they_agree : ((text : List ℕ) → HaveFunctionMismatch from into text → ⊥) → (message : List ℕ) → Disagrees u f message → ⊥
     they_agree agree message differ =
         let first : differ.old ≡ from = same_interface differ.old from (sym differ.old_is ∙ from_is) in
         let second : differ.new ≡ into = same_interface differ.new into (sym differ.new_is ∙ ap (slice_get u.graph.interfaces) (sym told_replaced.1) ∙ into_is) in
         agree differ.mismatch (subst (λ (x : Interface). HaveFunctionMismatch from x differ.mismatch) second (subst (λ (x : Interface). HaveFunctionMismatch x differ.new differ.mismatch) first differ.have))
-
--- some interface disagrees
-pub disagrees_from : (u : Upgrade) (f : ℕ) (message : List ℕ) → DisagreesAt u f message → Disagrees u message
-disagrees_from u f message at = record { f = f; old = at.old; new = at.new; mismatch = at.mismatch; replaced = at.replaced; old_is = at.old_is; new_is = at.new_is; have = at.have; message_is = at.message_is }
-
-pub disagrees_into : (u : Upgrade) (message : List ℕ) → (d : Disagrees u message) → DisagreesAt u d.f message
-disagrees_into u message d = record { old = d.old; new = d.new; mismatch = d.mismatch; replaced = d.replaced; old_is = d.old_is; new_is = d.new_is; have = d.have; message_is = d.message_is }

@@ -2,8 +2,8 @@
 ghost use Rattle.std.specs.Prelude.{◌≡◌, ◌⊎◌, ℕ, List, IfErr, None, OnOk};
 ghost use Rattle.wit_graph_data.specs.declared.cause.Cause.TheVariants as cause;
 ghost use Rattle.wit_graph_data.specs.declared.error_kind.ResolveErrorKind.TheVariants.{OutOfMemory, Semantic};
-ghost use Rattle.wit_semver_spec.specs.Rewritten.{Disagrees};
-ghost use Rattle.wit_semver.specs.steps.Replacing.{DisagreesAt, IsUpgradeReady, upgrade_of};
+ghost use Rattle.wit_semver_spec.specs.Rewritten.{Agrees, Disagrees};
+ghost use Rattle.wit_semver.specs.steps.Replacing.{IsUpgradeReady, upgrade_of};
 
 use crate::refusal::functions_disagree;
 use crate::upgrade_plan::{UpgradePlan, replacement_of};
@@ -17,8 +17,8 @@ impl<'a> UpgradePlan<'a> {
     /// that both have (25).
     pub(crate) fn check_functions(&self, alloc: Global) -> ResolveResult<()>
         requires ready { IsUpgradeReady self.now }
-        ensures agree { OnOk result ((message : List ℕ) → Disagrees (upgrade_of self.now) message → ⊥) }
-        ensures cause { IfErr result (λ e. (e ≡ OutOfMemory) ⊎ ((message : List ℕ) × Disagrees (upgrade_of self.now) message × (e ≡ Semantic None message cause.UpgradeMismatch))) }
+        ensures agree { OnOk result (Agrees (upgrade_of self.now)) }
+        ensures cause { IfErr result (λ e. (e ≡ OutOfMemory) ⊎ ((f : ℕ) × (message : List ℕ) × Disagrees (upgrade_of self.now) f message × (e ≡ Semantic None message cause.UpgradeMismatch))) }
     {
         for index in 0..self.replaced.len() {
             self.check_interface(alloc, InterfaceId::from_index(index))?;
@@ -29,8 +29,8 @@ impl<'a> UpgradePlan<'a> {
     /// The same of one interface.
     fn check_interface(&self, alloc: Global, old: InterfaceId) -> ResolveResult<()>
         requires ready { IsUpgradeReady self.now }
-        ensures agree { OnOk result ((message : List ℕ) → DisagreesAt (upgrade_of self.now) old message → ⊥) }
-        ensures cause { IfErr result (λ e. (e ≡ OutOfMemory) ⊎ ((message : List ℕ) × DisagreesAt (upgrade_of self.now) old message × (e ≡ Semantic None message cause.UpgradeMismatch))) }
+        ensures agree { OnOk result ((message : List ℕ) → Disagrees (upgrade_of self.now) old message → ⊥) }
+        ensures cause { IfErr result (λ e. (e ≡ OutOfMemory) ⊎ ((message : List ℕ) × Disagrees (upgrade_of self.now) old message × (e ≡ Semantic None message cause.UpgradeMismatch))) }
     {
         let Some(new) = replacement_of(&self.replaced, old) else {
             return Ok(());

@@ -14,7 +14,7 @@ use crate::upgrade_plan::UpgradePlan;
 use std::alloc::Global;
 use wit_data::{Items, Table, TrackRule, TypeId, WorldId, WorldItem, WorldKey};
 use wit_graph_data::{Graph, ResolveResult};
-use wit_semver_laws::laws::{rewritten_stay_valid, same_types_keep_worlds};
+use wit_semver_spec::laws::{rewritten_stay_valid, same_types_keep_worlds};
 use wit_unite_common::check_and_elaborate;
 
 /// What a world lists after its imports are merged, and what each type of the graph names then, None where that stays.
@@ -33,9 +33,8 @@ pub enum SemverMerge {
     Graph(Graph),
 }
 
-/// What a world lists that has its replaced imports no more, and what types name then: what its other entries use of
-/// replaced interfaces they use of the newest. Refused where the newest lacks what is used, or a function isn't the
-/// same there (25).
+/// What a world lists without its replaced imports, and what types name then: what its other entries use of a replaced
+/// interface they use of the newest. Refused where the newest lacks a type that is used, or disagrees in a function (25).
 fn new_entries(
     alloc: Global,
     graph: &Graph,

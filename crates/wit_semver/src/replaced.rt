@@ -4,8 +4,8 @@ ghost use Rattle.std.specs.Option.{option_map_or};
 ghost use Rattle.wit_elaboration.specs.Valid.{IsValid};
 ghost use Rattle.wit_elaboration.specs.Entries.{keyed_interfaces};
 ghost use Rattle.wit_data.specs.declared.world.World.{World};
-ghost use Rattle.wit_semver_spec.specs.Rewritten.{is_below, versioned};
-ghost use Rattle.wit_semver.specs.steps.Replacing.{AreReplacements, IsNewestTable, replacement, told, upgrade};
+ghost use Rattle.wit_semver_spec.specs.Rewritten.{is_below, versioned, upgrade};
+ghost use Rattle.wit_semver.specs.steps.Replacing.{AreReplacements, IsNewestTable, replacement, told};
 
 use crate::newest::newest_by_track;
 use crate::tracks::{TrackKey, VersionedInterface, versioned};
@@ -66,7 +66,7 @@ fn replacement(
 
 /// Whether an interface is of a greater version than another.
 fn is_greater(graph: &Graph, id: InterfaceId, interface: &VersionedInterface<'_>) -> bool
-    ensures { result ≡ option_map_or (is_below (told interface.now)) (versioned graph.now.packages graph.now.interfaces id) false }
+    ensures { result ≡ option_map_or (is_below (told interface.now)) (versioned graph.now id) false }
 {
     match versioned(graph, id) {
         Some(other) => interface.is_below(&other),

@@ -3,8 +3,8 @@ ghost use Rattle.std.specs.Prelude.{◌≡◌, ◌⊎◌, ◌<◌, ℕ, List, Co
 ghost use Rattle.std.specs.Option.{option_copied};
 ghost use Rattle.wit_graph_data.specs.declared.cause.Cause.TheVariants as cause;
 ghost use Rattle.wit_graph_data.specs.declared.error_kind.ResolveErrorKind.TheVariants.{OutOfMemory, Semantic};
-ghost use Rattle.wit_semver_spec.specs.Rewritten.{interface_type};
-ghost use Rattle.wit_semver.specs.steps.Replacing.{IsFilled, IsUpgradeReady, LackTypes, LacksTypeAt, name_used, upgrade_of, used_target};
+ghost use Rattle.wit_semver_spec.specs.Rewritten.{LacksType, interface_type, newest_type, target_name};
+ghost use Rattle.wit_semver.specs.steps.Replacing.{IsFilled, IsUpgradeReady, LackTypes, upgrade_of};
 
 use crate::refusal::type_missing;
 use crate::upgrade_plan::{UpgradePlan, replacement_of};
@@ -16,7 +16,7 @@ use wit_graph_data::ResolveResult;
 
 impl<'a> UpgradePlan<'a> {
     /// Of each type what it names after the rewriting, None where it stays as it is: of some types that
-    /// follow, each that uses a replaced interface names the type of the same name in the one that
+    /// may be rewritten, each that uses a replaced interface names the type of the same name in the one that
     /// replaces it. Refused where that has none (25).
     pub(crate) fn new_targets(
         &self,
@@ -25,7 +25,7 @@ impl<'a> UpgradePlan<'a> {
     ) -> ResolveResult<Items<Option<TypeId>>>
         requires ready { IsUpgradeReady self.now }
         requires in_range { (t : ℕ) → Contains rewritable_types.now t → t < length self.now.graph.now.types }
-        ensures ok { IfOk result (λ targets. IsFilled (used_target (upgrade_of self.now)) rewritable_types.now (length self.now.graph.now.types) targets) }
+        ensures ok { IfOk result (λ targets. IsFilled (newest_type (upgrade_of self.now)) rewritable_types.now (length self.now.graph.now.types) targets) }
         ensures complete { OnOk result ((message : List ℕ) → LackTypes (upgrade_of self.now) rewritable_types.now message → ⊥) }
         ensures cause { IfErr result (λ e. (e ≡ OutOfMemory) ⊎ ((message : List ℕ) × LackTypes (upgrade_of self.now) rewritable_types.now message × (e ≡ Semantic None message cause.UpgradeMismatch))) }
     {
@@ -37,12 +37,12 @@ impl<'a> UpgradePlan<'a> {
         Ok(targets)
     }
 
-    /// What a type that follows names after the rewriting, None where it stays as it is.
+    /// What a type that may be rewritten names then, None where it stays as it is.
     fn new_target(&self, alloc: Global, id: TypeId) -> ResolveResult<Option<TypeId>>
         requires ready { IsUpgradeReady self.now }
-        ensures ok { IfOk result (λ target. target ≡ used_target (upgrade_of self.now) id) }
-        ensures complete { OnOk result ((message : List ℕ) → LacksTypeAt (upgrade_of self.now) id message → ⊥) }
-        ensures cause { IfErr result (λ e. (e ≡ OutOfMemory) ⊎ ((message : List ℕ) × LacksTypeAt (upgrade_of self.now) id message × (e ≡ Semantic None message cause.UpgradeMismatch))) }
+        ensures ok { IfOk result (λ target. target ≡ newest_type (upgrade_of self.now) id) }
+        ensures complete { OnOk result ((message : List ℕ) → LacksType (upgrade_of self.now) id message → ⊥) }
+        ensures cause { IfErr result (λ e. (e ≡ OutOfMemory) ⊎ ((message : List ℕ) × LacksType (upgrade_of self.now) id message × (e ≡ Semantic None message cause.UpgradeMismatch))) }
     {
         let types = self.graph.types.as_slice();
         let Some(old) = type_interface_dep(types, id) else {
@@ -51,7 +51,7 @@ impl<'a> UpgradePlan<'a> {
         let Some(new) = replacement_of(&self.replaced, old) else {
             return Ok(None);
         };
-        let Some(name) = name_used(types, id) else {
+        let Some(name) = target_name(types, id) else {
             return Ok(None);
         };
         match interface_type(self.graph.interfaces.as_slice(), new, name) {
@@ -62,8 +62,8 @@ impl<'a> UpgradePlan<'a> {
 }
 
 /// The name of the type that a type names as an alias.
-fn name_used(types: &[TypeDef], id: TypeId) -> Option<&Text>
-    ensures { option_copied result ≡ name_used types.now id }
+fn target_name(types: &[TypeDef], id: TypeId) -> Option<&Text>
+    ensures { option_copied result ≡ target_name types.now id }
 {
     let alias = types.get(id.index())?;
     let target = alias_target(&alias.kind)?;

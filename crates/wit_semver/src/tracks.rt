@@ -27,7 +27,7 @@ pub(crate) struct VersionedInterface<'a> {
 
 /// An interface by its names, where it has a name and is of a package with a version.
 pub(crate) fn versioned(graph: &Graph, id: InterfaceId) -> Option<VersionedInterface<'_>>
-    ensures { option_map told result ≡ versioned graph.now.packages graph.now.interfaces id }
+    ensures { option_map told result ≡ versioned graph.now id }
 {
     let interface = graph.interfaces.get(id.index())?;
     let name = interface.name.as_ref()?;

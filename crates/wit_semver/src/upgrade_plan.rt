@@ -2,7 +2,8 @@
 ghost use Rattle.std.specs.Prelude.{◌≡◌, ◌<◌, ℕ, Contains, IfOk, None, get_or, length};
 ghost use Rattle.wit_elaboration.specs.Entries.{keyed_interfaces};
 ghost use Rattle.wit_elaboration.specs.Valid.{IsValid};
-ghost use Rattle.wit_semver.specs.steps.Replacing.{IsUpgradeReady, upgrade, upgrade_of};
+ghost use Rattle.wit_semver_spec.specs.Rewritten.{upgrade};
+ghost use Rattle.wit_semver.specs.steps.Replacing.{IsUpgradeReady, upgrade_of};
 
 use crate::replaced::replacements;
 use std::alloc::{AllocError, Global};

@@ -1,2 +1,3 @@
 pub mod Rewritten
+pub mod facts
 pub mod laws

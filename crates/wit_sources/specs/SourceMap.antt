@@ -35,6 +35,10 @@ with_sources sources others = record {
 abbrev pub paths_of : List SourceFile → List (List ℕ)
 paths_of files = map (λ file. file.path) files
 
+-- the path and the contents of each file, in order
+abbrev pub files_of : List SourceFile → List (List ℕ × List ℕ)
+files_of files = map (λ file. (file.path, file.contents)) files
+
 -- the files stand one after another between two positions, so that no two of them have a position in common
 abbrev pub AreLaidOut : ℕ → List SourceFile → ℕ → Type 0
 AreLaidOut from [] end = from ≤ end

@@ -5,5 +5,5 @@ mod lines;
 mod source_map;
 mod span;
 
-pub use crate::source_map::{MapFault, SourceMap, SourceNames};
+pub use crate::source_map::{MapFault, SourceFiles, SourceMap, SourceNames};
 pub use crate::span::Span;

@@ -3,7 +3,7 @@ ghost use Rattle.std.specs.Prelude.{◌≡◌, ◌≤◌, ◌<◌, ◌+◌, ◌^
 ghost use Rattle.std.specs.Option.{SomeIff};
 ghost use Rattle.std.specs.List.{AllByRecursion};
 ghost use Rattle.std.specs.Iterator.{YieldsFirstBy, item_count};
-ghost use Rattle.wit_sources.specs.SourceMap.{AreLaidOut, end_after, with_file, moved_file, with_sources, paths_of, map_fault_text};
+ghost use Rattle.wit_sources.specs.SourceMap.{AreLaidOut, end_after, with_file, moved_file, with_sources, paths_of, files_of, map_fault_text};
 
 use std::alloc::{AllocError, Global};
 use std::error::Error;
@@ -192,6 +192,15 @@ impl SourceMap {
             files: self.files.iter(),
         }
     }
+
+    /// The path and the contents of each file, in order.
+    pub fn files(&self) -> SourceFiles<'_>
+        ensures { result ≡ files_of self.now.files }
+    {
+        SourceFiles {
+            files: self.files.iter(),
+        }
+    }
 }
 
 /// The position after a file that begins at a position, where there is one.
@@ -252,5 +261,34 @@ impl<'a> Iterator for SourceNames<'a> {
     fn next(&mut self) -> Option<&'a str> {
         let file = self.files.next()?;
         Some(file.path.as_str())
+    }
+}
+
+/// The path and the contents of each file of a source map, in order.
+#[derive(Drop)]
+pub struct SourceFiles<'a> {
+    files: slice::Iter<'a, SourceFile>,
+}
+
+impl<'a> Model for SourceFiles<'a> {
+    ghost use Rattle.std.specs.Prelude.{List, ℕ};
+    ghost use Rattle.std.specs.Slice.Iter.{iter_rest};
+    ghost use Rattle.wit_sources.specs.SourceMap.{files_of};
+
+    ghost Value = { List (List ℕ × List ℕ) };
+
+    ghost view = { λ files. files_of (iter_rest files.files) };
+}
+
+impl<'a> Iterator for SourceFiles<'a> {
+    type Item = (&'a str, &'a str);
+
+    ghost next_gives = { YieldsFirstBy (λ file. (file.0.now, file.1.now)) (λ files. files) };
+
+    ghost remaining = { item_count (λ files. files) };
+
+    fn next(&mut self) -> Option<(&'a str, &'a str)> {
+        let file = self.files.next()?;
+        Some((file.path.as_str(), file.contents.as_str()))
     }
 }

@@ -7,8 +7,8 @@ pub use wit_merge_laws::laws::{
     old_worlds_stay, resources_stay, shared_worlds_keep_imports, unions_grow,
     unions_have_both_names, unions_stay_valid,
 };
-pub use wit_merge_structure::laws::examples_of_structure;
-pub use wit_semver_laws::laws::{
+pub use wit_merge_spec::laws::examples_of_structure;
+pub use wit_semver_spec::laws::{
     aliases_keep_names, aliases_name_newest, exports_are_kept, keys_are_exact, labels_are_kept,
     newest_is_greatest, one_on_each_track, rewritten_keep, rewritten_stay_valid,
     same_types_keep_worlds, semver_merges_once, worlds_are_elaborated,

@@ -4,6 +4,7 @@
 
 mod adding;
 mod building;
+mod calling;
 mod importizing;
 mod merging;
 mod reading;
@@ -24,6 +25,8 @@ fn report(alloc: Global) -> ResolveResult<String> {
     out.push_str(importizing::exports_as_imports(alloc)?.as_str())?;
     out.push_str("# the imports of a world\n")?;
     out.push_str(reading::imports(alloc)?.as_str())?;
+    out.push_str("# a package, where it has its shape\n")?;
+    out.push_str(calling::a_package(alloc)?.as_str())?;
     out.push_str("# a refusal with its line\n")?;
     out.push_str(refusing::a_missing_package(alloc)?.as_str())?;
     Ok(out)

@@ -3,7 +3,8 @@ use crate::building::{group, item, with_interface, world};
 use std::alloc::Global;
 use std::fmt::Write;
 use wit_resolve_graph::{
-    InterfaceId, Resolve, ResolveResult, Shape, Table, UnresolvedPackageGroup, WorldItem, WorldKey,
+    InterfaceId, Resolve, ResolveResult, Shape, Table, UnresolvedPackageGroup, World, WorldItem,
+    WorldKey,
 };
 
 /// The package `foo:api` with an interface `i` and a world `w` that imports it.
@@ -18,7 +19,7 @@ fn importing(alloc: Global) -> ResolveResult<UnresolvedPackageGroup> {
     Ok(group(alloc, package))
 }
 
-/// Writes what each world imports: interfaces by their id texts, functions and types by their labels.
+/// Adds a package, chooses its world, and writes what that imports.
 pub fn imports(alloc: Global) -> ResolveResult<String> {
     let mut out = String::new(alloc);
     let mut resolve = Resolve::new(alloc);
@@ -27,17 +28,29 @@ pub fn imports(alloc: Global) -> ResolveResult<String> {
         out.push_str("a package without its shape\n")?;
         return Ok(out);
     }
-    let _package = resolve.push_group(alloc, made)?;
-    for world in resolve.worlds() {
-        for (key, item) in world.imports.iter() {
-            let name = resolve.name_world_key(alloc, key)?;
-            let sort = match item {
-                WorldItem::Interface { .. } => "interface",
-                WorldItem::Function(_) => "function",
-                WorldItem::Type_ { .. } => "type",
-            };
-            writeln!(out, "{sort} {name}")?;
-        }
+    let package = resolve.push_group(alloc, made)?;
+    let id = resolve.select_world(alloc, &[package], None)?;
+    if let Some(world) = resolve.worlds().get(id.index()) {
+        write_imports(alloc, &resolve, world, &mut out)?;
     }
     Ok(out)
+}
+
+/// Writes what a world imports: interfaces by their id texts, functions and types by their labels.
+fn write_imports(
+    alloc: Global,
+    resolve: &Resolve,
+    world: &World,
+    out: &mut String,
+) -> ResolveResult<()> {
+    for (key, item) in world.imports.iter() {
+        let name = resolve.name_world_key(alloc, key)?;
+        let sort = match item {
+            WorldItem::Interface { .. } => "interface",
+            WorldItem::Function(_) => "function",
+            WorldItem::Type_ { .. } => "type",
+        };
+        writeln!(out, "{sort} {name}")?;
+    }
+    Ok(())
 }

@@ -1,16 +1,16 @@
 -- A table under texts, and the map that keeps it.
-use Rattle.std.proofs.Common.{◌≡◌, ◌∙◌, ◌-◌, ℕ, zero, suc, Bool, cond, List, [], ◌∷◌, ◌++◌, Option, None, Some, String, string_bytes, refl, sym, ap, string_eq, true, false, length, map, position, remove, slice_get, option_to_list}
+use Rattle.std.proofs.Common.{◌≡◌, ◌∙◌, ◌+◌, ℕ, suc, zero, Bool, cond, filter, length, map, nat_lt, not, position, remove, slice_get, List, [], ◌∷◌, ◌++◌, Option, None, Some, String, string_bytes, refl, sym, ap, string_eq, true, false, option_to_list}
 use Rattle.indexmap.proofs.MapLemmas.{Found-position, Missing-position, remove_entry-first}
-use Rattle.indexmap.proofs.RemoveLemmas.{moved_last as moved_to_end}
-use Rattle.indexmap.specs.IndexMap.{move_index}
+use Rattle.indexmap.specs.IndexMap.{set_value_at}
 use Rattle.std.proofs.lemmas.List.{append-nil}
 use Rattle.std.proofs.lemmas.Slice.Eq.{bytes_eq-Decides}
 use Rattle.std.specs.declared.alloc.Global.{Global}
+use Rattle.std.specs.List.{IsDistinct, AllByRecursion, position_or_len}
+use Rattle.std.specs.Map.{lookup, keys_of, remove_entry, values_of}
 use Rattle.std_collections.proofs.HashLookup.{IsFirst, remove_IsAbsent}
-use Rattle.std.specs.List.{IsDistinct, AllByRecursion}
-use Rattle.std.specs.Map.{lookup, keys_of, remove_entry}
 use Rattle.std.specs.Str.{bytes_eq}
 use Rattle.wit_values.specs.Names.{named, moved_last}
+use Rattle.wit_values.specs.Pairs.{last_from}
 
 module _ {V : Type 0} where
   -- what is found under a test of the bytes
@@ -33,54 +33,96 @@ module _ {V : Type 0} where
   IsDistinct-named [] h = h
   IsDistinct-named (e ∷ es) h = (differs_from (string_bytes e.0) es h.0, IsDistinct-named es h.1)
 
-  -- what is left without the pair that passes a test of its bytes
-  pub remove_entry-named : (test : List ℕ → Bool) (es : List (String Global × V)) → remove_entry test (named es) ≡ named (remove_entry (λ k. test (string_bytes k)) es)
-  remove_entry-named test [] = refl
-  remove_entry-named test (e ∷ es) = ap (λ l. cond (test (string_bytes e.0)) (named es) ((string_bytes e.0, e.1) ∷ l)) (remove_entry-named test es) ∙ by (test (string_bytes e.0))
-    where
-      by : (b : Bool) → cond b (named es) (named (e ∷ remove_entry (λ k. test (string_bytes k)) es)) ≡ named (cond b es (e ∷ remove_entry (λ k. test (string_bytes k)) es))
-      by true = refl
-      by false = refl
+  -- the place of a name
+  first-named : (test : List ℕ → Bool) (es : List (String Global × V)) → position_or_len test (keys_of (named es)) ≡ position_or_len (λ k. test (string_bytes k)) (keys_of es)
+  first-named test [] = refl
+  first-named test (e ∷ es) = ap (λ (n : ℕ). cond (not (test (string_bytes e.0))) (1 + n) 0) (first-named test es)
 
--- is a text this key?
-abbrev pub is_key : List ℕ → String Global → Bool
-is_key key k = bytes_eq key (string_bytes k)
+  length-keys-named : (es : List (String Global × V)) → length (keys_of (named es)) ≡ length (keys_of es)
+  length-keys-named [] = refl
+  length-keys-named (e ∷ es) = ap suc (length-keys-named es)
+
+  pub position-named : (test : List ℕ → Bool) (es : List (String Global × V)) → position test (keys_of (named es)) ≡ position (λ k. test (string_bytes k)) (keys_of es)
+  position-named test es =
+      ap (λ (p : ℕ). cond (nat_lt p (length (keys_of (named es)))) (Some p) None) (first-named test es)
+      ∙ ap (λ (n : ℕ). cond (nat_lt (position_or_len (λ k. test (string_bytes k)) (keys_of es)) n) (Some (position_or_len (λ k. test (string_bytes k)) (keys_of es))) None) (length-keys-named es)
+
+  pub length-named : (es : List (String Global × V)) → length (named es) ≡ length es
+  length-named [] = refl
+  length-named (e ∷ es) = ap suc (length-named es)
+
+  -- what stands at an index stands there under its name
+  pub slice_get-named : (es : List (String Global × V)) (i : ℕ) (k : String Global) (v : V) → slice_get es i ≡ Some (k, v) → slice_get (named es) i ≡ Some (string_bytes k, v)
+  slice_get-named [] i k v at = cc
+  slice_get-named (e ∷ es) zero k v at = let same : e ≡ (k, v) = cc in ap (λ (p : String Global × V). Some (string_bytes p.0, p.1)) same
+  slice_get-named (e ∷ es) (suc i) k v at = slice_get-named es i k v at
+
+  pub values-named : (es : List (String Global × V)) → values_of (named es) ≡ values_of es
+  values-named [] = refl
+  values-named (e ∷ es) = ap (λ (vs : List V). e.1 ∷ vs) (values-named es)
+
+  pub set_value-named : (es : List (String Global × V)) (i : ℕ) (w : V) → named (set_value_at es i w) ≡ set_value_at (named es) i w
+  set_value-named [] i w = refl
+  set_value-named (e ∷ es) zero w = refl
+  set_value-named (e ∷ es) (suc i) w = ap (λ (l : List (List ℕ × V)). (string_bytes e.0, e.1) ∷ l) (set_value-named es i w)
+
+  -- the names of pairs that are left
+  pub filter-named : (kept : V → Bool) (es : List (String Global × V)) → named (filter (λ (e : String Global × V). kept e.1) es) ≡ filter (λ (e : List ℕ × V). kept e.1) (named es)
+  filter-named kept [] = refl
+  filter-named kept (e ∷ es) = by (kept e.1) (filter-named kept es)
+    where
+      by : (b : Bool) → named (filter (λ (e : String Global × V). kept e.1) es) ≡ filter (λ (e : List ℕ × V). kept e.1) (named es)
+          → named (cond b (e ∷ filter (λ (e : String Global × V). kept e.1) es) (filter (λ (e : String Global × V). kept e.1) es))
+          ≡ cond b ((string_bytes e.0, e.1) ∷ filter (λ (e : List ℕ × V). kept e.1) (named es)) (filter (λ (e : List ℕ × V). kept e.1) (named es))
+      by true old = ap (λ (l : List (List ℕ × V)). (string_bytes e.0, e.1) ∷ l) old
+      by false old = old
+
+  -- the others where one is taken out
+  pub remove-named : (es : List (String Global × V)) (i : ℕ) → named (remove es i) ≡ remove (named es) i
+  remove-named [] zero = refl
+  remove-named [] (suc i) = refl
+  remove-named (e ∷ es) zero = refl
+  remove-named (e ∷ es) (suc i) = ap (λ l. (string_bytes e.0, e.1) ∷ l) (remove-named es i)
+
+  taken-named : (es : List (String Global × V)) (i : ℕ) → named (option_to_list (slice_get es i)) ≡ option_to_list (slice_get (named es) i)
+  taken-named [] i = refl
+  taken-named (e ∷ es) zero = refl
+  taken-named (e ∷ es) (suc i) = taken-named es i
+
+  -- and where it comes last
+  pub last-named : (es : List (String Global × V)) (i : ℕ) → named (last_from es i) ≡ last_from (named es) i
+  last-named es i = named-append (remove es i) (option_to_list (slice_get es i)) ∙ (λ j. remove-named es i j ++ taken-named es i j)
 
 module _ {V : Type 0} (key : List ℕ) where
-  -- the first pair under the key, and what is found there
-  record PairAt (es : List (String Global × V)) (i : ℕ) : Type 0 where
-    entry : String Global × V
+  -- the first pair under a key, and what is found there
+  record PairAt (es : List (List ℕ × V)) (i : ℕ) : Type 0 where
+    entry : List ℕ × V
     at : slice_get es i ≡ Some entry
-    own : is_key key entry.0 ≡ true
-    found : lookup (is_key key) es ≡ Some entry.1
+    own : entry.0 ≡ key
+    found : lookup (bytes_eq key) es ≡ Some entry.1
 
-  pair_at : (es : List (String Global × V)) (i : ℕ) → IsFirst (is_key key) es i → PairAt es i
+  pair_at : (es : List (List ℕ × V)) (i : ℕ) → IsFirst (bytes_eq key) es i → PairAt es i
   pair_at [] i first = absurd first
-  pair_at (e ∷ es) zero first = record { entry = e; at = refl; own = first; found = ap (λ b. cond b (Some e.1) (lookup (is_key key) es)) first }
+  pair_at (e ∷ es) zero first = record { entry = e; at = refl; own = sym ((bytes_eq-Decides key e.0).0 first); found = ap (λ b. cond b (Some e.1) (lookup (bytes_eq key) es)) first }
   pair_at (e ∷ es) (suc i) first =
       let behind = pair_at es i first.1 in
-      record { entry = behind.entry; at = behind.at; own = behind.own; found = ap (λ b. cond b (Some e.1) (lookup (is_key key) es)) first.0 ∙ behind.found }
+      record { entry = behind.entry; at = behind.at; own = behind.own; found = ap (λ b. cond b (Some e.1) (lookup (bytes_eq key) es)) first.0 ∙ behind.found }
 
-  -- of the names, what is left and what comes last where a key is found or isn't
-  of_map : (es : List (String Global × V)) → moved_last key (named es) ≡ named (remove_entry (is_key key) es) ++ map (λ v. (key, v)) (option_to_list (lookup (is_key key) es))
-  of_map es = λ j. remove_entry-named (bytes_eq key) es j ++ map (λ v. (key, v)) (option_to_list (lookup-named (bytes_eq key) es j))
+  -- what is left where the pair under a key is taken out
+  pub remove_at_key : (es : List (List ℕ × V)) (i : ℕ) → position (bytes_eq key) (keys_of es) ≡ Some i → remove es i ≡ remove_entry (bytes_eq key) es
+  remove_at_key es i index = sym (remove_entry-first (bytes_eq key) es i (Found-position (bytes_eq key) es i index).first)
 
-  -- the entry under a key moved to the end
-  pub named-moved : (es : List (String Global × V)) (i : ℕ) → position (is_key key) (keys_of es) ≡ Some i → named (move_index es i (length es - 1)) ≡ moved_last key (named es)
-  named-moved es i index =
-      let first = (Found-position (is_key key) es i index).first in
-      let pair = pair_at es i first in
-      let same : string_bytes pair.entry.0 ≡ key = sym ((bytes_eq-Decides key (string_bytes pair.entry.0)).0 pair.own) in
-      ap named (moved_to_end es i pair.entry pair.at)
-      ∙ named-append (remove es i) (pair.entry ∷ [])
-      ∙ (λ j. named (sym (remove_entry-first (is_key key) es i first) j) ++ (same j, pair.entry.1) ∷ [])
-      ∙ ap (λ (o : Option V). named (remove_entry (is_key key) es) ++ map (λ v. (key, v)) (option_to_list o)) (sym pair.found)
-      ∙ sym (of_map es)
+  -- and where it is put at the end
+  pub moved_at_key : (es : List (List ℕ × V)) (i : ℕ) → position (bytes_eq key) (keys_of es) ≡ Some i → last_from es i ≡ moved_last key es
+  moved_at_key es i index =
+      let pair = pair_at es i (Found-position (bytes_eq key) es i index).first in
+      (λ j. remove_at_key es i index j ++ option_to_list (pair.at j))
+      ∙ (λ j. remove_entry (bytes_eq key) es ++ (pair.own j, pair.entry.1) ∷ [])
+      ∙ ap (λ (o : Option V). remove_entry (bytes_eq key) es ++ map (λ v. (key, v)) (option_to_list o)) (sym pair.found)
 
-  -- where the key isn't there, nothing moves
-  pub named-unmoved : (es : List (String Global × V)) → position (is_key key) (keys_of es) ≡ None → named es ≡ moved_last key (named es)
-  named-unmoved es none =
-      let missing = Missing-position (is_key key) es none in
-      sym (append-nil (named es))
-      ∙ (λ j. named (sym (remove_IsAbsent (is_key key) es missing.absent) j) ++ map (λ v. (key, v)) (option_to_list (sym missing.value j)))
-      ∙ sym (of_map es)
+  -- where the key isn't there, all is as before
+  pub nothing_at_key : (es : List (List ℕ × V)) → position (bytes_eq key) (keys_of es) ≡ None → (es ≡ remove_entry (bytes_eq key) es) × (lookup (bytes_eq key) es ≡ None)
+  nothing_at_key es none = let missing = Missing-position (bytes_eq key) es none in (sym (remove_IsAbsent (bytes_eq key) es missing.absent), missing.value)
+
+  pub unmoved_at_key : (es : List (List ℕ × V)) → position (bytes_eq key) (keys_of es) ≡ None → es ≡ moved_last key es
+  unmoved_at_key es none = let nothing = nothing_at_key es none in sym (append-nil es) ∙ (λ j. nothing.0 j ++ map (λ v. (key, v)) (option_to_list (sym nothing.1 j)))

@@ -1,17 +1,20 @@
 //! A table under texts, which contracts see as the list of its pairs, and which is asked by a `&str`.
-ghost use Rattle.std.specs.Prelude.{◌≡◌, ◌++◌, ◌∷◌, [], ◌<◌, ◌^◌, ◌↔◌, ℕ, length, None, Some, slice_get, IfOk, OnOk, OnErr, string_bytes, is_some, IsTrue, take};
-ghost use Rattle.std.specs.Map.{lookup, keys_of, remove_entry};
+ghost use Rattle.std.specs.Prelude.{◌≡◌, ◌++◌, ◌∷◌, [], ◌<◌, ◌^◌, ◌↔◌, Bool, ℕ, length, None, Some, slice_get, IfOk, IfSome, OnOk, OnErr, filter, position, string_bytes, is_some, IsTrue, take};
+ghost use Rattle.std.specs.Map.{lookup, keys_of, remove_entry, values_of};
 ghost use Rattle.std.specs.Str.{bytes_eq};
 ghost use Rattle.std.specs.Option.{option_copied};
 ghost use Rattle.std.specs.List.{IsDistinct};
 ghost use Rattle.std.specs.Iterator.{at_most};
 ghost use Rattle.std.specs.Map.Iter.{ShowsInOrder, TakesFirst};
+ghost use Rattle.std.specs.Borrow.{sem};
+ghost use Rattle.wit_values.specs.LendsNamed.{LendsNamedValue};
 ghost use Rattle.wit_values.specs.Names.{named, deref_named, moved_last};
+ghost use Rattle.wit_values.specs.Pairs.{Tells};
 ghost use Rattle.wit_values.specs.Table.{HasDistinctKeys};
 
 use crate::try_clone::TryClone;
+use crate::{Table, TableIter};
 use indexmap::IndexMap;
-use indexmap::map::Iter;
 use std::alloc::{AllocError, Global};
 use std::fmt;
 use std::marker::Model;
@@ -19,7 +22,7 @@ use std::marker::Model;
 /// A table of values under texts that differ, in insertion order. Indices count from 0.
 #[derive(Drop)]
 pub struct Names<V> {
-    inner: IndexMap<String, V>,
+    inner: Table<String, V>,
 }
 
 impl<V> Model for Names<V> {
@@ -28,7 +31,7 @@ impl<V> Model for Names<V> {
 
     ghost Value = { List (List ℕ × V) };
 
-    ghost view = { λ t. named t.inner.entries };
+    ghost view = { λ t. named t.inner };
 }
 
 impl<V> Names<V> {
@@ -37,22 +40,27 @@ impl<V> Names<V> {
         ensures { result ≡ [] }
     {
         Names {
-            inner: IndexMap::new(alloc),
+            inner: Table::new(alloc),
         }
     }
 
-    /// The table of an `IndexMap`, which takes no memory.
-    pub fn from_map(map: IndexMap<String, V>) -> Names<V>
-        ensures { result ≡ named map.entries }
+    /// The table of an `IndexMap`. The only error is want of memory.
+    pub fn from_map(map: IndexMap<String, V>) -> Result<Names<V>, AllocError>
+    where
+        V: Drop,
+        ensures { IfOk result (λ names. names ≡ named map.entries) }
     {
-        Names { inner: map }
+        let inner = Table::from_map(map)?;
+        Ok(Names { inner })
     }
 
-    /// The `IndexMap` that it keeps.
-    pub fn into_map(self) -> IndexMap<String, V>
-        ensures { named result.entries ≡ self }
+    /// Its pairs as an `IndexMap`. The only error is want of memory.
+    pub fn into_map(self) -> Result<IndexMap<String, V>, AllocError>
+    where
+        V: Drop,
+        ensures { IfOk result (λ map. named map.entries ≡ self) }
     {
-        self.inner
+        Ok(self.inner.into_map()?)
     }
 
     /// How many pairs it has.
@@ -83,14 +91,25 @@ impl<V> Names<V> {
     pub fn get(&self, key: &str) -> Option<&V>
         ensures { option_copied result ≡ lookup (bytes_eq key.now) self.now }
     {
-        self.inner.get(key)
+        let index = self.get_index_of(key)?;
+        Some(self.entry_at(index).1)
     }
 
     /// Whether a name is there.
     pub fn contains_key(&self, key: &str) -> bool
         ensures { result ≡ is_some (lookup (bytes_eq key.now) self.now) }
     {
-        self.get(key).is_some()
+        self.get_index_of(key).is_some()
+    }
+
+    /// The index of a name, or None where the name isn't there.
+    pub fn get_index_of(&self, key: &str) -> Option<usize>
+        ensures index { result ≡ position (bytes_eq key.now) (keys_of self.now) }
+        ensures found { is_some result ≡ is_some (lookup (bytes_eq key.now) self.now) }
+        ensures within { IfSome result (λ i. i < length self.now) }
+        ensures value { IfSome result (λ i. slice_get (values_of self.now) i ≡ lookup (bytes_eq key.now) self.now) }
+    {
+        self.inner.index_of(key)
     }
 
     /// The pair at an index, which is below the length.
@@ -98,10 +117,17 @@ impl<V> Names<V> {
         requires { index < length self.now }
         ensures { slice_get self.now index ≡ Some (result.0.now, result.1.now) }
     {
-        match self.inner.get_index(index) {
-            Some((key, value)) => (key.as_str(), value),
-            None => unreachable!(),
-        }
+        let (key, value) = self.inner.entry_at(index);
+        (key.as_str(), value)
+    }
+
+    /// The value at an index, which is below the length, to write.
+    pub fn value_at_mut(&mut self, index: usize) -> &mut V
+        requires { index < length self.old }
+        ensures* writes_back { sem 𝓛 (LendsNamedValue V.row self.entry index result) }
+        ensures value { slice_get (values_of self.old) index ≡ Some result.now }
+    {
+        self.inner.value_at_mut(index)
     }
 
     /// The pairs, in order.
@@ -117,7 +143,16 @@ impl<V> Names<V> {
 
     /// The allocator that the table was made with, of which contracts say nothing.
     pub fn allocator(&self) -> Global {
-        *self.inner.allocator()
+        self.inner.allocator()
+    }
+
+    /// Makes room for `additional` more pairs. The pairs stay as they are, also where there is no memory.
+    pub fn reserve(&mut self, additional: usize) -> Result<(), AllocError>
+    where
+        V: Drop,
+        ensures { self.new ≡ self.old }
+    {
+        self.inner.reserve(additional)
     }
 
     /// Adds a pair at the end, under a name that isn't there yet. Where there is no memory the
@@ -129,7 +164,7 @@ impl<V> Names<V> {
         ensures ok { OnOk result (self.new ≡ self.old ++ (string_bytes key, value) ∷ []) }
         ensures err { OnErr result (self.new ≡ self.old) }
     {
-        self.inner.insert(key, value)?;
+        self.inner.push(key, value)?;
         Ok(())
     }
 
@@ -139,7 +174,8 @@ impl<V> Names<V> {
         ensures value { result ≡ lookup (bytes_eq key.now) self.old }
         ensures others { self.new ≡ remove_entry (bytes_eq key.now) self.old }
     {
-        self.inner.shift_remove(key)
+        let index = self.get_index_of(key)?;
+        Some(self.inner.remove(index).1)
     }
 
     /// Moves the pair under a name to the end; those behind it move up. Where the name isn't there
@@ -147,17 +183,26 @@ impl<V> Names<V> {
     pub fn move_last(&mut self, key: &str)
         ensures { self.new ≡ moved_last key.now self.old }
     {
-        match self.inner.get_index_of(key) {
-            Some(index) => self.inner.move_index(index, self.inner.len() - 1),
-            None => {}
+        if let Some(index) = self.get_index_of(key) {
+            self.inner.move_last(index);
         }
+    }
+
+    /// Leaves the pairs whose value passes a test, in order.
+    pub fn retain<F: Fn(&V) -> bool>(&mut self, keep: F)
+    where
+        V: Drop,
+        requires { F.IsAlwaysCallable keep }
+        ensures { (test : V → Bool) → Tells F.Fn keep test → self.new ≡ filter (λ e. test e.1) self.old }
+    {
+        self.inner.retain(keep);
     }
 
     /// Gives back memory that no pair takes.
     pub fn shrink(&mut self)
         ensures { self.new ≡ self.old }
     {
-        self.inner.shrink_to_fit();
+        self.inner.shrink();
     }
 
     /// Leaves the first `len` pairs, or all where there are fewer.
@@ -173,7 +218,7 @@ impl<V> Names<V> {
 /// The pairs of a `Names`, in order, each as `(&str, &V)`.
 #[derive(Drop)]
 pub struct NamesIter<'a, V> {
-    inner: Iter<'a, String, V>,
+    inner: TableIter<'a, String, V>,
 }
 
 impl<'a, V> Model for NamesIter<'a, V> {
@@ -202,11 +247,11 @@ impl<V: TryClone> TryClone for Names<V> {
     fn try_clone(&self) -> Result<Names<V>, AllocError> {
         let alloc = self.allocator();
         let mut copy = Names::new(alloc);
+        copy.reserve(self.len())?;
         for (key, value) in self.iter() {
             let (key, value) = copy_pair(alloc, key, value)?;
             copy.push(key, value)?;
         }
-        copy.shrink();
         Ok(copy)
     }
 }

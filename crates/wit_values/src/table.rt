@@ -1,31 +1,41 @@
 //! A table in insertion order, which contracts see as the list of its pairs.
-ghost use Rattle.std.specs.Prelude.{◌≡◌, ◌++◌, ◌∷◌, [], ◌<◌, ◌^◌, ◌↔◌, length, None, slice_get, OnOk, OnErr, Some, IsTrue, is_some, take};
+ghost use Rattle.std.specs.Prelude.{◌≡◌, ◌++◌, ◌∷◌, [], ◌<◌, ◌≤◌, ◌^◌, ◌↔◌, Bool, IfOk, IfSome, IsTrue, None, OnErr, OnOk, Some, filter, is_some, length, position, remove, slice_get, take};
+ghost use Rattle.std.specs.Borrow.{sem};
 ghost use Rattle.std.specs.List.{IsDistinct};
-ghost use Rattle.std.specs.Map.{lookup, keys_of};
+ghost use Rattle.std.specs.Map.{keys_of, lookup, values_of};
 ghost use Rattle.std.specs.Map.Iter.{ShowsInOrder, deref_pair};
 ghost use Rattle.std.specs.Option.{option_copied, option_map};
+ghost use Rattle.wit_values.specs.Lends.{LendsValue};
+ghost use Rattle.wit_values.specs.Pairs.{Tells, last_from};
 ghost use Rattle.wit_values.specs.Table.{HasDistinctKeys};
 
+use crate::pairs::{
+    FEW, Pairs, add, add_indexed, cut, fill, index_of, map_with_room, move_last, move_last_indexed,
+    retain, retain_indexed, take_out, take_out_indexed,
+};
+use crate::table_iter::{IntoPairs, TableIter};
 use crate::try_clone::{TryClone, try_clone_two};
-use indexmap::IndexMap;
-use indexmap::map::Iter;
+use indexmap::{Equivalent, IndexMap};
 use std::alloc::{AllocError, Global};
-use std::fmt;
 use std::hash::Hash;
 use std::marker::Model;
+use std::{fmt, mem};
 
 /// A table in insertion order, whose keys differ. Indices count from 0.
 #[derive(Drop)]
 pub struct Table<K: Eq + Hash, V> {
-    inner: IndexMap<K, V>,
+    pairs: Pairs<K, V>,
 }
 
 impl<K: Eq + Hash, V> Model for Table<K, V> {
     ghost use Rattle.std.specs.Prelude.{List};
+    ghost use Rattle.wit_values.specs.Pairs.{HaveKeysApart, pairs_of};
 
     ghost Value = { List (K × V) };
 
-    ghost view = { λ t. t.inner.entries };
+    ghost view = { λ t. pairs_of t.pairs };
+
+    ghost invariant = { λ t. HaveKeysApart K.eq t.pairs };
 }
 
 impl<K: Eq + Hash, V> Table<K, V> {
@@ -34,22 +44,40 @@ impl<K: Eq + Hash, V> Table<K, V> {
         ensures { result ≡ [] }
     {
         Table {
-            inner: IndexMap::new(alloc),
+            pairs: Pairs::Few(Vec::new(alloc)),
         }
     }
 
-    /// The table of an `IndexMap`, which takes no memory.
-    pub fn from_map(map: IndexMap<K, V>) -> Table<K, V>
-        ensures { result ≡ map.entries }
+    /// The table of an `IndexMap`. The only error is want of memory.
+    pub fn from_map(map: IndexMap<K, V>) -> Result<Table<K, V>, AllocError>
+    where
+        K: Drop,
+        V: Drop,
+        ensures { IfOk result (λ table. table ≡ map.entries) }
     {
-        Table { inner: map }
+        let alloc = *map.allocator();
+        let map = Box::new(alloc, map)?;
+        Ok(Table {
+            pairs: Pairs::Many(map),
+        })
     }
 
-    /// The `IndexMap` that it keeps.
-    pub fn into_map(self) -> IndexMap<K, V>
-        ensures { result.entries ≡ self }
+    /// Its pairs as an `IndexMap`. The only error is want of memory.
+    pub fn into_map(self) -> Result<IndexMap<K, V>, AllocError>
+    where
+        K: Drop,
+        V: Drop,
+        ensures { IfOk result (λ map. map.entries ≡ self) }
     {
-        self.inner
+        match self.pairs {
+            Pairs::Few(pairs) => {
+                let alloc = *pairs.allocator();
+                let mut map = IndexMap::with_capacity(alloc, pairs.len())?;
+                fill(&mut map, pairs);
+                Ok(map)
+            }
+            Pairs::Many(map) => Ok(Box::into_inner(map)),
+        }
     }
 
     /// How many pairs it has.
@@ -58,7 +86,10 @@ impl<K: Eq + Hash, V> Table<K, V> {
         ensures small { result < 2 ^ 63 }
         ensures distinct { IsDistinct K.eq (keys_of self.now) }
     {
-        self.inner.len()
+        match &self.pairs {
+            Pairs::Few(pairs) => pairs.len(),
+            Pairs::Many(map) => map.len(),
+        }
     }
 
     /// The keys of a table differ: a fact for proofs, which does nothing.
@@ -80,21 +111,50 @@ impl<K: Eq + Hash, V> Table<K, V> {
     pub fn get(&self, key: &K) -> Option<&V>
         ensures { option_copied result ≡ lookup (K.eq key.now) self.now }
     {
-        self.inner.get(key)
+        let index = self.get_index_of(key)?;
+        Some(self.entry_at(index).1)
     }
 
     /// Whether a key is there.
     pub fn contains_key(&self, key: &K) -> bool
         ensures { result ≡ is_some (lookup (K.eq key.now) self.now) }
     {
-        self.inner.contains_key(key)
+        self.get_index_of(key).is_some()
+    }
+
+    /// The index of a key, or None where the key isn't there.
+    pub fn get_index_of(&self, key: &K) -> Option<usize>
+        ensures index { result ≡ position (K.eq key.now) (keys_of self.now) }
+        ensures found { is_some result ≡ is_some (lookup (K.eq key.now) self.now) }
+        ensures within { IfSome result (λ i. i < length self.now) }
+        ensures value { IfSome result (λ i. slice_get (values_of self.now) i ≡ lookup (K.eq key.now) self.now) }
+        ensures distinct { IsDistinct K.eq (keys_of self.now) }
+    {
+        self.index_of(key)
+    }
+
+    /// The index of what a key is equivalent to, or None where it isn't there.
+    pub(crate) fn index_of<Q: Equivalent<K>>(&self, key: Q) -> Option<usize>
+        ensures index { result ≡ position (Q.equivalent key) (keys_of self.now) }
+        ensures distinct { IsDistinct K.eq (keys_of self.now) }
+    {
+        match &self.pairs {
+            Pairs::Few(pairs) => index_of(pairs, key),
+            Pairs::Many(map) => map.get_index_of(key),
+        }
     }
 
     /// The pair at an index, or None where the table is no longer than that.
     pub fn get_index(&self, index: usize) -> Option<(&K, &V)>
         ensures { option_map deref_pair result ≡ slice_get self.now index }
     {
-        self.inner.get_index(index)
+        match &self.pairs {
+            Pairs::Few(pairs) => {
+                let pair = pairs.get(index)?;
+                Some((&pair.0, &pair.1))
+            }
+            Pairs::Many(map) => map.get_index(index),
+        }
     }
 
     /// The pair at an index, which is below the length.
@@ -102,24 +162,86 @@ impl<K: Eq + Hash, V> Table<K, V> {
         requires { index < length self.now }
         ensures { slice_get self.now index ≡ Some (result.0.now, result.1.now) }
     {
-        match self.inner.get_index(index) {
+        match self.get_index(index) {
             Some(entry) => entry,
             None => unreachable!(),
         }
     }
 
+    /// The value at an index, which is below the length, to write.
+    pub fn value_at_mut(&mut self, index: usize) -> &mut V
+        requires { index < length self.old }
+        ensures* writes_back { sem 𝓛 (LendsValue K.row V.row K.Hash self.entry index result) }
+        ensures value { slice_get (values_of self.old) index ≡ Some result.now }
+    {
+        self.pairs.value_at_mut(index)
+    }
+
     /// The pairs, in order.
-    pub fn iter(&self) -> Iter<'_, K, V>
+    pub fn iter(&self) -> TableIter<'_, K, V>
         ensures rest { result ≡ self.now }
         ensures runs { ShowsInOrder (deref_pair {K = K} {X = V}) }
         ensures distinct { IsDistinct K.eq (keys_of self.now) }
     {
-        self.inner.iter()
+        match &self.pairs {
+            Pairs::Few(pairs) => TableIter::of_few(pairs.iter()),
+            Pairs::Many(map) => TableIter::of_many(map.iter()),
+        }
+    }
+
+    /// The pairs, in order, each by value.
+    pub fn into_pairs(self) -> IntoPairs<K, V>
+    where
+        K: Drop,
+        V: Drop,
+        ensures { result ≡ self }
+    {
+        match self.pairs {
+            Pairs::Few(pairs) => IntoPairs::of_few(pairs.into_iter()),
+            Pairs::Many(map) => IntoPairs::of_many(Box::into_inner(map).into_iter()),
+        }
     }
 
     /// The allocator that the table was made with, of which contracts say nothing.
     pub fn allocator(&self) -> Global {
-        *self.inner.allocator()
+        match &self.pairs {
+            Pairs::Few(pairs) => *pairs.allocator(),
+            Pairs::Many(map) => *map.allocator(),
+        }
+    }
+
+    /// Makes room for `additional` more pairs. The pairs stay as they are, also where there is no memory.
+    pub fn reserve(&mut self, additional: usize) -> Result<(), AllocError>
+    where
+        K: Drop,
+        V: Drop,
+        ensures { self.new ≡ self.old }
+    {
+        let all = self.len().saturating_add(additional);
+        if FEW < all {
+            self.index(all)?;
+        }
+        match &mut self.pairs {
+            Pairs::Few(pairs) => pairs.reserve_exact(additional),
+            Pairs::Many(map) => map.reserve(additional),
+        }
+    }
+
+    /// Gives few pairs an index with room for so many. Where there is no memory the table is as before.
+    fn index(&mut self, room: usize) -> Result<(), AllocError>
+    where
+        K: Drop,
+        V: Drop,
+        requires { length self.old ≤ room }
+        ensures { self.new ≡ self.old }
+    {
+        if let Pairs::Few(pairs) = &mut self.pairs {
+            let alloc = *pairs.allocator();
+            let mut map = map_with_room(alloc, room)?;
+            fill(map.as_mut(), mem::replace(pairs, Vec::new(alloc)));
+            self.pairs = Pairs::Many(map);
+        }
+        Ok(())
     }
 
     /// Adds a pair at the end, under a key that isn't there yet. Where there is no memory the table
@@ -132,15 +254,61 @@ impl<K: Eq + Hash, V> Table<K, V> {
         ensures ok { OnOk result (self.new ≡ self.old ++ (key, value) ∷ []) }
         ensures err { OnErr result (self.new ≡ self.old) }
     {
-        self.inner.insert(key, value)?;
-        Ok(())
+        let len = self.len();
+        if len == FEW {
+            self.index(FEW + 1)?;
+        }
+        match &mut self.pairs {
+            Pairs::Few(pairs) => add(pairs, key, value),
+            Pairs::Many(map) => add_indexed(map.as_mut(), key, value),
+        }
+    }
+
+    /// Takes out the pair at an index, which is below the length; those behind it move up. It takes no memory.
+    pub(crate) fn remove(&mut self, index: usize) -> (K, V)
+        requires { index < length self.old }
+        ensures pair { slice_get self.old index ≡ Some result }
+        ensures others { self.new ≡ remove self.old index }
+    {
+        match &mut self.pairs {
+            Pairs::Few(pairs) => take_out(pairs, index),
+            Pairs::Many(map) => take_out_indexed(map.as_mut(), index),
+        }
+    }
+
+    /// Moves the pair at an index, which is below the length, to the end; those behind it move up. It takes no memory.
+    pub(crate) fn move_last(&mut self, index: usize)
+        requires { index < length self.old }
+        ensures { self.new ≡ last_from self.old index }
+    {
+        match &mut self.pairs {
+            Pairs::Few(pairs) => move_last(pairs, index),
+            Pairs::Many(map) => move_last_indexed(map.as_mut(), index),
+        }
+    }
+
+    /// Leaves the pairs whose value passes a test, in order.
+    pub fn retain<F: Fn(&V) -> bool>(&mut self, keep: F)
+    where
+        K: Drop,
+        V: Drop,
+        requires { F.IsAlwaysCallable keep }
+        ensures { (test : V → Bool) → Tells F.Fn keep test → self.new ≡ filter (λ e. test e.1) self.old }
+    {
+        match &mut self.pairs {
+            Pairs::Few(pairs) => retain(pairs, keep),
+            Pairs::Many(map) => retain_indexed(map.as_mut(), keep),
+        }
     }
 
     /// Gives back memory that no pair takes.
     pub fn shrink(&mut self)
         ensures { self.new ≡ self.old }
     {
-        self.inner.shrink_to_fit();
+        match &mut self.pairs {
+            Pairs::Few(pairs) => pairs.shrink_to_fit(),
+            Pairs::Many(map) => map.shrink_to_fit(),
+        }
     }
 
     /// Leaves the first `len` pairs, or all where there are fewer.
@@ -150,24 +318,27 @@ impl<K: Eq + Hash, V> Table<K, V> {
         V: Drop,
         ensures { self.new ≡ take len self.old }
     {
-        self.inner.truncate(len);
+        match &mut self.pairs {
+            Pairs::Few(pairs) => cut(pairs, len),
+            Pairs::Many(map) => map.truncate(len),
+        }
     }
 }
 
 impl<K: Eq + Hash + TryClone, V: TryClone> TryClone for Table<K, V> {
     fn try_clone(&self) -> Result<Table<K, V>, AllocError> {
         let mut copy = Table::new(self.allocator());
+        copy.reserve(self.len())?;
         for (key, value) in self.iter() {
             let (key, value) = try_clone_two(key, value)?;
             copy.push(key, value)?;
         }
-        copy.shrink();
         Ok(copy)
     }
 }
 
 impl<K: Eq + Hash + fmt::Debug, V: fmt::Debug> fmt::Debug for Table<K, V> {
     fn fmt<W: fmt::Write>(&self, f: &mut fmt::Formatter<W>) -> fmt::Result {
-        fmt::Debug::fmt(&self.inner, f)
+        f.debug_map().entries(self.iter()).finish()
     }
 }

@@ -1,11 +1,17 @@
 -- Lists of what a function gives of each number below another: what stands at a place, what a write there does, one number more.
-use Rattle.std.proofs.Common.{◌≡◌, ◌∙◌, ℕ, zero, suc, ◌+◌, ◌<◌, ◌≤◌, List, [], ◌∷◌, ◌++◌, map, length, None, Some, slice_get, slice_set, refl, sym, ap, arith, add-one, Contains}
+use Rattle.std.proofs.Common.{◌≡◌, ◌∙◌, ℕ, zero, suc, ◌+◌, ◌<◌, ◌≤◌, List, [], ◌∷◌, ◌++◌, map, length, get_or, All, None, Some, slice_get, slice_set, refl, sym, ap, arith, add-one, Contains}
 use Rattle.std.specs.List.{range_with_len}
 use Rattle.std.proofs.lemmas.List.Elements.{All-contains}
-use Rattle.std.proofs.lemmas.List.FromFn.{get_or-map-range_with_len, length-map-range_with_len, map-range_with_len_more}
+use Rattle.std.proofs.lemmas.List.FromFn.{get_or-map-range_with_len, get_or-range_with_len, length-map-range_with_len, length-range_with_len, map-range_with_len_more}
 use Rattle.std.proofs.lemmas.Option.{slice_get-get_or, slice_get_past, slice_get_within}
 use Rattle.wit_graph_theory.specs.facts.ListFacts.{contained_at}
-use Rattle.wit_link_order.specs.facts.RangeFacts.{range-below}
+
+-- the numbers below one are below it
+pub range-below : (n : ℕ) → All (λ i. i < n) (range_with_len 0 n)
+range-below n k d below =
+    let long : length (range_with_len 0 n) ≡ n = length-range_with_len 0 n in
+    let is : get_or (range_with_len 0 n) k d ≡ 0 + k = get_or-range_with_len 0 n k d (omega arith) in
+    omega arith
 
 module _ {X : Type 0} (f : ℕ → X) where
   pub range-at : (n i : ℕ) → i < n → slice_get (map f (range_with_len 0 n)) i ≡ Some (f i)

@@ -32,8 +32,8 @@ use Rattle.wit_graph_theory.specs.facts.ReferredFacts.{kind_refers, variant_imag
 use Rattle.wit_link_spec.specs.Reasons.{HoldsBorrow, IsBorrow}
 use Rattle.wit_link_spec.specs.Resources.{own_of}
 use Rattle.wit_link_spec.specs.ValueRemap.{needs_own, value_id}
-use Rattle.wit_merge_structure.specs.Structure.{held_features, structure}
-use Rattle.wit_merge_structure.specs.facts.StructureFacts.{part_refers}
+use Rattle.wit_merge_spec.specs.Structure.{held_features, structure}
+use Rattle.wit_merge_spec.specs.facts.StructureFacts.{part_refers}
 use Rattle.wit_merge_spec.specs.United.{joined_graph, joined_type, merge_maps, merged_type, moves_type, remap_of_merge}
 use Rattle.wit_merge_spec.specs.Matches.{GraphMerge, counterpart_type}
 use Rattle.wit_merge_spec.specs.Cause.{HasNoMismatch}

@@ -7,8 +7,8 @@ use Rattle.std.proofs.lemmas.Bool.{cases_Bool, eq-eqb, eqb-true, false≢true}
 use Rattle.std.proofs.lemmas.Slice.Eq.{bytes_eq-Decides, slice_eq-Decides}
 use Rattle.wit_data.specs.declared.types.Type_.{Type_}
 use Rattle.wit_data.specs.declared.types.Type_.TheVariants as type
-use Rattle.wit_merge_structure.specs.facts.DifferenceFacts.{first_behind, first_here}
-use Rattle.wit_merge_structure.specs.Structure.{Content, Feature, FirstDifference, absent, fixed, named, names, primitive, variant}
+use Rattle.wit_merge_spec.specs.facts.DifferenceFacts.{first_behind, first_here}
+use Rattle.wit_merge_spec.specs.Structure.{Content, Feature, FirstDifference, absent, fixed, named, names, primitive, variant}
 use Rattle.wit_data.specs.declared.kind.Variant.TheVariants as variants
 use Rattle.wit_data.specs.facts.KindFacts.{all_variants, variant_number, variant_numbered}
 

@@ -14,8 +14,8 @@ use Rattle.wit_merge_spec.specs.Matches.{FirstDiffers, GraphMerge, TypePair, ent
 use Rattle.wit_merge_spec.specs.MismatchText.{part_links}
 use Rattle.wit_merge_match.specs.Differing.{AreKnown}
 use Rattle.wit_merge_match.specs.declared.matched_graphs.MatchedGraphs.{MatchedGraphs}
-use Rattle.wit_merge_structure.specs.steps.ComparisonSteps.{IsSound}
-use Rattle.wit_merge_structure.specs.declared.comparison.Comparison.{Comparison}
+use Rattle.wit_merge_match.specs.steps.ComparisonSteps.{IsSound}
+use Rattle.wit_merge_match.specs.declared.comparison.Comparison.{Comparison}
 
 -- ---- what is compared
 

@@ -8,7 +8,7 @@ use Rattle.wit_names.specs.declared.track.TrackRule.TheVariants.{WithPrereleases
 use Rattle.wit_graph_data.specs.examples.Samples.{foo_bar, no_docs, world_of}
 use Rattle.wit_graph_data.specs.declared.graph.Graph.{Graph}
 use Rattle.wit_graph_data.specs.declared.graph.Package.{Package}
-use Rattle.wit_selection.specs.Selection.{selected_world}
+use Rattle.wit_queries.specs.Selection.{selected_world}
 use Rattle.wit_resolve_graph.specs.State.{State, new_state}
 use Rattle.wit_resolve_graph.specs.Step.{Run}
 use Rattle.wit_resolve_graph.specs.declared.command.Command.TheVariants.{AddFeature, Exportize, Importize, PushGroups, SetAllFeatures, SetTrackRule, Semver}

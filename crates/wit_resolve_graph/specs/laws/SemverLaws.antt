@@ -9,7 +9,7 @@ use Rattle.wit_resolve_graph.specs.State.{State}
 use Rattle.wit_resolve_graph.specs.Step.{Step}
 use Rattle.wit_resolve_graph.specs.declared.command.Command.TheVariants.{Semver}
 use Rattle.wit_resolve_graph.specs.declared.command.Reply.TheVariants.{Done}
-use Rattle.wit_semver_spec.specs.Rewritten.{rewritten, is_replaced, SemverMergeIsAccepted}
+use Rattle.wit_semver_spec.specs.Rewritten.{rewritten, is_replaced, upgrade, SemverMergeIsAccepted}
 
 -- world w is in both graphs, and the interfaces that it imports under their own keys in the new one are exactly the
 -- former ones less the replaced
@@ -19,7 +19,7 @@ pub record ImportsLessReplaced (old : State) (w : ℕ) (new : Graph) : Type 0 wh
   pub after : World
   pub is : slice_get new.worlds w ≡ Some after
   pub exact : (j : ℕ) → Contains (keyed_interfaces after.imports) j
-      ↔ (Contains (keyed_interfaces before.imports) j × (is_replaced (record { rule = old.track_rule; graph = old.graph; world = before }) j ≡ false))
+      ↔ (Contains (keyed_interfaces before.imports) j × (is_replaced (upgrade old.track_rule old.graph before) j ≡ false))
 
 -- so it is of the world that a command names, wherever the command is carried out
 abbrev pub CommandIsExact : State → Type 0

@@ -5,7 +5,7 @@ use Rattle.wit_graph_data.specs.Error.{NoCause}
 use Rattle.wit_graph_data.specs.declared.features.Features.{Features}
 use Rattle.wit_graph_data.specs.declared.graph.Graph.{Graph}
 use Rattle.wit_link.specs.Appending.{ArePushed}
-use Rattle.wit_link_order.specs.GroupOrder.{AreSorted, IsSortCause, Unresolved, names_of}
+use Rattle.wit_link.specs.GroupOrder.{AreSorted, IsSortCause, Unresolved, names_of}
 
 -- packages are added in their order, no cause holds against it, and the one of a name has this id
 pub record AreAdded (features : Features) (g : Graph) (unresolved : List Unresolved) (name : PackageName) (id : ℕ) (new : Graph) : Type 0 where

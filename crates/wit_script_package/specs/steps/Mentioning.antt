@@ -23,15 +23,6 @@ abbrev pub with_value : {K V : Type 0} → (K → Bool) → K → V → (V → V
 with_value test key first change [] = (key, change first) ∷ []
 with_value test key first change (e ∷ es) = if test e.0 then (e.0, change e.1) ∷ es else e ∷ with_value test key first change es
 
--- a table in which a key is there, where it isn't yet with this value
-abbrev pub with_key : {K V : Type 0} → (K → Bool) → K → V → List (K × V) → List (K × V)
-with_key test key first es = if is_some (lookup test es) then es else es ++ (key, first) ∷ []
-
--- a table with another value under a key that is there
-abbrev pub changed_at : {K V : Type 0} → (K → Bool) → (V → V) → List (K × V) → List (K × V)
-changed_at test change [] = []
-changed_at test change (e ∷ es) = if test e.0 then (e.0, change e.1) ∷ es else e ∷ changed_at test change es
-
 -- an item is that of a world
 abbrev pub is_world_item : AstItem → Bool
 is_world_item (item.Interface id) = false

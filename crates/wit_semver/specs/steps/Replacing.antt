@@ -1,25 +1,18 @@
--- What the steps of semver merging hand on: which interface replaces which, and which types' uses follow.
-use Rattle.std.specs.Prelude.{◌≡◌, ℕ, Bool, false, true, List, get_or, length, map, nat_eq, slice_set, Option, None, Some, Contains, option_and_then, slice_get, if◌then◌else◌, option_map}
+-- What the steps of semver merging hand on: which interface replaces which, and what types name then.
+use Rattle.std.specs.Prelude.{◌≡◌, ℕ, Bool, false, true, List, get_or, length, map, nat_eq, slice_set, Option, None, Some, Contains, slice_get, if◌then◌else◌, option_map}
 use Rattle.std.specs.List.{enumerate_from, list_any}
 use Rattle.std.specs.Map.{lookup}
 use Rattle.std.specs.Option.{option_map_or}
-use Rattle.wit_data.specs.Uses.{type_interface_dep}
-use Rattle.wit_data.specs.declared.interface.Interface.{Interface}
 use Rattle.wit_names.specs.declared.track.TrackRule.{TrackRule}
 use Rattle.wit_data.specs.declared.types.TypeDef.{TypeDef}
 use Rattle.wit_data.specs.declared.world.World.{World}
 use Rattle.wit_elaboration.specs.Entries.{Entry}
 use Rattle.wit_graph_data.specs.declared.graph.Graph.{Graph}
-use Rattle.wit_remap_spec.specs.FunctionMismatch.{HaveFunctionMismatch}
-use Rattle.wit_semver_spec.specs.Rewritten.{interface_type, kept_imports, retargeted, rewritable_types, Upgrade, Versioned, both, is_below, is_replaced, newest, track_key, versioned, Disagrees, IsComplete, disagreement_text, missing_text, target_name, upgrade_message}
+use Rattle.wit_semver_spec.specs.Rewritten.{Agrees, IsComplete, LacksType, Upgrade, Versioned, both, is_below, is_replaced, kept_imports, newest, newest_type, retargeted, rewritable_types, track_package, upgrade, versioned}
 use Rattle.wit_semver.specs.contracts.tracks.TrackKeyPartialEq.TheImpl.{eq-value}
 use Rattle.wit_semver.specs.declared.tracks.TrackKey.{TrackKey}
 use Rattle.wit_semver.specs.declared.tracks.VersionedInterface.{VersionedInterface}
 use Rattle.wit_semver.specs.declared.upgrade_plan.UpgradePlan.{UpgradePlan}
-
--- the imports of a world of a graph are to be merged by a rule
-abbrev pub upgrade : TrackRule → Graph → World → Upgrade
-upgrade rule g world = record { rule = rule; graph = g; world = world }
 
 -- an interface with what is told of it
 abbrev pub told : VersionedInterface → Versioned
@@ -27,11 +20,11 @@ told v = record { name = v.name.now; home = v.home.now; version = v.version.now 
 
 -- the key of its track
 abbrev pub key_of : TrackRule → Versioned → TrackKey
-key_of rule v = record { home = (track_key rule v).0; interface = v.name }
+key_of rule v = record { home = track_package rule v; interface = v.name }
 
 -- the key of the track of interface i
 abbrev pub key_at : TrackRule → Graph → ℕ → Option TrackKey
-key_at rule g i = option_map (key_of rule) (versioned g.packages g.interfaces i)
+key_at rule g i = option_map (key_of rule) (versioned g i)
 
 -- what replaces interface i
 abbrev pub replacement : Upgrade → ℕ → Option ℕ
@@ -49,12 +42,12 @@ same_track = eq-value.it
 
 -- interface i is of a smaller version than j
 abbrev pub is_smaller : Graph → ℕ → ℕ → Bool
-is_smaller g i j = both is_below (versioned g.packages g.interfaces i) (versioned g.packages g.interfaces j)
+is_smaller g i j = both is_below (versioned g i) (versioned g j)
 
 -- it is of a greater version than what is known, if anything is
 abbrev pub is_newer : Graph → Option ℕ → Versioned → Bool
 is_newer g None v = true
-is_newer g (Some j) v = option_map_or (λ w. is_below w v) (versioned g.packages g.interfaces j) true
+is_newer g (Some j) v = option_map_or (λ w. is_below w v) (versioned g j) true
 
 -- a table tells of each track on which some interfaces are one of them, of which none is of a greater version
 pub record IsNewestTable (rule : TrackRule) (g : Graph) (ids : List ℕ) (table : List (TrackKey × ℕ)) : Type 0 where
@@ -77,42 +70,9 @@ upgrade_of a = upgrade a.rule a.graph.now a.world.now
 abbrev pub IsUpgradeReady : UpgradePlan → Type 0
 IsUpgradeReady a = AreReplacements (upgrade_of a) a.replaced
 
--- the name of the type that type t names as an alias
-abbrev pub name_used : List TypeDef → ℕ → Option (List ℕ)
-name_used types t = option_and_then (target_name types) (slice_get types t)
-
--- the replaced interface that type t uses: it is an alias of a type of that interface, which doesn't own t itself
-abbrev pub replaced_use : Upgrade → ℕ → Option ℕ
-replaced_use u t = option_and_then (λ f. if is_replaced u f then Some f else None) (type_interface_dep u.graph.types t)
-
--- what type t comes to name, if it may be rewritten: the newest's type of the name of what it names, if it uses a
--- replaced interface
-abbrev pub used_target : Upgrade → ℕ → Option ℕ
-used_target u t = option_and_then (λ f. option_and_then (interface_type u.graph.interfaces (newest u f)) (name_used u.graph.types t)) (replaced_use u t)
-
--- type t uses a type of a replaced interface, and the newest has none of its name
-pub record LacksTypeAt (u : Upgrade) (t : ℕ) (message : List ℕ) : Type 0 where
-  pub f : ℕ
-  pub name : List ℕ
-  pub uses : replaced_use u t ≡ Some f
-  pub named : name_used u.graph.types t ≡ Some name
-  pub absent : interface_type u.graph.interfaces (newest u f) name ≡ None
-  pub message_is : message ≡ upgrade_message u f (missing_text name)
-
--- one of some types does
+-- one of some types uses a replaced interface and lacks its target in the newest
 abbrev pub LackTypes : Upgrade → List ℕ → List ℕ → Type 0
-LackTypes u ids message = (t : ℕ) × Contains ids t × LacksTypeAt u t message
-
--- replaced interface f disagrees with the newest in a function that both have
-pub record DisagreesAt (u : Upgrade) (f : ℕ) (message : List ℕ) : Type 0 where
-  pub old : Interface
-  pub new : Interface
-  pub mismatch : List ℕ
-  pub replaced : is_replaced u f ≡ true
-  pub old_is : slice_get u.graph.interfaces f ≡ Some old
-  pub new_is : slice_get u.graph.interfaces (newest u f) ≡ Some new
-  pub have : HaveFunctionMismatch old new mismatch
-  pub message_is : message ≡ upgrade_message u f (disagreement_text mismatch)
+LackTypes u ids message = (t : ℕ) × Contains ids t × LacksType u t message
 
 -- ---- the graph that is made
 
@@ -135,6 +95,6 @@ pub record AreNewEntries (rule : TrackRule) (g : Graph) (w : ℕ) (imports : Lis
   pub world : World
   pub there : slice_get g.worlds w ≡ Some world
   pub complete : IsComplete (upgrade rule g world)
-  pub agree : (message : List ℕ) → Disagrees (upgrade rule g world) message → ⊥
+  pub agree : Agrees (upgrade rule g world)
   pub imports_are : imports ≡ kept_imports (upgrade rule g world)
-  pub targets_are : IsFilled (used_target (upgrade rule g world)) (rewritable_types (upgrade rule g world)) (length g.types) targets
+  pub targets_are : IsFilled (newest_type (upgrade rule g world)) (rewritable_types (upgrade rule g world)) (length g.types) targets

@@ -5,4 +5,4 @@ use Rattle.wit_labels.proofs.placing.getters_of.Given as goal
 
 -- those so far
 abbrev pub invariant-loop-index : goal.invariant-loop-index
-invariant-loop-index l = l.getters ≡ map (λ (p : ℕ × Entry). later_getter l.entries.entries p.0 p.1) (take l.index (indexed_entries l.entries.entries))
+invariant-loop-index l = l.getters ≡ map (λ (p : ℕ × Entry). later_getter l.entries p.0 p.1) (take l.index (indexed_entries l.entries))

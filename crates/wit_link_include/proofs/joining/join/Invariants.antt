@@ -6,6 +6,6 @@ use Rattle.wit_link_include.proofs.joining.join.Given as goal
 -- the entries so far are joined, and those to come
 abbrev pub invariant-loop-key : goal.invariant-loop-key
 invariant-loop-key l = record {
-  joining : IsJoining l.other l.fn.current l.yielded l.entries.entries;
+  joining : IsJoining l.other l.fn.current l.yielded l.entries;
   left : l.yielded ++ into_iter_items l.key-iterator ≡ l.fn.brought;
 }

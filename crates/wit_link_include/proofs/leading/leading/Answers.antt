@@ -43,8 +43,8 @@ loop-step-init c =
       right = λ t b at. let none : lookup (nat_eq t) [] ≡ Some b = sym (ap (lookup (nat_eq t)) c.new-known.ensures.empty) ∙ at in cc;
     }
 
-pub loop-step-smaller-in-Continue-branch-3 : goal.loop-step-smaller-in-Continue-branch-3
-loop-step-smaller-in-Continue-branch-3 c =
+pub loop-step-smaller-in_ok-push_references-in-Enter : goal.loop-step-smaller-in_ok-push_references-in-Enter
+loop-step-smaller-in_ok-push_references-in-Enter c =
     let o = c.args.origin.now in
     let keys = keys_of c.loop-step.known.entries in
     let now = with_top o c.args.roots.now keys c.loop-step.stack c.pop.new.self c.in-Some.step (step.Enter c.in-Enter.id) c.in-Some.ensures.last c.in-Enter.is c.loop-step.invariant.walking in
@@ -53,8 +53,8 @@ loop-step-smaller-in-Continue-branch-3 c =
     (subst (λ (w : List Step). turns (open_rows o) w < turns (open_rows o) (c.pop.new.self ++ step.Enter c.in-Enter.id ∷ [])) (sym next)
     (fewer_new (open_rows o) (open_acyclic o c.requires.acyclic) c.args.roots.now keys c.pop.new.self c.in-Enter.id now))
 
-pub loop-step-preserved-in-Continue-branch-3 : goal.loop-step-preserved-in-Continue-branch-3
-loop-step-preserved-in-Continue-branch-3 c =
+pub loop-step-preserved-in_ok-push_references-in-Enter : goal.loop-step-preserved-in_ok-push_references-in-Enter
+loop-step-preserved-in_ok-push_references-in-Enter c =
     let o = c.args.origin.now in
     let keys = keys_of c.loop-step.known.entries in
     let now = with_top o c.args.roots.now keys c.loop-step.stack c.pop.new.self c.in-Some.step (step.Enter c.in-Enter.id) c.in-Some.ensures.last c.in-Enter.is c.loop-step.invariant.walking in
@@ -136,5 +136,5 @@ in_the_end o acyclic roots known done right t = by (lookup (nat_eq t) known) ref
         at ∙ sym (ap (λ (x : Bool). if x then Some (leads o t) else None) off)
 
 pub returns : goal.returns
-returns c = λ t. ap (lookup (nat_eq t)) c.from_map.ensures ∙ in_the_end c.args.origin.now c.requires.acyclic c.args.roots.now c.loop-step.known.entries
+returns c = λ t. ap (lookup (nat_eq t)) c.in_ok-from_map.ensures ∙ in_the_end c.args.origin.now c.requires.acyclic c.args.roots.now c.loop-step.known.entries
     (subst (Walks c.args.origin.now c.args.roots.now (keys_of c.loop-step.known.entries)) c.in_default.ensures.empty c.loop-step.invariant.walking) c.loop-step.invariant.right t

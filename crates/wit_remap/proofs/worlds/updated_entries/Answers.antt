@@ -27,14 +27,13 @@ loop-key-preserved c =
 pub loop-key-init : goal.loop-key-init
 loop-key-init c =
     let f = entry_image (maps_of c.args.mover.now) 0 in
-    let whole : c.into_iter-key-iterator.result ≡ c.args.entries = c.into_iter-key-iterator.ensures.into_iter_gives.0 ∙ c.into_map-key-items.ensures in
+    let whole : c.into_iter-key-iterator.result ≡ c.args.entries = c.into_iter-key-iterator.ensures.into_iter_gives ∙ c.into_pairs-key-items.ensures in
     record {
-      all = rw c.new-updated.ensures (ap (map f) whole);
+      all = rw (c.in_ok-reserve.ensures, c.new-updated.ensures) (ap (map f) whole);
       fits = λ i x at. c.requires.fits i x (ap (λ (l : List Entry). slice_get l i) (sym whole) ∙ at);
     }
 
 pub returns : goal.returns
 returns c = λ w.
-    c.shrink.ensures
-    ∙ updated-all (entry_image (maps_of c.args.mover.now) 0) c.loop-key.updated c.loop-key.key-iterator (map (entry_image (maps_of c.args.mover.now) 0) c.args.entries) c.loop-key.invariant.all c.in-None.ensures.steps.0
+    updated-all (entry_image (maps_of c.args.mover.now) 0) c.loop-key.updated c.loop-key.key-iterator (map (entry_image (maps_of c.args.mover.now) 0) c.args.entries) c.loop-key.invariant.all c.in-None.ensures.steps.0
     ∙ entries_same c.args.mover.now 0 w c.args.entries

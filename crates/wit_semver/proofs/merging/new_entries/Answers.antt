@@ -8,19 +8,19 @@ use Rattle.wit_graph_data.specs.declared.cause.Cause.TheVariants as cause
 use Rattle.wit_graph_data.specs.declared.graph.Graph.{Graph}
 use Rattle.wit_graph_data.specs.declared.error_kind.ResolveErrorKind.{ResolveErrorKind}
 use Rattle.wit_graph_data.specs.declared.error_kind.ResolveErrorKind.TheVariants.{OutOfMemory, Semantic}
-use Rattle.wit_semver_spec.specs.Rewritten.{entry_types, kept_imports, rewritable_types, Upgrade, Disagrees, IsTrackCause, UpgradeCause, functions_disagree_25, type_missing_25}
-use Rattle.wit_semver.specs.steps.Replacing.{IsFilled, LackTypes, upgrade, upgrade_of, used_target}
-use Rattle.wit_semver.proofs.NewEntries.{following_is, following_within, imports_within, lacks_from, lacks_into}
+use Rattle.wit_semver_spec.specs.Rewritten.{entry_types, kept_imports, newest_type, rewritable_types, Upgrade, Disagrees, IsTrackCause, UpgradeCause, functions_disagree_25, type_missing_25, upgrade}
+use Rattle.wit_semver.specs.steps.Replacing.{IsFilled, LackTypes, upgrade_of}
+use Rattle.wit_semver.proofs.NewEntries.{following_is, following_within, imports_within}
 use Rattle.wit_semver.proofs.merging.new_entries.Goals as goal
 
 module _ (rule : TrackRule) (g : Graph) (w : ℕ) (world : World) (there : slice_get g.worlds w ≡ Some world) (v : Upgrade) (of : v ≡ upgrade rule g world) where
   abbrev u : Upgrade
   u = upgrade rule g world
 
-  disagreement : (e : ResolveErrorKind) → (e ≡ OutOfMemory) ⊎ ((message : List ℕ) × Disagrees v message × (e ≡ Semantic None message cause.UpgradeMismatch)) → (e ≡ OutOfMemory) ⊎ IsTrackCause rule g w e
+  disagreement : (e : ResolveErrorKind) → (e ≡ OutOfMemory) ⊎ ((f : ℕ) × (message : List ℕ) × Disagrees v f message × (e ≡ Semantic None message cause.UpgradeMismatch)) → (e ≡ OutOfMemory) ⊎ IsTrackCause rule g w e
   disagreement e (inl memory) = inl memory
   disagreement e (inr told) =
-      inr (world, there, subst (UpgradeCause u w) (sym told.2) (functions_disagree_25 told.0 (subst (λ (x : Upgrade). Disagrees x told.0) of told.1)))
+      inr (world, there, subst (UpgradeCause u w) (sym told.3) (functions_disagree_25 told.0 told.1 (subst (λ (x : Upgrade). Disagrees x told.0 told.1) of told.2)))
 
   -- the types that follow
   module _ (imports : List Entry) (stay : imports ≡ kept_imports v) (ids : List ℕ) (are : ids ≡ flat_map (entry_types g.interfaces) imports ++ flat_map (entry_types g.interfaces) world.exports) where
@@ -38,10 +38,10 @@ module _ (rule : TrackRule) (g : Graph) (w : ℕ) (world : World) (there : slice
 
     missing : (e : ResolveErrorKind) → (e ≡ OutOfMemory) ⊎ ((message : List ℕ) × LackTypes v ids message × (e ≡ Semantic None message cause.UpgradeMismatch)) → (e ≡ OutOfMemory) ⊎ IsTrackCause rule g w e
     missing e (inl memory) = inl memory
-    missing e (inr told) = inr (world, there, subst (UpgradeCause u w) (sym told.2) (type_missing_25 told.0 (lacks_from u told.0 (lacking told.0 told.1))))
+    missing e (inr told) = let lacks = lacking told.0 told.1 in inr (world, there, subst (UpgradeCause u w) (sym told.2) (type_missing_25 lacks.0 told.0 lacks.1 lacks.2))
 
-    filled : (targets : List (Option ℕ)) → IsFilled (used_target v) ids (length v.graph.types) targets → IsFilled (used_target u) (rewritable_types u) (length g.types) targets
-    filled targets is = subst (λ (x : Upgrade). IsFilled (used_target x) (rewritable_types u) (length x.graph.types) targets) of (subst (λ (xs : List ℕ). IsFilled (used_target v) xs (length v.graph.types) targets) ids_are is)
+    filled : (targets : List (Option ℕ)) → IsFilled (newest_type v) ids (length v.graph.types) targets → IsFilled (newest_type u) (rewritable_types u) (length g.types) targets
+    filled targets is = subst (λ (x : Upgrade). IsFilled (newest_type x) (rewritable_types u) (length x.graph.types) targets) of (subst (λ (xs : List ℕ). IsFilled (newest_type v) xs (length v.graph.types) targets) ids_are is)
 
 pub new-requires-clause-in_range : goal.new-requires-clause-in_range
 new-requires-clause-in_range c =
@@ -93,8 +93,8 @@ returns-clause-ok c =
     record {
       world = world;
       there = there;
-      complete = λ message lacks. c.in_ok-targets.ensures.complete message (back c.args.rule g c.args.world world there v of imports stay ids are message (lacks_into (upgrade c.args.rule g world) message lacks));
-      agree = λ message differ. c.in_ok-check_functions.ensures.agree message (subst (λ (x : Upgrade). Disagrees x message) (sym of) differ);
+      complete = λ t message follows lacks. c.in_ok-targets.ensures.complete message (back c.args.rule g c.args.world world there v of imports stay ids are message (t, follows, lacks));
+      agree = λ f message differ. c.in_ok-check_functions.ensures.agree f message (subst (λ (x : Upgrade). Disagrees x f message) (sym of) differ);
       imports_are = imports_are c.args.rule g c.args.world world there v of imports stay ids are;
       targets_are = filled c.args.rule g c.args.world world there v of imports stay ids are targets c.in_ok-targets.ensures.ok;
     }

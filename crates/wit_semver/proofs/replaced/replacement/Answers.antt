@@ -6,8 +6,8 @@ use Rattle.wit_data.specs.declared.world.World.{World}
 use Rattle.wit_elaboration.specs.Entries.{keyed_interfaces}
 use Rattle.wit_elaboration.specs.Valid.{IsValid}
 use Rattle.wit_graph_data.specs.declared.graph.Graph.{Graph}
-use Rattle.wit_semver_spec.specs.Rewritten.{Versioned, is_below, versioned}
-use Rattle.wit_semver.specs.steps.Replacing.{IsNewestTable, key_of, replacement, same_track, told, upgrade}
+use Rattle.wit_semver_spec.specs.Rewritten.{Versioned, is_below, versioned, upgrade}
+use Rattle.wit_semver.specs.steps.Replacing.{IsNewestTable, key_of, replacement, same_track, told}
 use Rattle.wit_semver.specs.declared.tracks.TrackKey.{TrackKey}
 use Rattle.wit_semver.proofs.NewestTold.{greater_replaces, is_known, level_stays, n_at, unversioned_stays}
 use Rattle.wit_semver.proofs.replaced.replacement.Goals as goal
@@ -16,15 +16,15 @@ use Rattle.wit_semver.proofs.replaced.replacement.Goals as goal
 known : (rule : TrackRule) (table : List (TrackKey × ℕ)) (v : Versioned) (k : TrackKey) (o : Option ℕ) → k ≡ key_of rule v → o ≡ lookup (same_track k) table → lookup (same_track (key_of rule v)) table ≡ o
 known rule table v k o is found = sym (found ∙ ap (λ (q : TrackKey). lookup (same_track q) table) is)
 
-module _ (rule : TrackRule) (g : Graph) (valid : IsValid g) (table : List (TrackKey × ℕ)) (id n : ℕ) (v : Versioned) (is_v : versioned g.packages g.interfaces id ≡ Some v) (found : lookup (same_track (key_of rule v)) table ≡ Some n)
+module _ (rule : TrackRule) (g : Graph) (valid : IsValid g) (table : List (TrackKey × ℕ)) (id n : ℕ) (v : Versioned) (is_v : versioned g id ≡ Some v) (found : lookup (same_track (key_of rule v)) table ≡ Some n)
     (world : World) (tells : IsNewestTable rule g (keyed_interfaces world.imports) table) (has : Contains (keyed_interfaces world.imports) id) where
-  below_is : (b : Bool) → b ≡ option_map_or (is_below v) (versioned g.packages g.interfaces n) false → is_below v (n_at (upgrade rule g world) valid table tells id has v is_v n found).0 ≡ b
+  below_is : (b : Bool) → b ≡ option_map_or (is_below v) (versioned g n) false → is_below v (n_at (upgrade rule g world) valid table tells id has v is_v n found).0 ≡ b
   below_is b is = sym (is ∙ ap (λ (o : Option Versioned). option_map_or (is_below v) o false) (n_at (upgrade rule g world) valid table tells id has v is_v n found).1)
 
-  greater : (b : Bool) → b ≡ option_map_or (is_below v) (versioned g.packages g.interfaces n) false → b ≡ true → Some n ≡ replacement (upgrade rule g world) id
+  greater : (b : Bool) → b ≡ option_map_or (is_below v) (versioned g n) false → b ≡ true → Some n ≡ replacement (upgrade rule g world) id
   greater b is on = greater_replaces (upgrade rule g world) valid table tells id has v is_v n found (below_is b is ∙ on)
 
-  level : (b : Bool) → b ≡ option_map_or (is_below v) (versioned g.packages g.interfaces n) false → b ≡ false → None ≡ replacement (upgrade rule g world) id
+  level : (b : Bool) → b ≡ option_map_or (is_below v) (versioned g n) false → b ≡ false → None ≡ replacement (upgrade rule g world) id
   level b is off = level_stays (upgrade rule g world) valid table tells id has v is_v n found (below_is b is ∙ off)
 
 pub returns-in_default : goal.returns-in_default

@@ -5,8 +5,8 @@ use Rattle.std.specs.List.{list_any}
 use Rattle.std.specs.Map.Iter.{deref_pair}
 use Rattle.wit_data.specs.declared.world.WorldKey.{WorldKey}
 use Rattle.wit_elaboration.specs.Entries.{Entry, key_interface, keyed_interfaces}
-use Rattle.wit_semver_spec.specs.Rewritten.{Upgrade, imported, is_older_than, newest}
-use Rattle.wit_semver.specs.steps.Replacing.{IsFilled, replacement, upgrade}
+use Rattle.wit_semver_spec.specs.Rewritten.{Upgrade, imported, is_older_than, newest, upgrade}
+use Rattle.wit_semver.specs.steps.Replacing.{IsFilled, replacement}
 use Rattle.wit_semver.proofs.Filled.{filled-next}
 use Rattle.wit_semver.proofs.Keyed.{keyed-at, keyed-next}
 use Rattle.wit_semver.proofs.replaced.replacements.Goals as goal
@@ -14,7 +14,7 @@ use Rattle.wit_semver.proofs.replaced.replacements.Goals as goal
 -- what isn't imported isn't replaced
 not_imported : (u : Upgrade) (i : ℕ) (b : Bool) → list_any (nat_eq i) (imported u) ≡ b → (if b then replacement u i else None) ≡ replacement u i
 not_imported u i true is = refl
-not_imported u i false is = sym (ap (λ (b : Bool). if b && list_any (is_older_than u.rule u.graph.packages u.graph.interfaces i) (imported u) then Some (newest u i) else None) is)
+not_imported u i false is = sym (ap (λ (b : Bool). if b && list_any (is_older_than u.rule u.graph i) (imported u) then Some (newest u i) else None) is)
 
 pub set-requires : goal.set-requires
 set-requires c =

@@ -1,6 +1,7 @@
 use Rattle.std.proofs.Common.{length, take}
 use Rattle.wit_elaboration.specs.Entries.{keyed_interfaces}
-use Rattle.wit_semver.specs.steps.Replacing.{IsFilled, replacement, upgrade}
+use Rattle.wit_semver_spec.specs.Rewritten.{upgrade}
+use Rattle.wit_semver.specs.steps.Replacing.{IsFilled, replacement}
 use Rattle.wit_semver.proofs.replaced.replacements.Given as goal
 
 -- what replaces the first ones is in its place

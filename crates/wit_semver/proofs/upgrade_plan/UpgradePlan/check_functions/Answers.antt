@@ -6,16 +6,15 @@ use Rattle.wit_graph_data.specs.declared.cause.Cause.TheVariants as cause
 use Rattle.wit_graph_data.specs.declared.error_kind.ResolveErrorKind.{ResolveErrorKind}
 use Rattle.wit_graph_data.specs.declared.error_kind.ResolveErrorKind.TheVariants.{OutOfMemory, Semantic}
 use Rattle.wit_semver_spec.specs.Rewritten.{Disagrees, Upgrade}
-use Rattle.wit_semver.specs.steps.Replacing.{DisagreesAt, upgrade_of}
-use Rattle.wit_semver.proofs.Used.{disagrees_from, disagrees_into}
+use Rattle.wit_semver.specs.steps.Replacing.{upgrade_of}
 use Rattle.wit_semver.proofs.upgrade_plan.UpgradePlan.check_functions.Goals as goal
 
 abbrev CauseOf : Upgrade → ResolveErrorKind → Type 0
-CauseOf u e = (e ≡ OutOfMemory) ⊎ ((message : List ℕ) × Disagrees u message × (e ≡ Semantic None message cause.UpgradeMismatch))
+CauseOf u e = (e ≡ OutOfMemory) ⊎ ((f : ℕ) × (message : List ℕ) × Disagrees u f message × (e ≡ Semantic None message cause.UpgradeMismatch))
 
-widened : (u : Upgrade) (f : ℕ) (e : ResolveErrorKind) → (e ≡ OutOfMemory) ⊎ ((message : List ℕ) × DisagreesAt u f message × (e ≡ Semantic None message cause.UpgradeMismatch)) → CauseOf u e
+widened : (u : Upgrade) (f : ℕ) (e : ResolveErrorKind) → (e ≡ OutOfMemory) ⊎ ((message : List ℕ) × Disagrees u f message × (e ≡ Semantic None message cause.UpgradeMismatch)) → CauseOf u e
 widened u f e (inl memory) = inl memory
-widened u f e (inr told) = inr (told.0, disagrees_from u f told.0 told.1, told.2)
+widened u f e (inr told) = inr (f, told.0, told.1, told.2)
 
 pub returns-in_err-check_interface-clause-cause : goal.returns-in_err-check_interface-clause-cause
 returns-in_err-check_interface-clause-cause c =
@@ -25,7 +24,7 @@ returns-in_err-check_interface-clause-cause c =
 
 pub loop-index-preserved : goal.loop-index-preserved
 loop-index-preserved c f below message differ = elim (cases_order f c.loop-index.index) [
-  | inl same ↦ c.in_ok-check_interface.ensures.agree message (subst (λ (i : ℕ). DisagreesAt (upgrade_of c.args.self.now) i message) (same ∙ sym c.from_index.ensures) differ)
+  | inl same ↦ c.in_ok-check_interface.ensures.agree message (subst (λ (i : ℕ). Disagrees (upgrade_of c.args.self.now) i message) (same ∙ sym c.from_index.ensures) differ)
   | inr order ↦ elim order [
     | inl less ↦ c.loop-index.invariant f less message differ
     | inr more ↦ absurd (apart f c.loop-index.index below more)
@@ -36,9 +35,9 @@ loop-index-preserved c f below message differ = elim (cases_order f c.loop-index
     apart f index below more = omega (arith, below, more)
 
 pub returns-clause-agree : goal.returns-clause-agree
-returns-clause-agree c message differ =
+returns-clause-agree c f message differ =
     let interfaces = c.args.self.now.graph.now.interfaces in
-    let within = slice_get_within interfaces differ.f differ.old differ.old_is in
+    let within = slice_get_within interfaces f differ.old differ.old_is in
     let long = c.requires.ready.0 in
-    let less : differ.f < c.loop-index.index = omega (arith, within, long, c.loop-index-test.false, c.len-index-end.ensures) in
-    c.loop-index.invariant differ.f less message (disagrees_into (upgrade_of c.args.self.now) message differ)
+    let less : f < c.loop-index.index = omega (arith, within, long, c.loop-index-test.false, c.len-index-end.ensures) in
+    c.loop-index.invariant f less message differ

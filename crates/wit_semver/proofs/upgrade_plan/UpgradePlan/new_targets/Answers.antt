@@ -3,7 +3,8 @@ use Rattle.std.proofs.lemmas.List.{take_all}
 use Rattle.std.proofs.lemmas.Option.{slice_get_read}
 use Rattle.wit_values.specs.facts.Lists.{take-next_at}
 use Rattle.wit_graph_theory.specs.facts.ListFacts.{contained_at}
-use Rattle.wit_semver.specs.steps.Replacing.{IsFilled, LackTypes, upgrade_of, used_target}
+use Rattle.wit_semver_spec.specs.Rewritten.{newest_type}
+use Rattle.wit_semver.specs.steps.Replacing.{IsFilled, LackTypes, upgrade_of}
 use Rattle.wit_semver.proofs.Filled.{filled-next}
 use Rattle.wit_semver.proofs.Used.{none_lacks-next}
 use Rattle.wit_semver.proofs.upgrade_plan.UpgradePlan.new_targets.Goals as goal
@@ -24,7 +25,7 @@ pub loop-id-preserved : goal.loop-id-preserved
 loop-id-preserved c =
     let rewritable_types = c.args.rewritable_types.now in
     let u = upgrade_of c.args.self.now in
-    let f = used_target u in
+    let f = newest_type u in
     let id = c.id-item.result in
     let ids = take c.loop-id.id-index rewritable_types in
     let at = stands rewritable_types c.as_slice-id-items.result.now c.loop-id.id-index id c.as_slice-id-items.ensures c.loop-id-test.true c.id-item.is in

@@ -1,10 +1,11 @@
 use Rattle.std.proofs.Common.{ℕ, List, length, take}
-use Rattle.wit_semver.specs.steps.Replacing.{IsFilled, LackTypes, upgrade_of, used_target}
+use Rattle.wit_semver_spec.specs.Rewritten.{newest_type}
+use Rattle.wit_semver.specs.steps.Replacing.{IsFilled, LackTypes, upgrade_of}
 use Rattle.wit_semver.proofs.upgrade_plan.UpgradePlan.new_targets.Given as goal
 
 -- what the first ones name is in its place, and none of them lacks a type
 abbrev pub invariant-loop-id : goal.invariant-loop-id
 invariant-loop-id l = record {
-  filled : IsFilled (used_target (upgrade_of l.self)) (take l.id-index l.rewritable_types) (length l.self.graph.now.types) l.targets;
+  filled : IsFilled (newest_type (upgrade_of l.self)) (take l.id-index l.rewritable_types) (length l.self.graph.now.types) l.targets;
   complete : (message : List ℕ) → LackTypes (upgrade_of l.self) (take l.id-index l.rewritable_types) message → ⊥;
 }

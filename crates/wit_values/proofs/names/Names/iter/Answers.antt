@@ -7,4 +7,4 @@ pub returns-clause-runs : goal.returns-clause-runs
 returns-clause-runs g c = shows_in_order deref_named
 
 pub returns-clause-distinct : goal.returns-clause-distinct
-returns-clause-distinct g c = rw (← c.self.view_is) (IsDistinct-named c.self.inside.inner.entries c.iter.ensures.unique)
+returns-clause-distinct g c = rw (← c.self.view_is) (IsDistinct-named c.self.inside.inner c.iter.ensures.distinct)

@@ -25,4 +25,4 @@ loop-key-preserved g c =
 pub returns : goal.returns
 returns g c =
     let none = rest_all deref_named _ _ _ c.in-None.is c.next.ensures.steps in
-    c.shrink.ensures ∙ sym (append-nil c.loop-key.copy) ∙ ap (λ l. c.loop-key.copy ++ l) (sym none) ∙ c.loop-key.invariant
+    sym (append-nil c.loop-key.copy) ∙ ap (λ l. c.loop-key.copy ++ l) (sym none) ∙ c.loop-key.invariant

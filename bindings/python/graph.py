@@ -1,0 +1,83 @@
+#!/usr/bin/env python3
+"""Carries out a document of commands from standard input, as tools/wit2json.py writes it of WIT, and tells what the graph
+has then: of each world what it imports and exports, of each interface its types and functions.
+
+    tools/wit2json.py examples/wasi/wit/0.2.0/*.wit | python3 bindings/python/graph.py
+"""
+import json
+import sys
+
+import witgraph as wg
+
+
+class Shown:
+    """The texts of a graph."""
+
+    def __init__(self, graph):
+        self.graph = graph
+
+    def lines(self):
+        for world in self.graph.worlds:
+            yield f"world {self.graph.id_of_name(world.package, world.name)}"
+            for word, entries in (("import", world.imports), ("export", world.exports)):
+                yield from (f"  {word} {self.graph.entry_name(*it)}" for it in entries.items())
+        for id, interface in enumerate(self.graph.interfaces):
+            yield f"interface {self.graph.id_of(id) or ''}"
+            yield from (f"  type {name}: {self.definition(self.graph.types[it])}" for name, it in interface.types.items())
+            yield from (f"  {self.signature(it)}" for it in interface.functions.values())
+
+    def signature(self, function):
+        result = f" -> {self.type(function.result)}" if function.result is not None else ""
+        return f"{function.name}: func({self.named(function.params)}){result}"
+
+    def named(self, parts):
+        return ", ".join(f"{it.name}: {self.type(it.type)}" for it in parts)
+
+    def definition(self, ty):
+        """What a type with a name is."""
+        match ty.kind:
+            case wg.Record(fields):
+                return f"record {{ {self.named(fields)} }}"
+            case wg.Variant(cases):
+                texts = (it.name + (f"({self.type(it.type)})" if it.type is not None else "") for it in cases)
+                return f"variant {{ {', '.join(texts)} }}"
+            case wg.Enum(parts) | wg.Flags(parts):
+                return f"{ty.kind.tag} {{ {', '.join(it.name for it in parts)} }}"
+            case wg.Resource():
+                return "resource"
+        return self.form(ty.kind)
+
+    def type(self, ty):
+        """A type where it is used: its name, or what it is."""
+        if not isinstance(ty, int):
+            return ty or "_"
+        named = self.graph.types[ty]
+        return named.name or self.form(named.kind)
+
+    def form(self, kind):
+        """A type without a name."""
+        match kind:
+            case wg.Alias(ty) | wg.Handle(wg.Own(ty)):
+                return self.type(ty)
+            case wg.Handle(wg.Borrow(ty)):
+                return f"borrow<{self.type(ty)}>"
+            case wg.Tuple(types):
+                return f"tuple<{', '.join(map(self.type, types))}>"
+            case wg.Result(ok, err):
+                return f"result<{self.type(ok)}, {self.type(err)}>"
+            case wg.Map(key, value):
+                return f"map<{self.type(key)}, {self.type(value)}>"
+            case wg.FixedLengthList(ty, length):
+                return f"list<{self.type(ty)}, {length}>"
+        return f"{kind.tag}<{self.type(kind.type)}>"
+
+
+def main():
+    run = wg.run(json.load(sys.stdin)["commands"])
+    for reply in run.replies:
+        wg.accepted(reply)
+    print("\n".join(Shown(run.graph).lines()))
+
+
+if __name__ == "__main__":
+    main()

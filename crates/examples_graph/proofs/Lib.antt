@@ -1,0 +1,8 @@
+mod Apart
+mod Chained
+mod FirstFaults
+mod ShapeMisses
+mod Shaped
+mod TakenNames
+mod Transformed
+pub mod OneFilePlaces

@@ -1,0 +1,20 @@
+use Rattle.std.proofs.Common.{◌≡◌, refl, ap, arith}
+use Rattle.wit_digraph.specs.PostOrder.{post_order, post_order_within}
+use Rattle.wit_elaboration.specs.Elaborated.{import_steps, import_steps_within}
+use Rattle.examples_graph.proofs.Transformed.{first_params, import_count}
+use Rattle.examples_graph.proofs.transformations.examples_of_dropped_imports.Goals as goal
+
+pub returns : goal.returns
+unfolding post_order post_order_within import_steps import_steps_within
+returns c = record {
+  interface = refl;
+  interface_not_kept = λ same. let apart : 1 ≡ 2 = ap import_count same in absurd (omega (arith, apart));
+  labelled = refl;
+  labelled_not_kept = λ same. let apart : 1 ≡ 2 = ap import_count same in absurd (omega (arith, apart));
+  function = refl;
+  function_not_kept = λ same. let apart : 1 ≡ 2 = ap import_count same in absurd (omega (arith, apart));
+  same_label = refl;
+  not_that_of_the_imports = λ same. let apart : 1 ≡ 0 = ap first_params same in absurd (omega (arith, apart));
+  all = refl;
+  not_as_it_was = λ same. let apart : 0 ≡ 3 = ap import_count same in absurd (omega (arith, apart));
+}

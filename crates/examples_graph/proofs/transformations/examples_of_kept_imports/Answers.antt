@@ -1,0 +1,18 @@
+use Rattle.std.proofs.Common.{◌≡◌, refl, ap, arith}
+use Rattle.wit_digraph.specs.PostOrder.{post_order, post_order_within}
+use Rattle.wit_elaboration.specs.Elaborated.{import_steps, import_steps_within}
+use Rattle.examples_graph.proofs.Transformed.{import_count}
+use Rattle.examples_graph.proofs.transformations.examples_of_kept_imports.Goals as goal
+
+pub returns : goal.returns
+unfolding post_order post_order_within import_steps import_steps_within
+returns c = record {
+  types_stay = refl;
+  not_exports_alone = λ same. let apart : 4 ≡ 2 = ap import_count same in absurd (omega (arith, apart));
+  own_not_dropped = λ same. let apart : 4 ≡ 3 = ap import_count same in absurd (omega (arith, apart));
+  use_not_dropped = λ same. let apart : 4 ≡ 3 = ap import_count same in absurd (omega (arith, apart));
+  needed_again = refl;
+  not_types_alone = λ same. let apart : 3 ≡ 2 = ap import_count same in absurd (omega (arith, apart));
+  not_needed = refl;
+  not_kept = λ same. let apart : 3 ≡ 4 = ap import_count same in absurd (omega (arith, apart));
+}

@@ -1,0 +1,11 @@
+pub mod CanonicalNames
+pub mod Dependencies
+pub mod ExternalIds
+pub mod Faults
+pub mod KeptImports
+pub mod OneFile
+pub mod Places
+pub mod Shape
+pub mod TransformCauses
+pub mod TwoPlaces
+pub mod VersionTracks

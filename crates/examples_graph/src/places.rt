@@ -1,0 +1,18 @@
+//! Examples of positions in source texts, and that each is in one file.
+ghost use Rattle.examples_graph.specs.OneFile.{HaveNoneInCommon};
+ghost use Rattle.examples_graph.specs.Places.{ExamplesOfHighlights, ExamplesOfLocations};
+
+/// Where spans begin, by files, lines and columns.
+pub fn examples_of_locations()
+    ensures { ExamplesOfLocations }
+{}
+
+/// What stands under spans.
+pub fn examples_of_highlights()
+    ensures { ExamplesOfHighlights }
+{}
+
+/// The files of a source map have no position in common.
+pub fn positions_are_of_one_file()
+    ensures { HaveNoneInCommon }
+{}

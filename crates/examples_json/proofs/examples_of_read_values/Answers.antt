@@ -1,0 +1,39 @@
+use Rattle.std.proofs.Common.{refl}
+use Rattle.std.specs.Fmt.{digits}
+use Rattle.json.proofs.OnLiterals.{json_on_literals}
+use Rattle.semver.proofs.OnLiterals.{semver_on_literals}
+use Rattle.wit_json_reading.specs.Gates.{contents_of, docs_of, gate_of, place_of, range_of, span_of, stability_of, stable_of, unstable_of}
+use Rattle.wit_json_reading.specs.Values.{decimal_of, small_number_of, version_of}
+use Rattle.examples_json.proofs.examples_of_read_values.Goals as goal
+
+pub returns : goal.returns
+unfolding json_on_literals semver_on_literals digits contents_of docs_of gate_of place_of range_of span_of stability_of stable_of unstable_of decimal_of small_number_of version_of
+returns c = record {
+  alone = refl;
+  in_spaces = refl;
+  not_two = refl;
+  not_empty = refl;
+  not_cut = refl;
+  zero = refl;
+  largest = refl;
+  past_largest = refl;
+  no_fraction = refl;
+  no_exponent = refl;
+  no_sign = refl;
+  no_text = refl;
+  largest_small = refl;
+  past_small = refl;
+  past_both = refl;
+  text = refl;
+  not_text = refl;
+  true_ = refl;
+  not_one = refl;
+  version_ = refl;
+  not_shorter = refl;
+  no_number = refl;
+  nothing = refl;
+  something = refl;
+  items = refl;
+  first_fault = refl;
+  not_list = refl;
+}

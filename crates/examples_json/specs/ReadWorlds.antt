@@ -1,0 +1,96 @@
+-- What interfaces, worlds and packages are read from, each as its text.
+use Rattle.std.specs.Prelude.{◌≡◌, ℕ, List, [], ◌∷◌, Some, None, Ok, codes}
+use Rattle.wit_names.specs.declared.package_name.PackageName.{PackageName}
+use Rattle.wit_data.specs.Foreign.{ForeignItem}
+use Rattle.wit_data.specs.New.{new_interface, new_world}
+use Rattle.wit_data.specs.declared.interface.Interface.{Interface}
+use Rattle.wit_data.specs.declared.stability.Stability.TheVariants.{Stable, Unknown}
+use Rattle.wit_data.specs.declared.unresolved.AstItem.TheVariants as ast
+use Rattle.wit_data.specs.declared.unresolved.UnresolvedPackage.{UnresolvedPackage}
+use Rattle.wit_data.specs.declared.world.World.{World}
+use Rattle.wit_data.specs.declared.world.WorldItem.{WorldItem}
+use Rattle.wit_data.specs.declared.world.WorldItem.TheVariants as item
+use Rattle.wit_data.specs.declared.world.WorldKey.{WorldKey}
+use Rattle.wit_data.specs.declared.world.WorldKey.TheVariants as key
+use Rattle.examples_json.specs.Details.{two_files}
+use Rattle.examples_json.specs.Gates.{docs_of, release}
+use Rattle.examples_json.specs.Graphs.{foo_bar}
+use Rattle.examples_json.specs.ReadValues.{fault_at, to}
+use Rattle.wit_json_reading.specs.Documents.{reading_of}
+use Rattle.wit_json_reading.specs.Groups.{sources_of}
+use Rattle.wit_json_reading.specs.Packages.{deps_of, package_name_of, package_of}
+use Rattle.wit_json_reading.specs.Reading.{Reading, instead_of}
+use Rattle.wit_json_reading.specs.Worlds.{entries_of, interface_of, world_of}
+use Rattle.wit_json_reading.specs.declared.fault.Expected.TheVariants as expected
+use Rattle.wit_json_reading.specs.declared.fault.Step.TheVariants as step
+
+abbrev pub interface : List ℕ → Reading Interface
+interface text = reading_of interface_of text
+
+abbrev pub entries : List ℕ → Reading (List (WorldKey × WorldItem))
+entries text = reading_of entries_of text
+
+abbrev pub world : List ℕ → Reading World
+world text = reading_of world_of text
+
+pub record ExamplesOfReadWorlds : Type 0 where
+  pub held : interface (codes "{\"name\":\"i\",\"types\":{\"t\":7},\"functions\":{}}") ≡ Ok (record (new_interface (Some (codes "i"))) { types = (codes "t", 7) ∷ [] })
+  pub unnamed : interface (codes "{\"name\":null,\"types\":{},\"functions\":{}}") ≡ Ok (new_interface None)
+  pub same_name : interface (codes "{\"name\":null,\"types\":{\"t\":7,\"t\":8},\"functions\":{}}") ≡ fault_at (to (codes "t") ∷ to (codes "types") ∷ []) expected.NoSecondMember
+  -- it belongs to no package yet, so none is named
+  pub no_package : interface (codes "{\"name\":null,\"types\":{},\"functions\":{},\"package\":0}") ≡ fault_at (to (codes "package") ∷ []) expected.NoMember
+  -- an interface under its own key, and under a label
+  pub own_key : entries (codes "{\"interface-3\":{\"interface\":{\"id\":3}}}") ≡ Ok ((key.Interface 3, item.Interface 3 Unknown (docs_of None) None None) ∷ [])
+  pub label : entries (codes "{\"l\":{\"interface\":{\"id\":3}}}") ≡ Ok ((key.Name (codes "l"), item.Interface 3 Unknown (docs_of None) None None) ∷ [])
+  pub other_key : entries (codes "{\"interface-4\":{\"interface\":{\"id\":3}}}") ≡ Ok ((key.Name (codes "interface-4"), item.Interface 3 Unknown (docs_of None) None None) ∷ [])
+  -- a type by its id, or with a span
+  pub held_type : entries (codes "{\"t\":{\"type\":7}}") ≡ Ok ((key.Name (codes "t"), item.Type_ 7 None) ∷ [])
+  pub placed_type : entries (codes "{\"t\":{\"type\":{\"id\":7,\"span\":[4,5]}}}") ≡ Ok ((key.Name (codes "t"), item.Type_ 7 (Some (4, 5))) ∷ [])
+  pub same_label : entries (codes "{\"t\":{\"type\":7},\"t\":{\"type\":8}}") ≡ fault_at (to (codes "t") ∷ []) expected.NoSecondMember
+  pub no_sort : entries (codes "{\"t\":{\"types\":7}}") ≡ fault_at (to (codes "types") ∷ to (codes "t") ∷ []) expected.Entry
+  pub whole : world (codes "{\"name\":\"w\",\"imports\":{},\"exports\":{\"t\":{\"type\":7}},\"includes\":[]}") ≡ Ok (record (new_world (codes "w")) { exports = (key.Name (codes "t"), item.Type_ 7 None) ∷ [] })
+  pub with_include : world (codes "{\"name\":\"w\",\"imports\":{},\"exports\":{},\"includes\":[{\"id\":1,\"names\":[{\"name\":\"a\",\"as\":\"b\"}]}]}")
+      ≡ Ok (record (new_world (codes "w")) { includes = record { stability = Unknown; id = 1; names = record { name = codes "a"; as_ = codes "b" } ∷ []; span = None } ∷ [] })
+  pub no_includes : world (codes "{\"name\":\"w\",\"imports\":{},\"exports\":{}}") ≡ fault_at (to (codes "includes") ∷ []) expected.Member
+
+abbrev pub package_name : List ℕ → Reading PackageName
+package_name text = reading_of package_name_of text
+
+abbrev pub deps : List ℕ → Reading (List (PackageName × List ForeignItem))
+deps text = reading_of deps_of text
+
+-- foo:bar with nothing in it
+abbrev pub empty_package : UnresolvedPackage
+empty_package = record {
+  name = foo_bar None;
+  package_name_span = None;
+  docs = docs_of None;
+  worlds = [];
+  interfaces = [];
+  types = [];
+  foreign_deps = [];
+  foreign_dep_spans = [];
+  unknown_type_spans = [];
+  required_resource_types = [];
+}
+
+pub record ExamplesOfReadPackages : Type 0 where
+  -- names
+  pub name : package_name (codes "\"foo:bar\"") ≡ Ok (foo_bar None)
+  pub versioned : package_name (codes "\"foo:bar@1.0.0\"") ≡ Ok (foo_bar (Some (release 1 0 0)))
+  pub no_namespace : package_name (codes "\"bar\"") ≡ instead_of expected.PackageName
+  pub no_version : package_name (codes "\"foo:bar@1\"") ≡ instead_of expected.Version
+  -- what is named of other packages, each item with its gates
+  pub dep : deps (codes "{\"foo:bar\":{\"i\":[{\"interface\":0},[null]]}}") ≡ Ok ((foo_bar None, (codes "i", (ast.Interface 0, Unknown ∷ [])) ∷ []) ∷ [])
+  pub foreign_world : deps (codes "{\"foo:bar\":{\"w\":[{\"world\":0},[{\"stable\":{\"since\":\"1.0.0\"}}]]}}")
+      ≡ Ok ((foo_bar None, (codes "w", (ast.World 0, Stable (release 1 0 0) None ∷ [])) ∷ []) ∷ [])
+  pub no_dep_name : deps (codes "{\"foo\":{}}") ≡ fault_at (to (codes "foo") ∷ []) expected.PackageName
+  pub same_dep : deps (codes "{\"foo:bar\":{},\"foo:bar\":{}}") ≡ fault_at (to (codes "foo:bar") ∷ []) expected.NoSecondMember
+  pub no_type : deps (codes "{\"foo:bar\":{\"i\":[{\"type\":0},[]]}}") ≡ fault_at (to (codes "type") ∷ step.Item 0 ∷ to (codes "i") ∷ to (codes "foo:bar") ∷ []) expected.ForeignItem
+  -- whole packages
+  pub empty : reading_of package_of (codes "{\"name\":\"foo:bar\",\"worlds\":[],\"interfaces\":[],\"types\":[],\"foreign-deps\":{},\"foreign-dep-spans\":[],\"unknown-type-spans\":[],\"required-resources\":[]}")
+      ≡ Ok empty_package
+  pub no_lists : reading_of package_of (codes "{\"name\":\"foo:bar\"}") ≡ fault_at (to (codes "worlds") ∷ []) expected.Member
+  -- files: each begins behind the one before it
+  pub files : reading_of sources_of (codes "[{\"path\":\"a.wit\",\"text\":\"A\"},{\"path\":\"b.wit\",\"text\":\"\"}]") ≡ Ok two_files
+  pub no_text : reading_of sources_of (codes "[{\"path\":\"a.wit\"}]") ≡ fault_at (to (codes "text") ∷ step.Item 0 ∷ []) expected.Member

@@ -1,0 +1,99 @@
+//! Examples of what things are as JSON, and near misses: the contract of each function is what is proved. They stand
+//! beside the crate, so that it doesn't wait for them.
+#![tactic(auto)]
+
+ghost use Rattle.examples_json.specs.Details.{ExamplesOfDetails, ExamplesOfWholes};
+ghost use Rattle.examples_json.specs.Gates.{ExamplesOfGates};
+ghost use Rattle.examples_json.specs.Functions.{ExamplesOfFunctions};
+ghost use Rattle.examples_json.specs.Graphs.{ExamplesOfGraphs};
+ghost use Rattle.examples_json.specs.ReadTypes.{ExamplesOfReadFunctions, ExamplesOfReadKinds, ExamplesOfReadTypes};
+ghost use Rattle.examples_json.specs.ReadValues.{ExamplesOfReadGates, ExamplesOfReadValues};
+ghost use Rattle.examples_json.specs.ReadWorlds.{ExamplesOfReadPackages, ExamplesOfReadWorlds};
+ghost use Rattle.examples_json.specs.Refusals.{ExamplesOfRefusals};
+ghost use Rattle.examples_json.specs.Types.{ExamplesOfKinds, ExamplesOfTypes};
+ghost use Rattle.examples_json.specs.Worlds.{ExamplesOfInterfaces, ExamplesOfWorlds};
+
+/// Docs, and gates with and without deprecations.
+pub fn examples_of_gates()
+    ensures { ExamplesOfGates }
+{}
+
+/// What values are of, owners, and whole types.
+pub fn examples_of_types()
+    ensures { ExamplesOfTypes }
+{}
+
+/// Each kind of type.
+pub fn examples_of_kinds()
+    ensures { ExamplesOfKinds }
+{}
+
+/// Each kind of function, and a whole function.
+pub fn examples_of_functions()
+    ensures { ExamplesOfFunctions }
+{}
+
+/// Interfaces.
+pub fn examples_of_interfaces()
+    ensures { ExamplesOfInterfaces }
+{}
+
+/// The entries of worlds, and whole worlds.
+pub fn examples_of_worlds()
+    ensures { ExamplesOfWorlds }
+{}
+
+/// Packages and whole graphs.
+pub fn examples_of_graphs()
+    ensures { ExamplesOfGraphs }
+{}
+
+/// What the layout leaves out.
+pub fn examples_of_details()
+    ensures { ExamplesOfDetails }
+{}
+
+/// Features, files, and a graph with all that stands beside it.
+pub fn examples_of_wholes()
+    ensures { ExamplesOfWholes }
+{}
+
+/// Refusals.
+pub fn examples_of_refusals()
+    ensures { ExamplesOfRefusals }
+{}
+
+/// What texts, numbers, versions and lists are read from, and their faults.
+pub fn examples_of_read_values()
+    ensures { ExamplesOfReadValues }
+{}
+
+/// What spans, docs and gates are read from.
+pub fn examples_of_read_gates()
+    ensures { ExamplesOfReadGates }
+{}
+
+/// What types are read from.
+pub fn examples_of_read_types()
+    ensures { ExamplesOfReadTypes }
+{}
+
+/// What each kind of type is read from.
+pub fn examples_of_read_kinds()
+    ensures { ExamplesOfReadKinds }
+{}
+
+/// What functions are read from.
+pub fn examples_of_read_functions()
+    ensures { ExamplesOfReadFunctions }
+{}
+
+/// What interfaces and worlds are read from.
+pub fn examples_of_read_worlds()
+    ensures { ExamplesOfReadWorlds }
+{}
+
+/// What names of packages, foreign names, packages and files are read from.
+pub fn examples_of_read_packages()
+    ensures { ExamplesOfReadPackages }
+{}

@@ -1,0 +1,20 @@
+-- The worked graphs.
+use Rattle.std.proofs.Common.{refl}
+use Rattle.wit_digraph.specs.PostOrder.{post_order, post_order_within}
+use Rattle.wit_elaboration.specs.Elaborated.{import_steps, import_steps_within}
+use Rattle.examples_link.specs.Worked.{ExamplesOfWorked}
+
+pub worked : ExamplesOfWorked
+unfolding post_order post_order_within import_steps import_steps_within
+worked = record {
+  exported = refl;
+  derived = refl;
+  setter = refl;
+  getter_comes = refl;
+  include_off = refl;
+  include_on = refl;
+  half = refl;
+  whole = refl;
+  own_of_alias = refl;
+  moved = refl;
+}

@@ -1,0 +1,278 @@
+-- Tests that compute whether something is wrong with a small include, and with the labels of a small list.
+use Rattle.std.proofs.Common.{◌≡◌, ◌∙◌, ◌⊎◌, ℕ, ◌<◌, zero, suc, Bool, true, not, ◌&&◌, List, [], ◌∷◌, ◌++◌, length, map, Some, slice_get, refl, sym, ap, subst, inl, inr, arith, Contains, append_assoc}
+use Rattle.std.proofs.lemmas.Bool.{and_parts, both_ways, not-true}
+use Rattle.std.proofs.lemmas.List.{append-nil}
+use Rattle.std.proofs.lemmas.Map.Views.{Contains-from_any, list_any-from_Contains}
+use Rattle.std.specs.Cmp.Lexicographic.{nat_list_eq_equiv}
+use Rattle.std.specs.List.{list_all, list_any}
+use Rattle.std.specs.Map.{keys_of}
+use Rattle.std.specs.Prelude.{codes, bytes_eq}
+use Rattle.wit_values.specs.facts.Lists.{differ}
+use Rattle.wit_data.specs.Entries.{Entry}
+use Rattle.wit_data.specs.facts.WorldKeyFacts.{key_is, key_laws, same_key}
+use Rattle.wit_data.specs.declared.function.Function.{Function}
+use Rattle.wit_data.specs.declared.world.IncludeName.{IncludeName}
+use Rattle.wit_data.specs.declared.stability.Stability.{Stability}
+use Rattle.wit_data.specs.declared.world.World.{World}
+use Rattle.wit_data.specs.declared.world.WorldInclude.{WorldInclude}
+use Rattle.wit_data.specs.declared.world.WorldKey.{WorldKey}
+use Rattle.wit_data.specs.declared.world.WorldItem.TheVariants as item
+use Rattle.wit_data.specs.declared.world.WorldKey.TheVariants as key
+use Rattle.wit_graph_theory.specs.facts.ListFacts.{Contains-map, contained_at}
+use Rattle.wit_graph_theory.specs.facts.OptionFacts.{some_same}
+use Rattle.wit_graph_theory.specs.examples.TestFacts.{all_are, implied, implies, none_in}
+use Rattle.wit_elaboration.specs.Elaboration.{graph_uses}
+use Rattle.wit_elaboration.specs.Imported.{HasTransitiveConflict, exported_keys}
+use Rattle.wit_labels.specs.Setters.{IsSetter, getter_label, is_setter_label, setters_placed}
+use Rattle.wit_labels.specs.Strong.{strong_key}
+use Rattle.wit_labels.specs.declared.strong.StrongKey.{StrongKey}
+use Rattle.wit_graph_data.specs.declared.error_kind.ResolveErrorKind.{ResolveErrorKind}
+use Rattle.wit_graph_data.specs.declared.error_kind.ResolveErrorKind.TheVariants.{InvalidTransitiveDependency, ItemShadowing}
+use Rattle.wit_link_spec.specs.Addition.{Addition}
+use Rattle.wit_link_spec.specs.Gates.{OptionalSpan}
+use Rattle.wit_link_spec.specs.Include.{EntryLists, IsListCalled, PartiallyLinked, lists_of}
+use Rattle.wit_link_spec.specs.WorldReasons.{HasStability, IsFirstUnmatched, IsIncludeCause, IsShadowed, LabelIsTaken, StabilitiesAreApart, mismatch_8, rename_unmatched_16, renamed_key, shadowing_7, AtInclude, AtWorld, IncludeIsAccepted, IsCauseAtFinish, IsCauseAtInclude, WorldIsAccepted, of_finish, of_include, written_no_getter_18, written_not_strongly_unique_17, IsFinishCause, conflict_4, no_getter_18, not_strongly_unique_17}
+use Rattle.wit_link_spec.specs.Pushed.{updated_include, unfinished_world, with_all_includes, with_worlds}
+use Rattle.wit_link_spec.specs.Reasons.{IsResolved}
+use Rattle.examples_link.proofs.Matching.{ClashAt, LonelySetterAt, clash_at, conflict_in, lonely_at, taken_of}
+use Rattle.examples_link.proofs.AtWorlds.{HaveLists, include_same, lists_are, world_same}
+
+-- ---- labels that come
+
+-- is no label among those seen, or among those before it?
+abbrev pub are_new : List WorldKey → List WorldKey → Bool
+are_new seen [] = true
+are_new seen (key.Name n ∷ ks) = not (list_any (same_key (key.Name n)) seen) && are_new (seen ++ key.Name n ∷ []) ks
+are_new seen (key.Interface i ∷ ks) = are_new (seen ++ key.Interface i ∷ []) ks
+
+rest_new : (k : WorldKey) (seen ks : List WorldKey) → are_new seen (k ∷ ks) ≡ true → are_new (seen ++ k ∷ []) ks ≡ true
+rest_new (key.Name n) seen ks h = (and_parts (not (list_any (same_key (key.Name n)) seen)) (are_new (seen ++ key.Name n ∷ []) ks) h).1
+rest_new (key.Interface i) seen ks h = h
+
+none_shadowed : (before seen brought after : List WorldKey) (n : List ℕ) → brought ≡ before ++ key.Name n ∷ after → Contains (seen ++ before) (key.Name n) → are_new seen brought ≡ true → ⊥
+none_shadowed [] seen brought after n are there new =
+    let here : are_new seen (key.Name n ∷ after) ≡ true = subst (λ (ks : List WorldKey). are_new seen ks ≡ true) are new in
+    let inside : Contains seen (key.Name n) = subst (λ (ks : List WorldKey). Contains ks (key.Name n)) (append-nil seen) there in
+    let off = not-true _ (and_parts (not (list_any (same_key (key.Name n)) seen)) (are_new (seen ++ key.Name n ∷ []) after) here).0 in
+    both_ways _ off (list_any-from_Contains key_laws (key.Name n) seen inside)
+none_shadowed (b ∷ before) seen brought after n are there new =
+    let all : are_new seen (b ∷ (before ++ key.Name n ∷ after)) ≡ true = subst (λ (ks : List WorldKey). are_new seen ks ≡ true) are new in
+    none_shadowed before (seen ++ b ∷ []) (before ++ key.Name n ∷ after) after n refl
+    (subst (λ (ks : List WorldKey). Contains ks (key.Name n)) (sym (append_assoc seen (b ∷ []) before)) there) (rest_new b seen (before ++ key.Name n ∷ after) all)
+
+abbrev labels_come : WorldInclude → List Entry → List Entry → Bool
+labels_come include current brought = are_new (keys_of current) (map (λ (e : Entry). renamed_key include.names e.0) brought)
+
+-- ---- interfaces that come
+
+-- is no key of the one list a key of the other?
+abbrev none_common : List Entry → List Entry → Bool
+none_common current brought = list_all (λ (e : Entry). not (list_any (same_key e.0) (keys_of current))) brought
+
+apart : (current brought : List Entry) (i : ℕ) (has brings : Stability) → HasStability current i has → HasStability brought i brings → none_common current brought ≡ true → ⊥
+apart current brought i has brings (docs, place, external_id, there) (docs', place', external_id', comes) none =
+    let off = not-true _ (all_are (λ (e : Entry). not (list_any (same_key e.0) (keys_of current))) brought none _ comes) in
+    both_ways _ off (list_any-from_Contains key_laws (key.Interface i) (keys_of current) (Contains-map (λ (e : Entry). e.0) current _ there))
+
+-- ---- one of the two lists
+
+pub one_list : (word : List ℕ) (l l' : EntryLists) (es es' : List Entry) → IsListCalled word l es → IsListCalled word l' es'
+    → ((es ≡ l.imports) × (es' ≡ l'.imports)) ⊎ ((es ≡ l.exports) × (es' ≡ l'.exports))
+one_list word l l' es es' (inl a) (inl b) = inl (a.1, b.1)
+one_list word l l' es es' (inl a) (inr b) = absurd (differ (codes "import") (codes "export") refl (sym a.0 ∙ b.0))
+one_list word l l' es es' (inr a) (inl b) = absurd (differ (codes "import") (codes "export") refl (sym b.0 ∙ a.0))
+one_list word l l' es es' (inr a) (inr b) = inr (a.1, b.1)
+
+-- ---- an include
+
+module _ (a : Addition) (k j : ℕ) (y : AtInclude a k j) where
+  untaken : labels_come y.include y.before.lists.imports y.old.imports ≡ true → labels_come y.include y.before.lists.exports y.old.exports ≡ true
+      → (x : AtInclude a k j) (word name : List ℕ) → LabelIsTaken x.before (updated_include a x.include) x.old word name → ⊥
+  untaken imports exports x word name c =
+      let same = include_same a k j x y in
+      let shadowed : IsShadowed c.current (map (λ (e : Entry). renamed_key y.include.names e.0) c.brought) name =
+      subst (λ (i : WorldInclude). IsShadowed c.current (map (λ (e : Entry). renamed_key i.names e.0) c.brought) name) same.include_is c.shadowed in
+      let new : labels_come y.include c.current c.brought ≡ true =
+      elim (one_list word x.before.lists (lists_of x.old) c.current c.brought c.list.0 c.list.1) [
+        | inl both ↦
+            subst (λ (es : List Entry). labels_come y.include es c.brought ≡ true) (sym (both.0 ∙ ap (λ (l : EntryLists). l.imports) same.lists_are))
+            (subst (λ (es : List Entry). labels_come y.include y.before.lists.imports es ≡ true) (sym (both.1 ∙ ap (λ (w : World). w.imports) same.old_is)) imports)
+        | inr both ↦
+            subst (λ (es : List Entry). labels_come y.include es c.brought ≡ true) (sym (both.0 ∙ ap (λ (l : EntryLists). l.exports) same.lists_are))
+            (subst (λ (es : List Entry). labels_come y.include y.before.lists.exports es ≡ true) (sym (both.1 ∙ ap (λ (w : World). w.exports) same.old_is)) exports)
+      ] in
+      none_shadowed shadowed.before (keys_of c.current) _ shadowed.after name shadowed.are shadowed.there new
+
+  pub unshadowed : labels_come y.include y.before.lists.imports y.old.imports ≡ true → labels_come y.include y.before.lists.exports y.old.exports ≡ true
+      → (span : OptionalSpan) (word name : List ℕ) → IsCauseAtInclude a k j (ItemShadowing span word name) → ⊥
+  unshadowed imports exports span word name c = untaken imports exports c.at word name (taken_of _ _ _ _ span word name c.cause)
+
+  agrees : none_common y.before.lists.imports y.old.imports ≡ true → none_common y.before.lists.exports y.old.exports ≡ true
+      → (x : AtInclude a k j) (brings has : Stability) → StabilitiesAreApart (length a.graph.packages) x.before x.old brings has → ⊥
+  agrees imports exports x brings has c =
+      let same = include_same a k j x y in
+      let none : none_common c.current c.brought ≡ true =
+      elim (one_list c.word x.before.lists (lists_of x.old) c.current c.brought c.list.0 c.list.1) [
+        | inl both ↦
+            subst (λ (es : List Entry). none_common es c.brought ≡ true) (sym (both.0 ∙ ap (λ (l : EntryLists). l.imports) same.lists_are))
+            (subst (λ (es : List Entry). none_common y.before.lists.imports es ≡ true) (sym (both.1 ∙ ap (λ (w : World). w.imports) same.old_is)) imports)
+        | inr both ↦
+            subst (λ (es : List Entry). none_common es c.brought ≡ true) (sym (both.0 ∙ ap (λ (l : EntryLists). l.exports) same.lists_are))
+            (subst (λ (es : List Entry). none_common y.before.lists.exports es ≡ true) (sym (both.1 ∙ ap (λ (w : World). w.exports) same.old_is)) exports)
+      ] in
+      apart c.current c.brought c.i has brings c.there c.comes none
+
+  without_names : y.include.names ≡ [] → (x : AtInclude a k j) (name : IncludeName) → IsFirstUnmatched x.old x.include.names name → ⊥
+  without_names none x name c = empty c.before name c.after (sym none ∙ (sym (ap (λ (i : WorldInclude). i.names) (include_same a k j x y).include_is) ∙ c.are))
+    where
+      empty : (before : List IncludeName) (name : IncludeName) (after : List IncludeName) → [] ≡ before ++ name ∷ after → ⊥
+      empty [] name after split = cc
+      empty (b ∷ before) name after split = cc
+
+  -- what the include passes
+  pub record Passes : Type 0 where
+    pub import_labels : labels_come y.include y.before.lists.imports y.old.imports ≡ true
+    pub export_labels : labels_come y.include y.before.lists.exports y.old.exports ≡ true
+    pub import_keys : none_common y.before.lists.imports y.old.imports ≡ true
+    pub export_keys : none_common y.before.lists.exports y.old.exports ≡ true
+    pub names : y.include.names ≡ []
+
+  pub fine : Passes → IncludeIsAccepted a k j
+  fine p error c = none c.at error c.cause
+    where
+      none : (x : AtInclude a k j) (error : ResolveErrorKind) → IsIncludeCause (length a.graph.packages) x.before (updated_include a x.include) x.old error → ⊥
+      none x _ (shadowing_7 word name is) = untaken p.import_labels p.export_labels x word name is
+      none x _ (mismatch_8 brings has is) = agrees p.import_keys p.export_keys x brings has is
+      none x _ (rename_unmatched_16 name is) = without_names p.names x name is
+
+-- ---- the lists of a world
+
+module _ (a : Addition) (k : ℕ) (y : AtWorld a k) where
+  -- both lists of the world pass a test, with its includes and, where it has none, as they are written
+  pub record BothPass (test : List Entry → Bool) : Type 0 where
+    pub imports : test (with_all_includes a y.id y.world (with_worlds a k)).lists.imports ≡ true
+    pub exports : test (with_all_includes a y.id y.world (with_worlds a k)).lists.exports ≡ true
+    pub written : y.world.includes ≡ [] → (test y.world.imports ≡ true) × (test y.world.exports ≡ true)
+
+  -- then each list passes by which its labels are told
+  list_passes : (test : List Entry → Bool) → BothPass test → (lists : EntryLists) → HaveLists a k lists → (word : List ℕ) (entries : List Entry) → IsListCalled word lists entries → test entries ≡ true
+  list_passes test both lists have word entries called =
+      elim (lists_are a k y lists have) [
+        | inl made ↦ of made both.imports both.exports called
+        | inr plain ↦ let written = both.written plain.0 in of plain.1 written.0 written.1 called
+      ]
+    where
+      of : {l : EntryLists} → lists ≡ l → test l.imports ≡ true → test l.exports ≡ true → IsListCalled word lists entries → test entries ≡ true
+      of same imports exports (inl import) = subst (λ (es : List Entry). test es ≡ true) (sym (import.1 ∙ ap (λ (x : EntryLists). x.imports) same)) imports
+      of same imports exports (inr export) = subst (λ (es : List Entry). test es ≡ true) (sym (export.1 ∙ ap (λ (x : EntryLists). x.exports) same)) exports
+
+  -- what passes a test passes a weaker one
+  pub both_weaker : (test other : List Entry → Bool) → ((es : List Entry) → test es ≡ true → other es ≡ true) → BothPass test → BothPass other
+  both_weaker test other weaker both = record {
+    imports = weaker _ both.imports;
+    exports = weaker _ both.exports;
+    written = λ none. let written = both.written none in (weaker _ written.0, weaker _ written.1);
+  }
+
+-- ---- labels that are not strongly unique
+
+abbrev pub names_differ : WorldKey → WorldKey → Bool
+names_differ (key.Name n) (key.Name m) = not (bytes_eq (strong_key n).name (strong_key m).name)
+names_differ (key.Name n) (key.Interface i) = true
+names_differ (key.Interface i) k = true
+
+-- do all labels of a list have different names?
+abbrev all_differ : List WorldKey → Bool
+all_differ [] = true
+all_differ (k ∷ ks) = list_all (names_differ k) ks && all_differ ks
+
+same_names : (n m : List ℕ) → strong_key n ≡ strong_key m → names_differ (key.Name m) (key.Name n) ≡ true → ⊥
+same_names n m same apart =
+    let off = not-true _ apart in
+    both_ways _ off (subst (λ (z : List ℕ). bytes_eq (strong_key m).name z ≡ true) (ap (λ (s : StrongKey). s.name) (sym same)) (nat_list_eq_equiv.refl (strong_key m).name))
+
+no_clash : (keys : List WorldKey) (i j : ℕ) (n m : List ℕ) → i < j → slice_get keys i ≡ Some (key.Name m) → slice_get keys j ≡ Some (key.Name n) → strong_key n ≡ strong_key m
+    → all_differ keys ≡ true → ⊥
+no_clash [] i j n m below first second same all = cc
+no_clash (k ∷ ks) zero zero n m below first second same all = absurd (omega (arith, below))
+no_clash (k ∷ ks) zero (suc j) n m below first second same all =
+    let is : k ≡ key.Name m = some_same k (key.Name m) first in
+    let passes : names_differ k (key.Name n) ≡ true = all_are (names_differ k) ks (and_parts (list_all (names_differ k) ks) (all_differ ks) all).0 (key.Name n) (contained_at ks j (key.Name n) second) in
+    same_names n m same (subst (λ (x : WorldKey). names_differ x (key.Name n) ≡ true) is passes)
+no_clash (k ∷ ks) (suc i) zero n m below first second same all = absurd (omega (arith, below))
+no_clash (k ∷ ks) (suc i) (suc j) n m below first second same all = no_clash ks i j n m (omega (arith, below)) first second same (and_parts (list_all (names_differ k) ks) (all_differ ks) all).1
+
+-- ---- setters and getters
+
+-- is the entry no setter, or is its getter among the keys?
+abbrev pub getter_there : List WorldKey → Entry → Bool
+getter_there keys (key.Name label, item.Function f) = implies (is_setter_label label) (list_any (same_key (key.Name (getter_label label))) keys)
+getter_there keys (key.Name label, item.Interface i note docs span external_id) = true
+getter_there keys (key.Name label, item.Type_ t span) = true
+getter_there keys (key.Interface i, held) = true
+
+has_getters : (entries : List Entry) (label : List ℕ) (f : Function) → Contains entries (key.Name label, item.Function f) → IsSetter label (key.Name label, item.Function f)
+    → (Contains (keys_of entries) (key.Name (getter_label label)) → ⊥) → list_all (getter_there (keys_of entries)) entries ≡ true → ⊥
+has_getters entries label f inside setter absent all =
+    let passes : getter_there (keys_of entries) (key.Name label, item.Function f) ≡ true = all_are (getter_there (keys_of entries)) entries all (key.Name label, item.Function f) inside in
+    absent (Contains-from_any (λ j k h. (key_is j k).0 h) (key.Name (getter_label label)) (keys_of entries) (implied (is_setter_label label) (list_any (same_key (key.Name (getter_label label))) (keys_of entries)) passes setter.1))
+
+abbrev pub getters_there : List Entry → Bool
+getters_there entries = list_all (getter_there (keys_of entries)) entries
+
+-- ---- a conflict
+
+-- a conflict is one of what is begun
+pub conflict_of : (a : Addition) (k : ℕ) (y : AtWorld a k) (span : OptionalSpan) (name : List ℕ) → IsCauseAtFinish a k (InvalidTransitiveDependency span name)
+    → HasTransitiveConflict (graph_uses (with_all_includes a y.id y.world (with_worlds a k)).graph) (setters_placed (with_all_includes a y.id y.world (with_worlds a k)).lists.exports)
+conflict_of a k y span name c =
+    let same = world_same a k c.at y in
+    let is : c.whole ≡ with_all_includes a y.id y.world (with_worlds a k) =
+    c.whole_is ∙ (ap (λ (p : ℕ). with_all_includes a p c.at.world (with_worlds a k)) same.0 ∙ ap (λ (w : World). with_all_includes a y.id w (with_worlds a k)) same.1) in
+    subst (λ (b : PartiallyLinked). HasTransitiveConflict (graph_uses b.graph) (setters_placed b.lists.exports)) is (conflict_in _ _ span name c.cause).conflict
+
+-- ---- a world with which nothing is wrong
+
+abbrev pub labels_differ : List Entry → Bool
+labels_differ entries = all_differ (keys_of entries)
+
+abbrev pub is_plain : List Entry → Bool
+is_plain entries = labels_differ entries && getters_there entries
+
+module _ (a : Addition) (k : ℕ) (y : AtWorld a k) where
+  pub none_alike : BothPass a k y labels_differ → ClashAt a k → ⊥
+  none_alike both c =
+      no_clash (keys_of c.entries) c.clash.0 c.clash.1 c.n c.m c.clash.2 c.clash.3 c.clash.4 c.clash.5 (list_passes a k y labels_differ both c.lists c.have c.word c.entries c.list)
+
+  pub none_lacks : BothPass a k y getters_there → LonelySetterAt a k → ⊥
+  none_lacks both c = has_getters c.entries c.label c.f c.setter.0 c.setter.1 c.absent (list_passes a k y getters_there both c.lists c.have c.word c.entries c.list)
+
+  -- both lists are plain, and it exports no interface under its own key
+  pub record IsPlain : Type 0 where
+    pub lists : BothPass a k y is_plain
+    pub no_exports : exported_keys (setters_placed (with_all_includes a y.id y.world (with_worlds a k)).lists.exports) ≡ []
+
+  plain_labels : IsPlain → ClashAt a k → ⊥
+  plain_labels p = none_alike (both_weaker a k y is_plain labels_differ (λ es passes. (and_parts (labels_differ es) (getters_there es) passes).0) p.lists)
+
+  plain_getters : IsPlain → LonelySetterAt a k → ⊥
+  plain_getters p = none_lacks (both_weaker a k y is_plain getters_there (λ es passes. (and_parts (labels_differ es) (getters_there es) passes).1) p.lists)
+
+  plain_exports : IsPlain → (span : OptionalSpan) (name : List ℕ) → IsCauseAtFinish a k (InvalidTransitiveDependency span name) → ⊥
+  plain_exports p span name c =
+      let found = conflict_of a k y span name c in
+      none_in found.4.1 (subst (λ (is : List ℕ). Contains is found.4.1) p.no_exports found.4.3)
+
+  -- then no cause holds against it, where its includes are accepted
+  pub plain_accepted : IsPlain → (IsResolved a → (j : ℕ) → IncludeIsAccepted a k j) → WorldIsAccepted a k
+  plain_accepted p includes _ (of_include j error image earlier is) = includes image j error is
+  plain_accepted p includes _ (of_finish error image accepted is) = none error is.cause
+    where
+      none : (error : ResolveErrorKind) → IsFinishCause is.whole.graph (unfinished_world a is.at.id is.at.world is.whole.lists) error → ⊥
+      none _ (conflict_4 name c) = plain_exports p _ name (record { at = is.at; whole = is.whole; whole_is = is.whole_is; cause = conflict_4 name c })
+      none _ (not_strongly_unique_17 word n m c) =
+          plain_labels p (clash_at a k _ _ (of_finish _ image accepted (record { at = is.at; whole = is.whole; whole_is = is.whole_is; cause = not_strongly_unique_17 word n m c })))
+      none _ (no_getter_18 word label f c) =
+          plain_getters p (lonely_at a k _ _ (of_finish _ image accepted (record { at = is.at; whole = is.whole; whole_is = is.whole_is; cause = no_getter_18 word label f c })))
+  plain_accepted p includes _ (written_not_strongly_unique_17 message is) = plain_labels p (clash_at a k _ _ (written_not_strongly_unique_17 message is))
+  plain_accepted p includes _ (written_no_getter_18 span message is) = plain_getters p (lonely_at a k _ _ (written_no_getter_18 span message is))

@@ -1,0 +1,17 @@
+mod Accepted
+mod Computed
+mod CopiesStay
+mod KeysAre
+mod Mismatches
+mod NamesAre
+mod Pairs
+mod Passing
+mod Refused
+mod SemverAccepted
+mod SemverFine
+mod SemverMismatches
+mod SemverReasons
+mod SemverRows
+mod SemverTwoReasons
+mod Stabilities
+mod TwoReasons

@@ -1,0 +1,14 @@
+pub mod AcceptedExamples
+pub mod CauseExamples
+pub mod Copies
+pub mod Graphs
+pub mod NamesHeld
+pub mod Pairs
+pub mod Refusals
+pub mod Releases
+pub mod RewrittenExamples
+pub mod SemverTwoReasons
+pub mod Stabilities
+pub mod TrackExamples
+pub mod TwoReasons
+pub mod Unions

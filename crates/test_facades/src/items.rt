@@ -1,0 +1,187 @@
+//! The calls of `wit_items`.
+use crate::fixtures::{assert_text, file, groups, list, package, text, version};
+use std::alloc::Global;
+use std::fmt::Write;
+use std::process::Abort;
+use wit_items::{
+    InterfaceId, Items, Names, PackageName, ParsedUsePath, Shape, Span, Table, Text, TrackRule,
+    is_kebab_name, parse_use_path,
+};
+
+const SCRIPT: &str = "package foo:bar\ninterface i\ntype t u32\npush\n";
+
+/// Whether a group has its shape, whether its package has, and whether the package has with a span too much.
+fn shapes(rt: &impl Abort, alloc: Global) -> [bool; 3] {
+    let mut groups = groups(rt, alloc, SCRIPT);
+    let mut group = groups.pop().expect(rt, "a group");
+    let whole = group.is_shaped(alloc).expect(rt, "memory");
+    let alone = group.main.is_shaped(alloc).expect(rt, "memory");
+    let spans = &mut group.main.foreign_dep_spans;
+    spans.push(Span::unknown()).expect(rt, "memory");
+    [
+        whole,
+        alone,
+        group.main.is_shaped(alloc).expect(rt, "memory"),
+    ]
+}
+
+#[test]
+fn what_has_its_shape_is_told(rt: HostRuntime) {
+    assert!(rt; shapes(&rt, rt.alloc()) == [true, true, false]);
+}
+
+/// The track of a version by both rules, and with its text and what remains.
+fn tracks(rt: &impl Abort, alloc: Global, of: &str) -> String {
+    let version = version(rt, alloc, of);
+    let published = PackageName::track_by(alloc, &version, TrackRule::Published);
+    let published = published.expect(rt, "memory");
+    let with = PackageName::track_by(alloc, &version, TrackRule::WithPrereleases);
+    let with = with.expect(rt, "memory");
+    let (track, suffix) = PackageName::version_compat_track(alloc, &version).expect(rt, "memory");
+    let suffix = suffix.unwrap_or(String::new(alloc));
+    let mut out = format!(in alloc; "{published} {with} {track} {suffix}").expect(rt, "memory");
+    let (text, suffix) = PackageName::version_compat_track_string(alloc, &version).expect(
+        rt, "memory",
+    );
+    let suffix = suffix.unwrap_or(String::new(alloc));
+    write!(out, " {text} {suffix}").expect(rt, "memory");
+    out
+}
+
+#[test]
+fn a_pre_release_has_a_track_by_each_rule(rt: HostRuntime) {
+    assert_text(
+        &rt,
+        tracks(&rt, rt.alloc(), "1.2.3-rc.1+b"),
+        "1.2.3-rc.1 1.0.0 1.2.3-rc.1 +b 1.2.3-rc.1 +b",
+    );
+}
+
+#[test]
+fn a_release_has_one_track(rt: HostRuntime) {
+    assert_text(
+        &rt,
+        tracks(&rt, rt.alloc(), "1.2.3"),
+        "1.0.0 1.0.0 1.0.0 .2.3 1 .2.3",
+    );
+}
+
+/// What a use path says: its package and its name, or its name alone.
+fn path(rt: &impl Abort, alloc: Global, text: &str) -> String {
+    match parse_use_path(alloc, text).expect(rt, "a path") {
+        ParsedUsePath::Name(name) => format!(in alloc; "{name}").expect(rt, "memory"),
+        ParsedUsePath::Package(home, name) => {
+            format!(in alloc; "{home} {name}").expect(rt, "memory")
+        }
+    }
+}
+
+#[test]
+fn use_paths_are_read(rt: HostRuntime) {
+    let alloc = rt.alloc();
+    assert_text(&rt, path(&rt, alloc, "a:b/c@1.0.0"), "a:b@1.0.0 c");
+    assert_text(&rt, path(&rt, alloc, "c"), "c");
+    assert!(rt; parse_use_path(alloc, "a:b").is_err());
+    assert!(rt; is_kebab_name("a-b") && !is_kebab_name("a--b"));
+}
+
+/// Where a second file begins and the two end, where a span of the second is, how a text is told there, and the files; how
+/// many are left where none is to be, and where a next one would begin then.
+fn sources(rt: &impl Abort, alloc: Global) -> String {
+    let mut map = file(rt, alloc);
+    let start = map.append(alloc, file(rt, alloc)).expect(rt, "positions");
+    let end = map.end();
+    let span = Span::new(13, 18).moved(start).expect(rt, "a span");
+    let place = map.render_location(alloc, span).expect(rt, "memory");
+    let told = map.highlight_span(alloc, span, "bad").expect(rt, "memory");
+    let told = told.expect(rt, "a line");
+    let mut out = format!(in alloc; "{start} {end} {place} {told}").expect(rt, "memory");
+    for name in map.source_names() {
+        write!(out, " {name}").expect(rt, "memory");
+    }
+    map.truncate(0, 7);
+    let (count, end) = (map.len(), map.end());
+    write!(out, " {count} {end}").expect(rt, "memory");
+    out
+}
+
+#[test]
+fn spans_are_found_in_their_files(rt: HostRuntime) {
+    assert_text(
+        &rt,
+        sources(&rt, rt.alloc()),
+        "25 50 m.wit:2:1 bad\n\
+        \x20    --> m.wit:2:1\n\
+        \x20     |\n\
+        \x20   2 | world w {}\n\
+        \x20     | ^---- m.wit m.wit 0 7",
+    );
+    assert!(rt; !Span::unknown().is_known() && Span::new(0, 0).is_known());
+    assert!(rt; Span::new(0, 1).moved(u32::MAX).is_none());
+}
+
+/// A text, a list, a table and names, each given back as the type of the language that it was made from.
+fn given_back(rt: &impl Abort, alloc: Global) -> String {
+    let text = Text::from_string(text(rt, alloc, "t").into_string());
+    let mut items = list(rt, alloc, [1, 2]);
+    assert!(rt; items.len() == 2);
+    let former = items.replace(1, 3);
+    let items = Items::from_vec(items.into_vec());
+    let mut table: Table<InterfaceId, usize> = Table::new(alloc);
+    table
+        .push(InterfaceId::from_index(4), 5)
+        .expect(rt, "memory");
+    let map = table.into_map().expect(rt, "memory");
+    let table = Table::from_map(map).expect(rt, "memory");
+    let mut names: Names<usize> = Names::new(alloc);
+    let name = String::from_str(alloc, "n").expect(rt, "memory");
+    names.push(name, 6).expect(rt, "memory");
+    let map = names.into_map().expect(rt, "memory");
+    let names = Names::from_map(map).expect(rt, "memory");
+    let mut out = format!(in alloc; "{text} {former}").expect(rt, "memory");
+    for item in items.iter() {
+        write!(out, " {item}").expect(rt, "memory");
+    }
+    for (key, value) in table.iter() {
+        write!(out, " {} {value}", key.index()).expect(rt, "memory");
+    }
+    for (name, value) in names.iter() {
+        write!(out, " {name} {value}").expect(rt, "memory");
+    }
+    out
+}
+
+/// The name of a package, and the first entries of a table and of names, which have given back what they don't need.
+fn first_entries(rt: &impl Abort, alloc: Global) -> String {
+    let name = package(rt, alloc, SCRIPT).into_name();
+    let mut out = format!(in alloc; "{name}").expect(rt, "memory");
+    let mut table: Table<InterfaceId, usize> = Table::new(alloc);
+    table
+        .push(InterfaceId::from_index(4), 5)
+        .expect(rt, "memory");
+    table.shrink();
+    assert!(rt; table.len() == 1);
+    let (key, value) = table.entry_at(0);
+    write!(out, " {} {value}", key.index()).expect(rt, "memory");
+    let (key, value) = table.get_index(0).expect(rt, "an entry");
+    let is_last = table.get_index(1).is_none();
+    write!(out, " {} {value} {is_last}", key.index()).expect(rt, "memory");
+    let mut names: Names<usize> = Names::new(alloc);
+    let name = String::from_str(alloc, "n").expect(rt, "memory");
+    names.push(name, 6).expect(rt, "memory");
+    names.shrink();
+    assert!(rt; names.len() == 1);
+    let (name, value) = names.entry_at(0);
+    write!(out, " {name} {value}").expect(rt, "memory");
+    out
+}
+
+#[test]
+fn data_are_given_back(rt: HostRuntime) {
+    assert_text(&rt, given_back(&rt, rt.alloc()), "t 2 1 3 4 5 n 6");
+    assert_text(
+        &rt,
+        first_entries(&rt, rt.alloc()),
+        "foo:bar 4 5 4 5 true n 6",
+    );
+}

@@ -1,4 +1,0 @@
-mod Apart
-mod Chained
-mod TakenNames
-mod Transformed

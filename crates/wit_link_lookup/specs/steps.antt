@@ -1,0 +1,2 @@
+pub mod FeatureSteps
+pub mod ForeignItems

@@ -1,3 +1,0 @@
-mod NameOrders
-mod Orders
-mod Refusals

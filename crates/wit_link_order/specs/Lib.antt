@@ -1,3 +1,0 @@
-pub mod GroupOrder
-pub mod facts
-pub mod steps

@@ -1,4 +1,0 @@
-pub mod Structure
-pub mod examples
-pub mod facts
-pub mod steps

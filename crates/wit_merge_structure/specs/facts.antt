@@ -1,2 +1,0 @@
-pub mod DifferenceFacts
-pub mod StructureFacts

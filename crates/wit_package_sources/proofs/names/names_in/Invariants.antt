@@ -1,7 +1,0 @@
-use Rattle.std.proofs.Common.{◌≡◌, ◌++◌}
-use Rattle.wit_sources.specs.SourceMap.{paths_of}
-use Rattle.wit_package_sources.proofs.names.names_in.Given as goal
-
--- the names so far and those to come
-abbrev pub invariant-loop-name : goal.invariant-loop-name
-invariant-loop-name l = l.names ++ l.name-iterator ≡ paths_of l.map.files

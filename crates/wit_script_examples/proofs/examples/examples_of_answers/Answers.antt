@@ -1,5 +1,0 @@
-use Rattle.wit_script_examples.proofs.Steps.{answers}
-use Rattle.wit_script_examples.proofs.examples.examples_of_answers.Goals as goal
-
-pub returns : goal.returns
-returns c = answers c.examples_of_rewriting.ensures c.examples_of_rules.ensures c.examples_of_causes.ensures

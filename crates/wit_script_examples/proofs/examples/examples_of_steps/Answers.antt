@@ -1,5 +1,0 @@
-use Rattle.wit_script_examples.proofs.Steps.{steps}
-use Rattle.wit_script_examples.proofs.examples.examples_of_steps.Goals as goal
-
-pub returns : goal.returns
-returns c = steps c.examples_of_rewriting.ensures c.examples_of_rules.ensures c.examples_of_causes.ensures

@@ -1,5 +1,0 @@
-use Rattle.std.proofs.Common.{rules}
-use Rattle.wit_selection.proofs.select.only_version.Goals as goal
-
-pub returns-in-None : goal.returns-in-None
-returns-in-None c = search rules

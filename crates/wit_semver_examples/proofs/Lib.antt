@@ -1,6 +1,0 @@
-mod Accepted
-mod Fine
-mod Mismatches
-mod Reasons
-mod Rows
-mod TwoReasons

@@ -1,6 +1,0 @@
-pub mod AcceptedExamples
-pub mod CauseExamples
-pub mod Releases
-pub mod RewrittenExamples
-pub mod TrackExamples
-pub mod TwoReasons

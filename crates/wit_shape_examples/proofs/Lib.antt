@@ -1,4 +1,0 @@
-mod FirstFaults
-pub mod OneFilePlaces
-mod ShapeMisses
-mod Shaped

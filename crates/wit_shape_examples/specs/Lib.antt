@@ -1,4 +1,0 @@
-pub mod Faults
-pub mod OneFile
-pub mod Places
-pub mod Shape
