@@ -1,5 +1,5 @@
 //! A growing list that contracts see as a list.
-ghost use Rattle.std.specs.Prelude.{◌≡◌, ◌++◌, ◌∷◌, [], ◌+◌, ◌^◌, length, slice_get, slice_set, Some, OnOk, OnErr, IfNone, IsTrue, ◌↔◌, ◌<◌, take};
+ghost use Rattle.std.specs.Prelude.{◌≡◌, ◌++◌, ◌∷◌, [], ◌+◌, ◌-◌, ◌^◌, length, slice_get, slice_set, Some, OnOk, OnErr, IfNone, IsTrue, ◌↔◌, ◌<◌, take};
 ghost use Rattle.std.specs.Cmp.Lexicographic.{pointwise, lists_equiv, lists_per};
 ghost use Rattle.std.specs.Borrow.{sem};
 ghost use Rattle.std.specs.Option.{option_copied, option_to_list};
@@ -9,6 +9,7 @@ ghost use Rattle.wit_values.specs.Items.{LendsItem};
 use crate::try_clone::TryClone;
 use std::alloc::{AllocError, Global};
 use std::marker::Model;
+use std::ops::Index;
 use std::{fmt, mem, slice};
 
 /// A growing list that its owner keeps. Indices count from 0.
@@ -162,6 +163,20 @@ impl<T> Items<T> {
         *self.inner.allocator()
     }
 
+    /// The first item, or None where there is none.
+    pub fn first(&self) -> Option<&T>
+        ensures { option_copied result ≡ slice_get self.now 0 }
+    {
+        self.get(0)
+    }
+
+    /// The last item, or None where there is none.
+    pub fn last(&self) -> Option<&T>
+        ensures { option_copied result ≡ slice_get self.now (length self.now - 1) }
+    {
+        self.get(self.len().checked_sub(1)?)
+    }
+
     /// Takes the last item out, or answers None where there is none.
     pub fn pop(&mut self) -> Option<T>
         ensures last { self.old ≡ self.new ++ option_to_list result }
@@ -177,6 +192,18 @@ impl<T> Items<T> {
         ensures { self.new ≡ take len self.old }
     {
         self.inner.truncate(len);
+    }
+}
+
+impl<T> Index<usize> for Items<T> {
+    type Output = T;
+
+    ghost can_index = { λ items index. index < length items };
+
+    ghost index_gives = { λ items index item. slice_get items index ≡ Some item };
+
+    fn index(&self, index: usize) -> &T {
+        self.at(index)
     }
 }
 

@@ -1,8 +1,8 @@
 //! A table under texts, which contracts see as the list of its pairs, and which is asked by a `&str`.
-ghost use Rattle.std.specs.Prelude.{◌≡◌, ◌++◌, ◌∷◌, [], ◌<◌, ◌^◌, ◌↔◌, Bool, ℕ, length, None, Some, slice_get, IfOk, IfSome, OnOk, OnErr, filter, position, string_bytes, is_some, IsTrue, take};
+ghost use Rattle.std.specs.Prelude.{◌≡◌, ◌++◌, ◌∷◌, [], ◌<◌, ◌-◌, ◌^◌, ◌↔◌, Bool, ℕ, length, None, Some, slice_get, IfOk, IfSome, OnOk, OnErr, filter, position, string_bytes, is_some, IsTrue, take};
 ghost use Rattle.std.specs.Map.{lookup, keys_of, remove_entry, values_of};
 ghost use Rattle.std.specs.Str.{bytes_eq};
-ghost use Rattle.std.specs.Option.{option_copied};
+ghost use Rattle.std.specs.Option.{option_copied, option_map};
 ghost use Rattle.std.specs.List.{IsDistinct};
 ghost use Rattle.std.specs.Iterator.{at_most};
 ghost use Rattle.std.specs.Map.Iter.{ShowsInOrder, TakesFirst};
@@ -110,6 +110,28 @@ impl<V> Names<V> {
         ensures value { IfSome result (λ i. slice_get (values_of self.now) i ≡ lookup (bytes_eq key.now) self.now) }
     {
         self.inner.index_of(key)
+    }
+
+    /// The pair at an index, or None where the table is no longer than that.
+    pub fn get_index(&self, index: usize) -> Option<(&str, &V)>
+        ensures { option_map deref_named result ≡ slice_get self.now index }
+    {
+        let (key, value) = self.inner.get_index(index)?;
+        Some((key.as_str(), value))
+    }
+
+    /// The first pair, or None where there is none.
+    pub fn first(&self) -> Option<(&str, &V)>
+        ensures { option_map deref_named result ≡ slice_get self.now 0 }
+    {
+        self.get_index(0)
+    }
+
+    /// The last pair, or None where there is none.
+    pub fn last(&self) -> Option<(&str, &V)>
+        ensures { option_map deref_named result ≡ slice_get self.now (length self.now - 1) }
+    {
+        self.get_index(self.len().checked_sub(1)?)
     }
 
     /// The pair at an index, which is below the length.

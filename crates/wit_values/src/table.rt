@@ -1,12 +1,12 @@
 //! A table in insertion order, which contracts see as the list of its pairs.
-ghost use Rattle.std.specs.Prelude.{◌≡◌, ◌++◌, ◌∷◌, [], ◌<◌, ◌≤◌, ◌^◌, ◌↔◌, Bool, IfOk, IfSome, IsTrue, None, OnErr, OnOk, Some, filter, is_some, length, position, remove, slice_get, take};
+ghost use Rattle.std.specs.Prelude.{◌≡◌, ◌++◌, ◌∷◌, [], ◌<◌, ◌≤◌, ◌-◌, ◌^◌, ◌↔◌, Bool, IfOk, IfSome, IsTrue, None, OnErr, OnOk, Some, filter, is_some, length, position, remove, slice_get, take};
 ghost use Rattle.std.specs.Borrow.{sem};
 ghost use Rattle.std.specs.List.{IsDistinct};
 ghost use Rattle.std.specs.Map.{keys_of, lookup, values_of};
 ghost use Rattle.std.specs.Map.Iter.{ShowsInOrder, deref_pair};
 ghost use Rattle.std.specs.Option.{option_copied, option_map};
 ghost use Rattle.wit_values.specs.Lends.{LendsValue};
-ghost use Rattle.wit_values.specs.Pairs.{Tells, last_from};
+ghost use Rattle.wit_values.specs.Pairs.{HaveKeysApart, Tells, last_from, pairs_of};
 ghost use Rattle.wit_values.specs.Table.{HasDistinctKeys};
 
 use crate::pairs::{
@@ -22,7 +22,6 @@ use std::marker::Model;
 use std::{fmt, mem};
 
 /// A table in insertion order, whose keys differ. Indices count from 0.
-#[derive(Drop)]
 pub struct Table<K: Eq + Hash, V> {
     pairs: Pairs<K, V>,
 }
@@ -69,7 +68,7 @@ impl<K: Eq + Hash, V> Table<K, V> {
         V: Drop,
         ensures { IfOk result (λ map. map.entries ≡ self) }
     {
-        match self.pairs {
+        match self.into_inner() {
             Pairs::Few(pairs) => {
                 let alloc = *pairs.allocator();
                 let mut map = IndexMap::with_capacity(alloc, pairs.len())?;
@@ -157,6 +156,20 @@ impl<K: Eq + Hash, V> Table<K, V> {
         }
     }
 
+    /// The first pair, or None where there is none.
+    pub fn first(&self) -> Option<(&K, &V)>
+        ensures { option_map deref_pair result ≡ slice_get self.now 0 }
+    {
+        self.get_index(0)
+    }
+
+    /// The last pair, or None where there is none.
+    pub fn last(&self) -> Option<(&K, &V)>
+        ensures { option_map deref_pair result ≡ slice_get self.now (length self.now - 1) }
+    {
+        self.get_index(self.len().checked_sub(1)?)
+    }
+
     /// The pair at an index, which is below the length.
     pub fn entry_at(&self, index: usize) -> (&K, &V)
         requires { index < length self.now }
@@ -196,10 +209,23 @@ impl<K: Eq + Hash, V> Table<K, V> {
         V: Drop,
         ensures { result ≡ self }
     {
-        match self.pairs {
+        match self.into_inner() {
             Pairs::Few(pairs) => IntoPairs::of_few(pairs.into_iter()),
             Pairs::Many(map) => IntoPairs::of_many(Box::into_inner(map).into_iter()),
         }
+    }
+
+    /// Its pairs, moved out.
+    fn into_inner(self) -> Pairs<K, V>
+    where
+        K: Drop,
+        V: Drop,
+        ensures pairs { pairs_of result ≡ self }
+        ensures distinct { HaveKeysApart K.eq result }
+    {
+        let alloc = self.allocator();
+        let mut table = self;
+        mem::replace(&mut table.pairs, Pairs::Few(Vec::new(alloc)))
     }
 
     /// The allocator that the table was made with, of which contracts say nothing.
@@ -322,6 +348,15 @@ impl<K: Eq + Hash, V> Table<K, V> {
             Pairs::Few(pairs) => cut(pairs, len),
             Pairs::Many(map) => map.truncate(len),
         }
+    }
+}
+
+/// As the derived one: the pairs are let go. A call of it costs the check less than a derived one, which is checked again, in
+/// both forms, wherever a table is let go.
+impl<K: Eq + Hash + Drop, V: Drop> Drop for Table<K, V> {
+    fn drop(self) {
+        let Table { pairs } = self;
+        drop(pairs);
     }
 }
 
