@@ -55,7 +55,7 @@ IsListCalled word lists entries = ((word ≡ codes "import") × (entries ≡ lis
 --     interfaces  0 no name   (x)            copied
 --
 -- An interface with a name, and its types, are never copied.
--- (`once` of `ExamplesOfIncludedWorlds` in wit_link_examples proves the whole graph)
+-- (`once` of `ExamplesOfIncludedWorlds` in examples_link proves the whole graph)
 
 -- does interface i belong to the world? It has no name and stands in it
 abbrev pub belongs_to : Graph → World → ℕ → Bool

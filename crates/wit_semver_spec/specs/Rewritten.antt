@@ -131,7 +131,7 @@ listed_world u = record u.world { imports = kept_imports u }
 --     the world imports 0, 3, 1, 2: interface 1 is the newest on the track of 0, which is replaced
 --     y stays and uses 0 by type 3, which names t there: it comes to name t of 1, so type 3 = type 1
 --
--- (`merged` and `of_alias` of `ExamplesOfRewriting` in wit_merge_examples)
+-- (`merged` and `of_alias` of `ExamplesOfRewriting` in examples_merge)
 --
 -- An alias that went on naming a type of a replaced interface would have elaboration import that one again. Those in the
 -- interfaces that the world lists are rewritten, and no others: a valid world lists all that it reaches, so these are all

@@ -1,4 +1,4 @@
--- How all names are gone through. What they come to is `each_once` (specs/Names).
+-- How all names are gone through. What they come to is `each_once` (specs/SourceNames).
 use Rattle.std.specs.Prelude.{ℕ, List, [], ◌∷◌, ◌++◌, fold, if◌then◌else◌, bytes_eq}
 use Rattle.std.specs.List.{list_any}
 
