@@ -18,9 +18,10 @@ use Rattle.wit_labels.specs.examples.Examples.{function_entry}
 use Rattle.wit_link_spec.specs.Addition.{Addition}
 use Rattle.wit_link_spec.specs.Cause as reason
 use Rattle.wit_link_spec.specs.Gates.{OptionalSpan}
-use Rattle.wit_link_spec.specs.Include.{include_stability, is_other_package, lists_of}
+use Rattle.wit_link_spec.specs.Include.{is_other_package, lists_of}
+use Rattle.wit_remap_spec.specs.Joined.{include_stability, HasStability}
 use Rattle.wit_link_spec.specs.Reasons.{IsResolved}
-use Rattle.wit_link_spec.specs.WorldReasons.{HasStability, mismatch_8, shadowing_7, AtInclude, IncludeIsAccepted, IsCauseAtFinish, IsCauseAtInclude, of_finish, conflict_4, no_getter_18, not_strongly_unique_17}
+use Rattle.wit_link_spec.specs.WorldReasons.{mismatch_8, shadowing_7, AtInclude, IncludeIsAccepted, IsCauseAtFinish, IsCauseAtInclude, of_finish, conflict_4, no_getter_18, not_strongly_unique_17}
 use Rattle.examples_link.proofs.AtWorlds.{all_fine, include_same, list_world, of_first, of_first_include}
 use Rattle.examples_link.proofs.HasImage.{image}
 use Rattle.examples_link.proofs.Matching.{ClashAt, LonelySetterAt, apart_of, of_alike, of_conflict, of_getter, of_mismatch, of_shadowing}

@@ -14,8 +14,8 @@ use Rattle.wit_data.specs.Entries.{Entry}
 use Rattle.wit_elaboration.specs.Elaborated.{import_steps, import_steps_within}
 use Rattle.wit_graph_data.specs.declared.graph.Graph.{Graph}
 use Rattle.wit_graph_theory.specs.examples.TestFacts.{only_one}
-use Rattle.wit_link_spec.specs.Resources.{signature_positions}
-use Rattle.wit_link_spec.specs.ValueRemap.{item_function}
+use Rattle.wit_remap_spec.specs.Resources.{signature_positions}
+use Rattle.wit_remap_spec.specs.ValueRemap.{item_function}
 use Rattle.wit_link_spec.specs.Include.{EntryLists}
 use Rattle.examples_link.proofs.Accepted.{accepted, including_accepted, using_accepted}
 use Rattle.examples_link.proofs.WorldCauses.{label_same, other_feature}

@@ -20,7 +20,8 @@ use Rattle.wit_link_spec.specs.Addition.{Addition}
 use Rattle.wit_link_spec.specs.Cause as reason
 use Rattle.wit_link_spec.specs.Gates.{OptionalSpan, function_is_active}
 use Rattle.wit_link_spec.specs.Gates as asked
-use Rattle.wit_link_spec.specs.Reasons.{AType, AWorld, AdditionOverflows, AnInterface, IsActiveFunction, IsBorrow, IsResolved, MayHoldBorrow, ReturnsBorrow}
+use Rattle.wit_link_spec.specs.Reasons.{AType, AWorld, AdditionOverflows, AnInterface, IsActiveFunction, IsResolved, MayHoldBorrow, ReturnsBorrow}
+use Rattle.wit_remap_spec.specs.Borrows.{IsBorrow}
 use Rattle.wit_link_spec.specs.Reasons as part
 use Rattle.examples_link.proofs.HasImage.{image}
 use Rattle.examples_link.proofs.Matching.{no_memory, of_borrow, of_excluded, of_excluded_owner, of_overflow, of_unreleased, of_version}

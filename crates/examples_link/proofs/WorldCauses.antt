@@ -29,7 +29,8 @@ use Rattle.wit_link_spec.specs.Gates.{OptionalSpan}
 use Rattle.wit_link_spec.specs.Gates as asked
 use Rattle.wit_link_spec.specs.Include.{EntryLists, lists_of}
 use Rattle.wit_link_spec.specs.Reasons.{IsResolved, LacksVersion}
-use Rattle.wit_link_spec.specs.WorldReasons.{HasStability, IsRenamed, mismatch_8, rename_unmatched_16, shadowing_7, AtInclude, AtWorld, IsCauseAtFinish, IsCauseAtInclude, of_finish, of_include, written_no_getter_18, written_not_strongly_unique_17, conflict_4}
+use Rattle.wit_link_spec.specs.WorldReasons.{IsRenamed, mismatch_8, rename_unmatched_16, shadowing_7, AtInclude, AtWorld, IsCauseAtFinish, IsCauseAtInclude, of_finish, of_include, written_no_getter_18, written_not_strongly_unique_17, conflict_4}
+use Rattle.wit_remap_spec.specs.Joined.{HasStability}
 use Rattle.examples_link.proofs.AtWorlds.{fine_without, include_same, list_world, no_include, of_first, of_first_include}
 use Rattle.examples_link.proofs.HasImage.{image}
 use Rattle.examples_link.proofs.Matching.{ClashAt, LonelySetterAt, apart_of, of_alike, of_conflict, of_getter, of_mismatch, of_rename, of_shadowing, unmatched_of}

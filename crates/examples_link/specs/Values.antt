@@ -14,8 +14,8 @@ use Rattle.wit_graph_data.specs.declared.graph.Graph.{Graph}
 use Rattle.wit_remap_spec.specs.Image.{kind_image, value_image}
 use Rattle.wit_link_spec.specs.Addition.{Addition, addition_maps, remapped_type, remap_of_addition}
 use Rattle.wit_link_spec.specs.Pushed.{pushed}
-use Rattle.wit_link_spec.specs.Resources.{leads_to_resource, value_positions}
-use Rattle.wit_link_spec.specs.ValueRemap.{needs_own, value_id}
+use Rattle.wit_remap_spec.specs.Resources.{leads_to_resource, value_positions}
+use Rattle.wit_remap_spec.specs.ValueRemap.{needs_own, value_id}
 use Rattle.examples_link.specs.Packages.{adding, bare, loose_interface, main_name, no_features}
 
 -- resource r, s another name of it, t a number, and an `own` of s

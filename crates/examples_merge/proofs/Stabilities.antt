@@ -9,7 +9,7 @@ use Rattle.wit_graph_data.specs.declared.error_kind.ResolveErrorKind.TheVariants
 use Rattle.wit_graph_data.specs.declared.graph.Graph.{Graph}
 use Rattle.wit_graph_theory.specs.examples.TestFacts.{feature_of}
 use Rattle.wit_link_spec.specs.Gates.{OptionalSpan}
-use Rattle.wit_link_spec.specs.WorldReasons.{Disagree}
+use Rattle.wit_remap_spec.specs.Joined.{Disagree}
 use Rattle.wit_merge_spec.specs.Cause.{AreJoined, IsMergeCause, StabilitiesMismatch}
 use Rattle.wit_merge_spec.specs.Cause as merging
 use Rattle.wit_merge_spec.specs.Matches.{GraphMerge}

@@ -11,7 +11,7 @@ use Rattle.wit_digraph.specs.facts.FreshFacts.{any_from_contains, contains_from_
 use Rattle.wit_digraph.specs.facts.MemberFacts.{Contains-cons_cases, Contains-here, Contains-nil, Contains-there}
 use Rattle.wit_graph_theory.specs.facts.ListFacts.{contained_at, place_of}
 use Rattle.wit_link_spec.specs.facts.RankFacts.{rank-monotone, selected_with_index-at, selected_with_index-from}
-use Rattle.wit_link_spec.specs.Addition.{rank, selected, selected_with_index}
+use Rattle.wit_remap_spec.specs.Selected.{rank, selected, selected_with_index}
 use Rattle.wit_link_include.specs.steps.Included.{goes, numbered, places}
 use Rattle.wit_link_include.proofs.RisingIds.{numbered-at, numbered-none, rises}
 

@@ -7,7 +7,7 @@ ghost use Rattle.wit_data.specs.Kind.{type_references};
 ghost use Rattle.wit_data.specs.declared.world.World.{World};
 ghost use Rattle.wit_digraph.specs.Relation.{IsAcyclic};
 ghost use Rattle.wit_link_spec.specs.Include.{belongs_to, copy_maps, is_copied, with_copies};
-ghost use Rattle.wit_link_spec.specs.Addition.{selected};
+ghost use Rattle.wit_remap_spec.specs.Selected.{selected};
 ghost use Rattle.wit_remap_spec.specs.Image.{interface_image, type_image};
 ghost use Rattle.wit_remap.specs.Grown.{Grown};
 ghost use Rattle.wit_link_include.specs.steps.Included.{IsOrigin, NamesBelonging, NamesThere, StayApart, maps_of, numbered, places, with_images};

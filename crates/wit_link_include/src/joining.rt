@@ -2,7 +2,8 @@
 ghost use Rattle.std.specs.Prelude.{◌≡◌, ◌⊎◌, ◌<◌, ◌++◌, ◌∷◌, [], IfErr, IfOk, None, OnOk, Some, length, slice_get};
 ghost use Rattle.std.specs.Map.{lookup};
 ghost use Rattle.indexmap.specs.Layout.{set_value_at};
-ghost use Rattle.wit_link_spec.specs.Include.{joined_entries, joined_item, new_item};
+ghost use Rattle.wit_link_spec.specs.Include.{joined_entries, new_item};
+ghost use Rattle.wit_remap_spec.specs.Joined.{joined_item};
 ghost use Rattle.wit_graph_data.specs.declared.error_kind.ResolveErrorKind.TheVariants.{ItemShadowing, OutOfMemory};
 ghost use Rattle.wit_data.specs.declared.world.WorldItem.{WorldItem};
 ghost use Rattle.wit_data.specs.declared.world.WorldKey.{WorldKey};

@@ -1,7 +1,6 @@
 //! The stability of an interface that is there, with that of one that comes joined to it.
 ghost use Rattle.std.specs.Prelude.{◌≡◌, IfErr, OnOk};
-ghost use Rattle.wit_link_spec.specs.Include.{include_stability};
-ghost use Rattle.wit_link_spec.specs.WorldReasons.{Disagree};
+ghost use Rattle.wit_remap_spec.specs.Joined.{include_stability, Disagree};
 ghost use Rattle.wit_graph_data.specs.declared.error_kind.ResolveErrorKind.TheVariants.{StabilityMismatch};
 
 use std::mem;

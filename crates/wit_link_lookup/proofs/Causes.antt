@@ -25,7 +25,8 @@ use Rattle.wit_link_spec.specs.Cause.{IsCause, interface_not_found_3, package_no
 use Rattle.wit_link_spec.specs.CauseText.{type_not_defined_text}
 use Rattle.wit_link_spec.specs.facts.ForeignFound.{named_into}
 use Rattle.wit_link_spec.specs.Gates.{OptionalSpan, interface_is_active, type_is_active}
-use Rattle.wit_link_spec.specs.Lookup.{foreign_interface_id, interface_type, is_foreign_type}
+use Rattle.wit_link_spec.specs.Lookup.{foreign_interface_id, is_foreign_type}
+use Rattle.wit_graph_data.specs.Named.{interface_type}
 use Rattle.wit_link_spec.specs.Reasons.{known_packages}
 use Rattle.wit_link_lookup.specs.steps.ForeignItems.{ArePackagesThere, AreTypesThere, IsHome, IsTypeThere, NamesItem, interface_in, item_in, named_is_active, not_found, world_in}
 use Rattle.wit_link_lookup.proofs.PackageItems.{IsItemAt}

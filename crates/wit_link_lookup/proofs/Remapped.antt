@@ -11,7 +11,8 @@ use Rattle.wit_data.specs.Shape.{IsShaped}
 use Rattle.wit_data.specs.declared.unresolved.AstItem.{AstItem}
 use Rattle.wit_names.specs.declared.package_name.PackageName.{PackageName}
 use Rattle.wit_graph_theory.specs.facts.ListFacts.{place_of}
-use Rattle.wit_link_spec.specs.Addition.{Addition, active_interface_id, active_type_id, active_world_id, own_type, rank}
+use Rattle.wit_link_spec.specs.Addition.{Addition, active_interface_id, active_type_id, active_world_id, own_type}
+use Rattle.wit_remap_spec.specs.Selected.{rank}
 use Rattle.wit_link_spec.specs.Gates.{interface_is_active, type_is_active, world_is_active}
 use Rattle.wit_link_spec.specs.Lookup.{find_interface, find_package, find_world, foreign_type_id, is_foreign_type, named_items, naming_item}
 use Rattle.wit_link_spec.specs.declared.addition.Activity.{Activity}

@@ -8,7 +8,8 @@ use Rattle.wit_data.specs.declared.types.TypeOwner.{TypeOwner}
 use Rattle.wit_data.specs.declared.types.TypeOwner.TheVariants as owner
 use Rattle.wit_link_spec.specs.Addition.{Addition}
 use Rattle.wit_link_spec.specs.Gates.{interface_is_active}
-use Rattle.wit_link_spec.specs.Lookup.{foreign_interface_id, foreign_type_id, interface_type, owning_interface}
+use Rattle.wit_link_spec.specs.Lookup.{foreign_interface_id, foreign_type_id, owning_interface}
+use Rattle.wit_graph_data.specs.Named.{interface_type}
 use Rattle.wit_link_lookup.specs.steps.ForeignItems.{IsTypeThere}
 
 module _ (a : Addition) (t : ℕ) (def : TypeDef) (at : slice_get a.unresolved.types t ≡ Some def) (i : ℕ) (owned : def.owner ≡ owner.Interface i) where

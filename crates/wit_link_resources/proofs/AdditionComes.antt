@@ -22,8 +22,8 @@ use Rattle.wit_link_spec.specs.facts.Standing.{own_type_remapped}
 use Rattle.wit_link_spec.specs.Gates.{is_active, type_is_active}
 use Rattle.wit_link_spec.specs.Lookup.{is_foreign_type}
 use Rattle.wit_link_spec.specs.Reasons.{IsResolved}
-use Rattle.wit_link_spec.specs.Resources.{signature_positions, value_positions}
-use Rattle.wit_link_spec.specs.Selected.{rank, selected}
+use Rattle.wit_remap_spec.specs.Resources.{signature_positions, value_positions}
+use Rattle.wit_remap_spec.specs.Selected.{rank, selected}
 use Rattle.wit_link_spec.specs.steps.AdditionRefs.{new_ids_of}
 use Rattle.wit_link_spec.specs.steps.NewThings.{is_new}
 use Rattle.wit_link_resources.specs.steps.Active.{active_functions}

@@ -1,7 +1,7 @@
 -- What is gathered of the things of a list, one index after another, is what is gathered of those that a test keeps.
 use Rattle.std.proofs.Common.{◌≡◌, ◌∙◌, ◌+◌, ℕ, suc, Bool, true, false, List, [], ◌∷◌, ◌++◌, map, filter, length, cond, Some, slice_get, refl, ap, subst, arith, if◌then◌else◌}
 use Rattle.std.specs.List.{enumerate_from, flat_map, range_with_len}
-use Rattle.wit_link_spec.specs.Selected.{selected}
+use Rattle.wit_remap_spec.specs.Selected.{selected}
 
 module _ {X Y : Type 0} (g : ℕ → List Y) (kept : ℕ → Bool) (f : X → List Y) where
   abbrev all_from : ℕ → List X → List Y

@@ -3,7 +3,7 @@ use Rattle.std.proofs.Common.{ℕ, List, [], slice_get}
 use Rattle.std.specs.Prelude.{if◌then◌else◌}
 use Rattle.std.specs.Option.{option_map_or}
 use Rattle.wit_data.specs.declared.types.TypeDef.{TypeDef}
-use Rattle.wit_link_spec.specs.Resources.{value_positions}
+use Rattle.wit_remap_spec.specs.Resources.{value_positions}
 use Rattle.wit_link_resources.specs.declared.incoming.Incoming.{Incoming}
 use Rattle.wit_link_resources.specs.steps.IncomingTypes.{new_of}
 

@@ -3,7 +3,7 @@ use Rattle.std.proofs.Common.{◌≡◌, ◌∙◌, ◌+◌, ◌≤◌, ◌<◌,
 use Rattle.std.specs.List.{enumerate_from, range_with_len}
 use Rattle.std.proofs.lemmas.List.{length-append, length-map}
 use Rattle.std.proofs.lemmas.List.Elements.{filter-append}
-use Rattle.wit_link_spec.specs.Selected.{rank, selected, selected_with_index}
+use Rattle.wit_remap_spec.specs.Selected.{rank, selected, selected_with_index}
 use Rattle.wit_link_spec.specs.facts.RangeFacts.{range-more}
 use Rattle.wit_link_spec.specs.facts.RankFacts.{after, rank-kept, rank-left, rank-suc}
 

@@ -4,7 +4,7 @@ use Rattle.wit_values.specs.facts.Lists.{set-cases}
 use Rattle.wit_digraph.specs.PostOrder.{post_order}
 use Rattle.wit_data.specs.declared.function.Function.{Function}
 use Rattle.wit_data.specs.Uses.{alias_rows}
-use Rattle.wit_link_spec.specs.ValueRemap.{ValueRemap}
+use Rattle.wit_remap_spec.specs.ValueRemap.{ValueRemap}
 use Rattle.wit_link_resources.specs.declared.incoming.Incoming.{Incoming}
 use Rattle.wit_link_resources.specs.steps.IncomingTypes.{AreTold, CanComeIn, IsRemap, IsRemapped, NamesNext, leads_in}
 use Rattle.wit_link_resources.specs.facts.IncomingLeads.{leads_alias}

@@ -20,11 +20,13 @@ use Rattle.wit_data.specs.declared.types.Type_.TheVariants as type
 use Rattle.wit_data.specs.declared.types.TypeOwner.TheVariants as owner
 use Rattle.wit_elaboration.specs.Valid.{IsValid}
 use Rattle.wit_graph_theory.specs.facts.ListFacts.{contained_at, found_at, get_at, place_of}
-use Rattle.wit_link_spec.specs.Addition.{Addition, active_type_id, own_type, rank, remapped_type}
+use Rattle.wit_link_spec.specs.Addition.{Addition, active_type_id, own_type, remapped_type}
+use Rattle.wit_remap_spec.specs.Selected.{rank}
 use Rattle.wit_link_spec.specs.facts.ClosedCut.{references_kept, there_where}
 use Rattle.wit_link_spec.specs.facts.ForeignFound.{find-passes, named_at}
 use Rattle.wit_link_spec.specs.Gates.{is_active, type_is_active}
-use Rattle.wit_link_spec.specs.Lookup.{find_interface, foreign_interface_id, foreign_type_id, interface_type, is_foreign_type, named_items, naming_item, owning_interface}
+use Rattle.wit_link_spec.specs.Lookup.{find_interface, foreign_interface_id, foreign_type_id, is_foreign_type, named_items, naming_item, owning_interface}
+use Rattle.wit_graph_data.specs.Named.{interface_type}
 use Rattle.wit_link_spec.specs.Reasons.{IsResolved}
 use Rattle.wit_link_spec.specs.facts.Standing.{foreign_interface_remapped, foreign_type}
 

@@ -2,7 +2,7 @@
 ghost use Rattle.std.specs.Prelude.{◌≡◌, ◌⊎◌, ◌+◌, ◌^◌, ◌<◌, ℕ, false, None, Option, Some, length, slice_get, true, unwrap_or};
 ghost use Rattle.wit_data.specs.Uses.{alias_target};
 ghost use Rattle.wit_data.specs.declared.types.TypeDef.{TypeDef};
-ghost use Rattle.wit_link_spec.specs.Selected.{rank};
+ghost use Rattle.wit_remap_spec.specs.Selected.{rank};
 ghost use Rattle.wit_link_resources.specs.steps.IncomingTypes.{new_of};
 
 use wit_data::{Items, TypeDef, TypeId, alias_target};

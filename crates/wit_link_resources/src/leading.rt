@@ -3,8 +3,8 @@ ghost use Rattle.std.specs.Prelude.{◌≡◌, ◌<◌, ℕ, List, IfOk, None, O
 ghost use Rattle.wit_data.specs.Uses.{alias_target};
 ghost use Rattle.wit_data.specs.declared.function.Function.{Function};
 ghost use Rattle.wit_data.specs.declared.types.TypeDef.{TypeDef};
-ghost use Rattle.wit_link_spec.specs.Resources.{is_resource_kind};
-ghost use Rattle.wit_link_spec.specs.ValueRemap.{ValueRemap};
+ghost use Rattle.wit_remap_spec.specs.Resources.{is_resource_kind};
+ghost use Rattle.wit_remap_spec.specs.ValueRemap.{ValueRemap};
 ghost use Rattle.wit_link_resources.specs.steps.IncomingTypes.{AreTold, CanComeIn, EndsWay, IsRemap, IsRemapped, NamesNext, leads_in, new_of};
 ghost use Rattle.wit_link_resources.specs.steps.Leading.{AreRight};
 

@@ -3,7 +3,7 @@ ghost use Rattle.std.specs.Prelude.{◌≡◌, ◌<◌, ℕ, IfOk, None, Some, l
 ghost use Rattle.std.specs.Map.{lookup};
 ghost use Rattle.wit_digraph.specs.Relation.{IsAcyclic};
 ghost use Rattle.wit_data.specs.Kind.{type_references};
-ghost use Rattle.wit_link_spec.specs.Resources.{leads_to_resource};
+ghost use Rattle.wit_remap_spec.specs.Resources.{leads_to_resource};
 ghost use Rattle.wit_link_resources.specs.steps.Leading.{AreRight, EndsAt, LeadsOn};
 
 use crate::leading::is_resource;

@@ -1,8 +1,8 @@
 //! What types are remapped to at value positions, and the `own`s that come for that.
 ghost use Rattle.std.specs.Prelude.{◌≡◌, ℕ, Contains, IfOk, length, map, take};
 ghost use Rattle.std.specs.List.{range_with_len};
-ghost use Rattle.wit_link_spec.specs.Resources.{own_of};
-ghost use Rattle.wit_link_spec.specs.ValueRemap.{ValueRemap, needs_own};
+ghost use Rattle.wit_remap_spec.specs.Resources.{own_of};
+ghost use Rattle.wit_remap_spec.specs.ValueRemap.{ValueRemap, needs_own};
 ghost use Rattle.wit_link_resources.specs.steps.Active.{seen};
 ghost use Rattle.wit_link_resources.specs.steps.IncomingTypes.{CanComeIn, IsRemap, IsRemapped, positions_of, values_in};
 ghost use Rattle.wit_link_resources.specs.steps.Leading.{AreRight};

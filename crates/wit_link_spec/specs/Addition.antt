@@ -13,8 +13,8 @@ use Rattle.wit_remap_spec.specs.Kept.{KeptIds, cut_interface, cut_world}
 use Rattle.wit_remap_spec.specs.Image.{Maps}
 use Rattle.wit_link_spec.specs.Gates.{is_foreign_interface, is_foreign_world, function_is_active, include_is_active, interface_is_active, item_is_active, type_is_active, world_is_active}
 use Rattle.wit_link_spec.specs.Lookup.{foreign_interface_id, foreign_type_id, foreign_world_id, is_foreign_type}
-use Rattle.wit_link_spec.specs.ValueRemap.{ValueRemap, maps_with_owns, world_functions}
-pub use Rattle.wit_link_spec.specs.Selected.{rank, selected, selected_with_index}
+use Rattle.wit_remap_spec.specs.ValueRemap.{ValueRemap, maps_with_owns, world_functions}
+use Rattle.wit_remap_spec.specs.Selected.{rank, selected, selected_with_index}
 
 -- an unresolved package to be added to a graph, under features, its spans to move by an offset
 pub record Addition : Type 0 where

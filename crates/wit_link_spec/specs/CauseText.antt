@@ -31,10 +31,6 @@ type_not_defined_text name = codes "type `" ++ (name ++ codes "` not defined in 
 abbrev pub not_a_resource_text : List ℕ
 not_a_resource_text = codes "type used in a handle must be a resource"
 
--- 15: a borrow in a result
-abbrev pub borrow_text : List ℕ → List ℕ
-borrow_text name = codes "function `" ++ (name ++ codes "` returns a type which contains a `borrow<T>` which is not supported")
-
 -- 16: a renaming of nothing
 abbrev pub rename_text : List ℕ → List ℕ
 rename_text name = codes "no import or export kebab-name `" ++ (name ++ codes "`. Note that an ID does not support renaming")

@@ -3,6 +3,7 @@
 -- never asked. A foreign interface or world has several notes, one for each time that it is named.
 -- Source: the WIT page of the component model, "Feature gates"; `include_stability` of wit-parser 0.263.0.
 pub use Rattle.wit_sources.specs.Span.{OptionalSpan}
+use Rattle.wit_remap_spec.specs.Spans.{interface_spans, type_spans, world_spans}
 use Rattle.std.specs.Prelude.{◌≡◌, ◌⊎◌, ◌||◌, ℕ, suc, Bool, true, false, List, [], ◌∷◌, length, take, nat_eq, nat_lt, slice_get, Some, Contains, if◌then◌else◌, flat_map, bytes_eq, ◌++◌, map, option_to_list}
 use Rattle.std.specs.List.{list_any, position_or_len}
 use Rattle.std.specs.Option.{option_map_or}
@@ -145,35 +146,6 @@ pub data IsAsked (features : Features) (u : UnresolvedPackage) : Stability → O
       → HasEntry world e → HasOwnGate e.1 note place → IsAsked features u note place
   of_include : (w : ℕ) (world : World) (i : WorldInclude) → slice_get u.worlds w ≡ Some world → world_is_active features u w ≡ true
       → Contains world.includes i → IsAsked features u i.stability i.span
-
--- All the spans of an unresolved package.
-
--- those of the fields, cases and flags of a kind
-abbrev pub kind_spans : TypeDefKind → List OptionalSpan
-kind_spans k = flat_map (λ (p : KindPart). option_to_list p.span) (kind_parts k)
-
--- those of a type and of its parts
-abbrev pub type_spans : TypeDef → List OptionalSpan
-type_spans def = def.span ∷ kind_spans def.kind
-
--- those of a function and of its parameters
-abbrev pub function_spans : Function → List OptionalSpan
-function_spans f = f.span ∷ map (λ (p : Param). p.span) f.params
-
--- those of an interface and of its functions
-abbrev pub interface_spans : Interface → List OptionalSpan
-interface_spans interface = interface.span ∷ flat_map (λ (e : List ℕ × Function). function_spans e.1) interface.functions
-
--- those of an entry of a world
-abbrev pub item_spans : WorldItem → List OptionalSpan
-item_spans (item.Interface id stability docs span external_id) = span ∷ []
-item_spans (item.Function function) = function_spans function
-item_spans (item.Type_ id span) = span ∷ []
-
--- those of a world, of its entries and of its includes
-abbrev pub world_spans : World → List OptionalSpan
-world_spans world =
-    world.span ∷ (flat_map (λ (e : Entry). item_spans e.1) world.imports ++ (flat_map (λ (e : Entry). item_spans e.1) world.exports ++ map (λ (i : WorldInclude). i.span) world.includes))
 
 -- all of a package
 abbrev pub package_spans : UnresolvedPackage → List OptionalSpan

@@ -2,6 +2,7 @@
 -- as copies with fresh ids, so that no two worlds have a type or an interface without a name in common.
 -- Source: the WIT page of the component model, "include"; `resolve_include` of wit-parser 0.263.0. What is
 -- copied is a rule of this project.
+use Rattle.wit_remap_spec.specs.Joined.{joined_entry}
 use Rattle.std.specs.Prelude.{◌≡◌, ◌⊎◌, ℕ, ◌+◌, ◌&&◌, ◌||◌, Bool, not, true, false, List, [], ◌∷◌, ◌++◌, codes, map, filter, length, nat_eq, is_some, slice_get, Option, Some, if◌then◌else◌, flat_map}
 use Rattle.std.specs.List.{list_any}
 use Rattle.std.specs.Map.{lookup}
@@ -25,7 +26,7 @@ use Rattle.wit_data.specs.declared.world.WorldKey.TheVariants as key
 use Rattle.wit_elaboration.specs.Entries.{same_key}
 use Rattle.wit_graph_data.specs.declared.graph.Graph.{Graph}
 use Rattle.wit_remap_spec.specs.Image.{Maps, entry_image, include_maps, interface_image, type_image}
-use Rattle.wit_link_spec.specs.Addition.{rank, selected}
+use Rattle.wit_remap_spec.specs.Selected.{rank, selected}
 use Rattle.wit_labels.specs.Rename.{renamed_label}
 
 -- the two lists of a world
@@ -116,30 +117,6 @@ with_copies g from world m = record g {
   types = g.types ++ map (type_image m) (selected (is_copied g from world) g.types);
   interfaces = g.interfaces ++ map (interface_image m) (selected (belongs_to g world) g.interfaces);
 }
-
--- ---- joined stabilities
-
--- a known stability replaces an unknown one
-abbrev pub joined_stability : Stability → Stability → Stability
-joined_stability Unknown into = into
-joined_stability from into = from
-
--- the same under an include: the `@since` of a world of another package says nothing here, and leaves
--- what it joins unknown
-abbrev pub include_stability : Bool → Stability → Stability → Stability
-include_stability true (Stable since deprecated) into = Unknown
-include_stability other from into = joined_stability from into
-
--- ---- joined lists
-
--- an interface that stands under its own key, with a stability joined to it
-abbrev pub joined_item : Bool → WorldItem → WorldItem → WorldItem
-joined_item other (item.Interface i from docs span external_id) (item.Interface i' into docs' span' external_id') = item.Interface i' (include_stability other from into) docs' span' external_id'
-joined_item other from into = into
-
--- an entry that is there keeps all but its stability, which that of a brought entry of its key joins
-abbrev pub joined_entry : Bool → List Entry → Entry → Entry
-joined_entry other brought e = (e.0, option_map_or (λ (from : WorldItem). joined_item other from e.1) (lookup (same_key e.0) brought) e.1)
 
 -- does a list have an entry under this key?
 abbrev pub has_key : List Entry → WorldKey → Bool

@@ -6,9 +6,6 @@ pub mod Include
 pub mod Lookup
 pub mod Pushed
 pub mod Reasons
-pub mod Resources
-pub mod Selected
-pub mod ValueRemap
 pub mod WorldReasons
 pub mod facts
 pub mod steps

@@ -13,7 +13,7 @@ use Rattle.wit_data.specs.declared.types.TypeDef.{TypeDef}
 use Rattle.wit_data.specs.declared.types.TypeOwner.{TypeOwner}
 use Rattle.wit_data.specs.declared.unresolved.UnresolvedPackage.{UnresolvedPackage}
 use Rattle.wit_data.specs.declared.types.TypeOwner.TheVariants as owner
-use Rattle.wit_graph_data.specs.Named.{interface_in, world_in}
+use Rattle.wit_graph_data.specs.Named.{interface_in, world_in, interface_type}
 use Rattle.wit_graph_data.specs.declared.graph.Graph.{Graph}
 
 -- ---- what is named
@@ -51,10 +51,6 @@ foreign_interface_id g u i = option_and_then (λ (e : ℕ × PackageName × Fore
 -- the world of the graph that foreign world w of the package names
 abbrev pub foreign_world_id : Graph → UnresolvedPackage → ℕ → Option ℕ
 foreign_world_id g u w = option_and_then (λ (e : ℕ × PackageName × ForeignItem). find_world g u.name e.1 e.2.0) (naming_item world_id u w)
-
--- the type of this name in interface i of the graph
-abbrev pub interface_type : Graph → List ℕ → ℕ → Option ℕ
-interface_type g name i = option_and_then (λ (interface : Interface). lookup (bytes_eq name) interface.types) (slice_get g.interfaces i)
 
 -- the foreign interface that owns a foreign type
 abbrev pub owning_interface : TypeOwner → Option ℕ

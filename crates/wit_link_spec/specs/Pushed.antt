@@ -11,9 +11,10 @@ use Rattle.wit_elaboration.specs.Elaboration.{elaborated_world}
 use Rattle.wit_graph_data.specs.declared.graph.Graph.{Graph}
 use Rattle.wit_graph_data.specs.declared.graph.Package.{Package}
 use Rattle.wit_remap_spec.specs.Image.{interface_image, world_image}
-use Rattle.wit_link_spec.specs.Addition.{Addition, active_includes, addition_maps, own_interface, own_interfaces, own_world, own_worlds, remap_of_addition, remapped_interface, remapped_world, selected_with_index}
+use Rattle.wit_link_spec.specs.Addition.{Addition, active_includes, addition_maps, own_interface, own_interfaces, own_world, own_worlds, remap_of_addition, remapped_interface, remapped_world}
+use Rattle.wit_remap_spec.specs.Selected.{selected_with_index}
 use Rattle.wit_link_spec.specs.Include.{EntryLists, PartiallyLinked, lists_of, with_entry_lists, with_include_of}
-use Rattle.wit_link_spec.specs.ValueRemap.{types_behind}
+use Rattle.wit_remap_spec.specs.ValueRemap.{types_behind}
 use Rattle.wit_labels.specs.Setters.{setters_placed}
 
 -- ---- the package

@@ -33,10 +33,12 @@ use Rattle.wit_data.specs.declared.world.WorldItem.TheVariants as item
 use Rattle.wit_graph_data.specs.Queries.{type_contents}
 use Rattle.wit_graph_data.specs.declared.graph.Graph.{Graph}
 use Rattle.wit_link_spec.specs.Addition.{Addition}
-use Rattle.wit_link_spec.specs.CauseText.{borrow_text, excluded_owner_text, excluded_text, gate_unreleased_text, gate_without_version_text, not_a_resource_text, type_not_defined_text}
+use Rattle.wit_link_spec.specs.CauseText.{excluded_owner_text, excluded_text, gate_unreleased_text, gate_without_version_text, not_a_resource_text, type_not_defined_text}
+use Rattle.wit_remap_spec.specs.Borrows.{borrow_text, HoldsBorrow}
 use Rattle.wit_link_spec.specs.Gates.{OptionalSpan, HasEntry, IsAsked, IsExcludedInterface, IsExcludedType, IsExcludedWorld, function_is_active, include_is_active, interface_is_active, is_active, type_is_active, world_is_active, package_spans}
-use Rattle.wit_link_spec.specs.Lookup.{find_interface, find_world, foreign_interface_id, foreign_type_id, interface_type, is_foreign_type, named_items}
-use Rattle.wit_link_spec.specs.Resources.{leads_to_resource}
+use Rattle.wit_link_spec.specs.Lookup.{find_interface, find_world, foreign_interface_id, foreign_type_id, is_foreign_type, named_items}
+use Rattle.wit_graph_data.specs.Named.{interface_type}
+use Rattle.wit_remap_spec.specs.Resources.{leads_to_resource}
 
 -- does the graph have a package of this name?
 abbrev pub HasPackage : Graph → PackageName → Type 0
@@ -225,14 +227,6 @@ pub record IsNoResource (a : Addition) (span : OptionalSpan) (message : List ℕ
   pub message_is : message ≡ not_a_resource_text
 
 -- ---- 15: a borrow in a result
-
--- type t is a borrow
-abbrev pub IsBorrow : List TypeDef → ℕ → Type 0
-IsBorrow types t = SomeAt types t (λ (def : TypeDef). (r : ℕ) × (def.kind ≡ kind.Handle (Borrow r)))
-
--- the values of type t hold a borrow
-abbrev pub HoldsBorrow : List TypeDef → ℕ → Type 0
-HoldsBorrow types t = (b : ℕ) × Reaches (type_contents types) t b × IsBorrow types b
 
 -- the values of type t of the package hold a borrow: one of the package, or in a foreign type one of the graph
 abbrev pub MayHoldBorrow : Addition → ℕ → Type 0

@@ -17,7 +17,8 @@ use Rattle.wit_labels.specs.Setters.{getter_label, IsSetter, setters_placed}
 use Rattle.wit_link_spec.specs.Addition.{Addition, active_includes, own_worlds, remapped_world}
 use Rattle.wit_link_spec.specs.CauseText.{clash_text, getter_text, rename_text}
 use Rattle.wit_link_spec.specs.Gates.{OptionalSpan}
-use Rattle.wit_link_spec.specs.Include.{PartiallyLinked, IsListCalled, include_stability, is_other_package, lists_of}
+use Rattle.wit_link_spec.specs.Include.{PartiallyLinked, IsListCalled, is_other_package, lists_of}
+use Rattle.wit_remap_spec.specs.Joined.{include_stability, Disagree, HasStability}
 use Rattle.wit_link_spec.specs.Pushed.{updated_include, unfinished_world, with_all_includes, with_includes, with_worlds}
 use Rattle.wit_link_spec.specs.Reasons.{IsResolved}
 use Rattle.std.specs.Map.{keys_of}
@@ -92,17 +93,6 @@ pub record LabelIsTaken (b : PartiallyLinked) (include : WorldInclude) (old : Wo
   pub shadowed : IsShadowed current (map (λ (e : Entry). renamed_key include.names e.0) brought) name
 
 -- ---- 8: an interface is there with another stability
-
--- the entry under the key of an interface, with its stability
-abbrev pub HasStability : List Entry → ℕ → Stability → Type 0
-HasStability entries i stability =
-    (docs : Docs) × (place : OptionalSpan) × (external_id : Option (List ℕ)) × Contains entries (key.Interface i, item.Interface i stability docs place external_id)
-
--- two stabilities disagree: both are known, and they differ
-pub record Disagree (from into : Stability) : Type 0 where
-  pub from_known : from ≢ Unknown
-  pub into_known : into ≢ Unknown
-  pub differ : from ≢ into
 
 -- 8: an interface that the include brings is there with another stability, and it isn't a `@since` of another package,
 -- which says nothing

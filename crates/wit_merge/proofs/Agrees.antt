@@ -11,7 +11,7 @@ use Rattle.wit_data.specs.declared.world.WorldItem.TheVariants as item
 use Rattle.wit_data.specs.declared.world.WorldKey.TheVariants as key
 use Rattle.wit_remap_spec.specs.Image.{entry_image, function_image, interface_image, item_image, key_image, type_image}
 use Rattle.wit_link_spec.specs.facts.RangeFacts.{range-at}
-use Rattle.wit_link_spec.specs.ValueRemap.{value_id}
+use Rattle.wit_remap_spec.specs.ValueRemap.{value_id}
 use Rattle.wit_remap.specs.steps.Movers.{goes, id_or, maps_of}
 use Rattle.wit_remap.specs.declared.mover.Mover.{Mover}
 use Rattle.wit_merge_spec.specs.Matches.{GraphMerge}

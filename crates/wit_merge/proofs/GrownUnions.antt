@@ -15,8 +15,7 @@ use Rattle.wit_graph_data.specs.declared.graph.Graph.{Graph}
 use Rattle.wit_graph_data.specs.declared.error_kind.ResolveErrorKind.{ResolveErrorKind}
 use Rattle.wit_graph_theory.specs.facts.ListFacts.{Contains-map, Contains-map_cases}
 use Rattle.wit_remap_spec.specs.Image.{function_image}
-use Rattle.wit_link_spec.specs.CauseText.{borrow_text}
-use Rattle.wit_link_spec.specs.Reasons.{HoldsBorrow}
+use Rattle.wit_remap_spec.specs.Borrows.{borrow_text, HoldsBorrow}
 use Rattle.wit_merge_spec.specs.Cause.{HasNoMismatch, IsMergeCause, MergeIsAccepted, MergeReturnsBorrow, borrow_in_result_15}
 use Rattle.wit_merge_spec.specs.Matches.{GraphMerge}
 use Rattle.wit_merge_spec.specs.United.{joined_graph, merge_maps, moved_functions, united}

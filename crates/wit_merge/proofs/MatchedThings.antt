@@ -12,7 +12,7 @@ use Rattle.wit_data.specs.declared.world.WorldItem.TheVariants as item
 use Rattle.wit_data.specs.declared.world.WorldKey.TheVariants as key
 use Rattle.wit_elaboration.specs.Valid.{IsValid}
 use Rattle.wit_remap_spec.specs.Image.{entry_image, item_image}
-use Rattle.wit_link_spec.specs.Include.{joined_entry, joined_item}
+use Rattle.wit_remap_spec.specs.Joined.{joined_entry, joined_item}
 use Rattle.wit_merge_spec.specs.United.{is_under_id, merge_maps, merged_interface, moves_interface}
 use Rattle.wit_merge_spec.specs.Matches.{GraphMerge, counterpart_interface}
 use Rattle.wit_merge_laws.specs.facts.InterfacesStand.{moved_interface_remapped}

@@ -10,8 +10,8 @@ use Rattle.wit_elaboration.specs.Valid.{IsValid}
 use Rattle.wit_link_spec.specs.facts.NewFacts.{nothing_below}
 use Rattle.wit_link_spec.specs.facts.RangeFacts.{range-at, range-read}
 use Rattle.wit_link_spec.specs.facts.RankFacts.{rank-agree, selected-agree}
-use Rattle.wit_link_spec.specs.Resources.{signature_positions, value_positions}
-use Rattle.wit_link_spec.specs.Selected.{rank, selected}
+use Rattle.wit_remap_spec.specs.Resources.{signature_positions, value_positions}
+use Rattle.wit_remap_spec.specs.Selected.{rank, selected}
 use Rattle.wit_link_spec.specs.steps.NewThings.{is_from, is_new}
 use Rattle.wit_merge_spec.specs.Matches.{GraphMerge, counterpart_type}
 use Rattle.wit_merge_spec.specs.United.{merged_type, moved_functions, moves_type, remap_of_merge}

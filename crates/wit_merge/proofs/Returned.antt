@@ -5,7 +5,7 @@ use Rattle.wit_data.specs.Kind.{named_option}
 use Rattle.wit_data.specs.declared.function.Function.{Function}
 use Rattle.wit_data.specs.declared.types.TypeDef.{TypeDef}
 use Rattle.wit_graph_data.specs.declared.error_kind.ResolveErrorKind.{ResolveErrorKind}
-use Rattle.wit_link_spec.specs.Reasons.{HoldsBorrow}
+use Rattle.wit_remap_spec.specs.Borrows.{HoldsBorrow}
 use Rattle.wit_merge.specs.steps.Behind.{AreReturned, ReturnNoBorrow, ReturnsBorrow}
 
 one_of : {X : Type 0} (x y : X) → Contains (x ∷ []) y → x ≡ y

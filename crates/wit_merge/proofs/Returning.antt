@@ -18,10 +18,9 @@ use Rattle.wit_elaboration.specs.Valid.{IsValid}
 use Rattle.wit_remap_spec.specs.Image.{Maps, function_image, value_image}
 use Rattle.wit_graph_theory.specs.facts.ListFacts.{Contains-map_cases, found_at, get_at}
 use Rattle.wit_graph_theory.specs.steps.Sources.{Stands}
-use Rattle.wit_link_spec.specs.CauseText.{borrow_text}
-use Rattle.wit_link_spec.specs.Reasons.{HoldsBorrow}
-use Rattle.wit_link_spec.specs.Resources.{signature_positions}
-use Rattle.wit_link_spec.specs.ValueRemap.{value_id}
+use Rattle.wit_remap_spec.specs.Borrows.{borrow_text, HoldsBorrow}
+use Rattle.wit_remap_spec.specs.Resources.{signature_positions}
+use Rattle.wit_remap_spec.specs.ValueRemap.{value_id}
 use Rattle.wit_merge_spec.specs.Matches.{GraphMerge}
 use Rattle.wit_merge_spec.specs.United.{merge_maps, merged_type, moved_functions, remap_of_merge, joined_graph}
 use Rattle.wit_merge_spec.specs.Cause.{MergeReturnsBorrow}

@@ -2,7 +2,7 @@
 use Rattle.std.proofs.Common.{◌≡◌, ℕ, Bool, List, [], ◌∷◌, ◌++◌, Option, None, get_or, is_some, map, not, refl, ap}
 use Rattle.std.specs.List.{enumerate_from}
 use Rattle.std.specs.Option.{option_map_or}
-use Rattle.wit_link_spec.specs.Addition.{selected_with_index}
+use Rattle.wit_remap_spec.specs.Selected.{selected_with_index}
 use Rattle.wit_merge_match.specs.steps.Matched.{AreFound, moves}
 use Rattle.wit_merge_spec.specs.Matches.{counterpart_of}
 

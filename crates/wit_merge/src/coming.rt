@@ -1,6 +1,6 @@
 //! What comes of another graph behind what a graph has.
 ghost use Rattle.std.specs.Prelude.{◌≡◌, IfOk};
-ghost use Rattle.wit_link_spec.specs.ValueRemap.{owns as owns_of};
+ghost use Rattle.wit_remap_spec.specs.ValueRemap.{owns as owns_of};
 ghost use Rattle.wit_merge_spec.specs.United.{remap_of_merge};
 ghost use Rattle.wit_merge.specs.steps.Behind.{IsComing};
 ghost use Rattle.wit_merge.specs.steps.UnionSteps.{CanUnite, merging_of};

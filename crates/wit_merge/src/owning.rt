@@ -1,7 +1,7 @@
 //! Where the types of another graph go at value positions, and the `own`s that come for that.
 ghost use Rattle.std.specs.Prelude.{◌≡◌, ℕ, IfOk};
 ghost use Rattle.wit_elaboration.specs.Valid.{IsValid};
-ghost use Rattle.wit_link_spec.specs.ValueRemap.{owns};
+ghost use Rattle.wit_remap_spec.specs.ValueRemap.{owns};
 ghost use Rattle.wit_link_resources.specs.steps.Leading.{AreRight};
 ghost use Rattle.wit_merge_spec.specs.United.{remap_of_merge};
 ghost use Rattle.wit_remap.specs.Grown.{Begins};

@@ -1,7 +1,7 @@
 //! The packages of two graphs as one.
 ghost use Rattle.std.specs.Prelude.{◌≡◌, ◌++◌, IfOk, OnOk, map};
 ghost use Rattle.wit_values.specs.Table.{HasDistinctKeys};
-ghost use Rattle.wit_link_spec.specs.Selected.{selected};
+ghost use Rattle.wit_remap_spec.specs.Selected.{selected};
 ghost use Rattle.wit_merge_spec.specs.United.{joined_graph, moves_package, package_image};
 ghost use Rattle.wit_merge.specs.steps.Behind.{new_names};
 ghost use Rattle.wit_merge.specs.steps.UnionSteps.{moved_names, CanUnite, KnowsCounterparts, merging_of};

@@ -2,7 +2,7 @@
 ghost use Rattle.std.specs.Prelude.{◌≡◌, ◌++◌, ℕ, IfOk, None, Some, get_or, length, map, slice_get, true};
 ghost use Rattle.std.specs.List.{enumerate_from};
 ghost use Rattle.std.specs.Option.{option_map_or};
-ghost use Rattle.wit_link_spec.specs.Addition.{selected_with_index};
+ghost use Rattle.wit_remap_spec.specs.Selected.{selected_with_index};
 ghost use Rattle.wit_merge_match.specs.steps.Matched.{moves};
 ghost use Rattle.wit_merge_spec.specs.Matches.{GraphMerge, counterpart_of};
 ghost use Rattle.wit_merge.specs.steps.UnionSteps.{CanUnite, KnowsCounterparts, merging_of, placed_at};

@@ -4,7 +4,7 @@ ghost use Rattle.wit_graph_data.specs.declared.cause.Cause.TheVariants as cause;
 ghost use Rattle.wit_graph_data.specs.declared.error_kind.ResolveErrorKind.TheVariants.{OutOfMemory, Semantic};
 ghost use Rattle.wit_digraph.specs.Relation.{IsAcyclic};
 ghost use Rattle.wit_data.specs.Kind.{type_references};
-ghost use Rattle.wit_link_spec.specs.CauseText.{borrow_text};
+ghost use Rattle.wit_remap_spec.specs.Borrows.{borrow_text};
 ghost use Rattle.wit_merge_spec.specs.United.{moved_functions, joined_graph};
 ghost use Rattle.wit_merge_spec.specs.Cause.{MergeReturnsBorrow};
 ghost use Rattle.wit_link_resources.specs.steps.Borrows.{AreFreeTypes};

@@ -1,6 +1,6 @@
 //! Stabilities that are joined.
 ghost use Rattle.std.specs.Prelude.{◌≡◌, OnOk};
-ghost use Rattle.wit_link_spec.specs.Include.{joined_stability};
+ghost use Rattle.wit_remap_spec.specs.Joined.{joined_stability};
 
 use std::alloc::AllocError;
 use wit_data::{Stability, TryClone};

@@ -2,7 +2,7 @@
 ghost use Rattle.std.specs.Prelude.{◌≡◌, IfOk};
 ghost use Rattle.wit_merge_spec.specs.United.{joined_graph, remap_of_merge};
 ghost use Rattle.wit_merge.specs.steps.UnionSteps.{CanUnite, KnowsCounterparts, merging_of};
-ghost use Rattle.wit_link_spec.specs.ValueRemap.{owns as owns_of, types_behind};
+ghost use Rattle.wit_remap_spec.specs.ValueRemap.{owns as owns_of, types_behind};
 
 use crate::parts::{Part, joined_list, move_all};
 use crate::stabilities::join_stability;

@@ -21,8 +21,8 @@ use Rattle.wit_data.specs.declared.world.WorldKey.TheVariants as key
 use Rattle.wit_elaboration.specs.Entries.{same_key}
 use Rattle.wit_graph_theory.specs.facts.ListFacts.{contained_at, place_of}
 use Rattle.wit_graph_theory.specs.facts.OptionFacts.{some_parts, some_same, some_whole}
-use Rattle.wit_link_spec.specs.Gates.{OptionalSpan}
-use Rattle.wit_link_spec.specs.WorldReasons.{Disagree, HasStability}
+use Rattle.wit_sources.specs.Span.{OptionalSpan}
+use Rattle.wit_remap_spec.specs.Joined.{Disagree, HasStability}
 use Rattle.wit_merge_spec.specs.Matches.{GraphMerge, Pair, counterpart_interface, counterpart_type, counterpart_world}
 use Rattle.wit_merge_spec.specs.Cause as reasons
 use Rattle.wit_merge_spec.specs.Cause.{AreJoined, StabilitiesMismatch}

@@ -13,7 +13,7 @@ use Rattle.wit_data.specs.declared.world.World.{World}
 use Rattle.wit_data.specs.declared.types.TypeOwner.TheVariants as owner
 use Rattle.wit_graph_data.specs.declared.graph.Graph.{Graph}
 use Rattle.wit_graph_data.specs.declared.graph.Package.{Package}
-use Rattle.wit_link_spec.specs.Lookup.{interface_type}
+use Rattle.wit_graph_data.specs.Named.{interface_type}
 use Rattle.wit_merge_spec.specs.Matches.{GraphMerge, counterpart_at_label, counterpart_interface, counterpart_interface_by, counterpart_package, counterpart_type, counterpart_type_by, counterpart_world, named_in_counterpart, world_labels}
 use Rattle.wit_merge_match.specs.steps.Matched.{AreFound, AreLabelled, interface_under, merge_of_graphs, owned_under, type_under, under, world_under}
 use Rattle.wit_merge_match.proofs.Mapped.{found_mapped, get_or-map, same_of}

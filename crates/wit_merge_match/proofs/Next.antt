@@ -3,7 +3,7 @@ use Rattle.std.proofs.Common.{◌≡◌, ◌∙◌, ◌+◌, ℕ, zero, suc, Boo
 use Rattle.std.specs.List.{range_with_len}
 use Rattle.wit_link_spec.specs.facts.RankFacts.{after, rank-suc}
 use Rattle.wit_link_spec.specs.facts.RangeFacts.{range-same}
-use Rattle.wit_link_spec.specs.Addition.{rank}
+use Rattle.wit_remap_spec.specs.Selected.{rank}
 use Rattle.wit_merge_match.specs.steps.Matched.{AreFound, moves, new_id_from}
 
 module _ (found : List (Option ℕ)) (first i : ℕ) where

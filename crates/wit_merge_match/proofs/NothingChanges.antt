@@ -28,7 +28,7 @@ use Rattle.wit_graph_data.specs.declared.graph.Package.{Package}
 use Rattle.wit_graph_theory.specs.facts.ListFacts.{Contains-map_cases, place_of}
 use Rattle.wit_graph_theory.specs.facts.OptionFacts.{some_parts}
 use Rattle.wit_graph_theory.specs.facts.PackagesAcyclic.{numbered_from}
-use Rattle.wit_link_spec.specs.Include.{joined_entry, joined_item, joined_stability}
+use Rattle.wit_remap_spec.specs.Joined.{joined_entry, joined_item, joined_stability}
 use Rattle.wit_link_spec.specs.facts.ForeignFound.{find-passes}
 use Rattle.wit_remap_spec.specs.Image.{entry_image, function_image, item_image}
 use Rattle.wit_merge_spec.specs.Matches.{GraphMerge, counterpart_interface, counterpart_item, counterpart_of, counterpart_package, counterpart_type, counterpart_world}

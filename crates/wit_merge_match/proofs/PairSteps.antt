@@ -9,7 +9,7 @@ use Rattle.std.proofs.lemmas.List.Concat.{flat_map-append}
 use Rattle.std.proofs.lemmas.List.Elements.{Contains-append_cases}
 use Rattle.wit_values.specs.facts.Lists.{take-next_at}
 use Rattle.wit_data.specs.Entries.{Entry, is_unnamed}
-use Rattle.wit_link_spec.specs.Gates.{OptionalSpan}
+use Rattle.wit_sources.specs.Span.{OptionalSpan}
 use Rattle.wit_data.specs.declared.interface.Interface.{Interface}
 use Rattle.wit_data.specs.declared.world.World.{World}
 use Rattle.wit_data.specs.declared.world.WorldItem.{WorldItem}

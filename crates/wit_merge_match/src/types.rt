@@ -5,7 +5,7 @@ ghost use Rattle.std.specs.Str.{bytes_eq};
 ghost use Rattle.wit_elaboration.specs.Valid.{IsValid};
 ghost use Rattle.wit_data.specs.Ownership.{world_types};
 ghost use Rattle.wit_data.specs.declared.world.World.{World};
-ghost use Rattle.wit_link_spec.specs.Lookup.{interface_type};
+ghost use Rattle.wit_graph_data.specs.Named.{interface_type};
 ghost use Rattle.wit_merge_match.specs.steps.Matched.{type_under};
 
 use crate::tables::match_at;

@@ -20,10 +20,10 @@ use Rattle.wit_graph_data.specs.declared.error_kind.ResolveErrorKind.TheVariants
 use Rattle.wit_elaboration.specs.AllElaborated.{DependsOnItself, HasWorldInConflict, UsesItself}
 use Rattle.wit_remap_spec.specs.Image.{function_image}
 use Rattle.wit_data.specs.Entries.{entries_of, Entry, item_interface}
-use Rattle.wit_link_spec.specs.CauseText.{borrow_text}
-use Rattle.wit_link_spec.specs.Gates.{OptionalSpan, interface_spans, type_spans, world_spans}
-use Rattle.wit_link_spec.specs.Reasons.{HoldsBorrow}
-use Rattle.wit_link_spec.specs.WorldReasons.{Disagree, HasStability}
+use Rattle.wit_remap_spec.specs.Borrows.{borrow_text, HoldsBorrow}
+use Rattle.wit_remap_spec.specs.Spans.{interface_spans, type_spans, world_spans}
+use Rattle.wit_sources.specs.Span.{OptionalSpan}
+use Rattle.wit_remap_spec.specs.Joined.{Disagree, HasStability}
 use Rattle.wit_merge_spec.specs.Matches.{GraphMerge, Pair, counterpart_interface, counterpart_type, counterpart_world, FirstDiffers, counterpart_item, type_pairs}
 use Rattle.wit_merge_spec.specs.United.{merge_maps, moved_functions, joined_graph}
 use Rattle.wit_data.specs.declared.world.WorldItem.{WorldItem}

@@ -24,7 +24,7 @@ use Rattle.wit_elaboration.specs.Entries.{same_key}
 use Rattle.wit_graph_data.specs.Queries.{topological_packages}
 use Rattle.wit_graph_data.specs.declared.graph.Graph.{Graph}
 use Rattle.wit_graph_data.specs.declared.graph.Package.{Package}
-use Rattle.wit_link_spec.specs.Lookup.{interface_type}
+use Rattle.wit_graph_data.specs.Named.{interface_type}
 use Rattle.wit_merge_spec.specs.MismatchText.{entry_link, linked, part_links, type_link}
 
 -- a graph, another one that goes into it, and an offset by which the spans of that move

@@ -18,9 +18,9 @@ use Rattle.wit_graph_data.specs.declared.graph.Graph.{Graph}
 use Rattle.wit_graph_data.specs.declared.graph.Package.{Package}
 use Rattle.wit_elaboration.specs.AllElaborated.{all_elaborated}
 use Rattle.wit_remap_spec.specs.Image.{entry_image, function_image, interface_image, world_image, Maps}
-use Rattle.wit_link_spec.specs.Include.{joined_entry, joined_stability}
-use Rattle.wit_link_spec.specs.Selected.{selected, rank, selected_with_index}
-use Rattle.wit_link_spec.specs.ValueRemap.{types_behind, ValueRemap, maps_with_owns, world_functions}
+use Rattle.wit_remap_spec.specs.Joined.{joined_entry, joined_stability}
+use Rattle.wit_remap_spec.specs.Selected.{selected, rank, selected_with_index}
+use Rattle.wit_remap_spec.specs.ValueRemap.{types_behind, ValueRemap, maps_with_owns, world_functions}
 use Rattle.wit_merge_spec.specs.Matches.{GraphMerge, counterpart_interface, counterpart_of, counterpart_package, counterpart_type, counterpart_world, matched_interface}
 use Rattle.std.specs.Map.{lookup}
 

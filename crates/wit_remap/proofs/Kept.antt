@@ -2,7 +2,7 @@
 use Rattle.std.proofs.Common.{◌≡◌, ◌∙◌, ℕ, zero, suc, ◌+◌, Bool, true, false, cond, List, [], ◌∷◌, ◌++◌, map, filter, slice_get, Some, refl, ap, subst, sym, append_assoc}
 use Rattle.std.specs.List.{enumerate_from}
 use Rattle.wit_data.specs.Each.{Each}
-use Rattle.wit_link_spec.specs.Addition.{selected}
+use Rattle.wit_remap_spec.specs.Selected.{selected}
 
 module _ {X : Type 0} (P : X → Type 0) (kept : X → Bool) where
   pub Each-filter : (xs : List X) → Each P xs → Each P (filter kept xs)

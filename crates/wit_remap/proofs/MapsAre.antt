@@ -5,11 +5,12 @@ use Rattle.wit_data.specs.Shape.{IsShaped}
 use Rattle.wit_data.specs.declared.world.WorldItem.{WorldItem}
 use Rattle.wit_data.specs.declared.world.WorldItem.TheVariants as item
 use Rattle.wit_link_spec.specs.steps.AdditionRefs.{activity_of, new_ids_of, values_of}
-use Rattle.wit_link_spec.specs.Addition.{Addition, active, active_interface_id, active_type_id, active_world_id, addition_maps, own_types, rank, remapped_interface, remapped_type, remapped_world, remap_of_addition}
+use Rattle.wit_link_spec.specs.Addition.{Addition, active, active_interface_id, active_type_id, active_world_id, addition_maps, own_types, remapped_interface, remapped_type, remapped_world, remap_of_addition}
+use Rattle.wit_remap_spec.specs.Selected.{rank}
 use Rattle.wit_link_spec.specs.Gates.{function_is_active, interface_is_active, item_is_active, type_is_active, world_is_active}
 use Rattle.wit_link_spec.specs.facts.PositionFacts.{needs_active}
 use Rattle.wit_link_spec.specs.Reasons.{IsResolved}
-use Rattle.wit_link_spec.specs.ValueRemap.{needs_own, value_id}
+use Rattle.wit_remap_spec.specs.ValueRemap.{needs_own, value_id}
 use Rattle.wit_link_spec.specs.facts.NewFacts.{interface_past, type_past, world_past}
 use Rattle.wit_remap.specs.steps.Movers.{goes, maps_with}
 use Rattle.wit_remap.specs.steps.Parts.{flag, has_item, kept_with}

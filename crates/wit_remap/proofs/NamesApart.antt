@@ -4,7 +4,7 @@ use Rattle.std.specs.List.{AllByRecursion, IsDistinct, cons_option, enumerate_fr
 use Rattle.std.specs.Map.{keys_of}
 use Rattle.std.specs.Option.{option_to_list}
 use Rattle.std.specs.Str.{bytes_eq}
-use Rattle.wit_link_spec.specs.Addition.{selected_with_index}
+use Rattle.wit_remap_spec.specs.Selected.{selected_with_index}
 
 module _ {X : Type 0} (name : X → Option (List ℕ)) (kept : ℕ → Bool) where
   -- what is kept from place n on, and its names

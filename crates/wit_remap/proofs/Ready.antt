@@ -17,13 +17,14 @@ use Rattle.wit_graph_data.specs.declared.graph.Graph.{Graph}
 use Rattle.wit_remap_spec.specs.Kept.{KeptIds, cut_interface, cut_world}
 use Rattle.wit_remap_spec.specs.Image.{Maps, interface_image, type_image, world_image}
 use Rattle.wit_link_spec.specs.steps.AdditionRefs.{new_ids_of}
-use Rattle.wit_link_spec.specs.Addition.{Addition, active, addition_maps, own_interface, own_type, own_world, selected, selected_with_index, remap_of_addition}
+use Rattle.wit_link_spec.specs.Addition.{Addition, active, addition_maps, own_interface, own_type, own_world, remap_of_addition}
+use Rattle.wit_remap_spec.specs.Selected.{selected, selected_with_index}
 use Rattle.wit_link_spec.specs.Gates.{include_is_active, interface_is_active, world_is_active}
 use Rattle.wit_link_spec.specs.Pushed.{with_parts}
 use Rattle.wit_link_spec.specs.facts.RankFacts.{selected_with_index-from}
 use Rattle.wit_link_spec.specs.Reasons.{AdditionOverflows, IsResolved}
 use Rattle.wit_link_spec.specs.declared.addition.NewIds.{NewIds}
-use Rattle.wit_link_spec.specs.ValueRemap.{owns}
+use Rattle.wit_remap_spec.specs.ValueRemap.{owns}
 use Rattle.wit_link_spec.specs.steps.NewThings.{is_new}
 use Rattle.wit_link_spec.specs.facts.NewFacts.{new_interfaces, new_types, new_worlds}
 use Rattle.wit_remap.specs.steps.Fits.{CanMoveParts, added_world, added_worlds, interfaces_at, moved_package, moved_parts, updated_world, worlds_at}

@@ -18,7 +18,8 @@ use Rattle.wit_data.specs.declared.world.WorldItem.{WorldItem}
 use Rattle.wit_data.specs.declared.world.WorldItem.TheVariants as item
 use Rattle.wit_graph_theory.specs.facts.ListFacts.{Contains-map, contained_at}
 use Rattle.wit_link_spec.specs.Addition.{Addition}
-use Rattle.wit_link_spec.specs.Gates.{OptionalSpan, function_spans, interface_spans, item_spans, kind_spans, package_spans, type_spans, world_spans}
+use Rattle.wit_link_spec.specs.Gates.{OptionalSpan, package_spans}
+use Rattle.wit_remap_spec.specs.Spans.{function_spans, interface_spans, item_spans, kind_spans, type_spans, world_spans}
 use Rattle.wit_link_spec.specs.Reasons.{AdditionOverflows}
 use Rattle.wit_remap.specs.steps.Fits.{Fits, FunctionFits, InterfaceFits, ItemFits, KindFits, TypeFits, WorldFits}
 

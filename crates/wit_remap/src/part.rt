@@ -2,7 +2,7 @@
 ghost use Rattle.std.specs.Prelude.{◌≡◌, IfOk, drop, filter, slice_get};
 ghost use Rattle.std.specs.Slice.Iter.{iter_rest};
 ghost use Rattle.wit_link_spec.specs.Gates.{include_is_active, is_active};
-ghost use Rattle.wit_link_spec.specs.Addition.{selected, selected_with_index};
+ghost use Rattle.wit_remap_spec.specs.Selected.{selected, selected_with_index};
 ghost use Rattle.wit_link_spec.specs.steps.NewThings.{is_from, is_new};
 ghost use Rattle.wit_remap_spec.specs.Kept.{cut_interface};
 ghost use Rattle.wit_remap.specs.steps.Parts.{kept_of};

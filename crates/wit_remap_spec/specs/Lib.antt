@@ -1,3 +1,9 @@
+pub mod Borrows
 pub mod FunctionMismatch
 pub mod Image
+pub mod Joined
 pub mod Kept
+pub mod Resources
+pub mod Selected
+pub mod Spans
+pub mod ValueRemap

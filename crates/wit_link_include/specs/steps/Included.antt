@@ -31,9 +31,10 @@ use Rattle.wit_labels.specs.Setters.{IsSetter, getter_label}
 use Rattle.wit_labels.specs.Strong.{Clashes}
 use Rattle.wit_link_spec.specs.CauseText.{clash_text, getter_text}
 use Rattle.wit_link_spec.specs.Gates.{OptionalSpan}
-use Rattle.wit_link_spec.specs.Include.{EntryLists, PartiallyLinked, include_stability, joined_entries, lists_of, with_entry_lists, with_include_of, belongs_to, entry_mentions, is_owned_within, is_unnamed_type, named_types, owner_belongs_to}
+use Rattle.wit_link_spec.specs.Include.{EntryLists, PartiallyLinked, joined_entries, lists_of, with_entry_lists, with_include_of, belongs_to, entry_mentions, is_owned_within, is_unnamed_type, named_types, owner_belongs_to}
+use Rattle.wit_remap_spec.specs.Joined.{include_stability, Disagree}
 use Rattle.wit_link_spec.specs.Pushed.{with_finished}
-use Rattle.wit_link_spec.specs.WorldReasons.{IsFinishCause, Disagree, IsIncludeCause, IsRenamed, IsShadowed}
+use Rattle.wit_link_spec.specs.WorldReasons.{IsFinishCause, IsIncludeCause, IsRenamed, IsShadowed}
 use Rattle.wit_link_laws.specs.laws.StageFacts.{CanBeLinked, CanInclude, IsPartiallyLinked}
 use Rattle.wit_link_include.specs.declared.copies.Copies.{Copies}
 use Rattle.wit_data.specs.Kind.{referred, type_references}
@@ -41,7 +42,7 @@ use Rattle.wit_data.specs.declared.types.TypeDef.{TypeDef}
 use Rattle.wit_digraph.specs.Relation.{Reaches}
 use Rattle.wit_digraph.specs.PostOrder.{post_order}
 use Rattle.wit_labels.specs.Rename.{renamed_label}
-use Rattle.wit_link_spec.specs.Addition.{selected, selected_with_index}
+use Rattle.wit_remap_spec.specs.Selected.{selected, selected_with_index}
 use Rattle.wit_link_include.specs.declared.origin.Origin.{Origin}
 
 -- Where copies go by tables, and what the types that a world names lead to.

@@ -22,7 +22,7 @@ use Rattle.wit_graph_theory.specs.facts.UnnamedOnceCarried.{named_not}
 use Rattle.wit_graph_theory.specs.facts.RowFacts.{Reaches-join, Reaches-self, Reaches-use}
 use Rattle.wit_link_spec.specs.Include.{belongs_to, interface_copy, is_copied, is_on_way, is_owned_within, is_unnamed_type, owner_belongs_to, type_copy}
 use Rattle.wit_link_spec.specs.facts.RankFacts.{rank-injective, selected-at, selected_with_index-from}
-use Rattle.wit_link_spec.specs.Addition.{rank, selected, selected_with_index}
+use Rattle.wit_remap_spec.specs.Selected.{rank, selected, selected_with_index}
 use Rattle.wit_link_laws.specs.facts.CopiedPart.{active_by_mentioned, belonging_mentioned, goes_parts, is_mentioned, mentioned_by_active}
 use Rattle.wit_link_laws.specs.facts.IncludedWorld.{Including, IsIncluded, joined_world, maps}
 use Rattle.wit_link_laws.specs.facts.Among.{owner_of_own}

@@ -26,7 +26,7 @@ use Rattle.wit_graph_theory.specs.steps.Sources.{OwnerIsActive}
 use Rattle.wit_graph_theory.specs.facts.TypesAcyclic.{types_acyclic}
 use Rattle.wit_graph_theory.specs.facts.UsesAcyclic.{uses_acyclic}
 use Rattle.wit_link_spec.specs.Include.{belongs_to, interface_copy, is_copied, owner_belongs_to, type_copy}
-use Rattle.wit_link_spec.specs.Addition.{selected}
+use Rattle.wit_remap_spec.specs.Selected.{selected}
 use Rattle.wit_link_laws.specs.facts.Copies.{behind_copied, behind_goes, copy_at, interface_copy_at, owned_copied}
 use Rattle.wit_link_laws.specs.facts.CopiedPart.{belonging_types, copied_part}
 use Rattle.wit_link_laws.specs.facts.CopiesCarried.{IsUnshadowed}

@@ -6,7 +6,7 @@ use Rattle.wit_data.specs.declared.world.World.{World}
 use Rattle.wit_graph_data.specs.declared.graph.Graph.{Graph}
 use Rattle.wit_remap_spec.specs.Image.{Maps, entry_image, interface_image, type_image}
 use Rattle.wit_link_spec.specs.Include.{belongs_to, copy_maps, is_copied, is_other_package, joined_entries}
-use Rattle.wit_link_spec.specs.Addition.{selected}
+use Rattle.wit_remap_spec.specs.Selected.{selected}
 
 -- world `from` is included into world `into`, another one, of package `home`, under renamings
 pub record Including (g : Graph) : Type 0 where

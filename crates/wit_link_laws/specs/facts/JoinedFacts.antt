@@ -17,7 +17,8 @@ use Rattle.wit_graph_data.specs.declared.graph.Graph.{Graph}
 use Rattle.wit_graph_theory.specs.facts.CutIsGood.{distinct_kept}
 use Rattle.wit_remap_spec.specs.Image.{entry_image, key_image}
 use Rattle.wit_graph_theory.specs.facts.ListFacts.{Contains-map, Contains-map_cases, at_map, contained_at, from_map, place_of}
-use Rattle.wit_link_spec.specs.Include.{has_key, joined_entries, joined_entry, new_item}
+use Rattle.wit_link_spec.specs.Include.{has_key, joined_entries, new_item}
+use Rattle.wit_remap_spec.specs.Joined.{joined_entry}
 use Rattle.wit_link_spec.specs.WorldReasons.{IsShadowed, renamed_key}
 use Rattle.wit_labels.specs.Rename.{renamed_label}
 use Rattle.wit_link_laws.specs.facts.Copies.{interface_stays, named_left}

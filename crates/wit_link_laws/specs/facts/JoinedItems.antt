@@ -9,7 +9,8 @@ use Rattle.wit_data.specs.declared.world.WorldItem.TheVariants as item
 use Rattle.wit_data.specs.declared.world.WorldKey.TheVariants as key
 use Rattle.wit_graph_theory.specs.facts.Covered.{IsNoType, ItemComes}
 use Rattle.wit_graph_theory.specs.steps.Sources.{Source}
-use Rattle.wit_link_spec.specs.Include.{joined_item, new_item}
+use Rattle.wit_link_spec.specs.Include.{new_item}
+use Rattle.wit_remap_spec.specs.Joined.{joined_item}
 
 pub new_interface : (other : Bool) (k : WorldKey) (held : WorldItem) → item_interface (new_item other k held) ≡ item_interface held
 new_interface true (key.Interface f) (item.Interface i (Stable since deprecated) docs span external_id) = refl

@@ -11,7 +11,7 @@ use Rattle.wit_data.specs.declared.types.TypeDef.{TypeDef}
 use Rattle.wit_data.specs.declared.types.TypeDefKind.{TypeDefKind}
 use Rattle.wit_data.specs.declared.types.TypeDefKind.TheVariants as kind
 use Rattle.wit_graph_theory.specs.facts.ListFacts.{at_map}
-use Rattle.wit_link_spec.specs.Resources.{is_resource, is_resource_kind, leads_to_resource}
+use Rattle.wit_remap_spec.specs.Resources.{is_resource, is_resource_kind, leads_to_resource}
 
 -- a type that is neither an alias nor a resource leads to none
 plain_is : (k : TypeDefKind) → IsPlain k → (alias_target k ≡ None) × (is_resource_kind k ≡ false)

@@ -24,7 +24,8 @@ use Rattle.wit_remap_spec.specs.Image.{entry_image, item_image, key_image, world
 use Rattle.wit_graph_theory.specs.facts.ImagesCome.{entry_image_comes}
 use Rattle.wit_graph_theory.specs.facts.ListFacts.{Contains-map, at_map, at_new, contained_at, from_map, old_or_new, some_at}
 use Rattle.wit_graph_theory.specs.steps.Sources.{Carries, InterfaceStands, Source, WorldStands}
-use Rattle.wit_link_spec.specs.Addition.{Addition, addition_maps, own_world, own_worlds, rank, remapped_world}
+use Rattle.wit_link_spec.specs.Addition.{Addition, addition_maps, own_world, own_worlds, remapped_world}
+use Rattle.wit_remap_spec.specs.Selected.{rank}
 use Rattle.wit_link_spec.specs.facts.ActivePart.{part}
 use Rattle.wit_link_spec.specs.Pushed.{with_parts}
 use Rattle.wit_link_spec.specs.Reasons.{IsResolved}

@@ -22,7 +22,8 @@ use Rattle.wit_graph_theory.specs.facts.CutIsGood.{distinct_kept}
 use Rattle.wit_remap_spec.specs.Image.{entry_image, item_image, key_image, name_image, owner_image, world_image}
 use Rattle.wit_graph_theory.specs.facts.ListFacts.{Contains-map_cases, at_map, contained_at, found_at, from_map, place_of, some_at}
 use Rattle.wit_graph_theory.specs.steps.Sources.{Stands}
-use Rattle.wit_link_spec.specs.Addition.{Addition, active, addition_maps, own_world, own_worlds, rank, remapped_interface, remapped_type, remapped_world, selected_with_index}
+use Rattle.wit_link_spec.specs.Addition.{Addition, active, addition_maps, own_world, own_worlds, remapped_interface, remapped_type, remapped_world}
+use Rattle.wit_remap_spec.specs.Selected.{rank, selected_with_index}
 use Rattle.wit_link_spec.specs.facts.ActivePart.{part}
 use Rattle.wit_link_spec.specs.facts.ApartFacts.{KeyIsActive, keys_apart}
 use Rattle.wit_link_spec.specs.facts.ClosedCut.{closed_part}

@@ -13,7 +13,8 @@ use Rattle.wit_data.specs.Foreign.{foreign_interfaces}
 use Rattle.wit_data.specs.Shape.{IsShaped}
 use Rattle.wit_data.specs.declared.interface.Interface.{Interface}
 use Rattle.wit_graph_theory.specs.facts.ListFacts.{contained_at, place_of}
-use Rattle.wit_link_spec.specs.Addition.{Addition, own_interface, rank, remapped_interface, selected_with_index}
+use Rattle.wit_link_spec.specs.Addition.{Addition, own_interface, remapped_interface}
+use Rattle.wit_remap_spec.specs.Selected.{rank, selected_with_index}
 use Rattle.wit_link_spec.specs.Gates.{interface_is_active, is_foreign_interface}
 use Rattle.wit_link_spec.specs.facts.OwnThingFacts.{own_part}
 use Rattle.wit_link_spec.specs.Pushed.{new_package}

@@ -22,16 +22,18 @@ use Rattle.wit_graph_theory.specs.facts.ImagesCome.{interface_image_stands}
 use Rattle.wit_remap_spec.specs.Image.{interface_image, name_image, owner_image, type_image}
 use Rattle.wit_graph_theory.specs.facts.ListFacts.{at_map, at_new, found_at, place_of, some_at}
 use Rattle.wit_graph_theory.specs.steps.Sources.{InterfaceStands, IsOwnOf, Stands}
-use Rattle.wit_link_spec.specs.Addition.{Addition, addition_maps, maps_without_owns, own_interface, own_interfaces, own_type, own_types, rank, remapped_interface, remapped_type, selected, remap_of_addition}
+use Rattle.wit_link_spec.specs.Addition.{Addition, addition_maps, maps_without_owns, own_interface, own_interfaces, own_type, own_types, remapped_interface, remapped_type, remap_of_addition}
+use Rattle.wit_remap_spec.specs.Selected.{rank, selected}
 use Rattle.wit_link_spec.specs.facts.ActivePart.{part}
 use Rattle.wit_link_spec.specs.Gates.{interface_is_active, is_foreign_interface, type_is_active}
-use Rattle.wit_link_spec.specs.Lookup.{interface_type, is_foreign_type}
+use Rattle.wit_link_spec.specs.Lookup.{is_foreign_type}
+use Rattle.wit_graph_data.specs.Named.{interface_type}
 use Rattle.wit_link_spec.specs.facts.OwnThingFacts.{own_of_both}
 use Rattle.wit_link_spec.specs.facts.RankFacts.{selected-at}
 use Rattle.wit_link_spec.specs.Reasons.{IsResolved}
-use Rattle.wit_link_spec.specs.Resources.{leads_to_resource, own_of}
+use Rattle.wit_remap_spec.specs.Resources.{leads_to_resource, own_of}
 use Rattle.wit_link_spec.specs.facts.Standing.{ForeignType, foreign_interface_remapped, foreign_type, listed_is, own_interface_remapped, own_type_remapped}
-use Rattle.wit_link_spec.specs.ValueRemap.{owns, types_without_owns, value_id}
+use Rattle.wit_remap_spec.specs.ValueRemap.{owns, types_without_owns, value_id}
 use Rattle.wit_link_laws.specs.facts.Parts.{HasParts}
 use Rattle.wit_link_laws.specs.facts.SourcesGood.{package_source}
 use Rattle.wit_link_laws.specs.facts.ValueRemapFacts.{leads_named, new_stands, own_stands, value_stands}

@@ -12,7 +12,8 @@ use Rattle.wit_graph_data.specs.declared.graph.Graph.{Graph}
 use Rattle.wit_remap_spec.specs.Image.{interface_image, type_image}
 use Rattle.wit_graph_theory.specs.facts.ListFacts.{from_map, old_or_new}
 use Rattle.wit_graph_theory.specs.facts.OptionFacts.{none_there}
-use Rattle.wit_link_spec.specs.Addition.{Addition, remapped_world, selected, selected_with_index}
+use Rattle.wit_link_spec.specs.Addition.{Addition, remapped_world}
+use Rattle.wit_remap_spec.specs.Selected.{selected, selected_with_index}
 use Rattle.wit_link_spec.specs.Include.{PartiallyLinked, belongs_to, copy_maps, is_copied, with_world_included}
 use Rattle.wit_link_spec.specs.Pushed.{with_include, with_includes}
 use Rattle.wit_link_spec.specs.facts.RankFacts.{selected_with_index-from}

@@ -18,7 +18,8 @@ use Rattle.wit_graph_theory.specs.facts.GoodTypes.{if_some}
 use Rattle.wit_remap_spec.specs.Image.{interface_image}
 use Rattle.wit_graph_theory.specs.facts.ListFacts.{SomeAt-old, contained_at, found_at, from_map, old_or_new, some_at}
 use Rattle.wit_graph_theory.specs.laws.Theory.{HasGoodTables}
-use Rattle.wit_link_spec.specs.Addition.{Addition, addition_maps, own_interface, own_interfaces, rank, remapped_interface, selected_with_index}
+use Rattle.wit_link_spec.specs.Addition.{Addition, addition_maps, own_interface, own_interfaces, remapped_interface}
+use Rattle.wit_remap_spec.specs.Selected.{rank, selected_with_index}
 use Rattle.wit_link_spec.specs.facts.ActivePart.{part}
 use Rattle.wit_link_spec.specs.Pushed.{new_package, with_parts}
 use Rattle.wit_link_spec.specs.facts.RankFacts.{selected_with_index-at}

@@ -20,7 +20,7 @@ use Rattle.wit_link_spec.specs.Addition.{Addition, addition_maps, own_interfaces
 use Rattle.wit_link_spec.specs.Cause.{IsReached}
 use Rattle.wit_link_spec.specs.Pushed.{pushed, with_parts, with_world, with_worlds}
 use Rattle.wit_link_spec.specs.Reasons.{HasPackage, IsResolved}
-use Rattle.wit_link_spec.specs.ValueRemap.{owns}
+use Rattle.wit_remap_spec.specs.ValueRemap.{owns}
 use Rattle.wit_link_laws.specs.facts.Grown.{IsGrown, grown}
 use Rattle.wit_link_laws.specs.facts.ListedOnce.{listed_stands}
 use Rattle.wit_link_laws.specs.facts.ListedStage.{listed_images}

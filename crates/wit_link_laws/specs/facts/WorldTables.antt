@@ -13,7 +13,8 @@ use Rattle.wit_elaboration.specs.Valid.{IsValid, IsWorldInTable, IsWorldOf}
 use Rattle.wit_graph_data.specs.declared.graph.Graph.{Graph}
 use Rattle.wit_graph_data.specs.declared.graph.Package.{Package}
 use Rattle.wit_graph_theory.specs.facts.ListFacts.{at_map, at_new, contained_at, found_at, from_map, get_at, old_or_new, same_at, some_at}
-use Rattle.wit_link_spec.specs.Addition.{Addition, own_world, own_worlds, rank, remapped_world, selected_with_index}
+use Rattle.wit_link_spec.specs.Addition.{Addition, own_world, own_worlds, remapped_world}
+use Rattle.wit_remap_spec.specs.Selected.{rank, selected_with_index}
 use Rattle.wit_link_spec.specs.Gates.{is_foreign_world, world_is_active}
 use Rattle.wit_link_spec.specs.Pushed.{new_package}
 use Rattle.wit_link_spec.specs.facts.RankFacts.{selected_with_index-at, selected_with_index-from}

@@ -19,9 +19,9 @@ use Rattle.wit_graph_theory.specs.facts.ListFacts.{at_below, at_map, at_new, fro
 use Rattle.wit_graph_theory.specs.facts.ReferredFacts.{alias_image}
 use Rattle.wit_graph_theory.specs.facts.RowFacts.{IsAcyclic-grown}
 use Rattle.wit_link_spec.specs.facts.RankFacts.{selected-at, selected_with_index-from}
-use Rattle.wit_link_spec.specs.Resources.{is_resource_kind, leads_to_resource, signature_positions, value_positions}
-use Rattle.wit_link_spec.specs.Selected.{rank, selected, selected_with_index}
-use Rattle.wit_link_spec.specs.ValueRemap.{ValueRemap, positions, types_without_owns}
+use Rattle.wit_remap_spec.specs.Resources.{is_resource_kind, leads_to_resource, signature_positions, value_positions}
+use Rattle.wit_remap_spec.specs.Selected.{rank, selected, selected_with_index}
+use Rattle.wit_remap_spec.specs.ValueRemap.{ValueRemap, positions, types_without_owns}
 use Rattle.wit_link_spec.specs.steps.NewThings.{is_from, is_new}
 use Rattle.wit_link_resources.specs.steps.IncomingTypes.{CanCome, IsRemapOf, IsRemapped, leads_in}
 use Rattle.wit_link_resources.specs.facts.Leads.{leads_here, leads_on, leads_stays, target_there, walk_falls}

@@ -17,7 +17,7 @@ use Rattle.wit_data.specs.declared.types.TypeDef.{TypeDef}
 use Rattle.wit_data.specs.declared.types.TypeDefKind.{TypeDefKind}
 use Rattle.wit_data.specs.declared.types.TypeDefKind.TheVariants as kind
 use Rattle.wit_graph_theory.specs.facts.ListFacts.{at_map, get_at}
-use Rattle.wit_link_spec.specs.Resources.{is_resource, is_resource_kind, leads_to_resource}
+use Rattle.wit_remap_spec.specs.Resources.{is_resource, is_resource_kind, leads_to_resource}
 use Rattle.wit_graph_theory.specs.facts.AliasFacts.{alias_acyclic}
 
 -- an alias is no resource

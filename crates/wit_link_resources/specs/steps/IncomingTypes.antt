@@ -8,9 +8,9 @@ use Rattle.wit_data.specs.Kind.{type_references}
 use Rattle.wit_data.specs.Uses.{alias_target}
 use Rattle.wit_data.specs.declared.function.Function.{Function}
 use Rattle.wit_data.specs.declared.types.TypeDef.{TypeDef}
-use Rattle.wit_link_spec.specs.Resources.{leads_to_resource, signature_positions, value_positions}
-use Rattle.wit_link_spec.specs.Selected.{rank, selected}
-use Rattle.wit_link_spec.specs.ValueRemap.{ValueRemap, owns, types_without_owns, value_id}
+use Rattle.wit_remap_spec.specs.Resources.{leads_to_resource, signature_positions, value_positions}
+use Rattle.wit_remap_spec.specs.Selected.{rank, selected}
+use Rattle.wit_remap_spec.specs.ValueRemap.{ValueRemap, owns, types_without_owns, value_id}
 use Rattle.wit_link_spec.specs.declared.addition.Values.{Values}
 use Rattle.wit_link_spec.specs.steps.NewThings.{is_new}
 use Rattle.wit_link_resources.specs.declared.incoming.Incoming.{Incoming}

@@ -6,7 +6,7 @@ use Rattle.wit_data.specs.declared.types.TypeDef.{TypeDef}
 use Rattle.wit_link_spec.specs.Addition.{Addition}
 use Rattle.wit_link_spec.specs.Gates.{type_is_active}
 use Rattle.wit_link_spec.specs.Lookup.{foreign_type_id}
-use Rattle.wit_link_spec.specs.Resources.{leads_to_resource}
+use Rattle.wit_remap_spec.specs.Resources.{leads_to_resource}
 
 -- these types are there, and it is known whether they lead to a resource
 abbrev pub AreRight : List TypeDef → List (ℕ × Bool) → Type 0

@@ -6,7 +6,8 @@ use Rattle.wit_data.specs.declared.types.TypeDef.{TypeDef}
 use Rattle.wit_data.specs.declared.world.World.{World}
 use Rattle.wit_remap_spec.specs.Kept.{cut_interface, cut_world}
 use Rattle.wit_graph_theory.specs.facts.ListFacts.{from_map}
-use Rattle.wit_link_spec.specs.Addition.{Addition, own_interface, own_interfaces, own_type, own_types, own_world, own_worlds, rank, remapped_interface, remapped_type, remapped_world, selected, selected_with_index}
+use Rattle.wit_link_spec.specs.Addition.{Addition, own_interface, own_interfaces, own_type, own_types, own_world, own_worlds, remapped_interface, remapped_type, remapped_world}
+use Rattle.wit_remap_spec.specs.Selected.{rank, selected, selected_with_index}
 use Rattle.wit_link_spec.specs.facts.ActivePart.{part}
 use Rattle.wit_link_spec.specs.Gates.{interface_is_active, is_foreign_interface, is_foreign_world, type_is_active, world_is_active}
 use Rattle.wit_link_spec.specs.Lookup.{is_foreign_type}

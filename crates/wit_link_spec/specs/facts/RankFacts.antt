@@ -3,7 +3,7 @@ use Rattle.std.proofs.Common.{◌≡◌, ◌∙◌, ℕ, zero, suc, ◌+◌, ◌
 use Rattle.std.specs.List.{enumerate_from}
 use Rattle.std.proofs.lemmas.Bool.{cases_lt, cases_order}
 use Rattle.std.proofs.lemmas.Option.{slice_get-map}
-use Rattle.wit_link_spec.specs.Addition.{rank, selected, selected_with_index}
+use Rattle.wit_remap_spec.specs.Selected.{rank, selected, selected_with_index}
 
 -- one more, where something is active
 abbrev pub after : Bool → ℕ → ℕ

@@ -23,11 +23,13 @@ use Rattle.wit_elaboration.specs.Valid.{IsValid}
 use Rattle.wit_graph_data.specs.declared.graph.Graph.{Graph}
 use Rattle.wit_graph_data.specs.declared.graph.Package.{Package}
 use Rattle.wit_graph_theory.specs.facts.ListFacts.{found_at, get_at, place_of, same_at, some_at}
-use Rattle.wit_link_spec.specs.Addition.{Addition, own_interface, own_type, own_world, rank, remapped_interface, remapped_type, remapped_world}
+use Rattle.wit_link_spec.specs.Addition.{Addition, own_interface, own_type, own_world, remapped_interface, remapped_type, remapped_world}
+use Rattle.wit_remap_spec.specs.Selected.{rank}
 use Rattle.wit_link_spec.specs.facts.ClosedCut.{kept_interface}
 use Rattle.wit_link_spec.specs.facts.ForeignFound.{find-passes, interface_found, interface_of, named_at, world_found}
 use Rattle.wit_link_spec.specs.Gates.{OptionalSpan, interface_is_active, is_foreign_interface, is_foreign_world, type_is_active, world_is_active}
-use Rattle.wit_link_spec.specs.Lookup.{find_interface, find_package, find_world, foreign_interface_id, foreign_type_id, foreign_world_id, interface_type, is_foreign_type, named_items, naming_item, owning_interface}
+use Rattle.wit_link_spec.specs.Lookup.{find_interface, find_package, find_world, foreign_interface_id, foreign_type_id, foreign_world_id, is_foreign_type, named_items, naming_item, owning_interface}
+use Rattle.wit_graph_data.specs.Named.{interface_type}
 use Rattle.wit_link_spec.specs.Reasons.{IsResolved, of_foreign_type}
 
 -- ---- what ids are remapped to

@@ -18,10 +18,9 @@ use Rattle.wit_elaboration.specs.Elaboration.{IsRefusedWorld, elaborated_world, 
 use Rattle.wit_elaboration.specs.Imported.{HasTransitiveConflict}
 use Rattle.wit_elaboration.specs.Sound.{HasSoundEntries}
 use Rattle.wit_remap_spec.specs.Image.{interface_image}
-use Rattle.wit_link_spec.specs.CauseText.{borrow_text}
-use Rattle.wit_link_spec.specs.Reasons.{HoldsBorrow}
-use Rattle.wit_link_spec.specs.Selected.{selected}
-use Rattle.wit_link_spec.specs.ValueRemap.{types_behind, world_functions}
+use Rattle.wit_remap_spec.specs.Borrows.{borrow_text, HoldsBorrow}
+use Rattle.wit_remap_spec.specs.Selected.{selected}
+use Rattle.wit_remap_spec.specs.ValueRemap.{types_behind, world_functions}
 use Rattle.wit_merge_spec.specs.Matches.{GraphMerge}
 use Rattle.wit_merge_spec.specs.United.{merge_maps, merged_package, moved_interfaces, moves_package, package_image, remap_of_merge}
 use Rattle.wit_merge_spec.specs.steps.Leaving.{new_worlds}

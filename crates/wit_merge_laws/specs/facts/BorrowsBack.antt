@@ -29,9 +29,9 @@ use Rattle.wit_remap_spec.specs.Image.{Maps, kind_image, type_image, value_image
 use Rattle.wit_graph_theory.specs.facts.ListFacts.{found_at, from_row, get_at, in_row, place_of, same_at, some_at}
 use Rattle.wit_graph_theory.specs.facts.Referred.{RemapsTo}
 use Rattle.wit_graph_theory.specs.facts.ReferredFacts.{kind_refers, variant_image}
-use Rattle.wit_link_spec.specs.Reasons.{HoldsBorrow, IsBorrow}
-use Rattle.wit_link_spec.specs.Resources.{own_of}
-use Rattle.wit_link_spec.specs.ValueRemap.{needs_own, value_id}
+use Rattle.wit_remap_spec.specs.Borrows.{HoldsBorrow, IsBorrow}
+use Rattle.wit_remap_spec.specs.Resources.{own_of}
+use Rattle.wit_remap_spec.specs.ValueRemap.{needs_own, value_id}
 use Rattle.wit_merge_spec.specs.Structure.{held_features, structure}
 use Rattle.wit_merge_spec.specs.facts.StructureFacts.{part_refers}
 use Rattle.wit_merge_spec.specs.United.{joined_graph, joined_type, merge_maps, merged_type, moves_type, remap_of_merge}

@@ -9,7 +9,7 @@ use Rattle.wit_elaboration.specs.examples.Examples.{ExamplesOfValidity, empty_gr
 use Rattle.wit_graph_data.specs.declared.graph.Graph.{Graph}
 use Rattle.wit_graph_data.specs.declared.graph.Package.{Package}
 use Rattle.wit_graph_theory.specs.facts.LawsOfElaboration.{LawsOfElaboration}
-use Rattle.wit_link_spec.specs.Selected.{rank, selected}
+use Rattle.wit_remap_spec.specs.Selected.{rank, selected}
 use Rattle.wit_link_spec.specs.facts.RankFacts.{rank-kept}
 use Rattle.wit_merge_spec.specs.Matches.{GraphMerge, WorldLabel, counterpart_at_label, counterpart_interface, counterpart_interface_by, counterpart_package, counterpart_type, counterpart_type_by, counterpart_world, matched_world, named_in_counterpart}
 use Rattle.wit_merge_spec.specs.United.{merged_interface, merged_package, merged_world, moves_package, package_image, united}

@@ -38,7 +38,7 @@ use Rattle.wit_graph_theory.specs.facts.GoodWorlds.{same_one}
 use Rattle.wit_graph_theory.specs.facts.ListFacts.{Contains-map, contained_at, found_at, place_of}
 use Rattle.wit_graph_theory.specs.facts.OptionFacts.{some_parts, some_there, some_whole}
 use Rattle.wit_graph_theory.specs.facts.PackagesAcyclic.{numbered_into}
-use Rattle.wit_link_spec.specs.Lookup.{interface_type}
+use Rattle.wit_graph_data.specs.Named.{interface_type}
 use Rattle.wit_link_spec.specs.facts.Standing.{listed_is}
 use Rattle.wit_merge_spec.specs.Matches.{GraphMerge, WorldLabel, counterpart_at_label, counterpart_interface, counterpart_interface_by, counterpart_package, counterpart_type, counterpart_type_by, counterpart_world, interface_at_label, labels_of_world, matched_world, named_in_counterpart, unnamed_item, world_labels}
 use Rattle.wit_merge_laws.specs.facts.MatchFacts.{label_match, named_is, no_name, package_is, stands_at, world_is, world_type_is}

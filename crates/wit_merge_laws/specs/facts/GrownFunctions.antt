@@ -21,8 +21,8 @@ use Rattle.wit_graph_theory.specs.facts.ListFacts.{Contains-map, Contains-map_ca
 use Rattle.wit_graph_theory.specs.facts.OptionFacts.{none_there, some_same}
 use Rattle.wit_graph_theory.specs.facts.PackagesAcyclic.{numbered_from}
 use Rattle.wit_remap_spec.specs.Image.{entry_image, function_image, interface_image, item_image, world_image}
-use Rattle.wit_link_spec.specs.CauseText.{borrow_text}
-use Rattle.wit_link_spec.specs.ValueRemap.{item_function, world_functions}
+use Rattle.wit_remap_spec.specs.Borrows.{borrow_text}
+use Rattle.wit_remap_spec.specs.ValueRemap.{item_function, world_functions}
 use Rattle.wit_merge_spec.specs.Cause.{MergeReturnsBorrow}
 use Rattle.wit_merge_spec.specs.Matches.{GraphMerge, counterpart_interface, matched_interface}
 use Rattle.wit_merge_spec.specs.United.{brought_functions, interface_functions, joined_graph, joined_interface, joined_world, merge_maps, moved_functions, moved_worlds, moves_interface, with_interface}

@@ -22,8 +22,8 @@ use Rattle.wit_graph_theory.specs.facts.NamedUses.{used_is_named}
 use Rattle.wit_graph_theory.specs.facts.RowFacts.{IsAcyclic-grown, post_order_shorter}
 use Rattle.wit_remap_spec.specs.Image.{interface_image}
 use Rattle.wit_link_laws.specs.facts.CanonicalStays.{interface_stays, old_uses}
-use Rattle.wit_link_spec.specs.Selected.{selected}
-use Rattle.wit_link_spec.specs.ValueRemap.{types_behind}
+use Rattle.wit_remap_spec.specs.Selected.{selected}
+use Rattle.wit_remap_spec.specs.ValueRemap.{types_behind}
 use Rattle.wit_merge_spec.specs.Cause.{HasNoMismatch}
 use Rattle.wit_merge_spec.specs.Matches.{GraphMerge}
 use Rattle.wit_merge_spec.specs.United.{joined_graph, merge_maps, merged_interface, moved_interfaces, moves_package, package_image, remap_of_merge}

@@ -33,9 +33,9 @@ use Rattle.wit_graph_theory.specs.facts.OptionFacts.{none_or_some, none_there, s
 use Rattle.wit_graph_theory.specs.facts.PackagesAcyclic.{length-numbered, numbered_from, numbered_into}
 use Rattle.wit_graph_theory.specs.steps.Sources.{InterfaceStands, IsCarriedFunction, Source}
 use Rattle.wit_link_spec.specs.facts.ForeignFound.{find-passes, find-some}
-use Rattle.wit_link_spec.specs.Lookup.{interface_type}
+use Rattle.wit_graph_data.specs.Named.{interface_type}
 use Rattle.wit_link_spec.specs.facts.RankFacts.{selected-at, selected_with_index-from}
-use Rattle.wit_link_spec.specs.Addition.{rank, selected_with_index}
+use Rattle.wit_remap_spec.specs.Selected.{rank, selected_with_index}
 use Rattle.wit_link_laws.specs.facts.KeysApart.{joined_apart}
 use Rattle.wit_merge_spec.specs.United.{joined_graph, joined_interface, with_interface, brought_functions, brought_types, merge_maps, merged_interface, merged_type, moved_interfaces, moves_interface, moves_type}
 use Rattle.wit_merge_spec.specs.Matches.{GraphMerge, counterpart_interface, counterpart_of, counterpart_type, counterpart_type_by}

@@ -21,7 +21,7 @@ use Rattle.wit_remap_spec.specs.Image.{Maps, entry_image, item_image}
 use Rattle.wit_graph_theory.specs.facts.LawsOfElaboration.{LawsOfElaboration}
 use Rattle.wit_graph_theory.specs.facts.ListFacts.{Contains-map_cases, found_at, from_map}
 use Rattle.wit_graph_theory.specs.facts.OptionFacts.{some_same}
-use Rattle.wit_link_spec.specs.Include.{joined_entry, joined_item}
+use Rattle.wit_remap_spec.specs.Joined.{joined_entry, joined_item}
 use Rattle.wit_merge_spec.specs.Cause.{same_sort, HasNoMismatch}
 use Rattle.wit_merge_spec.specs.United.{is_under_id, joined_graph, joined_world, united, with_world, merge_maps, merged_world, moves_world}
 use Rattle.wit_merge_spec.specs.Matches.{GraphMerge, counterpart_of, counterpart_world}

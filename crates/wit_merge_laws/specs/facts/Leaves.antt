@@ -16,7 +16,7 @@ use Rattle.wit_elaboration.specs.facts.FreshEntries.{same_key-true}
 use Rattle.wit_graph_data.specs.declared.graph.Package.{Package}
 use Rattle.wit_graph_theory.specs.facts.ListFacts.{Contains-map_cases, contained_at}
 use Rattle.wit_remap_spec.specs.Image.{entry_image, function_image, item_image, key_image}
-use Rattle.wit_link_spec.specs.Include.{joined_entry, joined_item, joined_stability}
+use Rattle.wit_remap_spec.specs.Joined.{joined_entry, joined_item, joined_stability}
 use Rattle.wit_merge_spec.specs.Matches.{GraphMerge, Pair, counterpart_interface, counterpart_of, counterpart_package, counterpart_type, counterpart_world}
 use Rattle.wit_merge_spec.specs.United.{brought_functions, brought_types, is_under_id, merge_maps, merged_interface, merged_type, merged_world, moves_interface, moves_world, with_entries, with_interface, with_package, with_type, with_world}
 use Rattle.wit_merge_laws.specs.facts.InterfacesStand.{counterpart_from}

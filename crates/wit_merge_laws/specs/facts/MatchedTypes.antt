@@ -43,7 +43,7 @@ use Rattle.wit_graph_theory.specs.facts.GoodTypes.{IsAliased, from_if}
 use Rattle.wit_graph_theory.specs.facts.GoodWorlds.{same_one}
 use Rattle.wit_graph_theory.specs.facts.ListFacts.{found_at}
 use Rattle.wit_graph_theory.specs.facts.OptionFacts.{some_by, some_parts, some_same}
-use Rattle.wit_link_spec.specs.Lookup.{interface_type}
+use Rattle.wit_graph_data.specs.Named.{interface_type}
 use Rattle.wit_data.specs.Kind.{variant_of}
 use Rattle.wit_merge_spec.specs.Structure.{Content, Feature, FirstDifference, difference_text, held_features, here, is_named, named, names, path_text, primitive, structure, variant, within}
 use Rattle.wit_data.specs.declared.kind.Variant.TheVariants as variants

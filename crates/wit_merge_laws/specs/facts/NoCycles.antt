@@ -44,7 +44,7 @@ use Rattle.wit_merge_laws.specs.facts.MatchFacts.{goes_to, type_is}
 use Rattle.wit_merge_laws.specs.facts.PackagesStand.{interfaces_in_tables}
 use Rattle.wit_merge_laws.specs.facts.TypesStand.{images, joined_keeps, long_old, matched_some, new_type_at, old_types}
 use Rattle.wit_merge_laws.specs.facts.WorldsStand.{joined_covered, joined_stands, sources_good}
-use Rattle.wit_link_spec.specs.ValueRemap.{owns}
+use Rattle.wit_remap_spec.specs.ValueRemap.{owns}
 
 -- ---- no type refers to itself
 

@@ -31,7 +31,7 @@ use Rattle.wit_graph_theory.specs.facts.UnnamedOnceFrom.{cut_has_one_place}
 use Rattle.wit_graph_theory.specs.Operations.{merge_sources}
 use Rattle.wit_graph_theory.specs.facts.OptionFacts.{some_parts, some_same}
 use Rattle.wit_graph_theory.specs.steps.Sources.{InterfaceStands, Source}
-use Rattle.wit_link_spec.specs.Include.{joined_entry, joined_item}
+use Rattle.wit_remap_spec.specs.Joined.{joined_entry, joined_item}
 use Rattle.wit_merge_spec.specs.United.{is_under_id, joined_graph, joined_interface, united, with_world, merge_maps, merged_interface, merged_world, moves_interface}
 use Rattle.wit_merge_spec.specs.Matches.{GraphMerge, counterpart_interface, counterpart_interface_by, counterpart_of, counterpart_world, world_labels}
 use Rattle.wit_merge_spec.specs.Cause.{HasNoMismatch}

@@ -45,10 +45,10 @@ use Rattle.wit_graph_theory.specs.facts.OptionFacts.{some_parts, some_same, some
 use Rattle.wit_graph_theory.specs.facts.PackagesAcyclic.{numbered_from}
 use Rattle.wit_remap_spec.specs.Image.{entry_image, function_image, interface_image, item_image, key_image, world_image}
 use Rattle.wit_link_laws.specs.facts.CanonicalStays.{canonical_longer}
-use Rattle.wit_link_spec.specs.Include.{joined_entry, joined_item, joined_stability}
-use Rattle.wit_link_spec.specs.Lookup.{interface_type}
-use Rattle.wit_link_spec.specs.ValueRemap.{types_behind}
-use Rattle.wit_link_spec.specs.Selected.{selected, selected_with_index}
+use Rattle.wit_remap_spec.specs.Joined.{joined_entry, joined_item, joined_stability}
+use Rattle.wit_graph_data.specs.Named.{interface_type}
+use Rattle.wit_remap_spec.specs.ValueRemap.{types_behind}
+use Rattle.wit_remap_spec.specs.Selected.{selected, selected_with_index}
 use Rattle.wit_merge_spec.specs.Cause.{MergeIsAccepted}
 use Rattle.wit_merge_spec.specs.Matches.{GraphMerge, counterpart_at_label, counterpart_interface, counterpart_interface_by, counterpart_of, counterpart_package, counterpart_type, counterpart_type_by, counterpart_world, matched_world, named_in_counterpart, unnamed_item, world_labels}
 use Rattle.wit_merge_spec.specs.United.{brought_functions, brought_types, is_under_id, joined_graph, joined_interface, joined_package, joined_type, joined_world, merge_maps, merged_interface, merged_package, merged_type, merged_world, moved_interfaces, moved_worlds, moves_interface, moves_package, moves_type, moves_world, package_image, remap_of_merge, united, with_entries, with_interface, with_package, with_type, with_world}

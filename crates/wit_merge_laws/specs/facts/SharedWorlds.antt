@@ -34,7 +34,7 @@ use Rattle.wit_graph_theory.specs.facts.EntryFacts as entries
 use Rattle.wit_graph_theory.specs.facts.GoodWorlds.{same_one}
 use Rattle.wit_graph_theory.specs.facts.ListFacts.{Contains-map_cases, found_at, place_of}
 use Rattle.wit_graph_theory.specs.laws.PackageCycles.{ListsKey}
-use Rattle.wit_link_spec.specs.Include.{joined_entry, joined_item}
+use Rattle.wit_remap_spec.specs.Joined.{joined_entry, joined_item}
 use Rattle.wit_merge_spec.specs.Cause.{same_sort, HasNoMismatch}
 use Rattle.wit_merge_spec.specs.United.{joined_graph, joined_world, with_world, merged_interface}
 use Rattle.wit_merge_spec.specs.Matches.{GraphMerge, counterpart_key, counterpart_of, counterpart_world}

@@ -18,7 +18,7 @@ use Rattle.wit_graph_theory.specs.facts.ListFacts.{found_at, from_row, in_row, p
 use Rattle.wit_graph_theory.specs.facts.ReferredFacts.{alias_image}
 use Rattle.wit_graph_theory.specs.steps.Sources.{Stands}
 use Rattle.wit_graph_theory.specs.facts.UsesAcyclic.{other_from}
-use Rattle.wit_link_spec.specs.Resources.{own_of}
+use Rattle.wit_remap_spec.specs.Resources.{own_of}
 use Rattle.wit_merge_spec.specs.United.{joined_graph, joined_type, merge_maps, merged_interface, merged_type}
 use Rattle.wit_merge_spec.specs.Matches.{GraphMerge}
 use Rattle.wit_merge_spec.specs.Cause.{HasNoMismatch}

@@ -3,7 +3,7 @@ use Rattle.std.specs.Prelude.{ℕ, List, Contains}
 use Rattle.wit_data.specs.Kind.{named_option}
 use Rattle.wit_data.specs.declared.function.Function.{Function}
 use Rattle.wit_elaboration.specs.Valid.{IsValid}
-use Rattle.wit_link_spec.specs.Reasons.{HoldsBorrow}
+use Rattle.wit_remap_spec.specs.Borrows.{HoldsBorrow}
 use Rattle.wit_merge_spec.specs.Matches.{GraphMerge}
 use Rattle.wit_merge_spec.specs.United.{moved_functions}
 use Rattle.wit_merge_spec.specs.Cause.{HasNoMismatch, MergeReturnsBorrow}

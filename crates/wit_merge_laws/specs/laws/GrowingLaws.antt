@@ -16,8 +16,7 @@ use Rattle.wit_elaboration.specs.Valid.{IsValid}
 use Rattle.wit_graph_data.specs.declared.error_kind.ResolveErrorKind.{ResolveErrorKind}
 use Rattle.wit_graph_data.specs.declared.error_kind.ResolveErrorKind.TheVariants.{InvalidTransitiveDependency}
 use Rattle.wit_remap_spec.specs.Image.{function_image, interface_image}
-use Rattle.wit_link_spec.specs.CauseText.{borrow_text}
-use Rattle.wit_link_spec.specs.Reasons.{HoldsBorrow}
+use Rattle.wit_remap_spec.specs.Borrows.{borrow_text, HoldsBorrow}
 use Rattle.wit_merge_spec.specs.Cause.{HasNoMismatch, IsMergeCause, MergeIsAccepted, MergeOverflows, MergeReturnsBorrow, StabilitiesMismatch}
 use Rattle.wit_merge_spec.specs.Matches.{GraphMerge, Pair, counterpart_interface, counterpart_package, counterpart_type, counterpart_world}
 use Rattle.wit_merge_spec.specs.United.{joined_graph, merge_maps, moved_functions, moved_interfaces, united, with_interface, with_package, with_type, with_world}

@@ -10,7 +10,7 @@ use Rattle.wit_data.specs.declared.world.WorldKey.{WorldKey}
 use Rattle.wit_data.specs.declared.world.WorldKey.TheVariants as key
 use Rattle.wit_elaboration.specs.Valid.{IsValid}
 use Rattle.wit_graph_data.specs.declared.graph.Graph.{Graph}
-use Rattle.wit_link_spec.specs.Resources.{leads_to_resource}
+use Rattle.wit_remap_spec.specs.Resources.{leads_to_resource}
 use Rattle.wit_merge_spec.specs.Cause.{same_sort, HasNoMismatch, MergeIsAccepted}
 use Rattle.wit_merge_spec.specs.Matches.{GraphMerge}
 use Rattle.wit_merge_spec.specs.United.{merged_type, united}

@@ -14,7 +14,7 @@ use Rattle.wit_data.specs.declared.world.WorldItem.TheVariants as item
 use Rattle.wit_data.specs.declared.world.WorldKey.TheVariants as key
 use Rattle.wit_elaboration.specs.Entries.{same_key}
 use Rattle.wit_graph_data.specs.declared.graph.Package.{Package}
-use Rattle.wit_link_spec.specs.Include.{joined_stability}
+use Rattle.wit_remap_spec.specs.Joined.{joined_stability}
 use Rattle.wit_merge_spec.specs.Matches.{GraphMerge, counterpart_item}
 use Rattle.wit_merge_spec.specs.United.{brought_functions, brought_types, moves_interface, moves_world}
 

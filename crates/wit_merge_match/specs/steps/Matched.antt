@@ -13,8 +13,8 @@ use Rattle.wit_data.specs.declared.types.TypeOwner.TheVariants as owner
 use Rattle.wit_elaboration.specs.Entries.{same_key}
 use Rattle.wit_graph_data.specs.declared.graph.Graph.{Graph}
 use Rattle.wit_graph_data.specs.declared.graph.Package.{Package}
-use Rattle.wit_link_spec.specs.Lookup.{interface_type}
-use Rattle.wit_link_spec.specs.Addition.{rank}
+use Rattle.wit_graph_data.specs.Named.{interface_type}
+use Rattle.wit_remap_spec.specs.Selected.{rank}
 use Rattle.wit_merge_spec.specs.Matches.{GraphMerge, WorldLabel, counterpart_at_label, counterpart_interface, counterpart_package, counterpart_type, counterpart_world, unnamed_item}
 use Rattle.wit_merge_spec.specs.United as moved
 use Rattle.wit_merge_match.specs.declared.matches.Matches.{Matches}

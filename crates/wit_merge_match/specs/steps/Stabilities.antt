@@ -11,7 +11,7 @@ use Rattle.wit_data.specs.declared.world.WorldKey.{WorldKey}
 use Rattle.wit_data.specs.declared.world.WorldItem.TheVariants as item
 use Rattle.wit_data.specs.declared.world.WorldKey.TheVariants as key
 use Rattle.wit_elaboration.specs.Entries.{same_key}
-use Rattle.wit_link_spec.specs.WorldReasons.{Disagree, HasStability}
+use Rattle.wit_remap_spec.specs.Joined.{Disagree, HasStability}
 use Rattle.wit_merge_spec.specs.Matches.{GraphMerge, counterpart_interface, counterpart_type, counterpart_world}
 use Rattle.wit_merge_match.specs.Differing.{DifferAt}
 

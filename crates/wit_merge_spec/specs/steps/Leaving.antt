@@ -7,8 +7,8 @@ use Rattle.wit_data.specs.declared.interface.Interface.{Interface}
 use Rattle.wit_data.specs.declared.world.World.{World}
 use Rattle.wit_graph_data.specs.declared.graph.Graph.{Graph}
 use Rattle.wit_remap_spec.specs.Image.{interface_image, world_image}
-use Rattle.wit_link_spec.specs.Selected.{selected}
-use Rattle.wit_link_spec.specs.ValueRemap.{types_behind, world_functions}
+use Rattle.wit_remap_spec.specs.Selected.{selected}
+use Rattle.wit_remap_spec.specs.ValueRemap.{types_behind, world_functions}
 use Rattle.wit_merge_spec.specs.Matches.{GraphMerge}
 use Rattle.wit_merge_spec.specs.United.{joined_graph, joined_interface, joined_package, joined_type, joined_world, merge_maps, merged_package, moved_interfaces, moved_worlds, moves_package, package_image, remap_of_merge}
 

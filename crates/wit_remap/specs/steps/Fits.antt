@@ -13,7 +13,8 @@ use Rattle.wit_data.specs.declared.world.World.{World}
 use Rattle.wit_data.specs.declared.world.WorldInclude.{WorldInclude}
 use Rattle.wit_data.specs.declared.world.WorldItem.{WorldItem}
 use Rattle.wit_data.specs.declared.world.WorldItem.TheVariants as item
-use Rattle.wit_link_spec.specs.Gates.{OptionalSpan, kind_spans, include_is_active}
+use Rattle.wit_link_spec.specs.Gates.{OptionalSpan, include_is_active}
+use Rattle.wit_remap_spec.specs.Spans.{kind_spans}
 use Rattle.std.specs.List.{IsDistinct}
 use Rattle.std.specs.Map.{keys_of, lookup}
 use Rattle.wit_names.specs.PackageName.{same_package}
@@ -23,7 +24,8 @@ use Rattle.wit_graph_data.specs.declared.graph.Graph.{Graph}
 use Rattle.wit_graph_data.specs.declared.graph.Package.{Package}
 use Rattle.wit_remap_spec.specs.Kept.{KeptIds, cut_interface, cut_world}
 use Rattle.wit_remap_spec.specs.Image.{Maps, entry_image, interface_image, type_image, world_image}
-use Rattle.wit_link_spec.specs.Addition.{Addition, active_includes, addition_maps, own_worlds, selected, selected_with_index}
+use Rattle.wit_link_spec.specs.Addition.{Addition, active_includes, addition_maps, own_worlds}
+use Rattle.wit_remap_spec.specs.Selected.{selected, selected_with_index}
 use Rattle.wit_link_spec.specs.declared.addition.NewIds.{NewIds}
 use Rattle.wit_link_spec.specs.steps.NewThings.{is_new}
 use Rattle.wit_remap.specs.steps.Parts.{kept_of}

@@ -1,7 +1,7 @@
 use Rattle.std.proofs.Common.{◌≡◌, ℕ, Bool, length, map, take}
 use Rattle.std.specs.Map.{keys_of}
 use Rattle.wit_remap_spec.specs.Image.{interface_image}
-use Rattle.wit_link_spec.specs.Addition.{selected}
+use Rattle.wit_remap_spec.specs.Selected.{selected}
 use Rattle.wit_link_include.specs.steps.Included.{maps_of, places}
 use Rattle.wit_link_include.proofs.fresh_copies.interface_copies.Given as goal
 

@@ -4,7 +4,7 @@ use Rattle.std.proofs.lemmas.List.{length_push, take_all}
 use Rattle.std.proofs.lemmas.Map.Iter.{iter_end, iter_turn}
 use Rattle.wit_data.specs.declared.types.TypeDef.{TypeDef}
 use Rattle.wit_remap_spec.specs.Image.{type_image}
-use Rattle.wit_link_spec.specs.Addition.{selected}
+use Rattle.wit_remap_spec.specs.Selected.{selected}
 use Rattle.wit_link_include.specs.steps.Included.{maps_of}
 use Rattle.wit_link_include.proofs.Steps.{map_added}
 use Rattle.wit_link_include.proofs.SelectedIndices.{key_below, key_takes, takes_all}

@@ -3,7 +3,7 @@ use Rattle.std.specs.Map.{values_of}
 use Rattle.indexmap.proofs.MapLemmas.{OnOk-map}
 use Rattle.indexmap.specs.Layout.{set_value_at}
 use Rattle.wit_data.specs.declared.world.WorldItem.{WorldItem}
-use Rattle.wit_link_spec.specs.Include.{joined_item}
+use Rattle.wit_remap_spec.specs.Joined.{joined_item}
 use Rattle.wit_link_include.specs.steps.Included.{IsItemError, ItemsAgree}
 use Rattle.wit_link_include.proofs.joining.join_at.Goals as goal
 

@@ -4,7 +4,8 @@ use Rattle.wit_data.specs.declared.unresolved.AstItem.TheVariants as item
 use Rattle.wit_link_spec.specs.steps.AdditionRefs.{addition_of}
 use Rattle.wit_link_spec.specs.facts.FlagFacts.{interface-flag, interface-inside}
 use Rattle.wit_link_spec.specs.Gates.{interface_is_active}
-use Rattle.wit_link_spec.specs.Lookup.{foreign_interface_id, interface_type, named_items}
+use Rattle.wit_link_spec.specs.Lookup.{foreign_interface_id, named_items}
+use Rattle.wit_graph_data.specs.Named.{interface_type}
 use Rattle.wit_link_lookup.proofs.Causes.{type_missing}
 use Rattle.wit_link_lookup.proofs.FoundLists.{found-inside, found_interface-at, none_from_test, some_from_test}
 use Rattle.wit_link_lookup.proofs.TypeSteps.{foreign_type_id-is, owner-inside, type-there}

@@ -1,6 +1,7 @@
 use Rattle.std.proofs.Common.{◌≡◌, ◌+◌, length, map}
 use Rattle.std.specs.List.{range_with_len}
-use Rattle.wit_link_spec.specs.Addition.{active_type_id, own_type, rank}
+use Rattle.wit_link_spec.specs.Addition.{active_type_id, own_type}
+use Rattle.wit_remap_spec.specs.Selected.{rank}
 use Rattle.wit_link_spec.specs.steps.AdditionRefs.{addition_of}
 use Rattle.wit_link_lookup.specs.steps.ForeignItems.{AreTypesThere}
 use Rattle.wit_link_lookup.proofs.types.type_ids.Given as goal

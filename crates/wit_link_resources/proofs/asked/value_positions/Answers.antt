@@ -2,7 +2,7 @@ use Rattle.std.proofs.Common.{◌≡◌, false, refl, rules}
 use Rattle.wit_data.specs.facts.ReferenceFacts.{all_referred, none_referred}
 use Rattle.wit_data.specs.declared.kind.PartRole.{PartRole}
 use Rattle.wit_data.specs.declared.kind.PartRole.TheVariants.{Value}
-use Rattle.wit_link_spec.specs.Resources.{is_value}
+use Rattle.wit_remap_spec.specs.Resources.{is_value}
 use Rattle.wit_link_resources.proofs.asked.value_positions.Goals as goal
 
 left_out : (role : PartRole) → (role ≡ Value → ⊥) → is_value role ≡ false

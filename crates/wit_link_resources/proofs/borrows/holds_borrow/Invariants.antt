@@ -2,7 +2,7 @@ use Rattle.std.proofs.Common.{length}
 use Rattle.std.specs.List.{flat_map}
 use Rattle.wit_digraph.specs.PostOrder.{post_order}
 use Rattle.wit_graph_data.specs.Queries.{type_contents}
-use Rattle.wit_link_spec.specs.Reasons.{IsBorrow}
+use Rattle.wit_remap_spec.specs.Borrows.{IsBorrow}
 use Rattle.wit_link_resources.proofs.Searching.{IsSearching}
 use Rattle.wit_link_resources.proofs.borrows.holds_borrow.Given as goal
 

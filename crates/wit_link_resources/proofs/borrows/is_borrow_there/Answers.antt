@@ -6,7 +6,7 @@ use Rattle.wit_link_spec.specs.steps.AdditionRefs.{addition_of}
 use Rattle.wit_link_spec.specs.Addition.{Addition, active_type_id}
 use Rattle.wit_link_spec.specs.facts.FlagFacts.{place-inside, place-is}
 use Rattle.wit_link_spec.specs.Lookup.{is_foreign_type}
-use Rattle.wit_link_spec.specs.Reasons.{HoldsBorrow}
+use Rattle.wit_remap_spec.specs.Borrows.{HoldsBorrow}
 use Rattle.wit_link_resources.specs.steps.Borrows.{IsBorrowThere}
 use Rattle.wit_link_resources.proofs.MayHold.{borrow_here, found_there, nowhere_none, own_back, there_found}
 use Rattle.wit_link_spec.specs.facts.NewFacts.{foreign_type_id-below}

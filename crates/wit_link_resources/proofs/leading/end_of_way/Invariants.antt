@@ -2,7 +2,7 @@ use Rattle.std.proofs.Common.{◌≡◌, ◌<◌, List, length}
 use Rattle.wit_digraph.specs.PostOrder.{post_order}
 use Rattle.wit_data.specs.declared.function.Function.{Function}
 use Rattle.wit_data.specs.Uses.{alias_rows}
-use Rattle.wit_link_spec.specs.ValueRemap.{ValueRemap}
+use Rattle.wit_remap_spec.specs.ValueRemap.{ValueRemap}
 use Rattle.wit_link_resources.specs.steps.IncomingTypes.{IsRemap, IsRemapped, leads_in}
 use Rattle.wit_link_resources.proofs.leading.end_of_way.Given as goal
 

@@ -1,7 +1,7 @@
 use Rattle.std.proofs.Common.{◌≡◌, ◌∙◌, ◌<◌, ◌⊎◌, inl, inr, ℕ, true, None, Some, List, length, slice_get, ap, sym, subst}
 use Rattle.std.proofs.lemmas.Result.{IfOk-weaker}
 use Rattle.wit_data.specs.declared.types.TypeDef.{TypeDef}
-use Rattle.wit_link_spec.specs.Resources.{leads_to_resource}
+use Rattle.wit_remap_spec.specs.Resources.{leads_to_resource}
 use Rattle.wit_link_resources.specs.declared.incoming.Incoming.{Incoming}
 use Rattle.wit_link_resources.specs.steps.IncomingTypes.{IsRemapped, new_of}
 use Rattle.wit_link_resources.specs.steps.Leading.{AreRight}

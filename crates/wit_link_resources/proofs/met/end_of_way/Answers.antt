@@ -7,7 +7,7 @@ use Rattle.std.proofs.lemmas.Option.{slice_get-get_or}
 use Rattle.wit_data.specs.Uses.{alias_rows}
 use Rattle.wit_digraph.specs.PostOrder.{post_order}
 use Rattle.wit_data.specs.declared.types.TypeDef.{TypeDef}
-use Rattle.wit_link_spec.specs.Resources.{is_resource_kind, leads_to_resource}
+use Rattle.wit_remap_spec.specs.Resources.{is_resource_kind, leads_to_resource}
 use Rattle.wit_link_resources.specs.facts.Leads.{leads_here, leads_on, target_there, walk_falls}
 use Rattle.wit_graph_theory.specs.facts.AliasFacts.{alias_acyclic}
 use Rattle.wit_link_resources.proofs.met.end_of_way.Goals as goal

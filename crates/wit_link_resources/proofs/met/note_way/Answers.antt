@@ -1,7 +1,7 @@
 use Rattle.std.proofs.Common.{◌≡◌, ◌∙◌, ◌++◌, ◌∷◌, [], ◌<◌, ℕ, Bool, List, length, take, ap, refl, sym, subst}
 use Rattle.wit_data.specs.Uses.{alias_rows}
 use Rattle.wit_digraph.specs.PostOrder.{post_order}
-use Rattle.wit_link_spec.specs.Resources.{leads_to_resource}
+use Rattle.wit_remap_spec.specs.Resources.{leads_to_resource}
 use Rattle.wit_link_resources.specs.steps.Leading.{AreRight}
 use Rattle.wit_link_resources.specs.facts.Leads.{leads_on, target_there, walk_falls}
 use Rattle.wit_link_resources.specs.facts.MetTypes.{begins_more, begins_same, right-more}

@@ -5,7 +5,7 @@ use Rattle.std.proofs.lemmas.List.Elements.{Contains-get_or}
 use Rattle.std.proofs.lemmas.List.FromFn.{length-map-range_with_len}
 use Rattle.wit_digraph.specs.facts.FreshFacts.{contains_from_any}
 use Rattle.wit_data.specs.declared.function.Function.{Function}
-use Rattle.wit_link_spec.specs.ValueRemap.{ValueRemap, needs_own, positions}
+use Rattle.wit_remap_spec.specs.ValueRemap.{ValueRemap, needs_own, positions}
 use Rattle.wit_link_spec.specs.facts.RangeFacts.{range-pushed, range-read}
 use Rattle.wit_link_resources.specs.declared.incoming.Incoming.{Incoming}
 use Rattle.wit_link_resources.specs.steps.Active.{seen}

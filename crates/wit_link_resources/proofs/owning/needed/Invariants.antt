@@ -1,6 +1,6 @@
 use Rattle.std.proofs.Common.{◌≡◌, length, map, take}
 use Rattle.std.specs.List.{range_with_len}
-use Rattle.wit_link_spec.specs.ValueRemap.{ValueRemap, needs_own}
+use Rattle.wit_remap_spec.specs.ValueRemap.{ValueRemap, needs_own}
 use Rattle.wit_link_resources.specs.steps.Active.{seen}
 use Rattle.wit_link_resources.specs.steps.IncomingTypes.{AreTold, IsRemap}
 use Rattle.wit_link_resources.specs.steps.Leading.{AreRight}

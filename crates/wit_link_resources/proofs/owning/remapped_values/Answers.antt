@@ -3,9 +3,9 @@ use Rattle.std.specs.List.{range_with_len}
 use Rattle.std.proofs.lemmas.List.{length-append, length-map}
 use Rattle.wit_data.specs.declared.types.TypeDef.{TypeDef}
 use Rattle.wit_graph_theory.specs.facts.ListFacts.{get_at}
-use Rattle.wit_link_spec.specs.Resources.{own_of}
-use Rattle.wit_link_spec.specs.Selected.{rank}
-use Rattle.wit_link_spec.specs.ValueRemap.{ValueRemap, needs_own, value_id}
+use Rattle.wit_remap_spec.specs.Resources.{own_of}
+use Rattle.wit_remap_spec.specs.Selected.{rank}
+use Rattle.wit_remap_spec.specs.ValueRemap.{ValueRemap, needs_own, value_id}
 use Rattle.wit_link_spec.specs.facts.RangeFacts.{range-pushed, range-read}
 use Rattle.wit_link_spec.specs.declared.addition.Values.{Values}
 use Rattle.wit_link_resources.specs.declared.incoming.Incoming.{Incoming}

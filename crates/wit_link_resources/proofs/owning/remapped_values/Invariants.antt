@@ -1,7 +1,7 @@
 use Rattle.std.proofs.Common.{◌≡◌, ◌≤◌, length, map, filter}
 use Rattle.std.specs.List.{range_with_len}
-use Rattle.wit_link_spec.specs.Resources.{own_of}
-use Rattle.wit_link_spec.specs.ValueRemap.{ValueRemap, needs_own, value_id}
+use Rattle.wit_remap_spec.specs.Resources.{own_of}
+use Rattle.wit_remap_spec.specs.ValueRemap.{ValueRemap, needs_own, value_id}
 use Rattle.wit_link_resources.specs.steps.Active.{seen}
 use Rattle.wit_link_resources.specs.steps.IncomingTypes.{IsRemap}
 use Rattle.wit_link_resources.proofs.owning.remapped_values.Given as goal

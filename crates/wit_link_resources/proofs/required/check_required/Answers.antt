@@ -4,7 +4,7 @@ use Rattle.wit_link_spec.specs.steps.AdditionRefs.{addition_of}
 use Rattle.wit_link_spec.specs.Addition.{Addition, active_type_id}
 use Rattle.wit_link_spec.specs.facts.FlagFacts.{place-inside, place-is}
 use Rattle.wit_link_spec.specs.facts.NewFacts.{foreign_type_id-below}
-use Rattle.wit_link_spec.specs.Resources.{leads_to_resource}
+use Rattle.wit_remap_spec.specs.Resources.{leads_to_resource}
 use Rattle.wit_link_resources.specs.steps.Leading.{AreRight}
 use Rattle.wit_link_resources.proofs.Tells.{resource_cause}
 use Rattle.wit_link_resources.proofs.Where.{foreign_back, found_on, required_is_foreign}

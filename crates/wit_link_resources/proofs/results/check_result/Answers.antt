@@ -15,7 +15,7 @@ use Rattle.wit_link_spec.specs.Addition.{Addition}
 use Rattle.wit_link_spec.specs.facts.ClosedCut.{function_kept, there_where}
 use Rattle.wit_link_spec.specs.Gates.{is_active}
 use Rattle.wit_link_spec.specs.Reasons.{IsActiveFunction, IsResolved}
-use Rattle.wit_link_spec.specs.Resources.{signature_positions}
+use Rattle.wit_remap_spec.specs.Resources.{signature_positions}
 use Rattle.wit_link_resources.proofs.Tells.{borrow_cause}
 use Rattle.wit_link_resources.proofs.results.check_result.Goals as goal
 

@@ -3,7 +3,7 @@ use Rattle.std.specs.List.{flat_map}
 use Rattle.wit_data.specs.Entries.{Entry}
 use Rattle.wit_link_resources.specs.steps.Active.{seen}
 use Rattle.wit_merge.proofs.functions.push_entries.Given as goal
-use Rattle.wit_link_spec.specs.ValueRemap.{item_function}
+use Rattle.wit_remap_spec.specs.ValueRemap.{item_function}
 
 -- what has been added, and what those will add that are left
 abbrev pub invariant-loop-item : goal.invariant-loop-item

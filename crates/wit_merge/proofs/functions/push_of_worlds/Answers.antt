@@ -3,7 +3,7 @@ use Rattle.std.proofs.lemmas.Option.{slice_get_read}
 use Rattle.std.specs.List.{flat_map}
 use Rattle.wit_data.specs.declared.function.Function.{Function}
 use Rattle.wit_data.specs.declared.world.World.{World}
-use Rattle.wit_link_spec.specs.ValueRemap.{world_functions}
+use Rattle.wit_remap_spec.specs.ValueRemap.{world_functions}
 use Rattle.wit_link_resources.specs.steps.Active.{seen}
 use Rattle.wit_link_spec.specs.facts.DropFacts.{drop_at}
 use Rattle.wit_merge.proofs.Left.{left-more}

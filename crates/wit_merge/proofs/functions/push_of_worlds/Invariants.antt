@@ -1,6 +1,6 @@
 use Rattle.std.proofs.Common.{◌≡◌, ◌++◌, drop}
 use Rattle.std.specs.List.{flat_map}
-use Rattle.wit_link_spec.specs.ValueRemap.{world_functions}
+use Rattle.wit_remap_spec.specs.ValueRemap.{world_functions}
 use Rattle.wit_link_resources.specs.steps.Active.{seen}
 use Rattle.wit_merge.proofs.functions.push_of_worlds.Given as goal
 

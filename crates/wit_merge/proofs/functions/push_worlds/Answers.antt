@@ -10,7 +10,7 @@ use Rattle.wit_merge.proofs.Left.{kept-first, left-more, of_kept}
 use Rattle.wit_merge.proofs.Numbered.{first_behind}
 use Rattle.wit_merge.proofs.functions.push_worlds.Goals.{then-moves+in_ok-push_world, else-moves}
 use Rattle.wit_merge.proofs.functions.push_worlds.Goals as goal
-use Rattle.wit_link_spec.specs.ValueRemap.{world_functions}
+use Rattle.wit_remap_spec.specs.ValueRemap.{world_functions}
 
 pub loop-index-preserved : goal.loop-index-preserved
 loop-index-preserved c =

@@ -1,8 +1,8 @@
 use Rattle.std.proofs.Common.{◌≡◌, ◌++◌, ℕ, drop, filter}
 use Rattle.std.specs.List.{enumerate_from, flat_map}
 use Rattle.wit_data.specs.declared.world.World.{World}
-use Rattle.wit_link_spec.specs.Addition.{selected_with_index}
-use Rattle.wit_link_spec.specs.ValueRemap.{world_functions}
+use Rattle.wit_remap_spec.specs.Selected.{selected_with_index}
+use Rattle.wit_remap_spec.specs.ValueRemap.{world_functions}
 use Rattle.wit_link_resources.specs.steps.Active.{seen}
 use Rattle.wit_merge_match.specs.steps.Matched.{moves}
 use Rattle.wit_merge.proofs.functions.push_worlds.Given as goal

@@ -3,9 +3,9 @@ use Rattle.std.proofs.lemmas.Bool.{false≢true}
 use Rattle.wit_digraph.specs.Relation.{IsAcyclic}
 use Rattle.wit_data.specs.Kind.{type_references}
 use Rattle.wit_data.specs.declared.types.TypeDef.{TypeDef}
-use Rattle.wit_link_spec.specs.CauseText.{borrow_text}
+use Rattle.wit_remap_spec.specs.Borrows.{borrow_text}
 use Rattle.wit_link_spec.specs.facts.RangeFacts.{range-inside, range-read}
-use Rattle.wit_link_spec.specs.ValueRemap.{value_id}
+use Rattle.wit_remap_spec.specs.ValueRemap.{value_id}
 use Rattle.wit_merge_spec.specs.United.{remap_of_merge}
 use Rattle.wit_merge_spec.specs.Matches.{GraphMerge}
 use Rattle.wit_merge_laws.specs.facts.NoCycles.{joined_types_acyclic}

@@ -2,8 +2,8 @@ use Rattle.std.proofs.Common.{◌∙◌, ◌++◌, ℕ, List, ap, append_assoc, 
 use Rattle.std.specs.List.{enumerate_from}
 use Rattle.wit_data.specs.declared.types.TypeDef.{TypeDef}
 use Rattle.wit_remap_spec.specs.Image.{type_image}
-use Rattle.wit_link_spec.specs.Addition.{selected_with_index}
-use Rattle.wit_link_spec.specs.ValueRemap.{owns}
+use Rattle.wit_remap_spec.specs.Selected.{selected_with_index}
+use Rattle.wit_remap_spec.specs.ValueRemap.{owns}
 use Rattle.wit_merge_spec.specs.United.{joined_type, with_type, merge_maps, moved_types, moves_type, remap_of_merge}
 use Rattle.wit_merge_spec.specs.Matches.{counterpart_type}
 use Rattle.wit_merge.specs.steps.UnionSteps.{merging_of}

@@ -2,7 +2,7 @@ use Rattle.std.proofs.Common.{◌∙◌, ℕ, Bool, ap, map}
 use Rattle.std.proofs.lemmas.Result.{IfOk-weaker}
 use Rattle.wit_data.specs.declared.world.World.{World}
 use Rattle.wit_remap_spec.specs.Image.{world_image}
-use Rattle.wit_link_spec.specs.Addition.{selected_with_index}
+use Rattle.wit_remap_spec.specs.Selected.{selected_with_index}
 use Rattle.wit_merge_spec.specs.United.{merge_maps}
 use Rattle.wit_merge_spec.specs.Matches.{counterpart_world}
 use Rattle.wit_merge.specs.steps.UnionSteps.{merging_of}

@@ -1,6 +1,6 @@
 use Rattle.std.proofs.Common.{rules, ◌≡◌, ◌∙◌, ◌+◌, suc, slice_get, drop, refl, ap, arith}
 use Rattle.std.specs.Slice.Iter.{iter_rest}
-use Rattle.wit_link_spec.specs.Addition.{selected}
+use Rattle.wit_remap_spec.specs.Selected.{selected}
 use Rattle.wit_link_spec.specs.steps.NewThings.{is_from, is_new}
 use Rattle.wit_remap.proofs.Turns.{kept_by_place, at_place, after}
 use Rattle.wit_remap.proofs.part.selected.Goals as goal

@@ -1,7 +1,7 @@
 use Rattle.std.proofs.Common.{◌≡◌, ◌++◌, filter}
 use Rattle.std.specs.List.{enumerate_from}
 use Rattle.std.specs.Vec.Iter.{into_iter_items}
-use Rattle.wit_link_spec.specs.Addition.{selected_with_index}
+use Rattle.wit_remap_spec.specs.Selected.{selected_with_index}
 use Rattle.wit_link_spec.specs.steps.NewThings.{is_new}
 use Rattle.wit_remap.proofs.part.selected_with_index.Given as goal
 

@@ -4,7 +4,7 @@ use Rattle.wit_data.specs.Each.{Each}
 use Rattle.wit_data.specs.declared.interface.Interface.{Interface}
 use Rattle.wit_remap_spec.specs.Kept.{cut_interface}
 use Rattle.wit_remap_spec.specs.Image.{interface_image}
-use Rattle.wit_link_spec.specs.Addition.{selected_with_index}
+use Rattle.wit_remap_spec.specs.Selected.{selected_with_index}
 use Rattle.wit_link_spec.specs.steps.NewThings.{is_new}
 use Rattle.wit_remap.specs.steps.Fits.{Fits, InterfaceFits}
 use Rattle.wit_remap.specs.facts.GrownFacts.{Begins-as, Begins-by, Grown-same, interfaces_grow}

@@ -3,7 +3,7 @@ use Rattle.std.specs.List.{enumerate_from}
 use Rattle.wit_data.specs.Each.{Each}
 use Rattle.wit_data.specs.declared.types.TypeDef.{TypeDef}
 use Rattle.wit_data.specs.declared.world.World.{World}
-use Rattle.wit_link_spec.specs.Addition.{selected_with_index}
+use Rattle.wit_remap_spec.specs.Selected.{selected_with_index}
 use Rattle.wit_link_spec.specs.steps.NewThings.{is_new}
 use Rattle.wit_remap.specs.steps.Fits.{Fits, TypeFits, WorldFits, HasKeysApart}
 use Rattle.wit_remap.specs.facts.GrownFacts.{Grown-then}

@@ -1,5 +1,5 @@
 use Rattle.std.proofs.Common.{◌≡◌}
-use Rattle.wit_link_spec.specs.Selected.{rank}
+use Rattle.wit_remap_spec.specs.Selected.{rank}
 use Rattle.wit_link_resources.specs.steps.IncomingTypes.{new_of}
 use Rattle.wit_link_resources.proofs.incoming.Incoming.count_new.Given as goal
 

@@ -11,8 +11,8 @@ use Rattle.wit_data.specs.declared.world.World.{World}
 use Rattle.wit_data.specs.declared.world.WorldItem.{WorldItem}
 use Rattle.wit_data.specs.declared.world.WorldItem.TheVariants as item
 use Rattle.wit_remap_spec.specs.Image.{Maps, type_image}
-use Rattle.wit_link_spec.specs.Resources.{leads_to_resource, own_of, signature_positions, value_positions}
-use Rattle.wit_link_spec.specs.Selected.{rank}
+use Rattle.wit_remap_spec.specs.Resources.{leads_to_resource, own_of, signature_positions, value_positions}
+use Rattle.wit_remap_spec.specs.Selected.{rank}
 
 -- what comes into a graph
 pub record ValueRemap : Type 0 where
