@@ -99,6 +99,9 @@ fn sources(rt: &impl Abort, alloc: Global) -> String {
     for name in map.source_names() {
         write!(out, " {name}").expect(rt, "memory");
     }
+    for (path, contents) in map.files() {
+        write!(out, "\n{path}: {contents}").expect(rt, "memory");
+    }
     map.truncate(0, 7);
     let (count, end) = (map.len(), map.end());
     write!(out, " {count} {end}").expect(rt, "memory");
@@ -114,7 +117,13 @@ fn spans_are_found_in_their_files(rt: HostRuntime) {
         \x20    --> m.wit:2:1\n\
         \x20     |\n\
         \x20   2 | world w {}\n\
-        \x20     | ^---- m.wit m.wit 0 7",
+        \x20     | ^---- m.wit m.wit\n\
+        m.wit: package a:b;\n\
+        world w {}\n\
+        \n\
+        m.wit: package a:b;\n\
+        world w {}\n\
+        \x200 7",
     );
     assert!(rt; !Span::unknown().is_known() && Span::new(0, 0).is_known());
     assert!(rt; Span::new(0, 1).moved(u32::MAX).is_none());
@@ -184,4 +193,51 @@ fn data_are_given_back(rt: HostRuntime) {
         first_entries(&rt, rt.alloc()),
         "foo:bar 4 5 4 5 true n 6",
     );
+}
+
+/// The first and the last of a list of three, of its entries in a table and among names, and the one by an index.
+fn ends(rt: &impl Abort, alloc: Global) -> String {
+    let items = list(rt, alloc, [3, 1, 2]);
+    assert!(rt; items.len() == 3);
+    let mut table: Table<InterfaceId, usize> = Table::new(alloc);
+    let mut names: Names<usize> = Names::new(alloc);
+    for (index, name) in [(0, "a"), (1, "b"), (2, "c")] {
+        let key = InterfaceId::from_index(index + 4);
+        if !table.contains_key(&key) {
+            table.push(key, index).expect(rt, "memory");
+        }
+        if !names.contains_key(name) {
+            let name = String::from_str(alloc, name).expect(rt, "memory");
+            names.push(name, index).expect(rt, "memory");
+        }
+    }
+    let middle = items[1];
+    let mut out = format!(in alloc; "{middle}").expect(rt, "memory");
+    for item in [items.first(), items.last()] {
+        write!(out, " {}", item.expect(rt, "an item")).expect(rt, "memory");
+    }
+    for pair in [table.first(), table.last()] {
+        let (key, value) = pair.expect(rt, "a pair");
+        write!(out, " {} {value}", key.index()).expect(rt, "memory");
+    }
+    for pair in [names.first(), names.get_index(1), names.last()] {
+        let (name, value) = pair.expect(rt, "a pair");
+        write!(out, " {name} {value}").expect(rt, "memory");
+    }
+    out
+}
+
+/// Whether nothing has no first and no last.
+fn nothing_has_ends(alloc: Global) -> bool {
+    let items: Items<usize> = Items::new(alloc);
+    let table: Table<InterfaceId, usize> = Table::new(alloc);
+    let names: Names<usize> = Names::new(alloc);
+    let is_first = items.first().is_none() && table.first().is_none() && names.first().is_none();
+    is_first && items.last().is_none() && table.last().is_none() && names.last().is_none()
+}
+
+#[test]
+fn ends_are_found(rt: HostRuntime) {
+    assert_text(&rt, ends(&rt, rt.alloc()), "1 3 2 4 0 6 2 a 0 b 1 c 2");
+    assert!(rt; nothing_has_ends(rt.alloc()));
 }

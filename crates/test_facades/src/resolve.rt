@@ -1,11 +1,11 @@
 //! The calls of `Resolve` that add, merge and transform, whose names `wit_resolve_graph` gives alone.
-use crate::fixtures::{assert_text, file, groups, package, resolve};
+use crate::fixtures::{assert_text, file, graph, groups, package, resolve};
 use std::alloc::Global;
 use std::fmt::Write;
 use std::process::Abort;
 use wit_resolve_graph::{
-    Items, PackageId, Resolve, Shape, Span, TrackRule, TryClone, UnresolvedPackageGroup, WorldItem,
-    WorldKey,
+    Features, Graph, Items, PackageId, Resolve, Shape, Span, TrackRule, TryClone,
+    UnresolvedPackageGroup, WorldItem, WorldKey,
 };
 use wit_script::print_world;
 
@@ -165,4 +165,40 @@ fn found(rt: &impl Abort, alloc: Global) -> String {
 #[test]
 fn worlds_are_found_by_their_names(rt: HostRuntime) {
     assert_text(&rt, found(&rt, rt.alloc()), "1 false false");
+}
+
+/// The `Resolve` of a graph, with every feature, a file and the rule that counts pre-releases.
+fn of_graph(rt: &impl Abort, alloc: Global, graph: Graph) -> Option<Resolve> {
+    let mut features = Features::new(alloc);
+    features.all = true;
+    let rule = TrackRule::WithPrereleases;
+    let made = Resolve::of_graph(alloc, graph, features, file(rt, alloc), rule);
+    made.expect(rt, "memory")
+}
+
+/// What a `Resolve` of a valid graph has, and whether there is none of the same graph without its last world.
+fn made_of_graphs(rt: &impl Abort, alloc: Global) -> String {
+    let mut spoiled = graph(rt, alloc, SCRIPT);
+    spoiled.worlds.truncate(1);
+    let refused = of_graph(rt, alloc, spoiled).is_none();
+    let made = of_graph(rt, alloc, graph(rt, alloc, SCRIPT)).expect(rt, "a valid graph");
+    let (types, interfaces) = (made.types().len(), made.interfaces().len());
+    let (packages, worlds) = (made.packages().len(), made.worlds().len());
+    let (all, end, rule) = (
+        made.all_features(),
+        made.source_map().end(),
+        made.track_rule(),
+    );
+    format!(in alloc;
+        "{types} {interfaces} {packages} {worlds} {all} {end} {rule:?} {refused}"
+    ).expect(rt, "memory")
+}
+
+#[test]
+fn a_resolve_is_made_of_a_valid_graph_alone(rt: HostRuntime) {
+    assert_text(
+        &rt,
+        made_of_graphs(&rt, rt.alloc()),
+        "3 3 3 2 true 25 WithPrereleases true",
+    );
 }

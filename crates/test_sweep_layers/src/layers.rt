@@ -7,7 +7,9 @@ use crate::marks::{call, copy_of, done, tell, tell_made};
 use crate::states::{graph_state, tell_graph};
 use std::alloc::Global;
 use wit_graph::{Features, Graph, ResolveResult, elaborate, is_elaborable};
-use wit_items::{Items, TrackRule, TryClone, UnresolvedPackage, WorldId, WorldItem, WorldKey};
+use wit_items::{
+    Items, PackageName, Text, TrackRule, TryClone, UnresolvedPackage, WorldId, WorldItem, WorldKey,
+};
 use wit_link::{Remap, append, append_all, sort_groups};
 use wit_unite::{exportize, importize, merge_by_track, unite};
 
@@ -38,10 +40,25 @@ fn alone(alloc: Global, package: &UnresolvedPackage) -> Option<Items<(Unresolved
     Some(list)
 }
 
+/// A list of this package and of one like it under another name, so that there is something to sort.
+fn with_another(
+    alloc: Global,
+    package: &UnresolvedPackage,
+) -> Option<Items<(UnresolvedPackage, u32)>>
+    ensures { IfSome result (λ list. (name : _) × (list ≡ («package».now, 0) ∷ (record «package».now { name = name }, 0) ∷ [])) }
+{
+    let mut list = alone(alloc, package)?;
+    let mut other = package.try_clone().ok()?;
+    let name = Text::try_from_str(alloc, "another").ok()?;
+    other.name = PackageName::new(name.try_clone().ok()?, name, None);
+    list.push((other, 0)).ok()?;
+    Some(list)
+}
+
 fn sort(rt: &impl Print, alloc: Global, package: &UnresolvedPackage) -> Option<()>
     requires { IsShaped «package».now }
 {
-    let list = alone(alloc, package)?;
+    let list = with_another(alloc, package)?;
     call(rt, "sort_groups");
     tell(rt, done(sort_groups(alloc, list)))
 }
