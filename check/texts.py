@@ -1,7 +1,7 @@
 #!/usr/bin/env python3
 """Tells which texts of refusals no stored case prints and no test expects.
 
-    python3 bench/texts.py        # at the top of the repository
+    python3 check/texts.py        # at the top of the repository
 
 The texts are the equations of FILES that give a text and hold literals, `codes "TEXT"`, and the constructors there that
 say `text ≡ codes "TEXT"`. Between its literals a text may have anything, but in place of a definition that it calls one
@@ -15,7 +15,7 @@ import re
 import sys
 
 FILES = """
-wit_graph_data/specs/ErrorText wit_link_spec/specs/CauseText wit_remap_spec/specs/FunctionMismatch
+wit_graph_data/specs/ErrorText wit_link_spec/specs/CauseText wit_remap_spec/specs/Borrows wit_remap_spec/specs/FunctionMismatch
 wit_merge_spec/specs/MismatchText wit_merge_spec/specs/Structure wit_semver_spec/specs/Rewritten
 wit_elaboration/specs/AllElaborated wit_transform/specs/Transformed wit_queries/specs/Selection
 """.split()

@@ -1,12 +1,12 @@
 #!/usr/bin/env python3
 """Turns scripts into JSON documents of the same commands (docs/JSON.md), and compares what is answered with the model.
 
-    python3 bench/documents.py SCRIPT
-    python3 bench/documents.py --program WITGRAPH_JSON --stored crates/test_cases/stdin
-    python3 bench/documents.py --program WITGRAPH_JSON [--first N] [--many N]
+    python3 check/script_documents.py SCRIPT
+    python3 check/script_documents.py --program WITGRAPH_JSON --stored crates/test_cases/stdin
+    python3 check/script_documents.py --program WITGRAPH_JSON [--first N] [--many N]
 
 The first form writes the document of a script. The others compare what the program answers, for the stored cases or for
-random scripts, with the model of the rules (`bench/model`): the replies, and all worlds of the last graph. What a script
+random scripts, with the model of the rules (`check/model`): the replies, and all worlds of the last graph. What a script
 prints on its way is left out, and what it selects in another graph. A script that isn't understood has no document. Ends
 with status 1 where they differ.
 """

@@ -1,7 +1,7 @@
 #!/usr/bin/env python3
 """Merges graphs of random scripts with copies of themselves, in the model of the rules.
 
-    python3 bench/copies.py [--first N] [--many N] [--jobs N]
+    python3 check/copies.py [--first N] [--many N] [--jobs N]
 
 After each command of a script that changes its graph a copy of the graph goes into it. Where a cause holds against that,
 or a world is printed otherwise then, the script is printed, and the status is 1. Scripts have no interface without a

@@ -1,9 +1,9 @@
 #!/usr/bin/env python3
 """Gives each crate the library that `rt ci` has kept of the same text on this machine, for checks by hand.
 
-    python3 bench/given.py
+    python3 tools/given.py
 
-prints the crates that have theirs. `rt check` and `bench/quick.py` then build what else they need, and `bench/unbuilt.py`
+prints the crates that have theirs. `rt check` and `tools/quick.py` then build what else they need, and `tools/unbuilt.py`
 reads it as sources. A library stays until the text of its crate or of one below it changes.
 """
 import functools
@@ -11,7 +11,7 @@ import os
 import shutil
 import sys
 
-from gate import TOP, loaded
+from toolchain import TOP, loaded
 
 
 def main():

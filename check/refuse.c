@@ -1,4 +1,4 @@
-// Laid over a program's allocator by LD_PRELOAD (bench/sweep.py compiles it): refuses requests for memory.
+// Laid over a program's allocator by LD_PRELOAD (check/sweep.py compiles it): refuses requests for memory.
 //
 // The program prints a line `call NAME` before a call that takes memory, `bare NAME` before one that takes none, and
 // `answer ..` after either. In the call of number SWEEP_CALL the request of number SWEEP_AT is refused, both counted

@@ -1,11 +1,11 @@
 #!/usr/bin/env python3
 """Checks functions of a crate before the libraries below it are proved: those that aren't built are read as sources.
 
-    python3 bench/unbuilt.py CRATE FOLDER FUNCTION.. [--allow-holes]
+    python3 tools/unbuilt.py CRATE FOLDER FUNCTION.. [--allow-holes]
 
 proves the functions, given by name or by module, with all that they call in the crate and in what is read as sources,
 and keeps what was proved in FOLDER for the next call; one call at a time uses a folder. The empty name '' proves nothing
-and tells in a minute what needs no proof to find. `bench/given.py` first spares what `rt ci` has proved already.
+and tells in a minute what needs no proof to find. `tools/given.py` first spares what `rt ci` has proved already.
 So functions high in the tree can be mended while the crates below are proved; `rt ci` is the judge.
 """
 import functools
@@ -13,7 +13,7 @@ import os
 import subprocess
 import sys
 
-from gate import TOP, loaded
+from toolchain import TOP, loaded
 
 
 def is_built(crate):

@@ -1,9 +1,9 @@
 #!/usr/bin/env python3
-"""Compares the program with an independent model of the rules (`bench/model`) on random scripts, or with the original.
+"""Compares the program with an independent model of the rules (`check/model`) on random scripts, or with the original.
 
-    python3 bench/compare.py PATH/TO/test_cases [--first N] [--many N] [--kind KIND]..
-    python3 bench/compare.py --stored crates/test_cases/stdin
-    python3 bench/compare.py PATH/TO/witgraph --original PROGRAM [--first N] [--many N] [--kind KIND].. [--jobs N]
+    python3 check/compare.py PATH/TO/test_cases [--first N] [--many N] [--kind KIND]..
+    python3 check/compare.py --stored crates/test_cases/stdin
+    python3 check/compare.py PATH/TO/witgraph --original PROGRAM [--first N] [--many N] [--kind KIND].. [--jobs N]
 
 With the model the program is that of the stored cases, which runs many scripts at once. Scripts are told by their
 numbers, so that one that differs can be made again (`--first N --many 1`). Kinds, by turns where none is named:
@@ -13,7 +13,7 @@ and `merges`, where other graphs with much in common go into the first. Ends wit
 otherwise than the model says.
 
 With `--original` both programs run each script, `--many` of each kind, and a table shows for each kind in how many
-scripts the first difference is of which row of docs/DIFFERENCES.md; `bench/original.py` tells the rows, and what
+scripts the first difference is of which row of docs/DIFFERENCES.md; `check/differences.py` tells the rows, and what
 the original is. Where the two differ the program is compared with the model, too. A script with a difference of no row,
 or with an answer that the model doesn't give, is printed with what both print, and the status is 1 then.
 """
@@ -24,8 +24,8 @@ import pathlib
 import subprocess
 import sys
 
+import differences
 import model
-import original
 from merges import Merger
 from writer import Writer
 
@@ -71,11 +71,11 @@ class Both:
         """The kind of a script, the row of its first difference, and what is to be shown of one that has none."""
         kind, number = job
         script = written(number, [kind])
-        ours, theirs = original.run([self.program], script), original.run_original(self.other, script)
-        if original.are_same(ours, theirs):
+        ours, theirs = differences.run([self.program], script), differences.run_original(self.other, script)
+        if differences.are_same(ours, theirs):
             return kind, EQUAL, None
         is_right = model.is_right(script, ours or "", self.rules)
-        rows = original.rows_of(script, ours, theirs, self.rules) if is_right else [None]
+        rows = differences.rows_of(script, ours, theirs, self.rules) if is_right else [None]
         if None not in rows:
             return kind, rows[0], None
         return kind, NO_ROW, f"{kind} {number} differs\n{script}--- prints\n{ours}--- the original prints\n{theirs}"
@@ -98,7 +98,7 @@ def show(counts):
     """Shows a table of the scripts of each kind: how many are equal, and how many differ first by which row."""
     print("| | " + " | ".join(counts) + " |\n" + "|---" * (len(counts) + 1) + "|")
     figures = {"scripts": [of.total() for of in counts.values()]}
-    figures |= {row: [of[row] for of in counts.values()] for row in (EQUAL, *original.ROWS, NO_ROW)}
+    figures |= {row: [of[row] for of in counts.values()] for row in (EQUAL, *differences.ROWS, NO_ROW)}
     for row, of_kinds in figures.items():
         print(f"| {row} | " + " | ".join(f"{it:,}" for it in of_kinds) + " |")
 
@@ -123,7 +123,7 @@ def main():
         return compared(*stored(read(asked.files[0])), rules)
     numbers = range(asked.first, asked.first + asked.many)
     if asked.original:
-        missing = [row for row in original.ROWS if f"\n| {row} |" not in read(DIFFERENCES)]
+        missing = [row for row in differences.ROWS if f"\n| {row} |" not in read(DIFFERENCES)]
         if missing:
             sys.exit(f"no row in {DIFFERENCES}: {missing}")
         both = Both(asked.files[0], asked.original, rules)

@@ -1,7 +1,7 @@
 #!/usr/bin/env python3
 """Builds the static library over the libraries that `rt ci` has left in the folders `out`.
 
-    python3 bench/c_library.py
+    python3 tools/c_library.py
 
 leaves crates/witgraph_c/out/libwitgraph_c.a, as `rt lib` there does. But `rt lib` builds first all libraries below, since
 it trusts none that another command has left: hours from nothing, and minutes after `rt ci`. Here `witgraph_c` alone is
@@ -11,7 +11,7 @@ import functools
 import os
 import sys
 
-from gate import TOP, loaded
+from toolchain import TOP, loaded
 
 
 def main():

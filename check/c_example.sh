@@ -1,5 +1,5 @@
 #!/bin/sh
-# bench/c_example.sh: builds what is written in C on the static library, with gcc or another C compiler and nothing else:
+# check/c_example.sh: builds what is written in C on the static library, with gcc or another C compiler and nothing else:
 # the example prints what each worked script is to print and ends with the status of `witgraph`, tells a script that isn't
 # UTF-8, and an allocation that is refused is told. `.ci/run` runs it after `rt ci`, over whose libraries it builds the static one.
 #
@@ -12,7 +12,7 @@ work=$(mktemp -d)
 trap 'rm -rf "$work"' EXIT
 
 if [ -z "${WITGRAPH_LIBRARY:-}" ]; then
-    python3 bench/c_library.py
+    python3 tools/c_library.py
     WITGRAPH_LIBRARY=crates/witgraph_c/out
 fi
 flags="-std=c99 -Wall -Wextra -Werror -Iinclude"

@@ -1,7 +1,7 @@
 #!/usr/bin/env python3
 """Compares the examples of the documents with the stored cases of `test_cases`.
 
-    python3 bench/examples.py        # at the top of the repository
+    python3 check/examples.py        # at the top of the repository
 
 In docs/REFUSALS.md an example is a line `**N**, `CASE`` and the block below it: without its lines that begin with `# `
 it is the script of the case, and those lines, without the `# `, are what the case prints. In docs/SCRIPT.md it is a

@@ -1,7 +1,7 @@
 """An independent model of what `witgraph` prints: the rules written once more, plainly and without care for speed.
 
 `answers` reads a script and tells for each command which texts it may print: where several causes hold, a refusal
-may name any of them. `bench/compare.py` compares the program with it. A merge also compares the structures of types
+may name any of them. `check/compare.py` compares the program with it. A merge also compares the structures of types
 that it makes one, unless `Rules` say that it doesn't.
 
 From below: `names`, `data`, `labels`, `causes` and `walks` are what the others are written in; `reader` reads the

@@ -2,11 +2,11 @@
 """Refuses each request for memory in turn, and tells where want of memory isn't what is answered. A request for less than
 what a block has, which gives memory back, is none of these.
 
-    python3 bench/sweep.py [--calls PROGRAM] [--scripts PROGRAM] [--documents PROGRAM] [--jobs N]
-    python3 bench/sweep.py --planted BUILD
+    python3 check/sweep.py [--calls PROGRAM] [--scripts PROGRAM] [--documents PROGRAM] [--jobs N]
+    python3 check/sweep.py --planted BUILD
 
 The programs are those that `rt ci` leaves in the folders `out`: `test_sweep`, which makes each call on the graphs of
-worked scripts, `witgraph`, which runs the scripts of `test_cases`, and `witgraph_json`. `bench/refuse.c` is compiled and laid over
+worked scripts, `witgraph`, which runs the scripts of `test_cases`, and `witgraph_json`. `check/refuse.c` is compiled and laid over
 their allocator. Each round is a process of its own. The script ends with status 1 where a round isn't answered so:
 
 Calls. In the round of number N the Nth request for memory within one call is refused, for N from 1 until none is; then
@@ -20,11 +20,11 @@ understood, else 0. In the round of number N the Nth request of the whole run is
 out of memory`, and the others what they print where that command isn't there, with status 0; or nothing is printed, with
 status 1.
 
-Documents. Every eighth script that has a document (`bench/documents.py`) is given to `witgraph_json` as that. In the round of
+Documents. Every eighth script that has a document (`check/script_documents.py`) is given to `witgraph_json` as that. In the round of
 number N the Nth request of the whole run is refused. One command is answered by 28, and the others and the graph are as
 where that command isn't there; or nothing is written, with status 1.
 
-`--planted` plants the wrong bodies of `bench/planted` in a copy of the repository and ends with status 1 where the
+`--planted` plants the wrong bodies of `check/planted` in a copy of the repository and ends with status 1 where the
 sweep of the calls doesn't tell one of them. No proof lets them pass, so `BUILD FOLDER OUT` is a command that builds the
 program of a crate's folder unproved.
 """
@@ -41,11 +41,11 @@ import sys
 import tempfile
 import time
 
-import documents
+import script_documents as documents
 from model.scripts import COMMANDS, SILENT
 
-BENCH = os.path.dirname(os.path.abspath(__file__))
-TOP = os.path.dirname(BENCH)
+CHECK = os.path.dirname(os.path.abspath(__file__))
+TOP = os.path.dirname(CHECK)
 WANT = "refused 28 out of memory"
 # All that a script prints which isn't understood.
 NOT_UNDERSTOOD = re.compile(r"line \d+: not understood\n")
@@ -64,7 +64,7 @@ def cases_of(path):
 
 
 class Program:
-    """A program that is run under `bench/refuse.c`."""
+    """A program that is run under `check/refuse.c`."""
 
     def __init__(self, path, shim):
         self.path, self.shim = path, shim
@@ -381,8 +381,8 @@ class Sweep:
         self.asked = collections.Counter()
         compiler = next(filter(None, map(shutil.which, ("cc", "gcc", "clang"))), None)
         if not compiler:
-            sys.exit("sweep: no cc, gcc or clang is here to compile bench/refuse.c")
-        subprocess.run([compiler, "-O2", "-shared", "-fPIC", "-o", self.shim, f"{BENCH}/refuse.c"], check=True)
+            sys.exit("sweep: no cc, gcc or clang is here to compile check/refuse.c")
+        subprocess.run([compiler, "-O2", "-shared", "-fPIC", "-o", self.shim, f"{CHECK}/refuse.c"], check=True)
 
     def program(self, path):
         """A copy that may be run: `rt ci` leaves programs without leave."""
@@ -432,8 +432,8 @@ def planted(sweep, build):
     copy = f"{sweep.folder}/copy"
     shutil.copytree(TOP, copy, ignore=shutil.ignore_patterns("out", ".git"))
     calls = {}
-    for name in sorted(os.listdir(f"{BENCH}/planted")):
-        words = dict(it.split(": ", 1) for it in read(f"{BENCH}/planted/{name}").splitlines())
+    for name in sorted(os.listdir(f"{CHECK}/planted")):
+        words = dict(it.split(": ", 1) for it in read(f"{CHECK}/planted/{name}").splitlines())
         text = read(f"{copy}/{words['file']}")
         assert text.count(words["old"]) == 1, name
         with open(f"{copy}/{words['file']}", "w", encoding="utf-8") as file:

@@ -1,7 +1,7 @@
 #!/usr/bin/env python3
 """Builds the libraries of this repository side by side, for checks by hand.
 
-    bench/libraries.py [LANES [CRATE..]]
+    tools/libraries.py [LANES [CRATE..]]
 
 builds each library of crates.txt, or those that the named crates stand on, as `rt lib` does with what it kept in
 out/, as many at a time as LANES says (4, where it isn't said), those first behind which most waits. Two runs of
@@ -9,27 +9,13 @@ out/, as many at a time as LANES says (4, where it isn't said), those first behi
 
 What `rt ci` builds is the judge; nothing here is a verdict.
 """
-import importlib.machinery
-import importlib.util
 import os
 import shutil
 import sys
 import time
 from concurrent.futures import FIRST_COMPLETED, ThreadPoolExecutor, wait
 
-TOP = os.path.dirname(os.path.dirname(os.path.abspath(__file__)))
-
-
-def loaded():
-    """The command `rt`, as a module, whose crates know the files beside them."""
-    sys.dont_write_bytecode = True
-    path = os.path.realpath(shutil.which("rt"))
-    sys.path.insert(0, os.path.dirname(path))
-    loader = importlib.machinery.SourceFileLoader("rt", path)
-    made = importlib.util.module_from_spec(importlib.util.spec_from_loader("rt", loader))
-    sys.modules["rt"] = made
-    loader.exec_module(made)
-    return made
+from toolchain import TOP, loaded
 
 
 def build(crate, jobs):

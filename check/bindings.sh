@@ -1,6 +1,6 @@
 #!/bin/sh
-# bench/bindings.sh [PROGRAM]: builds the static library, and builds and runs what stands on it: what is written in C
-# (bench/c_example.sh), the Rust crate with its tests, its examples and its documentation, and the Python module with its
+# check/bindings.sh [PROGRAM]: builds the static library, and builds and runs what stands on it: what is written in C
+# (check/c_example.sh), the Rust crate with its tests, its examples and its documentation, and the Python module with its
 # tests. With PROGRAM, which reads scripts as `witgraph` does, compares the two on the worked scripts. Needs rt, cc, cargo
 # and python3; Rust and Python are no part of the gate.
 #
@@ -19,7 +19,7 @@ fi
 export WITGRAPH_LIBRARY
 
 echo "bindings: C"
-bench/c_example.sh
+check/c_example.sh
 
 echo "bindings: Rust"
 export CARGO_TARGET_DIR="$work/target"

@@ -1,12 +1,12 @@
 #!/usr/bin/env python3
 """Tries edits that must be refused, and chooses those that a run of the gate tries.
 
-    bench/edits.py CRATE..        tries all edits of these crates: the prover must refuse each
-    bench/edits.py --all          the same of all crates
-    bench/edits.py --check        tells which edits can't be applied, and which named wrong bodies are missing
-    bench/edits.py --choose HASH  prints the crates whose turn it is at the commit of this hash, and the minutes that each takes
-    bench/edits.py --lay HASH     puts copies of their edits where `rt ci` reads them, prints which they are
-    bench/edits.py --clear        removes these copies
+    tools/edits.py CRATE..        tries all edits of these crates: the prover must refuse each
+    tools/edits.py --all          the same of all crates
+    tools/edits.py --check        tells which edits can't be applied, and which named wrong bodies are missing
+    tools/edits.py --choose HASH  prints the crates whose turn it is at the commit of this hash, and the minutes that each takes
+    tools/edits.py --lay HASH     puts copies of their edits where `rt ci` reads them, prints which they are
+    tools/edits.py --clear        removes these copies
 
 `rt ci` reads the edits in crates/NAME/must-fail: the wrong bodies that have a name (CONTRIBUTING.md), tried in each run.
 All others lie in crates/NAME/must-fail-in-turn, and come by whole crates, since a crate is proved a second time for its
@@ -25,7 +25,7 @@ import re
 import shutil
 import sys
 
-from gate import TOP, lines, loaded
+from toolchain import TOP, lines, loaded
 
 MINUTES = 40
 EDIT, PROOF, LINE = 30, 25, 0.2
