@@ -208,5 +208,5 @@ joined_graph m = record {
 }
 
 -- the two graphs as one, with every world elaborated
-abbrev pub united : GraphMerge → Graph
-united m = all_elaborated (joined_graph m)
+abbrev pub merged : GraphMerge → Graph
+merged m = all_elaborated (joined_graph m)

@@ -5,26 +5,26 @@ use Rattle.wit_graph_data.specs.facts.ResultFacts.{residual_error}
 use Rattle.wit_graph_data.specs.declared.cause.Cause.TheVariants as cause
 use Rattle.wit_graph_data.specs.declared.error_kind.ResolveErrorKind.{ResolveErrorKind}
 use Rattle.wit_graph_data.specs.declared.error_kind.ResolveErrorKind.TheVariants.{OutOfMemory, Semantic}
-use Rattle.wit_semver_spec.specs.Rewritten.{Disagrees, Upgrade}
-use Rattle.wit_semver.specs.steps.Replacing.{upgrade_of}
-use Rattle.wit_semver.proofs.upgrade_plan.UpgradePlan.check_functions.Goals as goal
+use Rattle.wit_semver_spec.specs.SemverMerged.{Disagrees, SemverMerge}
+use Rattle.wit_semver.specs.steps.Replacing.{semver_merge_of}
+use Rattle.wit_semver.proofs.semver_merge_plan.SemverMergePlan.check_functions.Goals as goal
 
-abbrev CauseOf : Upgrade → ResolveErrorKind → Type 0
+abbrev CauseOf : SemverMerge → ResolveErrorKind → Type 0
 CauseOf u e = (e ≡ OutOfMemory) ⊎ ((f : ℕ) × (message : List ℕ) × Disagrees u f message × (e ≡ Semantic None message cause.UpgradeMismatch))
 
-widened : (u : Upgrade) (f : ℕ) (e : ResolveErrorKind) → (e ≡ OutOfMemory) ⊎ ((message : List ℕ) × Disagrees u f message × (e ≡ Semantic None message cause.UpgradeMismatch)) → CauseOf u e
+widened : (u : SemverMerge) (f : ℕ) (e : ResolveErrorKind) → (e ≡ OutOfMemory) ⊎ ((message : List ℕ) × Disagrees u f message × (e ≡ Semantic None message cause.UpgradeMismatch)) → CauseOf u e
 widened u f e (inl memory) = inl memory
 widened u f e (inr told) = inr (f, told.0, told.1, told.2)
 
 pub returns-in_err-check_interface-clause-cause : goal.returns-in_err-check_interface-clause-cause
 returns-in_err-check_interface-clause-cause c =
-    let u = upgrade_of c.args.self.now in
+    let u = semver_merge_of c.args.self.now in
     residual_error c.from_residual.result c.from_residual.ensures.1
     (λ e is. let same : e ≡ c.in_err-check_interface.field-0.0 = is in subst (CauseOf u) (sym same) (widened u c.from_index.result c.in_err-check_interface.field-0.0 c.in_err-check_interface.ensures.cause))
 
 pub loop-index-preserved : goal.loop-index-preserved
 loop-index-preserved c f below message differ = elim (cases_order f c.loop-index.index) [
-  | inl same ↦ c.in_ok-check_interface.ensures.agree message (subst (λ (i : ℕ). Disagrees (upgrade_of c.args.self.now) i message) (same ∙ sym c.from_index.ensures) differ)
+  | inl same ↦ c.in_ok-check_interface.ensures.agree message (subst (λ (i : ℕ). Disagrees (semver_merge_of c.args.self.now) i message) (same ∙ sym c.from_index.ensures) differ)
   | inr order ↦ elim order [
     | inl less ↦ c.loop-index.invariant f less message differ
     | inr more ↦ absurd (apart f c.loop-index.index below more)

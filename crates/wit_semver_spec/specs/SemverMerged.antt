@@ -88,39 +88,39 @@ is_older_than rule g i j = both (λ v w. have_one_track rule v w && is_below v w
 -- ---- which imports are replaced
 
 -- a world of a graph, whose imports are merged by a rule of tracks
-pub record Upgrade : Type 0 where
+pub record SemverMerge : Type 0 where
   pub rule : TrackRule
   pub graph : Graph
   pub world : World
 
-abbrev pub upgrade : TrackRule → Graph → World → Upgrade
-upgrade rule g world = record { rule = rule; graph = g; world = world }
+abbrev pub semver_merge : TrackRule → Graph → World → SemverMerge
+semver_merge rule g world = record { rule = rule; graph = g; world = world }
 
 -- the interfaces that the world imports under their own keys. What is imported under a label is a thing of its own, which
 -- is given under that label and nowhere else: nothing stands for it, and it for nothing
-abbrev pub imported : Upgrade → List ℕ
+abbrev pub imported : SemverMerge → List ℕ
 imported u = keyed_interfaces u.world.imports
 
 -- is interface i one of them, of which another is of a greater version on its track?
-abbrev pub is_replaced : Upgrade → ℕ → Bool
+abbrev pub is_replaced : SemverMerge → ℕ → Bool
 is_replaced u i = list_any (nat_eq i) (imported u) && list_any (is_older_than u.rule u.graph i) (imported u)
 
 -- the greatest of them on the track of interface i: the first there that isn't replaced, in a valid graph the only one,
 -- since no two interfaces have one name and one version. Without any it is i itself, which nothing reads, since where i is
 -- replaced there is one
-abbrev pub newest : Upgrade → ℕ → ℕ
+abbrev pub newest : SemverMerge → ℕ → ℕ
 newest u i = unwrap_or (find (λ j. are_on_one_track u.rule u.graph i j && not (is_replaced u j)) (imported u)) i
 
 -- the entry stands under the key of a replaced interface
-abbrev pub is_replaced_entry : Upgrade → Entry → Bool
+abbrev pub is_replaced_entry : SemverMerge → Entry → Bool
 is_replaced_entry u e = list_any (is_replaced u) (key_interface e.0)
 
 -- the imports that stay
-abbrev pub kept_imports : Upgrade → List Entry
+abbrev pub kept_imports : SemverMerge → List Entry
 kept_imports u = filter (λ e. not (is_replaced_entry u e)) u.world.imports
 
 -- the world as it is listed then. Its exports stay, of whatever version: whoever calls them asks for that version
-abbrev pub listed_world : Upgrade → World
+abbrev pub listed_world : SemverMerge → World
 listed_world u = record u.world { imports = kept_imports u }
 
 -- ---- what aliases name
@@ -148,11 +148,11 @@ entry_types interfaces (k, item.Function f) = []
 entry_types interfaces (k, item.Type_ t span) = t ∷ []
 
 -- the types that may be rewritten: those of the imports that stay and of the exports
-abbrev pub rewritable_types : Upgrade → List ℕ
+abbrev pub rewritable_types : SemverMerge → List ℕ
 rewritable_types u = flat_map (entry_types u.graph.interfaces) (kept_imports u ++ u.world.exports)
 
 -- the replaced interface that type t uses: of which it is an alias of a type, and not its own owner
-abbrev pub replaced_use : Upgrade → ℕ → Option ℕ
+abbrev pub replaced_use : SemverMerge → ℕ → Option ℕ
 replaced_use u t = option_and_then (λ f. if is_replaced u f then Some f else None) (type_interface_dep u.graph.types t)
 
 -- the name of type t
@@ -169,11 +169,11 @@ interface_type interfaces i name = option_and_then (λ (interface : Interface). 
 
 -- where type t uses a replaced interface, the newest's type of the name of what t names: names are what two versions have
 -- in common
-abbrev pub newest_type : Upgrade → ℕ → Option ℕ
+abbrev pub newest_type : SemverMerge → ℕ → Option ℕ
 newest_type u t = option_and_then (λ f. option_and_then (interface_type u.graph.interfaces (newest u f)) (target_name u.graph.types t)) (replaced_use u t)
 
 -- what type t comes to name, where it may be rewritten
-abbrev pub new_target : Upgrade → ℕ → Option ℕ
+abbrev pub new_target : SemverMerge → ℕ → Option ℕ
 new_target u t = if list_any (nat_eq t) (rewritable_types u) then newest_type u t else None
 
 -- an alias of another type, or the type as it was
@@ -182,23 +182,23 @@ retargeted def None = def
 retargeted def (Some t) = record def { kind = kind.Type_ (type.Id t) }
 
 -- the types, each naming what it comes to name
-abbrev pub rewritten_types : Upgrade → List TypeDef
+abbrev pub rewritten_types : SemverMerge → List TypeDef
 rewritten_types u = map (λ (e : ℕ × TypeDef). retargeted e.1 (new_target u e.0)) (enumerate_from 0 u.graph.types)
 
 -- ---- the graph
 
 -- the graph with the world so listed, at its place, and its uses following
-abbrev pub with_new_entries_at : Upgrade → ℕ → Graph
+abbrev pub with_new_entries_at : SemverMerge → ℕ → Graph
 with_new_entries_at u w = record u.graph { types = rewritten_types u; worlds = slice_set u.graph.worlds w (listed_world u) }
 
 -- the graph with its new entries in world w, and the aliases rewritten; as it was where there is no such world
 abbrev pub with_new_entries : TrackRule → Graph → ℕ → Graph
-with_new_entries rule g w = option_map_or (λ (world : World). with_new_entries_at (upgrade rule g world) w) (slice_get g.worlds w) g
+with_new_entries rule g w = option_map_or (λ (world : World). with_new_entries_at (semver_merge rule g world) w) (slice_get g.worlds w) g
 
 -- the graph after semver merging of world w. Every world is elaborated, since an interface that is rewritten may stand in
 -- others, too, which import then what it uses now
-abbrev pub rewritten : TrackRule → Graph → ℕ → Graph
-rewritten rule g w = all_elaborated (with_new_entries rule g w)
+abbrev pub semver_merged : TrackRule → Graph → ℕ → Graph
+semver_merged rule g w = all_elaborated (with_new_entries rule g w)
 
 -- ---- why it is refused
 --
@@ -212,8 +212,8 @@ rewritten rule g w = all_elaborated (with_new_entries rule g w)
 -- rules of this project.
 
 -- that interface `old` can't be replaced by interface `new`, for this reason
-abbrev pub upgrade_text : Graph → ℕ → ℕ → List ℕ → List ℕ
-upgrade_text g old new reason =
+abbrev pub semver_merge_text : Graph → ℕ → ℕ → List ℕ → List ℕ
+semver_merge_text g old new reason =
     codes "failed to upgrade `"
     ++ (key_text g.packages g.interfaces (key.Interface old)
     ++ (codes "` to `"
@@ -229,16 +229,16 @@ abbrev pub disagreement_text : List ℕ → List ℕ
 disagreement_text mismatch = codes "failed to merge interfaces: " ++ mismatch
 
 -- 25: type t uses a replaced interface, and the newest has no type of the name of what t names
-pub record LacksType (u : Upgrade) (t : ℕ) (message : List ℕ) : Type 0 where
+pub record LacksType (u : SemverMerge) (t : ℕ) (message : List ℕ) : Type 0 where
   pub f : ℕ
   pub name : List ℕ
   pub uses : replaced_use u t ≡ Some f
   pub named : target_name u.graph.types t ≡ Some name
   pub absent : interface_type u.graph.interfaces (newest u f) name ≡ None
-  pub message_is : message ≡ upgrade_text u.graph f (newest u f) (missing_text name)
+  pub message_is : message ≡ semver_merge_text u.graph f (newest u f) (missing_text name)
 
 -- 25: interface f is replaced, and disagrees with the newest in a function that both have
-pub record Disagrees (u : Upgrade) (f : ℕ) (message : List ℕ) : Type 0 where
+pub record Disagrees (u : SemverMerge) (f : ℕ) (message : List ℕ) : Type 0 where
   pub old : Interface
   pub new : Interface
   pub mismatch : List ℕ
@@ -246,29 +246,29 @@ pub record Disagrees (u : Upgrade) (f : ℕ) (message : List ℕ) : Type 0 where
   pub old_is : slice_get u.graph.interfaces f ≡ Some old
   pub new_is : slice_get u.graph.interfaces (newest u f) ≡ Some new
   pub have : HaveFunctionMismatch old new mismatch
-  pub message_is : message ≡ upgrade_text u.graph f (newest u f) (disagreement_text mismatch)
+  pub message_is : message ≡ semver_merge_text u.graph f (newest u f) (disagreement_text mismatch)
 
 -- no type is missing: there is a graph with new entries
-abbrev pub IsComplete : Upgrade → Type 0
+abbrev pub IsComplete : SemverMerge → Type 0
 IsComplete u = (t : ℕ) (message : List ℕ) → Contains (rewritable_types u) t → LacksType u t message → ⊥
 
 -- all replaced interfaces agree with the newest
-abbrev pub Agrees : Upgrade → Type 0
+abbrev pub Agrees : SemverMerge → Type 0
 Agrees u = (f : ℕ) (message : List ℕ) → Disagrees u f message → ⊥
 
 -- why the imports of the world at place w can't be merged by tracks, by number
-pub data UpgradeCause (u : Upgrade) (w : ℕ) : ResolveErrorKind → Type 0 where
-  conflict_4 : (span : Option (ℕ × ℕ)) (name : List ℕ) → IsComplete u → HasWorldInConflict (with_new_entries_at u w) span name → UpgradeCause u w (InvalidTransitiveDependency span name)
-  package_cycle_6 : (home : PackageName) → IsComplete u → DependsOnItself (with_new_entries_at u w) home → UpgradeCause u w (PackageCycle None home)
-  interface_cycle_22 : (message : List ℕ) → IsComplete u → UsesItself (with_new_entries_at u w) message → UpgradeCause u w (Semantic None message cause.InterfaceCycle)
-  type_cycle_23 : (message : List ℕ) → IsComplete u → RefersToItself (with_new_entries_at u w) message → UpgradeCause u w (Semantic None message cause.TypeCycle)
-  type_missing_25 : (t : ℕ) (message : List ℕ) → Contains (rewritable_types u) t → LacksType u t message → UpgradeCause u w (Semantic None message cause.UpgradeMismatch)
-  functions_disagree_25 : (f : ℕ) (message : List ℕ) → Disagrees u f message → UpgradeCause u w (Semantic None message cause.UpgradeMismatch)
+pub data SemverMergeCause (u : SemverMerge) (w : ℕ) : ResolveErrorKind → Type 0 where
+  conflict_4 : (span : Option (ℕ × ℕ)) (name : List ℕ) → IsComplete u → HasWorldInConflict (with_new_entries_at u w) span name → SemverMergeCause u w (InvalidTransitiveDependency span name)
+  package_cycle_6 : (home : PackageName) → IsComplete u → DependsOnItself (with_new_entries_at u w) home → SemverMergeCause u w (PackageCycle None home)
+  interface_cycle_22 : (message : List ℕ) → IsComplete u → UsesItself (with_new_entries_at u w) message → SemverMergeCause u w (Semantic None message cause.InterfaceCycle)
+  type_cycle_23 : (message : List ℕ) → IsComplete u → RefersToItself (with_new_entries_at u w) message → SemverMergeCause u w (Semantic None message cause.TypeCycle)
+  type_missing_25 : (t : ℕ) (message : List ℕ) → Contains (rewritable_types u) t → LacksType u t message → SemverMergeCause u w (Semantic None message cause.UpgradeMismatch)
+  functions_disagree_25 : (f : ℕ) (message : List ℕ) → Disagrees u f message → SemverMergeCause u w (Semantic None message cause.UpgradeMismatch)
 
 -- a cause of the semver merging of world w
-abbrev pub IsTrackCause : TrackRule → Graph → ℕ → ResolveErrorKind → Type 0
-IsTrackCause rule g w error = (world : World) × (slice_get g.worlds w ≡ Some world) × UpgradeCause (upgrade rule g world) w error
+abbrev pub IsSemverMergeCause : TrackRule → Graph → ℕ → ResolveErrorKind → Type 0
+IsSemverMergeCause rule g w error = (world : World) × (slice_get g.worlds w ≡ Some world) × SemverMergeCause (semver_merge rule g world) w error
 
 -- no cause holds against it
 abbrev pub SemverMergeIsAccepted : TrackRule → Graph → ℕ → Type 0
-SemverMergeIsAccepted rule g w = NoCause (IsTrackCause rule g w)
+SemverMergeIsAccepted rule g w = NoCause (IsSemverMergeCause rule g w)

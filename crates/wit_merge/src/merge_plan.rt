@@ -1,6 +1,6 @@
 //! Two graphs that become one.
 ghost use Rattle.std.specs.Prelude.{◌≡◌, ◌<◌, Some, length, ℕ};
-ghost use Rattle.wit_merge_spec.specs.United.{merged_package};
+ghost use Rattle.wit_merge_spec.specs.Merged.{merged_package};
 ghost use Rattle.wit_merge.specs.steps.UnionSteps.{CanUnite, merging_of};
 
 use wit_data::{Items, PackageId, TypeId};
@@ -10,7 +10,7 @@ use wit_remap::Mover;
 
 /// Two graphs that become one: what is matched of them, and where the things of the other one go.
 #[derive(Clone, Copy)]
-pub(crate) struct UnionPlan<'a> {
+pub(crate) struct MergePlan<'a> {
     pub(crate) graph: &'a Graph,
     pub(crate) other: &'a Graph,
     pub(crate) matches: &'a Matches,
@@ -20,7 +20,7 @@ pub(crate) struct UnionPlan<'a> {
     pub(crate) offset: u32,
 }
 
-impl<'a> UnionPlan<'a> {
+impl<'a> MergePlan<'a> {
     /// How what stands in a package of the other graph moves. Types and functions name no package, so for them `home` is
     /// None, and where the package goes isn't asked.
     pub(crate) fn mover(&self, home: Option<PackageId>) -> Mover<'a>

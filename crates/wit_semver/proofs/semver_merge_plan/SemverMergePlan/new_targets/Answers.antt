@@ -3,11 +3,11 @@ use Rattle.std.proofs.lemmas.List.{take_all}
 use Rattle.std.proofs.lemmas.Option.{slice_get_read}
 use Rattle.wit_values.specs.facts.Lists.{take-next_at}
 use Rattle.wit_graph_theory.specs.facts.ListFacts.{contained_at}
-use Rattle.wit_semver_spec.specs.Rewritten.{newest_type}
-use Rattle.wit_semver.specs.steps.Replacing.{IsFilled, LackTypes, upgrade_of}
+use Rattle.wit_semver_spec.specs.SemverMerged.{newest_type}
+use Rattle.wit_semver.specs.steps.Replacing.{IsFilled, LackTypes, semver_merge_of}
 use Rattle.wit_semver.proofs.Filled.{filled-next}
 use Rattle.wit_semver.proofs.Used.{none_lacks-next}
-use Rattle.wit_semver.proofs.upgrade_plan.UpgradePlan.new_targets.Goals as goal
+use Rattle.wit_semver.proofs.semver_merge_plan.SemverMergePlan.new_targets.Goals as goal
 
 -- what is read at a place of the lent list stands there
 stands : (ids lent : List ℕ) (i id : ℕ) → lent ≡ ids → i < length lent → id ≡ get_or lent i id → slice_get ids i ≡ Some id
@@ -24,7 +24,7 @@ set-requires c =
 pub loop-id-preserved : goal.loop-id-preserved
 loop-id-preserved c =
     let rewritable_types = c.args.rewritable_types.now in
-    let u = upgrade_of c.args.self.now in
+    let u = semver_merge_of c.args.self.now in
     let f = newest_type u in
     let id = c.id-item.result in
     let ids = take c.loop-id.id-index rewritable_types in
@@ -44,4 +44,4 @@ returns-clause-complete c message =
     let rewritable_types = c.args.rewritable_types.now in
     let long : length c.as_slice-id-items.result.now ≡ length rewritable_types = ap length c.as_slice-id-items.ensures in
     let past : length rewritable_types ≤ c.loop-id.id-index = omega (arith, long, c.loop-id-test.false) in
-    subst (λ (is : List ℕ). LackTypes (upgrade_of c.args.self.now) is message → ⊥) (take_all c.loop-id.id-index rewritable_types past) (c.loop-id.invariant.complete message)
+    subst (λ (is : List ℕ). LackTypes (semver_merge_of c.args.self.now) is message → ⊥) (take_all c.loop-id.id-index rewritable_types past) (c.loop-id.invariant.complete message)

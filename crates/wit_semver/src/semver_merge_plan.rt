@@ -2,8 +2,8 @@
 ghost use Rattle.std.specs.Prelude.{◌≡◌, ◌<◌, ℕ, Contains, IfOk, None, get_or, length};
 ghost use Rattle.wit_elaboration.specs.Entries.{keyed_interfaces};
 ghost use Rattle.wit_elaboration.specs.Valid.{IsValid};
-ghost use Rattle.wit_semver_spec.specs.Rewritten.{upgrade};
-ghost use Rattle.wit_semver.specs.steps.Replacing.{IsUpgradeReady, upgrade_of};
+ghost use Rattle.wit_semver_spec.specs.SemverMerged.{semver_merge};
+ghost use Rattle.wit_semver.specs.steps.Replacing.{IsSemverMergeReady, semver_merge_of};
 
 use crate::replaced::replacements;
 use std::alloc::{AllocError, Global};
@@ -13,28 +13,28 @@ use wit_graph_data::Graph;
 /// A world of a graph whose imports are to be merged by a rule of tracks, and what replaces each
 /// interface of the graph.
 #[derive(Drop)]
-pub(crate) struct UpgradePlan<'a> {
+pub(crate) struct SemverMergePlan<'a> {
     pub(crate) graph: &'a Graph,
     pub(crate) world: &'a World,
     pub(crate) rule: TrackRule,
     pub(crate) replaced: Items<Option<InterfaceId>>,
 }
 
-impl<'a> UpgradePlan<'a> {
+impl<'a> SemverMergePlan<'a> {
     /// It finds what replaces which.
     pub(crate) fn new(
         alloc: Global,
         graph: &'a Graph,
         world: &'a World,
         rule: TrackRule,
-    ) -> Result<UpgradePlan<'a>, AllocError>
+    ) -> Result<SemverMergePlan<'a>, AllocError>
         requires valid { IsValid graph.now }
         requires in_range { (i : ℕ) → Contains (keyed_interfaces world.now.imports) i → i < length graph.now.interfaces }
-        ensures ready { IfOk result (λ plan. IsUpgradeReady plan) }
-        ensures of { IfOk result (λ plan. upgrade_of plan ≡ upgrade rule graph.now world.now) }
+        ensures ready { IfOk result (λ plan. IsSemverMergeReady plan) }
+        ensures of { IfOk result (λ plan. semver_merge_of plan ≡ semver_merge rule graph.now world.now) }
     {
         let replaced = replacements(alloc, graph, world, rule)?;
-        Ok(UpgradePlan {
+        Ok(SemverMergePlan {
             graph,
             world,
             rule,

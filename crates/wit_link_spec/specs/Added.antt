@@ -95,5 +95,5 @@ with_worlds a count = fold (with_world a) (with_parts a) (take count (own_worlds
 --                    packages    0   | 1 foo:main { i -> 2 } { v -> 1 }
 --
 -- (`whole` of `ExamplesOfPushes` in examples_link; with an include `once` of `ExamplesOfIncludedWorlds`)
-abbrev pub pushed : Addition → Graph
-pushed a = fold (with_world a) (with_parts a) (own_worlds a)
+abbrev pub added : Addition → Graph
+added a = fold (with_world a) (with_parts a) (own_worlds a)

@@ -1,6 +1,6 @@
 use Rattle.std.proofs.Common.{◌∙◌, ℕ, Option, None, get_or, sym, ap, unwrap_or}
 use Rattle.std.proofs.lemmas.Option.{get_or_from_slice_get, unwrap_or-slice_get}
-use Rattle.wit_semver.proofs.upgrade_plan.replacement_of.Goals as goal
+use Rattle.wit_semver.proofs.semver_merge_plan.replacement_of.Goals as goal
 
 pub returns-in-Some : goal.returns-in-Some
 returns-in-Some c =
