@@ -15,8 +15,6 @@ prints from such a record a row for each crate, the sums and the longest chain o
 Seconds are of user and system together; a busy machine shows up to twice what a quiet one does.
 """
 import collections
-import importlib.machinery
-import importlib.util
 import json
 import os
 import re
@@ -27,17 +25,8 @@ import sys
 import threading
 import time
 
-TOP = os.path.dirname(os.path.dirname(os.path.abspath(__file__)))
-
-
-def loaded():
-    """The command `rt`, as a module."""
-    sys.dont_write_bytecode = True
-    loader = importlib.machinery.SourceFileLoader("rt", os.path.realpath(shutil.which("rt")))
-    made = importlib.util.module_from_spec(importlib.util.spec_from_loader("rt", loader))
-    sys.modules["rt"] = made
-    loader.exec_module(made)
-    return made
+sys.path.insert(0, os.path.join(os.path.dirname(os.path.dirname(os.path.abspath(__file__))), "tools"))
+from toolchain import TOP, lines, loaded  # noqa: E402
 
 
 class Record:
@@ -124,16 +113,6 @@ def run(path, words):
     usage = resource.getrusage(resource.RUSAGE_SELF)
     record.note(kind="rt", crate="", edit="", seconds=usage.ru_utime + usage.ru_stime, clock=time.time() - began)
     return status
-
-
-def lines(folder, ending):
-    count = 0
-    for at, _, names in os.walk(folder):
-        for name in names:
-            if name.endswith(ending):
-                with open(os.path.join(at, name), encoding="utf-8") as text:
-                    count += text.read().count("\n")
-    return count
 
 
 def crates():

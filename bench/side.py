@@ -3,7 +3,7 @@
 
     python3 bench/side.py PROGRAM ORIGINAL [--kind KIND].. [SIZE ..]
 
-PROGRAM is `witgraph`, ORIGINAL the program that `bench/original.py` describes; its argument `--fast` says that it runs
+PROGRAM is `witgraph`, ORIGINAL the program that `check/differences.py` describes; its argument `--fast` says that it runs
 each command at once, without a trial and without a copy of its graphs. Each kind of script (all, where none is named) is
 run at each size (10,000, where none is given) by turns, three times by each program (once where one takes more than
 ten seconds); of each the run of the least time counts, and the least peak. The time is that of the processor, for the

@@ -1,7 +1,7 @@
 #!/usr/bin/env python3
 """Tests of wit2script.py: `python3 tools/test_wit2script.py`.
 
-Each script that is written here is read by the model of the rules (bench/model), too.
+Each script that is written here is read by the model of the rules (check/model), too.
 """
 import contextlib
 import io
@@ -13,7 +13,7 @@ import unittest
 
 TOP = os.path.dirname(os.path.dirname(os.path.abspath(__file__)))
 WASI = os.path.join(TOP, "examples", "wasi")
-sys.path[:0] = [os.path.join(TOP, "tools"), os.path.join(TOP, "bench")]
+sys.path[:0] = [os.path.join(TOP, "tools"), os.path.join(TOP, "check")]
 
 import model  # noqa: E402
 import wit2script  # noqa: E402

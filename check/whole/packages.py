@@ -1,8 +1,8 @@
-"""The packages and commands of a document as those of the model of the rules (bench/model)."""
+"""The packages and commands of a document as those of the model of the rules (check/model)."""
 import pathlib
 import sys
 
-sys.path.insert(0, str(pathlib.Path(__file__).parent.parent.parent / "bench"))
+sys.path.insert(0, str(pathlib.Path(__file__).parent.parent.parent / "check"))
 
 from model import data
 from model.names import PackageName

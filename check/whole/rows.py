@@ -1,12 +1,12 @@
 """Tells of which row of docs/DIFFERENCES.md a difference between two answers to a document is.
 
-Most are told by bench/original.py, which asks the model of the rules. What scripts can't show is told here: of texts
+Most are told by check/differences.py, which asks the model of the rules. What scripts can't show is told here: of texts
 with deprecations, of files, of places and of graphs.
 """
 import re
 
 import packages
-import original
+import differences
 from graphs import Differ, paired, without_gated
 from model import adding
 from model.data import Type
@@ -57,7 +57,7 @@ def line(difference, reply, command):
 
 
 class Refused:
-    """The two answers to a command, as bench/original.py has them."""
+    """The two answers to a command, as check/differences.py has them."""
 
     def __init__(self, difference):
         listed = list(packages.commands_of(difference.commands))
@@ -67,7 +67,7 @@ class Refused:
         self.ours, self.theirs = (line(difference, it, command) for it in (difference.ours, difference.theirs))
 
     def made(self, theirs):
-        return original.Difference(self.commands, self.at, self.ours, theirs, Rules())
+        return differences.Difference(self.commands, self.at, self.ours, theirs, Rules())
 
 
 def is_question(command):
@@ -98,7 +98,7 @@ def row_of(difference):
         it = asked.made(text)
         if text != asked.theirs and (it.theirs in it.texts or it.theirs == it.ours):
             return "the text of stabilities"
-        found = (row for row, is_row in original.ROWS.items() if is_row(it))
+        found = (row for row, is_row in differences.ROWS.items() if is_row(it))
         row = next((row for row in found if AT_PLACES.get(row, is_anywhere)(difference, it)), None)
         if row:
             return row

@@ -5,7 +5,7 @@
     python3 check/whole/whole.py PATH/TO/witgraph_json PATH/TO/witgraph-original DOCUMENT..
 
 With `--texts` packages are texts of WIT, read by tools/wit2json.py. With `--scripts` documents are those of random scripts
-of bench/compare.py, with `--stored` those of a file of cases; files with documents may be named.
+of check/compare.py, with `--stored` those of a file of cases; files with documents may be named.
 
 Replies are compared with texts, spans and how they are shown, graphs in all data (check/whole/graphs.py says what is
 free), of the second graphs of merges, too. Where the two differ the tool tells of which row of docs/DIFFERENCES.md that

@@ -2,7 +2,7 @@
 # check.sh [--store] PATH/TO/witgraph: whether what is stored here is what the tool and the program make of it.
 #
 # Makes the scripts of the packages anew from the texts in wit, and what the tool tells of them (notes.txt). Runs the
-# program on each walk-through, and asks the model of the rules (bench/model), too. Compares the cases of
+# program on each walk-through, and asks the model of the rules (check/model), too. Compares the cases of
 # crates/test_cases. Names what differs, and then ends with status 1. With --store it is stored, but for the cases.
 #
 # Where WITGRAPH_JSON is the path of a build of witgraph_json, that runs the walk-throughs with nothing substituted, and its
@@ -10,7 +10,7 @@
 #
 # Where OBJECTS has paths of objects with published worlds (compare_object.py), that graph is compared with them, too.
 #
-# Where ORIGINAL is the path of the original that reads scripts (bench/original.py), that is asked too; it answers the
+# Where ORIGINAL is the path of the original that reads scripts (check/differences.py), that is asked too; it answers the
 # same but for the numbers of refusals, which it doesn't have.
 set -u
 store=
@@ -62,5 +62,5 @@ for walk in ${ORIGINAL:+features merge proxy tool}; do
     sed 's/^refused [0-9]* /refused ? /' "$made/$walk.out" > "$made/expected"
     "$ORIGINAL" < "$made/$walk.script" | cmp -s - "$made/expected" || { echo "$walk: the original answers otherwise"; status=1; }
 done
-python3 ../../bench/compare.py --stored "$made/cases" || status=1
+python3 ../../check/compare.py --stored "$made/cases" || status=1
 exit $status

@@ -6,7 +6,7 @@ use Rattle.wit_graph_theory.specs.facts.OptionFacts.{some_same}
 use Rattle.wit_graph_theory.specs.examples.TestFacts.{none_some}
 use Rattle.wit_link_spec.specs.Addition.{Addition, active_includes, own_worlds, remapped_world}
 use Rattle.wit_link_spec.specs.Include.{EntryLists, PartiallyLinked, lists_of}
-use Rattle.wit_link_spec.specs.Pushed.{with_all_includes, with_includes, with_worlds}
+use Rattle.wit_link_spec.specs.Added.{with_all_includes, with_includes, with_worlds}
 use Rattle.wit_link_spec.specs.Reasons.{IsResolved}
 use Rattle.wit_link_spec.specs.WorldReasons.{AtInclude, AtWorld, IncludeIsAccepted}
 

@@ -21,7 +21,7 @@ use Rattle.wit_graph_data.specs.declared.error_kind.ResolveErrorKind.TheVariants
 use Rattle.wit_labels.specs.Setters.{IsSetter, getter_label}
 use Rattle.wit_labels.specs.Strong.{Clashes}
 use Rattle.wit_link_spec.specs.Addition.{Addition}
-use Rattle.wit_link_spec.specs.Cause.{IsCause}
+use Rattle.wit_link_spec.specs.Cause.{IsAdditionCause}
 use Rattle.wit_link_spec.specs.facts.Linked.{IncludeIsReached}
 use Rattle.wit_link_spec.specs.Cause as reason
 use Rattle.wit_link_spec.specs.WorldReasons.{IsFinishCause, LabelsClash, SetterIsAlone, WorldIsInConflict, IsFirstUnmatched, IsIncludeCause, LabelIsTaken, StabilitiesAreApart, IsCauseAtFinish, IsCauseAtInclude, IsCauseAtWorld}
@@ -166,22 +166,22 @@ module _ (a : Addition) (k : ℕ) where
 -- ---- the addition
 
 module _ (a : Addition) where
-  pub of_package : (span : OptionalSpan) (requested : PackageName) (known : List PackageName) → IsCause a (PackageNotFound span requested known) → LacksPackage a span requested known
+  pub of_package : (span : OptionalSpan) (requested : PackageName) (known : List PackageName) → IsAdditionCause a (PackageNotFound span requested known) → LacksPackage a span requested known
   of_package _ _ _ (reason.package_not_found_1 span requested known c) = c
   of_package span requested known (reason.of_world k _ reached c) = absurd (not_of_world a k _ refl c)
 
-  pub of_world : (span : OptionalSpan) (requested : List ℕ) (home : PackageName) → IsCause a (WorldNotFound span requested home) → LacksWorld a span requested home
+  pub of_world : (span : OptionalSpan) (requested : List ℕ) (home : PackageName) → IsAdditionCause a (WorldNotFound span requested home) → LacksWorld a span requested home
   of_world _ _ _ (reason.world_not_found_2 span requested home c) = c
   of_world span requested home (reason.of_world k _ reached c) = absurd (not_of_world a k _ refl c)
 
-  pub of_interface : (span : OptionalSpan) (requested : List ℕ) (home : PackageName) → IsCause a (InterfaceNotFound span requested home) → LacksInterface a span requested home
+  pub of_interface : (span : OptionalSpan) (requested : List ℕ) (home : PackageName) → IsAdditionCause a (InterfaceNotFound span requested home) → LacksInterface a span requested home
   of_interface _ _ _ (reason.interface_not_found_3 span requested home c) = c
   of_interface span requested home (reason.of_world k _ reached c) = absurd (not_of_world a k _ refl c)
 
-  pub of_conflict : (span : OptionalSpan) (name : List ℕ) → IsCause a (InvalidTransitiveDependency span name) → (k : ℕ) × IsCauseAtFinish a k (InvalidTransitiveDependency span name)
+  pub of_conflict : (span : OptionalSpan) (name : List ℕ) → IsAdditionCause a (InvalidTransitiveDependency span name) → (k : ℕ) × IsCauseAtFinish a k (InvalidTransitiveDependency span name)
   of_conflict span name (reason.of_world k _ reached c) = (k, finish_at a k span name c)
 
-  pub of_duplicate : (name : PackageName) (span1 span2 : OptionalSpan) → IsCause a (DuplicatePackage name span1 span2) → IsDuplicate a name span1 span2
+  pub of_duplicate : (name : PackageName) (span1 span2 : OptionalSpan) → IsAdditionCause a (DuplicatePackage name span1 span2) → IsDuplicate a name span1 span2
   of_duplicate _ _ _ (reason.duplicate_5 name span1 span2 c) = c
   of_duplicate name span1 span2 (reason.of_world k _ reached c) = absurd (not_of_world a k _ refl c)
 
@@ -189,49 +189,49 @@ module _ (a : Addition) where
   abbrev FoundAtInclude : ResolveErrorKind → Type 0
   FoundAtInclude error = (k : ℕ) × (j : ℕ) × IncludeIsReached a k j × IsCauseAtInclude a k j error
 
-  pub of_shadowing : (span : OptionalSpan) (word name : List ℕ) → IsCause a (ItemShadowing span word name) → FoundAtInclude (ItemShadowing span word name)
+  pub of_shadowing : (span : OptionalSpan) (word name : List ℕ) → IsAdditionCause a (ItemShadowing span word name) → FoundAtInclude (ItemShadowing span word name)
   of_shadowing span word name (reason.of_world k _ reached c) = by c
     where
       by : IsCauseAtWorld a k (ItemShadowing span word name) → FoundAtInclude (ItemShadowing span word name)
       by (world.of_include j _ image earlier is) = (k, j, record { has_image = image; worlds = reached; includes = earlier }, is)
       by (world.of_finish _ image includes is) = elim is.cause [ ]
 
-  pub of_mismatch : (span : OptionalSpan) (from into : Stability) → IsCause a (StabilityMismatch span from into) → FoundAtInclude (StabilityMismatch span from into)
+  pub of_mismatch : (span : OptionalSpan) (from into : Stability) → IsAdditionCause a (StabilityMismatch span from into) → FoundAtInclude (StabilityMismatch span from into)
   of_mismatch span from into (reason.of_world k _ reached c) = by c
     where
       by : IsCauseAtWorld a k (StabilityMismatch span from into) → FoundAtInclude (StabilityMismatch span from into)
       by (world.of_include j _ image earlier is) = (k, j, record { has_image = image; worlds = reached; includes = earlier }, is)
       by (world.of_finish _ image includes is) = elim is.cause [ ]
 
-  pub of_version : (span : OptionalSpan) (message : List ℕ) → IsCause a (Semantic span message cause.GateWithoutVersion) → LacksVersion a span message
+  pub of_version : (span : OptionalSpan) (message : List ℕ) → IsAdditionCause a (Semantic span message cause.GateWithoutVersion) → LacksVersion a span message
   of_version _ _ (reason.gate_without_version_9 span message c) = c
   of_version span message (reason.of_world k _ reached c) = absurd (not_of_world a k _ refl c)
 
-  pub of_unreleased : (span : OptionalSpan) (message : List ℕ) → IsCause a (Semantic span message cause.GateUnreleased) → IsUnreleased a span message
+  pub of_unreleased : (span : OptionalSpan) (message : List ℕ) → IsAdditionCause a (Semantic span message cause.GateUnreleased) → IsUnreleased a span message
   of_unreleased _ _ (reason.gate_unreleased_10 span message c) = c
   of_unreleased span message (reason.of_world k _ reached c) = absurd (not_of_world a k _ refl c)
 
-  pub of_excluded : (span : OptionalSpan) (message : List ℕ) → IsCause a (Semantic span message cause.Excluded) → RefersToExcluded a span message
+  pub of_excluded : (span : OptionalSpan) (message : List ℕ) → IsAdditionCause a (Semantic span message cause.Excluded) → RefersToExcluded a span message
   of_excluded _ _ (reason.excluded_11 span message c) = c
   of_excluded span message (reason.of_world k _ reached c) = absurd (not_of_world a k _ refl c)
 
-  pub of_excluded_owner : (span : OptionalSpan) (message : List ℕ) → IsCause a (Semantic span message cause.ExcludedOwner) → HasExcludedOwner a span message
+  pub of_excluded_owner : (span : OptionalSpan) (message : List ℕ) → IsAdditionCause a (Semantic span message cause.ExcludedOwner) → HasExcludedOwner a span message
   of_excluded_owner _ _ (reason.excluded_owner_12 span message c) = c
   of_excluded_owner span message (reason.of_world k _ reached c) = absurd (not_of_world a k _ refl c)
 
-  pub of_type : (span : OptionalSpan) (message : List ℕ) → IsCause a (Semantic span message cause.TypeNotDefined) → ForeignTypeMissing a span message
+  pub of_type : (span : OptionalSpan) (message : List ℕ) → IsAdditionCause a (Semantic span message cause.TypeNotDefined) → ForeignTypeMissing a span message
   of_type _ _ (reason.type_not_defined_13 span message c) = c
   of_type span message (reason.of_world k _ reached c) = absurd (not_of_world a k _ refl c)
 
-  pub of_resource : (span : OptionalSpan) (message : List ℕ) → IsCause a (Semantic span message cause.NotAResource) → IsNoResource a span message
+  pub of_resource : (span : OptionalSpan) (message : List ℕ) → IsAdditionCause a (Semantic span message cause.NotAResource) → IsNoResource a span message
   of_resource _ _ (reason.not_a_resource_14 span message c) = c
   of_resource span message (reason.of_world k _ reached c) = absurd (not_of_world a k _ refl c)
 
-  pub of_borrow : (span : OptionalSpan) (message : List ℕ) → IsCause a (Semantic span message cause.BorrowInResult) → ReturnsBorrow a span message
+  pub of_borrow : (span : OptionalSpan) (message : List ℕ) → IsAdditionCause a (Semantic span message cause.BorrowInResult) → ReturnsBorrow a span message
   of_borrow _ _ (reason.borrow_in_result_15 span message c) = c
   of_borrow span message (reason.of_world k _ reached c) = absurd (not_of_world a k _ refl c)
 
-  pub of_rename : (span : OptionalSpan) (message : List ℕ) → IsCause a (Semantic span message cause.RenameUnmatched) → FoundAtInclude (Semantic span message cause.RenameUnmatched)
+  pub of_rename : (span : OptionalSpan) (message : List ℕ) → IsAdditionCause a (Semantic span message cause.RenameUnmatched) → FoundAtInclude (Semantic span message cause.RenameUnmatched)
   of_rename span message (reason.of_world k _ reached c) = by span message c
     where
       by : (span : OptionalSpan) (message : List ℕ) → IsCauseAtWorld a k (Semantic span message cause.RenameUnmatched) → FoundAtInclude (Semantic span message cause.RenameUnmatched)
@@ -239,15 +239,15 @@ module _ (a : Addition) where
       by span message (world.of_finish _ image includes is) =
           absurd (false≢true (finish_number _ _ (4 ∷ 17 ∷ 18 ∷ []) refl refl refl (Semantic span message cause.RenameUnmatched) is.cause))
 
-  pub of_alike : (span : OptionalSpan) (message : List ℕ) → IsCause a (Semantic span message cause.NotStronglyUnique) → (k : ℕ) × reason.IsReached a k × ClashAt a k
+  pub of_alike : (span : OptionalSpan) (message : List ℕ) → IsAdditionCause a (Semantic span message cause.NotStronglyUnique) → (k : ℕ) × reason.IsReached a k × ClashAt a k
   of_alike span message (reason.of_world k _ reached c) = (k, reached, clash_at a k span message c)
 
-  pub of_getter : (span : OptionalSpan) (message : List ℕ) → IsCause a (Semantic span message cause.NoGetter) → (k : ℕ) × LonelySetterAt a k
+  pub of_getter : (span : OptionalSpan) (message : List ℕ) → IsAdditionCause a (Semantic span message cause.NoGetter) → (k : ℕ) × LonelySetterAt a k
   of_getter span message (reason.of_world k _ reached c) = (k, lonely_at a k span message c)
 
-  pub of_overflow : IsCause a OffsetOverflow → AdditionOverflows a
+  pub of_overflow : IsAdditionCause a OffsetOverflow → AdditionOverflows a
   of_overflow (reason.offset_overflow_27 c) = c
   of_overflow (reason.of_world k _ reached c) = absurd (not_of_world a k _ refl c)
 
-  pub no_memory : IsCause a OutOfMemory → ⊥
+  pub no_memory : IsAdditionCause a OutOfMemory → ⊥
   no_memory (reason.of_world k _ reached c) = not_of_world a k _ refl c

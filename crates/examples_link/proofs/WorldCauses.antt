@@ -88,7 +88,7 @@ shadows note = record {
 }
 
 -- a cause of the first include of the first world is one of the addition
-pub at_first_include : (a : Addition) (error : ResolveErrorKind) → IsResolved a → IsCauseAtInclude a 0 0 error → reason.IsCause a error
+pub at_first_include : (a : Addition) (error : ResolveErrorKind) → IsResolved a → IsCauseAtInclude a 0 0 error → reason.IsAdditionCause a error
 at_first_include a error image is = reason.of_world 0 error (first_reached a) (of_include 0 error image (λ i below. absurd (omega (arith, below))) is)
 
 -- ---- the gate that is there

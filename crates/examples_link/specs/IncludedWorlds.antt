@@ -18,7 +18,7 @@ use Rattle.wit_graph_data.specs.declared.graph.Graph.{Graph}
 use Rattle.wit_labels.specs.examples.Examples.{named_as}
 use Rattle.wit_link_spec.specs.Addition.{Addition}
 use Rattle.wit_link_spec.specs.Cause.{AdditionIsAccepted}
-use Rattle.wit_link_spec.specs.Pushed.{pushed}
+use Rattle.wit_link_spec.specs.Added.{added}
 use Rattle.examples_link.specs.Packages.{adding, bare, include_with, loose_world, main_name, no_features}
 
 -- ---- the included world
@@ -134,16 +134,16 @@ world_twice =
 -- whole graphs
 pub record ExamplesOfIncludedWorlds : Type 0 where
   -- once: a list, an interface without a name and its type, and what exports name are copied with the world's type
-  pub once : pushed (including ((codes "d", include_with [] ∷ []) ∷ []))
+  pub once : added (including ((codes "d", include_with [] ∷ []) ∷ []))
       ≡ grown (copied_types (codes "t") 1 4 2) (copied_interfaces 6) (world_like_base (codes "d") 4 5 2 3 ∷ []) ((codes "d", 1) ∷ [])
   -- and no cause holds against it
   pub accepted : AdditionIsAccepted (including ((codes "d", include_with [] ∷ []) ∷ []))
   -- twice in one world, under two sets of names
-  pub twice : pushed (including ((codes "d", include_with [] ∷ include_with second_names ∷ []) ∷ []))
+  pub twice : added (including ((codes "d", include_with [] ∷ include_with second_names ∷ []) ∷ []))
       ≡ grown (copied_types (codes "t") 1 4 2 ++ copied_types (codes "t2") 1 7 4) (copied_interfaces 6 ++ copied_interfaces 9) (world_twice ∷ []) ((codes "d", 1) ∷ [])
   -- in two worlds: each has copies of its own
-  pub in_two : pushed (including ((codes "d", include_with [] ∷ []) ∷ (codes "e", include_with [] ∷ []) ∷ []))
+  pub in_two : added (including ((codes "d", include_with [] ∷ []) ∷ (codes "e", include_with [] ∷ []) ∷ []))
       ≡ grown (copied_types (codes "t") 1 4 2 ++ copied_types (codes "t") 2 7 4) (copied_interfaces 6 ++ copied_interfaces 9)
       (world_like_base (codes "d") 4 5 2 3 ∷ world_like_base (codes "e") 7 8 4 5 ∷ []) ((codes "d", 1) ∷ (codes "e", 2) ∷ [])
   -- the world doesn't share them
-  pub shared : pushed (including ((codes "d", include_with [] ∷ []) ∷ [])) ≡ grown [] [] (world_like_base (codes "d") 0 1 0 1 ∷ []) ((codes "d", 1) ∷ []) → ⊥
+  pub shared : added (including ((codes "d", include_with [] ∷ []) ∷ [])) ≡ grown [] [] (world_like_base (codes "d") 0 1 0 1 ∷ []) ((codes "d", 1) ∷ []) → ⊥

@@ -12,7 +12,7 @@ use Rattle.wit_graph_data.specs.declared.error_kind.ResolveErrorKind.{ResolveErr
 use Rattle.wit_graph_data.specs.declared.error_kind.ResolveErrorKind.TheVariants.{Semantic, StabilityMismatch}
 use Rattle.wit_labels.specs.examples.Examples.{function_entry}
 use Rattle.wit_link_spec.specs.Addition.{Addition}
-use Rattle.wit_link_spec.specs.Cause.{IsCause}
+use Rattle.wit_link_spec.specs.Cause.{IsAdditionCause}
 use Rattle.wit_link_spec.specs.Gates.{OptionalSpan}
 use Rattle.examples_link.specs.Packages.{adding, all_features, gate_f, gate_g, gated_entry, including_lists, loose_interface, loose_world, no_features, since_one, with_lists}
 use Rattle.examples_link.specs.Worked.{package_of}
@@ -59,13 +59,13 @@ shadowing_first interfaces = adding no_features empty_graph (package_of [] inter
 -- worlds one after another, and packages without an image
 pub record ExamplesOfLaterWorlds : Type 0 where
   -- 8: at the second include of the third world
-  pub second_include : IsCause two_gates (StabilityMismatch (Some (50, 60)) gate_g gate_f)
+  pub second_include : IsAdditionCause two_gates (StabilityMismatch (Some (50, 60)) gate_g gate_f)
   -- 17: of w, where nothing is wrong with v; not where v is refused itself
-  pub second_world : IsCause (before_alike []) w_is_alike
-  pub first_told : (span : OptionalSpan) (message : List ℕ) → IsCause (before_alike (function_entry (codes "[set]p") ∷ [])) (Semantic span message cause.NotStronglyUnique) → ⊥
+  pub second_world : IsAdditionCause (before_alike []) w_is_alike
+  pub first_told : (span : OptionalSpan) (message : List ℕ) → IsAdditionCause (before_alike (function_entry (codes "[set]p") ∷ [])) (Semantic span message cause.NotStronglyUnique) → ⊥
   -- 17 without an image: of a world that includes nothing, and not of one that does
-  pub unversioned : IsCause alike_unversioned w_is_alike
-  pub including : (span : OptionalSpan) (message : List ℕ) → IsCause including_unversioned (Semantic span message cause.NotStronglyUnique) → ⊥
+  pub unversioned : IsAdditionCause alike_unversioned w_is_alike
+  pub including : (span : OptionalSpan) (message : List ℕ) → IsAdditionCause including_unversioned (Semantic span message cause.NotStronglyUnique) → ⊥
   -- nor is it asked then what worlds before it include; where there is an image, 7 is told of d, and 17 of none
-  pub behind_unmade : IsCause (shadowing_first (loose_interface (codes "i") [] since_one ∷ [])) w_is_alike
-  pub behind_shadowing : (span : OptionalSpan) (message : List ℕ) → IsCause (shadowing_first []) (Semantic span message cause.NotStronglyUnique) → ⊥
+  pub behind_unmade : IsAdditionCause (shadowing_first (loose_interface (codes "i") [] since_one ∷ [])) w_is_alike
+  pub behind_shadowing : (span : OptionalSpan) (message : List ℕ) → IsAdditionCause (shadowing_first []) (Semantic span message cause.NotStronglyUnique) → ⊥

@@ -11,7 +11,7 @@ use Rattle.wit_graph_data.specs.declared.graph.Graph.{Graph}
 use Rattle.wit_graph_data.specs.examples.Samples.{entry_of, foo_bar, interface_of, no_docs, sample, type_in, unnamed, world_of}
 use Rattle.wit_link_spec.specs.Addition.{Addition}
 use Rattle.wit_link_spec.specs.Cause.{AdditionIsAccepted}
-use Rattle.wit_link_spec.specs.Pushed.{pushed}
+use Rattle.wit_link_spec.specs.Added.{added}
 use Rattle.wit_link_spec.specs.Gates.{package_spans}
 use Rattle.examples_link.specs.Packages.{adding, bare, feature_f, first_package, gate_f, gated, including_package, loose_interface, loose_world, main_name, naming_type, no_features}
 use Rattle.examples_link.specs.Values.{field_of, with_resource}
@@ -49,24 +49,24 @@ with_user = record {
 -- additions, and what they aren't
 pub record ExamplesOfPushes : Type 0 where
   -- the world imports a before b
-  pub first : pushed (adding no_features empty_graph first_package) ≡ sample (entry_of 0 ∷ entry_of 1 ∷ []) []
+  pub first : added (adding no_features empty_graph first_package) ≡ sample (entry_of 0 ∷ entry_of 1 ∷ []) []
   -- and no cause holds against it
   pub accepted : AdditionIsAccepted (adding no_features empty_graph first_package)
   -- behind what is there come the alias and the record, the `own` that the record's field holds, interface, world and
   -- package; the world imports a, which i uses
-  pub whole : pushed add_using ≡ with_user
+  pub whole : added add_using ≡ with_user
   pub whole_accepted : AdditionIsAccepted add_using
   -- the field doesn't hold the alias itself, and the world doesn't import i alone
-  pub not_the_alias : pushed add_using ≡ record with_user { types = with_resource.types ++ type_in 2 (codes "s") (kind.Type_ (type.Id 0)) ∷ type_in 2 (codes "p") (kind.Record (field_of (type.Id 2) ∷ [])) ∷ [] } → ⊥
-  pub not_alone : pushed add_using ≡ record with_user { worlds = with_resource.worlds ++ record (world_of (codes "v") (entry_of 2 ∷ []) []) { «package» = Some 1 } ∷ [] } → ⊥
+  pub not_the_alias : added add_using ≡ record with_user { types = with_resource.types ++ type_in 2 (codes "s") (kind.Type_ (type.Id 0)) ∷ type_in 2 (codes "p") (kind.Record (field_of (type.Id 2) ∷ [])) ∷ [] } → ⊥
+  pub not_alone : added add_using ≡ record with_user { worlds = with_resource.worlds ++ record (world_of (codes "v") (entry_of 2 ∷ []) []) { «package» = Some 1 } ∷ [] } → ⊥
   -- not b alone, as it is written; not under another id; and not nothing
-  pub not_elaborated : pushed (adding no_features empty_graph first_package) ≡ sample (entry_of 1 ∷ []) [] → ⊥
-  pub other_id : (pushed (adding no_features empty_graph first_package)).package_names ≡ (foo_bar, 1) ∷ [] → ⊥
-  pub nothing_added : pushed (adding no_features empty_graph first_package) ≡ empty_graph → ⊥
+  pub not_elaborated : added (adding no_features empty_graph first_package) ≡ sample (entry_of 1 ∷ []) [] → ⊥
+  pub other_id : (added (adding no_features empty_graph first_package)).package_names ≡ (foo_bar, 1) ∷ [] → ⊥
+  pub nothing_added : added (adding no_features empty_graph first_package) ≡ empty_graph → ⊥
   -- an interface whose feature is off is left out, and one whose feature is on isn't
-  pub off : (pushed (adding no_features empty_graph (gated None gate_f))).interfaces ≡ []
-  pub on : (pushed (adding feature_f empty_graph (gated None gate_f))).interfaces ≡ record (interface_of (Some (codes "i")) []) { stability = gate_f } ∷ []
-  pub left_out : (pushed (adding feature_f empty_graph (gated None gate_f))).interfaces ≡ [] → ⊥
+  pub off : (added (adding no_features empty_graph (gated None gate_f))).interfaces ≡ []
+  pub on : (added (adding feature_f empty_graph (gated None gate_f))).interfaces ≡ record (interface_of (Some (codes "i")) []) { stability = gate_f } ∷ []
+  pub left_out : (added (adding feature_f empty_graph (gated None gate_f))).interfaces ≡ [] → ⊥
 
 -- all spans of packages
 pub record ExamplesOfSpans : Type 0 where

@@ -13,7 +13,7 @@ use Rattle.wit_graph_data.specs.examples.Samples.{foo_bar, function_of, interfac
 use Rattle.wit_graph_data.specs.declared.graph.Graph.{Graph}
 use Rattle.wit_remap_spec.specs.Image.{kind_image, value_image}
 use Rattle.wit_link_spec.specs.Addition.{Addition, addition_maps, remapped_type, remap_of_addition}
-use Rattle.wit_link_spec.specs.Pushed.{pushed}
+use Rattle.wit_link_spec.specs.Added.{added}
 use Rattle.wit_remap_spec.specs.Resources.{leads_to_resource, value_positions}
 use Rattle.wit_remap_spec.specs.ValueRemap.{needs_own, value_id}
 use Rattle.examples_link.specs.Packages.{adding, bare, loose_interface, main_name, no_features}
@@ -77,14 +77,14 @@ pub record ExamplesOfValues : Type 0 where
   pub handle_stays : kind_image (addition_maps add_holding) (kind.Handle (handle.Borrow 1)) ≡ kind.Handle (handle.Borrow 2)
   pub part_becomes_own : kind_image (addition_maps add_holding) (kind.List (type.Id 1)) ≡ kind.List (type.Id 4)
   -- all types and interfaces of the new graph
-  pub types : (pushed add_holding).types
+  pub types : (added add_holding).types
       ≡ type_in 0 (codes "t") kind.Resource ∷ type_in 1 (codes "t") (kind.Type_ (type.Id 0)) ∷ type_in 2 (codes "s") (kind.Type_ (type.Id 0))
       ∷ type_in 2 (codes "p") (kind.Record (field_of (type.Id 4) ∷ [])) ∷ unnamed (kind.Handle (handle.Own 2)) ∷ []
-  pub interfaces : (pushed add_holding).interfaces
+  pub interfaces : (added add_holding).interfaces
       ≡ interface_of (Some (codes "a")) ((codes "t", 0) ∷ []) ∷ interface_of (Some (codes "b")) ((codes "t", 1) ∷ [])
       ∷ record (interface_of (Some (codes "i")) ((codes "s", 2) ∷ (codes "p", 3) ∷ [])) { «package» = Some 1; functions = (codes "f", function_of (codes "f") (type.Id 4 ∷ []) (Some (type.Id 3))) ∷ [] } ∷ []
   -- a value of the foreign t itself is an `own` of that of foo:bar
-  pub foreign_value : (pushed (adding no_features with_resource taking_foreign)).types
+  pub foreign_value : (added (adding no_features with_resource taking_foreign)).types
       ≡ type_in 0 (codes "t") kind.Resource ∷ type_in 1 (codes "t") (kind.Type_ (type.Id 0)) ∷ unnamed (kind.Handle (handle.Own 0)) ∷ []
   -- the value isn't the alias itself
   pub apart : value_id (remap_of_addition add_holding) 1 ≡ remapped_type add_holding 1 → ⊥

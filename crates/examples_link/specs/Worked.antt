@@ -19,7 +19,7 @@ use Rattle.wit_graph_data.specs.examples.Samples.{entry_of, foo_bar, foo_bar_of,
 use Rattle.wit_graph_data.specs.declared.features.Features.{Features}
 use Rattle.wit_graph_data.specs.declared.graph.Graph.{Graph}
 use Rattle.wit_labels.specs.examples.Examples.{function_entry, named_as}
-use Rattle.wit_link_spec.specs.Pushed.{pushed}
+use Rattle.wit_link_spec.specs.Added.{added}
 use Rattle.examples_link.specs.IncludedWorlds.{type_entry}
 use Rattle.examples_link.specs.Packages.{adding, adding_at, bare, feature_f, gate_f, gated_entry, include_with, loose_interface, loose_world, no_features}
 use Rattle.examples_link.specs.Values.{field_of}
@@ -40,7 +40,7 @@ graph_of types interfaces worlds table world_table = record {
 
 -- what adding a package makes of the empty graph
 abbrev pub made : Features → UnresolvedPackage → Graph
-made features u = pushed (adding features empty_graph u)
+made features u = added (adding features empty_graph u)
 
 -- ---- a world that exports an interface of its package
 
@@ -147,5 +147,5 @@ pub record ExamplesOfWorked : Type 0 where
   pub own_of_alias : (made no_features holds_own).types
       ≡ type_in 0 (codes "r") kind.Resource ∷ type_in 0 (codes "s") (kind.Type_ (type.Id 0)) ∷ type_in 0 (codes "x") (kind.Record (field_of (type.Id 3) ∷ [])) ∷ unnamed (kind.Handle (handle.Own 1)) ∷ []
   -- spans move by the offset
-  pub moved : (pushed (adding_at 16 no_features empty_graph (package_of [] (record (loose_interface (codes "i") [] Unknown) { span = Some (20, 25) } ∷ []) []))).interfaces
+  pub moved : (added (adding_at 16 no_features empty_graph (package_of [] (record (loose_interface (codes "i") [] Unknown) { span = Some (20, 25) } ∷ []) []))).interfaces
       ≡ record (interface_of (Some (codes "i")) []) { span = Some (36, 41) } ∷ []

@@ -11,7 +11,7 @@ use Rattle.wit_data.specs.declared.world.World.{World}
 use Rattle.wit_data.specs.declared.types.TypeOwner.TheVariants as owner
 use Rattle.wit_elaboration.specs.Elaborated.{import_steps, import_steps_within}
 use Rattle.wit_graph_data.specs.declared.graph.Graph.{Graph}
-use Rattle.wit_merge_spec.specs.United.{MergeRemap}
+use Rattle.wit_merge_spec.specs.Merged.{MergeRemap}
 use Rattle.examples_merge.specs.Unions.{ExamplesOfMatches, ExamplesOfUnions}
 
 -- where type t goes

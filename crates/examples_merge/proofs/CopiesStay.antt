@@ -12,7 +12,7 @@ use Rattle.wit_merge_spec.specs.Structure.{structure, structure_within}
 use Rattle.wit_merge_spec.specs.Cause as merging
 use Rattle.wit_merge_spec.specs.Matches.{GraphMerge}
 use Rattle.wit_merge_spec.specs.steps.Leaving.{LeavesGraph}
-use Rattle.wit_merge_spec.specs.United.{merged_interface, merged_package, merged_type, merged_world}
+use Rattle.wit_merge_spec.specs.Merged.{merged_interface, merged_package, merged_type, merged_world}
 use Rattle.wit_merge_laws.specs.facts.EmptyFacts.{keeps_ids}
 use Rattle.wit_merge_laws.specs.laws.CopyLaws.{IsPlaced, KeepsIds, StaysItself}
 use Rattle.wit_merge_laws.specs.laws.Names.{at_label, in_package}

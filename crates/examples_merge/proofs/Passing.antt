@@ -40,7 +40,7 @@ use Rattle.wit_merge_spec.specs.Cause.{EntriesDiffer, ItemsDiffer, StructuresDif
 use Rattle.wit_merge_spec.specs.Cause as merging
 use Rattle.wit_merge_spec.specs.Matches.{FirstDiffers, GraphMerge, Pair, TypePair, counterpart_interface, counterpart_item, counterpart_type, counterpart_world, matched_interface, matched_world, type_pairs}
 use Rattle.wit_merge_spec.specs.MismatchText.{side_word}
-use Rattle.wit_merge_spec.specs.United.{merge_maps, moved_functions, joined_graph}
+use Rattle.wit_merge_spec.specs.Merged.{merge_maps, moved_functions, joined_graph}
 use Rattle.wit_merge_spec.specs.facts.DifferenceFacts.{same_no_first}
 use Rattle.wit_merge_spec.specs.Structure.{Feature, structure}
 use Rattle.wit_merge_laws.specs.facts.InterfacesStand.{option_is, option_so}

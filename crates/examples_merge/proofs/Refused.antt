@@ -19,7 +19,7 @@ use Rattle.wit_link_spec.specs.Gates.{OptionalSpan}
 use Rattle.wit_merge_spec.specs.Cause.{IsMergeCause}
 use Rattle.wit_merge_spec.specs.Cause as merging
 use Rattle.wit_merge_spec.specs.Matches.{GraphMerge}
-use Rattle.wit_merge_spec.specs.United.{joined_graph}
+use Rattle.wit_merge_spec.specs.Merged.{joined_graph}
 use Rattle.wit_merge_spec.specs.Structure.{structure, structure_within}
 use Rattle.examples_merge.proofs.Passing.{are_one, fits, in_no_conflict, results_fine}
 use Rattle.examples_merge.proofs.Stabilities.{disagreeing, nowhere}

@@ -17,9 +17,9 @@ use Rattle.wit_elaboration.specs.AllElaborated.{graph_package_uses}
 use Rattle.wit_graph_theory.specs.facts.ListFacts.{contained_at}
 use Rattle.wit_graph_theory.specs.facts.OptionFacts.{some_same}
 use Rattle.wit_graph_theory.specs.examples.TestFacts.{all_are, all_uses, falls, is_empty, no_cycle, nothing_in}
-use Rattle.wit_semver_spec.specs.Rewritten.{Agrees, IsComplete, IsTrackCause, Upgrade, UpgradeCause, conflict_4, functions_disagree_25, interface_cycle_22, interface_type, newest, package_cycle_6, replaced_use, rewritable_types, target_name, type_cycle_23, type_missing_25, upgrade, with_new_entries_at}
+use Rattle.wit_semver_spec.specs.SemverMerged.{Agrees, IsComplete, IsSemverMergeCause, SemverMerge, SemverMergeCause, conflict_4, functions_disagree_25, interface_cycle_22, interface_type, newest, package_cycle_6, replaced_use, rewritable_types, target_name, type_cycle_23, type_missing_25, semver_merge, with_new_entries_at}
 
-module _ (u : Upgrade) where
+module _ (u : SemverMerge) where
   -- does the newest have the type of this name?
   abbrev has_name : ℕ → List ℕ → Bool
   has_name f name = is_some (interface_type u.graph.interfaces (newest u f) name)
@@ -39,7 +39,7 @@ module _ (u : Upgrade) where
       false≢true three
 
 -- what no cause holds against
-pub record Clear (u : Upgrade) (w : ℕ) : Type 0 where
+pub record Clear (u : SemverMerge) (w : ℕ) : Type 0 where
   pub is_complete : IsComplete u
   pub agrees : Agrees u
   pub packages : (p q : ℕ) → IsOnCycle (graph_package_uses (with_new_entries_at u w)) p q → ⊥
@@ -47,7 +47,7 @@ pub record Clear (u : Upgrade) (w : ℕ) : Type 0 where
   pub types : (s t : ℕ) → IsOnCycle (type_references (with_new_entries_at u w).types) s t → ⊥
   pub exports : (world : World) → Contains (with_new_entries_at u w).worlds world → HasTransitiveConflict (graph_uses (with_new_entries_at u w)) world.exports → ⊥
 
-clear_is_fine : (u : Upgrade) (w : ℕ) (error : ResolveErrorKind) → Clear u w → UpgradeCause u w error → ⊥
+clear_is_fine : (u : SemverMerge) (w : ℕ) (error : ResolveErrorKind) → Clear u w → SemverMergeCause u w error → ⊥
 clear_is_fine u w error clear (conflict_4 span name complete is) = clear.exports is.world is.there is.conflict
 clear_is_fine u w error clear (package_cycle_6 home complete is) = clear.packages is.p is.q is.on_cycle
 clear_is_fine u w error clear (interface_cycle_22 message complete is) = clear.interfaces is.i is.j is.on_cycle
@@ -56,20 +56,20 @@ clear_is_fine u w error clear (type_missing_25 t message follows lacks) = clear.
 clear_is_fine u w error clear (functions_disagree_25 f message disagrees) = clear.agrees f message disagrees
 
 -- a reason is one of the world that is there
-pub of_world : (rule : TrackRule) (g : Graph) (w : ℕ) (world : World) (error : ResolveErrorKind) → slice_get g.worlds w ≡ Some world → IsTrackCause rule g w error → UpgradeCause (upgrade rule g world) w error
+pub of_world : (rule : TrackRule) (g : Graph) (w : ℕ) (world : World) (error : ResolveErrorKind) → slice_get g.worlds w ≡ Some world → IsSemverMergeCause rule g w error → SemverMergeCause (semver_merge rule g world) w error
 of_world rule g w world error there cause =
     let same : world ≡ cause.0 = some_same world cause.0 (sym there ∙ cause.1) in
-    subst (λ (x : World). UpgradeCause (upgrade rule g x) w error) (sym same) cause.2
+    subst (λ (x : World). SemverMergeCause (semver_merge rule g x) w error) (sym same) cause.2
 
-pub is_fine : (rule : TrackRule) (g : Graph) (w : ℕ) (world : World) → slice_get g.worlds w ≡ Some world → Clear (upgrade rule g world) w → (error : ResolveErrorKind) → IsTrackCause rule g w error → ⊥
-is_fine rule g w world there clear error cause = clear_is_fine (upgrade rule g world) w error clear (of_world rule g w world error there cause)
+pub is_fine : (rule : TrackRule) (g : Graph) (w : ℕ) (world : World) → slice_get g.worlds w ≡ Some world → Clear (semver_merge rule g world) w → (error : ResolveErrorKind) → IsSemverMergeCause rule g w error → ⊥
+is_fine rule g w world there clear error cause = clear_is_fine (semver_merge rule g world) w error clear (of_world rule g w world error there cause)
 
 -- ---- without functions
 
 abbrev no_function : Interface → Bool
 no_function interface = is_empty interface.functions
 
-pub no_functions : (u : Upgrade) → list_all no_function u.graph.interfaces ≡ true → Agrees u
+pub no_functions : (u : SemverMerge) → list_all no_function u.graph.interfaces ≡ true → Agrees u
 no_functions u all f message disagrees =
     nothing_in disagrees.old.functions (disagrees.have.name, disagrees.have.function)
     (all_are no_function u.graph.interfaces all disagrees.old (contained_at u.graph.interfaces f disagrees.old disagrees.old_is)) disagrees.have.has
@@ -93,7 +93,7 @@ no_conflict uses world all (x, d, shown, used, (outside, j, (path, leads), expor
 
 -- ---- all of it, of world 0 of a graph without functions in which each thing uses earlier ones alone
 
-pub record Passes (u : Upgrade) : Type 0 where
+pub record Passes (u : SemverMerge) : Type 0 where
   pub there : slice_get u.graph.worlds 0 ≡ Some u.world
   pub targets : list_all (has_target u) (rewritable_types u) ≡ true
   pub functions : list_all no_function u.graph.interfaces ≡ true
@@ -102,7 +102,7 @@ pub record Passes (u : Upgrade) : Type 0 where
   pub types : all_uses (falls (λ t. t)) (type_references (with_new_entries_at u 0).types) ≡ true
   pub exports : list_all (exports_pass (graph_uses (with_new_entries_at u 0))) (with_new_entries_at u 0).worlds ≡ true
 
-pub passing : (u : Upgrade) → Passes u → (error : ResolveErrorKind) → IsTrackCause u.rule u.graph 0 error → ⊥
+pub passing : (u : SemverMerge) → Passes u → (error : ResolveErrorKind) → IsSemverMergeCause u.rule u.graph 0 error → ⊥
 passing u p =
     is_fine u.rule u.graph 0 u.world p.there (record {
       is_complete = complete u p.targets;

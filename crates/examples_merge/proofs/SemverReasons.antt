@@ -31,7 +31,7 @@ use Rattle.wit_elaboration.specs.AllElaborated.{DependsOnItself, RefersToItself,
 use Rattle.wit_remap_spec.specs.FunctionMismatch.{FunctionMismatch, parameter_names_differ}
 use Rattle.wit_graph_theory.specs.facts.OptionFacts.{some_same}
 use Rattle.wit_graph_theory.specs.examples.TestFacts.{all_are, all_uses, falls, is_empty, no_cycle, not_on_cycle, only_one}
-use Rattle.wit_semver_spec.specs.Rewritten.{Agrees, IsComplete, IsTrackCause, LacksType, Upgrade, UpgradeCause, conflict_4, functions_disagree_25, interface_cycle_22, is_replaced, listed_world, newest, package_cycle_6, rewritable_types, type_cycle_23, type_missing_25, upgrade, with_new_entries_at}
+use Rattle.wit_semver_spec.specs.SemverMerged.{Agrees, IsComplete, IsSemverMergeCause, LacksType, SemverMerge, SemverMergeCause, conflict_4, functions_disagree_25, interface_cycle_22, is_replaced, listed_world, newest, package_cycle_6, rewritable_types, type_cycle_23, type_missing_25, semver_merge, with_new_entries_at}
 use Rattle.examples_merge.proofs.SemverFine.{Clear, complete, has_target, is_fine, no_functions}
 use Rattle.examples_merge.proofs.SemverMismatches.{x_is_not_y, x_of, y_of}
 use Rattle.examples_merge.specs.CauseExamples.{ExamplesOfCauses, IsCauseOf, IsFine, around_main, around_z, exporting, f_of, failed, foo_app, newer_x, older_x, with_functions, with_newer, without_type, without_type_but_cycle}
@@ -55,7 +55,7 @@ no_exports : (g : Graph) → list_all no_export g.worlds ≡ true → (world : W
 no_exports g all world there conflict = nothing_exported (graph_uses g) world.exports (all_are no_export g.worlds all world there) conflict
 
 -- a graph is clear whose things fall by ranks
-clear_by : (u : Upgrade) (w : ℕ) (packages interfaces types : List ℕ) → list_all (has_target u) (rewritable_types u) ≡ true → Agrees u
+clear_by : (u : SemverMerge) (w : ℕ) (packages interfaces types : List ℕ) → list_all (has_target u) (rewritable_types u) ≡ true → Agrees u
     → all_uses (falls (rank_of packages)) (graph_package_uses (with_new_entries_at u w)) ≡ true → all_uses (falls (rank_of interfaces)) (graph_uses (with_new_entries_at u w)) ≡ true
     → all_uses (falls (rank_of types)) (type_references (with_new_entries_at u w).types) ≡ true
     → ((world : World) → Contains (with_new_entries_at u w).worlds world → HasTransitiveConflict (graph_uses (with_new_entries_at u w)) world.exports → ⊥) → Clear u w
@@ -90,7 +90,7 @@ two_not_there has = elim (Contains-cons_cases 1 2 (3 ∷ []) has) [
 abbrev w_exporting : List ℕ → World
 w_exporting exports = world_in 2 (codes "w") (keyed (0 ∷ 2 ∷ 1 ∷ [])) (keyed exports)
 
-abbrev exporting_both : Upgrade
+abbrev exporting_both : SemverMerge
 exporting_both = published (exporting (1 ∷ 3 ∷ [])) (w_exporting (1 ∷ 3 ∷ []))
 
 conflict : IsCauseOf (exporting (1 ∷ 3 ∷ [])) (InvalidTransitiveDependency None (codes "foo:main/y"))
@@ -131,7 +131,7 @@ not_exported =
 abbrev w_of_app : World
 w_of_app = world_in 3 (codes "w") (keyed (0 ∷ 2 ∷ 1 ∷ [])) []
 
-abbrev app_cycle : Upgrade
+abbrev app_cycle : SemverMerge
 app_cycle = published (around_main (alias_in 4 (codes "v") 3)) w_of_app
 
 package_cycle : IsCauseOf (around_main (alias_in 4 (codes "v") 3)) (PackageCycle None foo_main)
@@ -176,7 +176,7 @@ app_alone (suc (suc zero)) q there is name cycle = let same = some_same _ there 
 app_alone (suc (suc (suc zero))) q there is name cycle = not_on_cycle 3 (graph_package_uses (with_new_entries_at app_cycle 0)) refl q cycle
 app_alone (suc (suc (suc (suc p)))) q there is name cycle = cc
 
-not_app_in : (world : World) (error : ResolveErrorKind) → UpgradeCause (published (around_main (alias_in 4 (codes "v") 3)) world) 0 error → world ≡ w_of_app → error ≡ PackageCycle None foo_app → ⊥
+not_app_in : (world : World) (error : ResolveErrorKind) → SemverMergeCause (published (around_main (alias_in 4 (codes "v") 3)) world) 0 error → world ≡ w_of_app → error ≡ PackageCycle None foo_app → ⊥
 not_app_in world error (conflict_4 span name complete is) same told = cc
 not_app_in world error (package_cycle_6 home complete is) same told =
     let name : home ≡ foo_app = cc in
@@ -202,7 +202,7 @@ no_package_cycle =
 abbrev w_of_main : List ℕ → World
 w_of_main imports = world_in 2 (codes "w") (keyed imports) []
 
-abbrev z_cycle : Upgrade
+abbrev z_cycle : SemverMerge
 z_cycle = published (around_z (alias_in 1 (codes "v") 3)) (w_of_main (0 ∷ 2 ∷ 1 ∷ []))
 
 interface_cycle : IsCauseOf (around_z (alias_in 1 (codes "v") 3)) (Semantic None (codes "interface `foo:x/x@0.2.1` would depend on itself") InterfaceCycle)
@@ -257,7 +257,7 @@ t_refers_to_itself g is = record {
   message_is = refl;
 }
 
-abbrev own_type : Upgrade
+abbrev own_type : SemverMerge
 own_type = published (with_newer (alias_in 1 (codes "t") 0)) (w_of_main (0 ∷ 1 ∷ []))
 
 type_cycle : IsCauseOf (with_newer (alias_in 1 (codes "t") 0)) (Semantic None (codes "type `t` would refer to itself") TypeCycle)
@@ -301,15 +301,15 @@ accepted_apart =
     is_fine Published (first_release (0 ∷ 1 ∷ [])) 0 world refl
     (clear_by u 0 (0 ∷ 1 ∷ 2 ∷ []) (0 ∷ 1 ∷ []) (0 ∷ 1 ∷ []) refl (no_functions u refl) refl refl refl (no_exports (with_new_entries_at u 0) refl))
 
-accepted_together : (error : ResolveErrorKind) → IsTrackCause WithPrereleases (first_release (0 ∷ 1 ∷ [])) 0 error → ⊥
+accepted_together : (error : ResolveErrorKind) → IsSemverMergeCause WithPrereleases (first_release (0 ∷ 1 ∷ [])) 0 error → ⊥
 unfolding strip_zeros digits
 accepted_together =
     let world = world_in 2 (codes "w") (keyed (0 ∷ 1 ∷ [])) [] in
-    let u = upgrade WithPrereleases (first_release (0 ∷ 1 ∷ [])) world in
+    let u = semver_merge WithPrereleases (first_release (0 ∷ 1 ∷ [])) world in
     is_fine WithPrereleases (first_release (0 ∷ 1 ∷ [])) 0 world refl
     (clear_by u 0 (0 ∷ 1 ∷ 2 ∷ []) (0 ∷ 1 ∷ []) (0 ∷ 1 ∷ []) refl (no_functions u refl) refl refl refl (no_exports (with_new_entries_at u 0) refl))
 
-abbrev u_missing : World → Upgrade
+abbrev u_missing : World → SemverMerge
 u_missing world = published without_type_but_cycle world
 
 abbrev u_text : List ℕ
@@ -327,7 +327,7 @@ missing_beside_cycle : IsCauseOf without_type_but_cycle (failed (codes "type `u`
 unfolding strip_zeros digits
 missing_beside_cycle = (w_of_main (0 ∷ 2 ∷ 1 ∷ []), refl, type_missing_25 3 u_text u_follows lacks_u)
 
-no_cycle_in : (world : World) (message : List ℕ) (error : ResolveErrorKind) → UpgradeCause (u_missing world) 0 error → world ≡ w_of_main (0 ∷ 2 ∷ 1 ∷ []) → error ≡ Semantic None message TypeCycle → ⊥
+no_cycle_in : (world : World) (message : List ℕ) (error : ResolveErrorKind) → SemverMergeCause (u_missing world) 0 error → world ≡ w_of_main (0 ∷ 2 ∷ 1 ∷ []) → error ≡ Semantic None message TypeCycle → ⊥
 no_cycle_in world message error (conflict_4 span name complete is) same told = cc
 no_cycle_in world message error (package_cycle_6 home complete is) same told = cc
 no_cycle_in world message error (interface_cycle_22 text complete is) same told = cc
@@ -415,7 +415,7 @@ not_common =
     (clear_by u 0 (0 ∷ 1 ∷ 2 ∷ []) (0 ∷ 1 ∷ []) (0 ∷ 1 ∷ []) refl (λ f message d. not_in_newer f d.old d.new (d.have.name, d.have.other) d.replaced d.old_is d.new_is d.have.other_has)
     refl refl refl (no_exports (with_new_entries_at u 0) refl))
 
-abbrev both_wrong : Upgrade
+abbrev both_wrong : SemverMerge
 both_wrong = published (with_functions (with_x older_x) (with_y newer_x) (alias_in 1 (codes "t") 0)) (w_of_main (0 ∷ 1 ∷ []))
 
 cycle_beside : IsCauseOf (with_functions (with_x older_x) (with_y newer_x) (alias_in 1 (codes "t") 0)) (Semantic None (codes "type `t` would refer to itself") TypeCycle)

@@ -17,7 +17,7 @@ use Rattle.wit_graph_data.specs.declared.cause.Cause.TheVariants.{InterfaceCycle
 use Rattle.wit_graph_data.specs.declared.error_kind.ResolveErrorKind.TheVariants.{InvalidTransitiveDependency, PackageCycle, Semantic}
 use Rattle.wit_elaboration.specs.AllElaborated.{DependsOnItself, HasWorldInConflict, RefersToItself, UsesItself}
 use Rattle.wit_graph_theory.specs.examples.TestFacts.{no_cycle, none_in, one_of_two, only_one}
-use Rattle.wit_semver_spec.specs.Rewritten.{IsComplete, LacksType, Upgrade, UpgradeCause, conflict_4, interface_cycle_22, package_cycle_6, rewritable_types, type_cycle_23, type_missing_25, upgrade, with_new_entries_at}
+use Rattle.wit_semver_spec.specs.SemverMerged.{IsComplete, LacksType, SemverMerge, SemverMergeCause, conflict_4, interface_cycle_22, package_cycle_6, rewritable_types, type_cycle_23, type_missing_25, semver_merge, with_new_entries_at}
 use Rattle.examples_merge.proofs.SemverFine.{complete, of_world}
 use Rattle.examples_merge.proofs.SemverReasons.{t_refers_to_itself}
 use Rattle.examples_merge.specs.Releases.{foo_main, keyed, world_in}
@@ -25,17 +25,17 @@ use Rattle.examples_merge.specs.SemverTwoReasons.{ExamplesOfTwoReasons, exportin
 
 -- ---- what a reason says besides
 
-module _ (u : Upgrade) where
-  of_conflict_whole : (span : Option (ℕ × ℕ)) (name : List ℕ) → UpgradeCause u 0 (InvalidTransitiveDependency span name) → IsComplete u
+module _ (u : SemverMerge) where
+  of_conflict_whole : (span : Option (ℕ × ℕ)) (name : List ℕ) → SemverMergeCause u 0 (InvalidTransitiveDependency span name) → IsComplete u
   of_conflict_whole _ _ (conflict_4 span name whole is) = whole
 
-  of_conflict : (span : Option (ℕ × ℕ)) (name : List ℕ) → UpgradeCause u 0 (InvalidTransitiveDependency span name) → HasWorldInConflict (with_new_entries_at u 0) span name
+  of_conflict : (span : Option (ℕ × ℕ)) (name : List ℕ) → SemverMergeCause u 0 (InvalidTransitiveDependency span name) → HasWorldInConflict (with_new_entries_at u 0) span name
   of_conflict _ _ (conflict_4 span name whole is) = is
 
-  of_package_cycle : (span : Option (ℕ × ℕ)) (home : PackageName) → UpgradeCause u 0 (PackageCycle span home) → IsComplete u
+  of_package_cycle : (span : Option (ℕ × ℕ)) (home : PackageName) → SemverMergeCause u 0 (PackageCycle span home) → IsComplete u
   of_package_cycle _ _ (package_cycle_6 home whole is) = whole
 
-  of_circle : (span : Option (ℕ × ℕ)) (message : List ℕ) → UpgradeCause u 0 (Semantic span message InterfaceCycle) → IsComplete u
+  of_circle : (span : Option (ℕ × ℕ)) (message : List ℕ) → SemverMergeCause u 0 (Semantic span message InterfaceCycle) → IsComplete u
   of_circle _ _ (interface_cycle_22 message whole is) = whole
 
 -- ---- 22 and 6, and 25
@@ -43,11 +43,11 @@ module _ (u : Upgrade) where
 abbrev w_of_app : World
 w_of_app = world_in 3 (codes "w") (keyed (0 ∷ 2 ∷ 1 ∷ [])) []
 
-abbrev meets : Upgrade
-meets = upgrade Published with_u w_of_app
+abbrev meets : SemverMerge
+meets = semver_merge Published with_u w_of_app
 
-abbrev lacks : Upgrade
-lacks = upgrade Published without_u w_of_app
+abbrev lacks : SemverMerge
+lacks = semver_merge Published without_u w_of_app
 
 circle_of : UsesItself (listed with_u) x_text
 unfolding strip_zeros digits
@@ -103,11 +103,11 @@ t_of_own : RefersToItself (listed exporting_own) (codes "type `t` would refer to
 unfolding strip_zeros
 t_of_own = t_refers_to_itself (listed exporting_own) refl
 
-abbrev own : Upgrade
-own = upgrade Published exporting_own (world_in 2 (codes "w") (keyed (0 ∷ 2 ∷ 1 ∷ [])) (keyed (1 ∷ 3 ∷ [])))
+abbrev own : SemverMerge
+own = semver_merge Published exporting_own (world_in 2 (codes "w") (keyed (0 ∷ 2 ∷ 1 ∷ [])) (keyed (1 ∷ 3 ∷ [])))
 
-abbrev lacking : Upgrade
-lacking = upgrade Published exporting_lacking (world_in 2 (codes "w") (keyed (0 ∷ 2 ∷ 1 ∷ [])) (keyed (1 ∷ 3 ∷ [])))
+abbrev lacking : SemverMerge
+lacking = semver_merge Published exporting_lacking (world_in 2 (codes "w") (keyed (0 ∷ 2 ∷ 1 ∷ [])) (keyed (1 ∷ 3 ∷ [])))
 
 would_conflict_of_lack : HasTransitiveConflict (graph_uses (listed exporting_lacking)) (keyed (1 ∷ 3 ∷ []))
 unfolding strip_zeros
@@ -121,13 +121,13 @@ follows_too : Contains (rewritable_types lacking) 5
 unfolding strip_zeros digits
 follows_too = (1, lit< tt, refl)
 
-abbrev newer : Upgrade
-newer = upgrade Published exporting_newer (world_in 2 (codes "w") (keyed (0 ∷ 2 ∷ 1 ∷ [])) (keyed (1 ∷ [])))
+abbrev newer : SemverMerge
+newer = semver_merge Published exporting_newer (world_in 2 (codes "w") (keyed (0 ∷ 2 ∷ 1 ∷ [])) (keyed (1 ∷ [])))
 
 -- ---- 4 beside 6
 
-abbrev both : Upgrade
-both = upgrade Published exporting_z (world_in 3 (codes "w") (keyed (0 ∷ 2 ∷ 3 ∷ 1 ∷ [])) (keyed (1 ∷ 4 ∷ [])))
+abbrev both : SemverMerge
+both = semver_merge Published exporting_z (world_in 3 (codes "w") (keyed (0 ∷ 2 ∷ 3 ∷ 1 ∷ [])) (keyed (1 ∷ 4 ∷ [])))
 
 three_not_there : Contains {X = ℕ} (1 ∷ 4 ∷ []) 3 → ⊥
 three_not_there has = elim (one_of_two 1 4 3 has) [

@@ -20,7 +20,7 @@ use Rattle.wit_link_spec.specs.Gates.{OptionalSpan}
 use Rattle.wit_merge_spec.specs.Cause.{GraphsDiffer, HasNoMismatch, IsMergeCause, MergeReturnsBorrow}
 use Rattle.wit_merge_spec.specs.Cause as merging
 use Rattle.wit_merge_spec.specs.Matches.{GraphMerge}
-use Rattle.wit_merge_spec.specs.United.{joined_graph}
+use Rattle.wit_merge_spec.specs.Merged.{joined_graph}
 use Rattle.wit_merge_spec.specs.Structure.{structure, structure_within}
 use Rattle.examples_merge.proofs.Mismatches.{disagreeing}
 use Rattle.examples_merge.proofs.Passing.{are_one}

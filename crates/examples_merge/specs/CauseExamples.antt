@@ -17,13 +17,13 @@ use Rattle.wit_graph_data.specs.declared.graph.Graph.{Graph}
 use Rattle.wit_graph_data.specs.declared.error_kind.ResolveErrorKind.{ResolveErrorKind}
 use Rattle.wit_graph_data.specs.declared.error_kind.ResolveErrorKind.TheVariants.{InvalidTransitiveDependency, PackageCycle, Semantic}
 use Rattle.wit_remap_spec.specs.FunctionMismatch.{FunctionMismatch}
-use Rattle.wit_semver_spec.specs.Rewritten.{IsTrackCause}
+use Rattle.wit_semver_spec.specs.SemverMerged.{IsSemverMergeCause}
 use Rattle.examples_merge.specs.Releases.{Names, alias_in, called, foo_main, foo_x, graph_of, interface_in, keyed, number_in, package_of, release, two, with_function, world_in}
 use Rattle.examples_merge.specs.RewrittenExamples.{first_release, of_three}
 
 -- a reason to refuse the merge of the imports of world 0
 abbrev pub IsCauseOf : Graph → ResolveErrorKind → Type 0
-IsCauseOf g error = IsTrackCause Published g 0 error
+IsCauseOf g error = IsSemverMergeCause Published g 0 error
 
 -- no cause holds against it
 abbrev pub IsFine : Graph → Type 0
@@ -136,7 +136,7 @@ pub record ExamplesOfCauses : Type 0 where
   pub not_missing : IsFine of_three
   -- a pre-release and its release are accepted by either rule
   pub accepted_apart : IsFine (first_release (0 ∷ 1 ∷ []))
-  pub accepted_together : NoCause (IsTrackCause WithPrereleases (first_release (0 ∷ 1 ∷ [])) 0)
+  pub accepted_together : NoCause (IsSemverMergeCause WithPrereleases (first_release (0 ∷ 1 ∷ [])) 0)
   -- and then no cycle is a reason
   pub missing_beside_cycle : IsCauseOf without_type_but_cycle (failed (codes "type `u` is missing"))
   pub no_cycle_beside : (message : List ℕ) → IsCauseOf without_type_but_cycle (Semantic None message TypeCycle) → ⊥

@@ -6,7 +6,7 @@ use Rattle.wit_data.specs.declared.world.WorldKey.TheVariants as key
 use Rattle.wit_graph_data.specs.examples.Samples.{foo_bar, function_of, world_of}
 use Rattle.wit_graph_data.specs.IdText.{key_text}
 use Rattle.wit_graph_data.specs.declared.graph.Graph.{Graph}
-use Rattle.wit_merge_spec.specs.United.{merged_interface, merged_type}
+use Rattle.wit_merge_spec.specs.Merged.{merged_interface, merged_type}
 use Rattle.wit_merge_laws.specs.laws.CopyLaws.{IsPlaced}
 use Rattle.wit_merge_laws.specs.laws.OrderLaws.{AreAlike, HasKey, under_interface, under_label}
 use Rattle.wit_merge_laws.specs.laws.Names.{HasImport, HasName, Label, at_label, in_package, of_export, of_function, of_interface, of_label, of_package, of_type, of_world}

@@ -6,7 +6,7 @@ use Rattle.wit_data.specs.declared.world.World.{World}
 use Rattle.wit_elaboration.specs.Entries.{Entry}
 use Rattle.wit_graph_data.specs.examples.Samples.{labelled_entry}
 use Rattle.wit_graph_data.specs.declared.graph.Graph.{Graph}
-use Rattle.wit_semver_spec.specs.Rewritten.{Upgrade, new_target, rewritten, upgrade}
+use Rattle.wit_semver_spec.specs.SemverMerged.{SemverMerge, new_target, semver_merged, semver_merge}
 use Rattle.examples_merge.specs.Releases.{alias_in, called, graph_of, importing, interface_in, keyed, number_in, prerelease, release, two, world_in}
 
 -- ---- three versions, and an interface that uses one
@@ -50,8 +50,8 @@ abbrev pub old_x : Entry
 old_x = labelled_entry (codes "old") 0
 
 -- a world of a graph, whose imports are merged by the published rule
-abbrev pub published : Graph → World → Upgrade
-published = upgrade Published
+abbrev pub published : Graph → World → SemverMerge
+published = semver_merge Published
 
 pub record ExamplesOfRewriting : Type 0 where
   -- y's t names t of x@0.2.0, and comes to name t of x@0.2.1, the type of that name
@@ -59,35 +59,35 @@ pub record ExamplesOfRewriting : Type 0 where
   -- another name that x@0.2.0 has of its own t stays
   pub of_own_alias : new_target (published (with_second_name 0 0 (keyed (0 ∷ 1 ∷ [])) (keyed (0 ∷ 2 ∷ []))) (world_in 2 (codes "w") (keyed (0 ∷ 1 ∷ [])) (keyed (0 ∷ 2 ∷ [])))) 3 ≡ None
   -- 0.2.1 stands for 0.2.0, and y uses it; 0.3.0 is on a track of its own
-  pub merged : rewritten Published of_three 0 ≡ three 1 (1 ∷ 3 ∷ 2 ∷ [])
+  pub merged : semver_merged Published of_three 0 ≡ three 1 (1 ∷ 3 ∷ 2 ∷ [])
   -- a second time nothing changes
-  pub again : rewritten Published (three 1 (1 ∷ 3 ∷ 2 ∷ [])) 0 ≡ three 1 (1 ∷ 3 ∷ 2 ∷ [])
+  pub again : semver_merged Published (three 1 (1 ∷ 3 ∷ 2 ∷ [])) 0 ≡ three 1 (1 ∷ 3 ∷ 2 ∷ [])
   -- it isn't kept because y uses it, y doesn't use it still, and the first that is met doesn't stay
-  pub not_kept : rewritten Published of_three 0 ≡ of_three → ⊥
-  pub not_unused : rewritten Published of_three 0 ≡ three 0 (1 ∷ 3 ∷ 2 ∷ []) → ⊥
-  pub not_the_first : rewritten Published of_three 0 ≡ three 0 (0 ∷ 3 ∷ 2 ∷ []) → ⊥
+  pub not_kept : semver_merged Published of_three 0 ≡ of_three → ⊥
+  pub not_unused : semver_merged Published of_three 0 ≡ three 0 (1 ∷ 3 ∷ 2 ∷ []) → ⊥
+  pub not_the_first : semver_merged Published of_three 0 ≡ three 0 (0 ∷ 3 ∷ 2 ∷ []) → ⊥
   -- and 0.3.0 doesn't stand for the others
-  pub not_the_greatest : rewritten Published of_three 0 ≡ three 2 (2 ∷ 3 ∷ []) → ⊥
+  pub not_the_greatest : semver_merged Published of_three 0 ≡ three 2 (2 ∷ 3 ∷ []) → ⊥
   -- the order in which the versions stand makes no difference to which stays
-  pub newest_first : rewritten Published (three 0 (1 ∷ 0 ∷ 3 ∷ 2 ∷ [])) 0 ≡ three 1 (1 ∷ 3 ∷ 2 ∷ [])
+  pub newest_first : semver_merged Published (three 0 (1 ∷ 0 ∷ 3 ∷ 2 ∷ [])) 0 ≡ three 1 (1 ∷ 3 ∷ 2 ∷ [])
   -- exports stay, be they of a replaced interface; what they use follows
-  pub exported : rewritten Published (with_worlds 0 (keyed (0 ∷ 1 ∷ [])) (keyed (0 ∷ 2 ∷ [])) []) 0 ≡ with_worlds 1 (keyed (1 ∷ [])) (keyed (0 ∷ 2 ∷ [])) []
-  pub not_dropped : rewritten Published (with_worlds 0 (keyed (0 ∷ 1 ∷ [])) (keyed (0 ∷ 2 ∷ [])) []) 0 ≡ with_worlds 1 (keyed (1 ∷ [])) (keyed (2 ∷ [])) [] → ⊥
+  pub exported : semver_merged Published (with_worlds 0 (keyed (0 ∷ 1 ∷ [])) (keyed (0 ∷ 2 ∷ [])) []) 0 ≡ with_worlds 1 (keyed (1 ∷ [])) (keyed (0 ∷ 2 ∷ [])) []
+  pub not_dropped : semver_merged Published (with_worlds 0 (keyed (0 ∷ 1 ∷ [])) (keyed (0 ∷ 2 ∷ [])) []) 0 ≡ with_worlds 1 (keyed (1 ∷ [])) (keyed (2 ∷ [])) [] → ⊥
   -- but an alias of a type of its own interface names it still
-  pub own_alias : rewritten Published (with_second_name 0 0 (keyed (0 ∷ 1 ∷ [])) (keyed (0 ∷ 2 ∷ []))) 0 ≡ with_second_name 1 0 (keyed (1 ∷ [])) (keyed (0 ∷ 2 ∷ []))
-  pub not_transformed : rewritten Published (with_second_name 0 0 (keyed (0 ∷ 1 ∷ [])) (keyed (0 ∷ 2 ∷ []))) 0 ≡ with_second_name 1 1 (keyed (1 ∷ [])) (keyed (0 ∷ 2 ∷ [])) → ⊥
+  pub own_alias : semver_merged Published (with_second_name 0 0 (keyed (0 ∷ 1 ∷ [])) (keyed (0 ∷ 2 ∷ []))) 0 ≡ with_second_name 1 0 (keyed (1 ∷ [])) (keyed (0 ∷ 2 ∷ []))
+  pub not_transformed : semver_merged Published (with_second_name 0 0 (keyed (0 ∷ 1 ∷ [])) (keyed (0 ∷ 2 ∷ []))) 0 ≡ with_second_name 1 1 (keyed (1 ∷ [])) (keyed (0 ∷ 2 ∷ [])) → ⊥
   -- under a label a replaced interface stays
-  pub labelled : rewritten Published (with_worlds 0 (keyed (0 ∷ 1 ∷ []) ++ old_x ∷ []) [] []) 0 ≡ with_worlds 0 (keyed (1 ∷ []) ++ old_x ∷ []) [] []
-  pub not_relabelled : rewritten Published (with_worlds 0 (keyed (0 ∷ 1 ∷ []) ++ old_x ∷ []) [] []) 0 ≡ with_worlds 0 (keyed (1 ∷ []) ++ labelled_entry (codes "old") 1 ∷ []) [] [] → ⊥
+  pub labelled : semver_merged Published (with_worlds 0 (keyed (0 ∷ 1 ∷ []) ++ old_x ∷ []) [] []) 0 ≡ with_worlds 0 (keyed (1 ∷ []) ++ old_x ∷ []) [] []
+  pub not_relabelled : semver_merged Published (with_worlds 0 (keyed (0 ∷ 1 ∷ []) ++ old_x ∷ []) [] []) 0 ≡ with_worlds 0 (keyed (1 ∷ []) ++ labelled_entry (codes "old") 1 ∷ []) [] [] → ⊥
   -- another world lists what it listed, and is elaborated anew
-  pub other_world : rewritten Published (with_worlds 0 (keyed (0 ∷ 2 ∷ 1 ∷ [])) [] (keyed (0 ∷ 2 ∷ []))) 0 ≡ with_worlds 1 (keyed (1 ∷ 2 ∷ [])) [] (keyed (0 ∷ 1 ∷ 2 ∷ []))
-  pub not_as_it_was : rewritten Published (with_worlds 0 (keyed (0 ∷ 2 ∷ 1 ∷ [])) [] (keyed (0 ∷ 2 ∷ []))) 0 ≡ with_worlds 1 (keyed (1 ∷ 2 ∷ [])) [] (keyed (0 ∷ 2 ∷ [])) → ⊥
-  pub not_merged_too : rewritten Published (with_worlds 0 (keyed (0 ∷ 2 ∷ 1 ∷ [])) [] (keyed (0 ∷ 2 ∷ []))) 0 ≡ with_worlds 1 (keyed (1 ∷ 2 ∷ [])) [] (keyed (1 ∷ 2 ∷ [])) → ⊥
+  pub other_world : semver_merged Published (with_worlds 0 (keyed (0 ∷ 2 ∷ 1 ∷ [])) [] (keyed (0 ∷ 2 ∷ []))) 0 ≡ with_worlds 1 (keyed (1 ∷ 2 ∷ [])) [] (keyed (0 ∷ 1 ∷ 2 ∷ []))
+  pub not_as_it_was : semver_merged Published (with_worlds 0 (keyed (0 ∷ 2 ∷ 1 ∷ [])) [] (keyed (0 ∷ 2 ∷ []))) 0 ≡ with_worlds 1 (keyed (1 ∷ 2 ∷ [])) [] (keyed (0 ∷ 2 ∷ [])) → ⊥
+  pub not_merged_too : semver_merged Published (with_worlds 0 (keyed (0 ∷ 2 ∷ 1 ∷ [])) [] (keyed (0 ∷ 2 ∷ []))) 0 ≡ with_worlds 1 (keyed (1 ∷ 2 ∷ [])) [] (keyed (1 ∷ 2 ∷ [])) → ⊥
   -- a second time nothing changes, of neither world
-  pub other_world_again : rewritten Published (with_worlds 1 (keyed (1 ∷ 2 ∷ [])) [] (keyed (0 ∷ 1 ∷ 2 ∷ []))) 0 ≡ with_worlds 1 (keyed (1 ∷ 2 ∷ [])) [] (keyed (0 ∷ 1 ∷ 2 ∷ []))
+  pub other_world_again : semver_merged Published (with_worlds 1 (keyed (1 ∷ 2 ∷ [])) [] (keyed (0 ∷ 1 ∷ 2 ∷ []))) 0 ≡ with_worlds 1 (keyed (1 ∷ 2 ∷ [])) [] (keyed (0 ∷ 1 ∷ 2 ∷ []))
   -- where the newer one isn't imported nothing is replaced, nor where there is no world
-  pub alone : rewritten Published (with_worlds 0 (keyed (0 ∷ 2 ∷ [])) [] []) 0 ≡ with_worlds 0 (keyed (0 ∷ 2 ∷ [])) [] []
-  pub nowhere : rewritten Published of_three 1 ≡ of_three
+  pub alone : semver_merged Published (with_worlds 0 (keyed (0 ∷ 2 ∷ [])) [] []) 0 ≡ with_worlds 0 (keyed (0 ∷ 2 ∷ [])) [] []
+  pub nowhere : semver_merged Published of_three 1 ≡ of_three
 
 -- ---- rules of tracks
 
@@ -106,28 +106,28 @@ patch_release imports = importing (prerelease 0 0 3 (codes "a") ∷ release 0 0 
 
 pub record ExamplesOfRules : Type 0 where
   -- by the published rule a pre-release is on a track of its own
-  pub apart : rewritten Published (first_release (0 ∷ 1 ∷ [])) 0 ≡ first_release (0 ∷ 1 ∷ [])
-  pub apart_from_release : rewritten Published (with_release (0 ∷ 1 ∷ 2 ∷ [])) 0 ≡ with_release (1 ∷ 2 ∷ [])
-  pub apart_from_major : rewritten Published (major_release (0 ∷ 1 ∷ [])) 0 ≡ major_release (0 ∷ 1 ∷ [])
-  pub apart_from_patch : rewritten Published (patch_release (0 ∷ 1 ∷ [])) 0 ≡ patch_release (0 ∷ 1 ∷ [])
+  pub apart : semver_merged Published (first_release (0 ∷ 1 ∷ [])) 0 ≡ first_release (0 ∷ 1 ∷ [])
+  pub apart_from_release : semver_merged Published (with_release (0 ∷ 1 ∷ 2 ∷ [])) 0 ≡ with_release (1 ∷ 2 ∷ [])
+  pub apart_from_major : semver_merged Published (major_release (0 ∷ 1 ∷ [])) 0 ≡ major_release (0 ∷ 1 ∷ [])
+  pub apart_from_patch : semver_merged Published (patch_release (0 ∷ 1 ∷ [])) 0 ≡ patch_release (0 ∷ 1 ∷ [])
   -- by the other rule it is on the track of its release, below it
-  pub together : rewritten WithPrereleases (first_release (0 ∷ 1 ∷ [])) 0 ≡ first_release (1 ∷ [])
-  pub below_release : rewritten WithPrereleases (with_release (0 ∷ 1 ∷ 2 ∷ [])) 0 ≡ with_release (2 ∷ [])
-  pub other_major : rewritten WithPrereleases (major_release (0 ∷ 1 ∷ [])) 0 ≡ major_release (0 ∷ 1 ∷ [])
-  pub below_patch : rewritten WithPrereleases (patch_release (0 ∷ 1 ∷ [])) 0 ≡ patch_release (1 ∷ [])
+  pub together : semver_merged WithPrereleases (first_release (0 ∷ 1 ∷ [])) 0 ≡ first_release (1 ∷ [])
+  pub below_release : semver_merged WithPrereleases (with_release (0 ∷ 1 ∷ 2 ∷ [])) 0 ≡ with_release (2 ∷ [])
+  pub other_major : semver_merged WithPrereleases (major_release (0 ∷ 1 ∷ [])) 0 ≡ major_release (0 ∷ 1 ∷ [])
+  pub below_patch : semver_merged WithPrereleases (patch_release (0 ∷ 1 ∷ [])) 0 ≡ patch_release (1 ∷ [])
   -- by the published rule a release stands for no pre-release and a pre-release for none; a release does for an older one
-  pub not_with_release : rewritten Published (with_release (0 ∷ 1 ∷ 2 ∷ [])) 0 ≡ with_release (2 ∷ []) → ⊥
-  pub not_all_apart : rewritten Published (with_release (0 ∷ 1 ∷ 2 ∷ [])) 0 ≡ with_release (0 ∷ 1 ∷ 2 ∷ []) → ⊥
-  pub not_with_major : rewritten Published (major_release (0 ∷ 1 ∷ [])) 0 ≡ major_release (1 ∷ []) → ⊥
-  pub not_with_patch : rewritten Published (patch_release (0 ∷ 1 ∷ [])) 0 ≡ patch_release (1 ∷ []) → ⊥
+  pub not_with_release : semver_merged Published (with_release (0 ∷ 1 ∷ 2 ∷ [])) 0 ≡ with_release (2 ∷ []) → ⊥
+  pub not_all_apart : semver_merged Published (with_release (0 ∷ 1 ∷ 2 ∷ [])) 0 ≡ with_release (0 ∷ 1 ∷ 2 ∷ []) → ⊥
+  pub not_with_major : semver_merged Published (major_release (0 ∷ 1 ∷ [])) 0 ≡ major_release (1 ∷ []) → ⊥
+  pub not_with_patch : semver_merged Published (patch_release (0 ∷ 1 ∷ [])) 0 ≡ patch_release (1 ∷ []) → ⊥
   -- by the other rule a pre-release doesn't stay beside its release, doesn't stand for it, nor for one of another major
-  pub not_beside_release : rewritten WithPrereleases (with_release (0 ∷ 1 ∷ 2 ∷ [])) 0 ≡ with_release (1 ∷ 2 ∷ []) → ⊥
-  pub not_above_release : rewritten WithPrereleases (with_release (0 ∷ 1 ∷ 2 ∷ [])) 0 ≡ with_release (1 ∷ []) → ⊥
-  pub not_one_major : rewritten WithPrereleases (major_release (0 ∷ 1 ∷ [])) 0 ≡ major_release (1 ∷ []) → ⊥
-  pub not_beside_patch : rewritten WithPrereleases (patch_release (0 ∷ 1 ∷ [])) 0 ≡ patch_release (0 ∷ 1 ∷ []) → ⊥
-  pub not_above_patch : rewritten WithPrereleases (patch_release (0 ∷ 1 ∷ [])) 0 ≡ patch_release (0 ∷ []) → ⊥
+  pub not_beside_release : semver_merged WithPrereleases (with_release (0 ∷ 1 ∷ 2 ∷ [])) 0 ≡ with_release (1 ∷ 2 ∷ []) → ⊥
+  pub not_above_release : semver_merged WithPrereleases (with_release (0 ∷ 1 ∷ 2 ∷ [])) 0 ≡ with_release (1 ∷ []) → ⊥
+  pub not_one_major : semver_merged WithPrereleases (major_release (0 ∷ 1 ∷ [])) 0 ≡ major_release (1 ∷ []) → ⊥
+  pub not_beside_patch : semver_merged WithPrereleases (patch_release (0 ∷ 1 ∷ [])) 0 ≡ patch_release (0 ∷ 1 ∷ []) → ⊥
+  pub not_above_patch : semver_merged WithPrereleases (patch_release (0 ∷ 1 ∷ [])) 0 ≡ patch_release (0 ∷ []) → ⊥
   -- a second time by the published rule nothing changes, but by the other rule something does
-  pub again : rewritten Published (with_release (1 ∷ 2 ∷ [])) 0 ≡ with_release (1 ∷ 2 ∷ [])
-  pub not_by_the_other : rewritten WithPrereleases (with_release (1 ∷ 2 ∷ [])) 0 ≡ with_release (1 ∷ 2 ∷ []) → ⊥
+  pub again : semver_merged Published (with_release (1 ∷ 2 ∷ [])) 0 ≡ with_release (1 ∷ 2 ∷ [])
+  pub not_by_the_other : semver_merged WithPrereleases (with_release (1 ∷ 2 ∷ [])) 0 ≡ with_release (1 ∷ 2 ∷ []) → ⊥
   -- the rule isn't ignored
-  pub not_ignored : rewritten WithPrereleases (first_release (0 ∷ 1 ∷ [])) 0 ≡ rewritten Published (first_release (0 ∷ 1 ∷ [])) 0 → ⊥
+  pub not_ignored : semver_merged WithPrereleases (first_release (0 ∷ 1 ∷ [])) 0 ≡ semver_merged Published (first_release (0 ∷ 1 ∷ [])) 0 → ⊥

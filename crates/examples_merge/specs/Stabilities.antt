@@ -10,7 +10,7 @@ use Rattle.wit_graph_data.specs.declared.error_kind.ResolveErrorKind.TheVariants
 use Rattle.wit_graph_data.specs.declared.graph.Graph.{Graph}
 use Rattle.wit_link_spec.specs.Gates.{OptionalSpan}
 use Rattle.wit_merge_spec.specs.Cause.{IsMergeCause, MergeIsAccepted}
-use Rattle.wit_merge_spec.specs.United.{united}
+use Rattle.wit_merge_spec.specs.Merged.{merged}
 use Rattle.examples_merge.specs.Graphs.{foo_bar_alone, gate_f, gate_g, merge_of_graphs, with_functions}
 
 -- ---- graphs
@@ -67,13 +67,13 @@ pub record ExamplesOfStabilities : Type 0 where
   -- nor of functions
   pub functions : DisagreesNowhere (gated_function gate_f) (gated_function gate_g)
   -- what is made: a gate replaces none, of an interface, of a world, of an import
-  pub interface_part_is_active : united (merge_of_graphs (gated_interface (codes "i") Unknown) (gated_interface (codes "i") gate_g)) ≡ gated_interface (codes "i") gate_g
-  pub interface_keeps : united (merge_of_graphs (gated_interface (codes "i") gate_f) (gated_interface (codes "i") Unknown)) ≡ gated_interface (codes "i") gate_f
-  pub world_part_is_active : united (merge_of_graphs (gated_world (codes "w") Unknown) (gated_world (codes "w") gate_g)) ≡ gated_world (codes "w") gate_g
-  pub import_is_active : united (merge_of_graphs (listing (keyed Unknown ∷ []) []) (listing (keyed gate_g ∷ []) [])) ≡ listing (keyed gate_g ∷ []) []
+  pub interface_part_is_active : merged (merge_of_graphs (gated_interface (codes "i") Unknown) (gated_interface (codes "i") gate_g)) ≡ gated_interface (codes "i") gate_g
+  pub interface_keeps : merged (merge_of_graphs (gated_interface (codes "i") gate_f) (gated_interface (codes "i") Unknown)) ≡ gated_interface (codes "i") gate_f
+  pub world_part_is_active : merged (merge_of_graphs (gated_world (codes "w") Unknown) (gated_world (codes "w") gate_g)) ≡ gated_world (codes "w") gate_g
+  pub import_is_active : merged (merge_of_graphs (listing (keyed Unknown ∷ []) []) (listing (keyed gate_g ∷ []) [])) ≡ listing (keyed gate_g ∷ []) []
   -- under a label it takes none, and a function keeps its own
-  pub label_keeps : united (merge_of_graphs (listing (labelled Unknown ∷ []) []) (listing (labelled gate_g ∷ []) [])) ≡ listing (labelled Unknown ∷ []) []
-  pub function_keeps : united (merge_of_graphs (gated_function gate_f) (gated_function gate_g)) ≡ gated_function gate_f
+  pub label_keeps : merged (merge_of_graphs (listing (labelled Unknown ∷ []) []) (listing (labelled gate_g ∷ []) [])) ≡ listing (labelled Unknown ∷ []) []
+  pub function_keeps : merged (merge_of_graphs (gated_function gate_f) (gated_function gate_g)) ≡ gated_function gate_f
   -- and no cause holds against it
   pub interface_taken : MergeIsAccepted (merge_of_graphs (gated_interface (codes "i") Unknown) (gated_interface (codes "i") gate_g))
   pub interface_kept : MergeIsAccepted (merge_of_graphs (gated_interface (codes "i") gate_f) (gated_interface (codes "i") Unknown))

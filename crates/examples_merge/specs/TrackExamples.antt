@@ -10,7 +10,7 @@ use Rattle.wit_data.specs.declared.world.WorldKey.TheVariants as key
 use Rattle.wit_elaboration.specs.Entries.{Entry}
 use Rattle.wit_graph_data.specs.examples.Samples.{labelled_entry, type_of}
 use Rattle.wit_graph_data.specs.declared.graph.Graph.{Graph}
-use Rattle.wit_semver_spec.specs.Rewritten.{rewritten}
+use Rattle.wit_semver_spec.specs.SemverMerged.{semver_merged}
 use Rattle.examples_merge.specs.Releases.{alias_in, called, foo_main, foo_x, graph_of, interface_in, keyed, number_in, package_of, release, two, world_in}
 use Rattle.examples_merge.specs.RewrittenExamples.{with_versions, with_worlds}
 
@@ -28,7 +28,7 @@ beside_x home name imports = record {
 
 -- nothing of it is replaced
 abbrev pub StandsApart : PackageName → List ℕ → Type 0
-StandsApart home name = rewritten Published (beside_x home name (0 ∷ 1 ∷ [])) 0 ≡ beside_x home name (0 ∷ 1 ∷ [])
+StandsApart home name = semver_merged Published (beside_x home name (0 ∷ 1 ∷ [])) 0 ≡ beside_x home name (0 ∷ 1 ∷ [])
 
 -- ---- a world that uses a type
 
@@ -66,24 +66,24 @@ new_x = labelled_entry (codes "new") 1
 pub record ExamplesOfTracks : Type 0 where
   -- x of foo:x@0.2.1 stands for that of foo:x@0.2.0; an interface of another name, or of a package of another name, of
   -- another namespace or without a version, is on no track with it
-  pub one_name : rewritten Published (beside_x (foo_x (release 0 2 1)) (codes "x") (0 ∷ 1 ∷ [])) 0 ≡ beside_x (foo_x (release 0 2 1)) (codes "x") (1 ∷ [])
+  pub one_name : semver_merged Published (beside_x (foo_x (release 0 2 1)) (codes "x") (0 ∷ 1 ∷ [])) 0 ≡ beside_x (foo_x (release 0 2 1)) (codes "x") (1 ∷ [])
   pub other_interface : StandsApart (foo_x (release 0 2 1)) (codes "z")
   pub other_package : StandsApart (record (foo_x (release 0 2 1)) { name = codes "z" }) (codes "x")
   pub other_namespace : StandsApart (record (foo_x (release 0 2 1)) { namespace = codes "z" }) (codes "x")
   pub without_version : StandsApart (record (foo_x (release 0 2 1)) { version = None }) (codes "x")
   -- of three on one track the greatest stands for both others, and y uses it, not the next one
-  pub greatest_of_three : rewritten Published (of_one_track 0 (0 ∷ 3 ∷ 1 ∷ 2 ∷ [])) 0 ≡ of_one_track 2 (2 ∷ 3 ∷ [])
-  pub not_the_next : rewritten Published (of_one_track 0 (0 ∷ 3 ∷ 1 ∷ 2 ∷ [])) 0 ≡ of_one_track 1 (2 ∷ 3 ∷ []) → ⊥
+  pub greatest_of_three : semver_merged Published (of_one_track 0 (0 ∷ 3 ∷ 1 ∷ 2 ∷ [])) 0 ≡ of_one_track 2 (2 ∷ 3 ∷ [])
+  pub not_the_next : semver_merged Published (of_one_track 0 (0 ∷ 3 ∷ 1 ∷ 2 ∷ [])) 0 ≡ of_one_track 1 (2 ∷ 3 ∷ []) → ⊥
   -- what is imported under a label alone stands for nothing
-  pub labelled_newer : rewritten Published (with_worlds 0 (keyed (0 ∷ []) ++ new_x ∷ []) [] []) 0 ≡ with_worlds 0 (keyed (0 ∷ []) ++ new_x ∷ []) [] []
+  pub labelled_newer : semver_merged Published (with_worlds 0 (keyed (0 ∷ []) ++ new_x ∷ []) [] []) 0 ≡ with_worlds 0 (keyed (0 ∷ []) ++ new_x ∷ []) [] []
   -- a type that the world itself uses follows
-  pub type_use : rewritten Published (using_type 0 (0 ∷ 1 ∷ [])) 0 ≡ using_type 1 (1 ∷ [])
-  pub not_left : rewritten Published (using_type 0 (0 ∷ 1 ∷ [])) 0 ≡ using_type 0 (1 ∷ []) → ⊥
+  pub type_use : semver_merged Published (using_type 0 (0 ∷ 1 ∷ [])) 0 ≡ using_type 1 (1 ∷ [])
+  pub not_left : semver_merged Published (using_type 0 (0 ∷ 1 ∷ [])) 0 ≡ using_type 0 (1 ∷ []) → ⊥
   -- so does y under a label, and an interface without a name
-  pub label_use : rewritten Published (with_worlds 0 (keyed (0 ∷ 1 ∷ []) ++ y_at_l ∷ []) [] []) 0 ≡ with_worlds 1 (keyed (1 ∷ []) ++ y_at_l ∷ []) [] []
-  pub label_not_left : rewritten Published (with_worlds 0 (keyed (0 ∷ 1 ∷ []) ++ y_at_l ∷ []) [] []) 0 ≡ with_worlds 0 (keyed (1 ∷ []) ++ y_at_l ∷ []) [] [] → ⊥
-  pub nameless_use : rewritten Published (nameless_at_l 0 (0 ∷ 1 ∷ [])) 0 ≡ nameless_at_l 1 (1 ∷ [])
-  pub nameless_not_left : rewritten Published (nameless_at_l 0 (0 ∷ 1 ∷ [])) 0 ≡ nameless_at_l 0 (1 ∷ []) → ⊥
+  pub label_use : semver_merged Published (with_worlds 0 (keyed (0 ∷ 1 ∷ []) ++ y_at_l ∷ []) [] []) 0 ≡ with_worlds 1 (keyed (1 ∷ []) ++ y_at_l ∷ []) [] []
+  pub label_not_left : semver_merged Published (with_worlds 0 (keyed (0 ∷ 1 ∷ []) ++ y_at_l ∷ []) [] []) 0 ≡ with_worlds 0 (keyed (1 ∷ []) ++ y_at_l ∷ []) [] [] → ⊥
+  pub nameless_use : semver_merged Published (nameless_at_l 0 (0 ∷ 1 ∷ [])) 0 ≡ nameless_at_l 1 (1 ∷ [])
+  pub nameless_not_left : semver_merged Published (nameless_at_l 0 (0 ∷ 1 ∷ [])) 0 ≡ nameless_at_l 0 (1 ∷ []) → ⊥
   -- y, which another world alone imports, doesn't
-  pub of_another_world : rewritten Published (with_worlds 0 (keyed (0 ∷ 1 ∷ [])) [] (keyed (0 ∷ 2 ∷ []))) 0 ≡ with_worlds 0 (keyed (1 ∷ [])) [] (keyed (0 ∷ 2 ∷ []))
-  pub not_rewritable : rewritten Published (with_worlds 0 (keyed (0 ∷ 1 ∷ [])) [] (keyed (0 ∷ 2 ∷ []))) 0 ≡ with_worlds 1 (keyed (1 ∷ [])) [] (keyed (0 ∷ 1 ∷ 2 ∷ [])) → ⊥
+  pub of_another_world : semver_merged Published (with_worlds 0 (keyed (0 ∷ 1 ∷ [])) [] (keyed (0 ∷ 2 ∷ []))) 0 ≡ with_worlds 0 (keyed (1 ∷ [])) [] (keyed (0 ∷ 2 ∷ []))
+  pub not_rewritable : semver_merged Published (with_worlds 0 (keyed (0 ∷ 1 ∷ [])) [] (keyed (0 ∷ 2 ∷ []))) 0 ≡ with_worlds 1 (keyed (1 ∷ [])) [] (keyed (0 ∷ 1 ∷ 2 ∷ [])) → ⊥

@@ -15,7 +15,7 @@ use Rattle.wit_elaboration.specs.AllElaborated.{DependsOnItself, UsesItself}
 use Rattle.wit_link_spec.specs.Gates.{OptionalSpan}
 use Rattle.wit_merge_spec.specs.Cause.{IsMergeCause, MergeReturnsBorrow}
 use Rattle.wit_merge_spec.specs.Matches.{GraphMerge}
-use Rattle.wit_merge_spec.specs.United.{joined_graph}
+use Rattle.wit_merge_spec.specs.Merged.{joined_graph}
 use Rattle.examples_merge.specs.Graphs.{alias_in, foo_named, gate_f, gate_g, interface_in, merge_of_graphs, number_in, package_named, taking, with_functions}
 use Rattle.examples_merge.specs.Refusals.{handle_t, holding, returning, x_uses_y, y_uses_x}
 

@@ -16,7 +16,7 @@ use Rattle.wit_graph_data.specs.examples.Samples.{entry_of, foo_bar, foo_bar_of,
 use Rattle.wit_graph_data.specs.declared.graph.Graph.{Graph}
 use Rattle.wit_graph_data.specs.declared.graph.Package.{Package}
 use Rattle.wit_merge_spec.specs.Matches.{counterpart_interface, counterpart_package, counterpart_type, counterpart_world}
-use Rattle.wit_merge_spec.specs.United.{merge_remap, united}
+use Rattle.wit_merge_spec.specs.Merged.{merge_remap, merged}
 use Rattle.examples_merge.specs.Graphs.{a_beside_b, a_uses_b, alias_in, b_uses_a, field_a, foo_bar_alone, foo_named, gate_f, i_uses_j, inner, interface_in, merge_of_graphs, more, number_in, one_number, only_c, package_named, record_x, resource_record, resource_t, three, two_numbers, world_of_i}
 
 -- an interface without a name beside world w, which imports and exports these
@@ -107,74 +107,74 @@ v_alone = foo_bar_alone (types_of_v 0 0) [] (v_of 0 ∷ []) [] ((codes "v", 0) �
 -- whole graphs
 pub record ExamplesOfUnions : Type 0 where
   -- nothing into a graph, a graph into nothing, a graph into itself
-  pub nothing_comes : united (merge_of_graphs three empty_graph) ≡ three
-  pub into_nothing : united (merge_of_graphs empty_graph three) ≡ three
-  pub itself : united (merge_of_graphs three three) ≡ three
+  pub nothing_comes : merged (merge_of_graphs three empty_graph) ≡ three
+  pub into_nothing : merged (merge_of_graphs empty_graph three) ≡ three
+  pub itself : merged (merge_of_graphs three three) ≡ three
   -- with nothing nothing goes, be it the list of a package's name alone or one import; and a package that holds nothing is
   -- not nothing
-  pub name_not_lost : united (merge_of_graphs three empty_graph) ≡ record three { package_names = [] } → ⊥
-  pub import_not_lost : united (merge_of_graphs three empty_graph) ≡ record three { worlds = world_of (codes "w") (entry_of 0 ∷ entry_of 1 ∷ []) [] ∷ [] } → ⊥
-  pub not_empty : united (merge_of_graphs empty_graph three) ≡ empty_graph → ⊥
-  pub empty_package : united (merge_of_graphs three (record empty_graph { packages = package_named (codes "c") [] ∷ []; package_names = (foo_named (codes "c"), 0) ∷ [] })) ≡ three → ⊥
+  pub name_not_lost : merged (merge_of_graphs three empty_graph) ≡ record three { package_names = [] } → ⊥
+  pub import_not_lost : merged (merge_of_graphs three empty_graph) ≡ record three { worlds = world_of (codes "w") (entry_of 0 ∷ entry_of 1 ∷ []) [] ∷ [] } → ⊥
+  pub not_empty : merged (merge_of_graphs empty_graph three) ≡ empty_graph → ⊥
+  pub empty_package : merged (merge_of_graphs three (record empty_graph { packages = package_named (codes "c") [] ∷ []; package_names = (foo_named (codes "c"), 0) ∷ [] })) ≡ three → ⊥
   -- of a graph into itself nothing comes a second time: not a type, not the package, not its name
-  pub type_not_twice : united (merge_of_graphs three three) ≡ record three { types = number_in 0 (codes "t") ∷ alias_in 1 (codes "t") 0 ∷ alias_in 2 (codes "t") 0 ∷ alias_in 2 (codes "t2") 1 ∷ alias_in 2 (codes "t2") 1 ∷ [] } → ⊥
-  pub package_not_twice : united (merge_of_graphs three three) ≡ record three { packages = home_of_three ∷ home_of_three ∷ [] } → ⊥
-  pub name_not_twice : united (merge_of_graphs three three) ≡ record three { package_names = (foo_bar, 0) ∷ (foo_bar, 0) ∷ [] } → ⊥
+  pub type_not_twice : merged (merge_of_graphs three three) ≡ record three { types = number_in 0 (codes "t") ∷ alias_in 1 (codes "t") 0 ∷ alias_in 2 (codes "t") 0 ∷ alias_in 2 (codes "t2") 1 ∷ alias_in 2 (codes "t2") 1 ∷ [] } → ⊥
+  pub package_not_twice : merged (merge_of_graphs three three) ≡ record three { packages = home_of_three ∷ home_of_three ∷ [] } → ⊥
+  pub name_not_twice : merged (merge_of_graphs three three) ≡ record three { package_names = (foo_bar, 0) ∷ (foo_bar, 0) ∷ [] } → ⊥
   -- what isn't there comes: u to i, j to the package; and it isn't left out
-  pub grown : united (merge_of_graphs one_number more) ≡ more
-  pub stays : united (merge_of_graphs one_number more) ≡ one_number → ⊥
+  pub grown : merged (merge_of_graphs one_number more) ≡ more
+  pub stays : merged (merge_of_graphs one_number more) ≡ one_number → ⊥
   -- and the other way round nothing comes
-  pub less : united (merge_of_graphs more one_number) ≡ more
+  pub less : merged (merge_of_graphs more one_number) ≡ more
   -- in both orders the same names, though not the same order
-  pub first_order : united (merge_of_graphs (two_numbers (codes "u")) (two_numbers (codes "v"))) ≡ three_numbers (codes "u") (codes "v")
-  pub second_order : united (merge_of_graphs (two_numbers (codes "v")) (two_numbers (codes "u"))) ≡ three_numbers (codes "v") (codes "u")
+  pub first_order : merged (merge_of_graphs (two_numbers (codes "u")) (two_numbers (codes "v"))) ≡ three_numbers (codes "u") (codes "v")
+  pub second_order : merged (merge_of_graphs (two_numbers (codes "v")) (two_numbers (codes "u"))) ≡ three_numbers (codes "v") (codes "u")
   -- what is there stays before what comes, in each order; nothing is left out, and the world imports i still
-  pub first_not_transformed : united (merge_of_graphs (two_numbers (codes "u")) (two_numbers (codes "v"))) ≡ three_numbers (codes "v") (codes "u") → ⊥
-  pub second_not_transformed : united (merge_of_graphs (two_numbers (codes "v")) (two_numbers (codes "u"))) ≡ three_numbers (codes "u") (codes "v") → ⊥
-  pub first_not_less : united (merge_of_graphs (two_numbers (codes "u")) (two_numbers (codes "v"))) ≡ two_numbers (codes "u") → ⊥
-  pub second_not_less : united (merge_of_graphs (two_numbers (codes "v")) (two_numbers (codes "u"))) ≡ two_numbers (codes "v") → ⊥
-  pub first_import : united (merge_of_graphs (two_numbers (codes "u")) (two_numbers (codes "v"))) ≡ record (three_numbers (codes "u") (codes "v")) { worlds = world_of (codes "w") [] [] ∷ [] } → ⊥
-  pub second_import : united (merge_of_graphs (two_numbers (codes "v")) (two_numbers (codes "u"))) ≡ record (three_numbers (codes "v") (codes "u")) { worlds = world_of (codes "w") [] [] ∷ [] } → ⊥
+  pub first_not_transformed : merged (merge_of_graphs (two_numbers (codes "u")) (two_numbers (codes "v"))) ≡ three_numbers (codes "v") (codes "u") → ⊥
+  pub second_not_transformed : merged (merge_of_graphs (two_numbers (codes "v")) (two_numbers (codes "u"))) ≡ three_numbers (codes "u") (codes "v") → ⊥
+  pub first_not_less : merged (merge_of_graphs (two_numbers (codes "u")) (two_numbers (codes "v"))) ≡ two_numbers (codes "u") → ⊥
+  pub second_not_less : merged (merge_of_graphs (two_numbers (codes "v")) (two_numbers (codes "u"))) ≡ two_numbers (codes "v") → ⊥
+  pub first_import : merged (merge_of_graphs (two_numbers (codes "u")) (two_numbers (codes "v"))) ≡ record (three_numbers (codes "u") (codes "v")) { worlds = world_of (codes "w") [] [] ∷ [] } → ⊥
+  pub second_import : merged (merge_of_graphs (two_numbers (codes "v")) (two_numbers (codes "u"))) ≡ record (three_numbers (codes "v") (codes "u")) { worlds = world_of (codes "w") [] [] ∷ [] } → ⊥
   -- so the two graphs that are made aren't equal
-  pub orders_differ : united (merge_of_graphs (two_numbers (codes "u")) (two_numbers (codes "v"))) ≡ united (merge_of_graphs (two_numbers (codes "v")) (two_numbers (codes "u"))) → ⊥
+  pub orders_differ : merged (merge_of_graphs (two_numbers (codes "u")) (two_numbers (codes "v"))) ≡ merged (merge_of_graphs (two_numbers (codes "v")) (two_numbers (codes "u"))) → ⊥
   -- t is a resource, so a value of it that comes is an `own`, which stands behind what moves; the record itself isn't kept out
-  pub owned : (united (merge_of_graphs resource_t resource_record)).types ≡ type_in 0 (codes "t") kind.Resource ∷ type_in 0 (codes "x") (kind.Record (record { name = codes "a"; ty = type.Id 2; docs = no_docs; span = None } ∷ [])) ∷ unnamed (kind.Handle (handle.Own 0)) ∷ []
+  pub owned : (merged (merge_of_graphs resource_t resource_record)).types ≡ type_in 0 (codes "t") kind.Resource ∷ type_in 0 (codes "x") (kind.Record (record { name = codes "a"; ty = type.Id 2; docs = no_docs; span = None } ∷ [])) ∷ unnamed (kind.Handle (handle.Own 0)) ∷ []
   -- not a plain value of it, not a `borrow`, not an `own` before the record, and t becomes no number
-  pub not_plain : (united (merge_of_graphs resource_t resource_record)).types ≡ type_in 0 (codes "t") kind.Resource ∷ x_of (type.Id 0) ∷ [] → ⊥
-  pub not_borrowed : (united (merge_of_graphs resource_t resource_record)).types ≡ type_in 0 (codes "t") kind.Resource ∷ x_of (type.Id 2) ∷ unnamed (kind.Handle (handle.Borrow 0)) ∷ [] → ⊥
-  pub not_before : (united (merge_of_graphs resource_t resource_record)).types ≡ type_in 0 (codes "t") kind.Resource ∷ unnamed (kind.Handle (handle.Own 0)) ∷ x_of (type.Id 1) ∷ [] → ⊥
-  pub no_number : (united (merge_of_graphs resource_t resource_record)).types ≡ number_in 0 (codes "t") ∷ x_of (type.Id 2) ∷ unnamed (kind.Handle (handle.Own 0)) ∷ [] → ⊥
+  pub not_plain : (merged (merge_of_graphs resource_t resource_record)).types ≡ type_in 0 (codes "t") kind.Resource ∷ x_of (type.Id 0) ∷ [] → ⊥
+  pub not_borrowed : (merged (merge_of_graphs resource_t resource_record)).types ≡ type_in 0 (codes "t") kind.Resource ∷ x_of (type.Id 2) ∷ unnamed (kind.Handle (handle.Borrow 0)) ∷ [] → ⊥
+  pub not_before : (merged (merge_of_graphs resource_t resource_record)).types ≡ type_in 0 (codes "t") kind.Resource ∷ unnamed (kind.Handle (handle.Own 0)) ∷ x_of (type.Id 1) ∷ [] → ⊥
+  pub no_number : (merged (merge_of_graphs resource_t resource_record)).types ≡ number_in 0 (codes "t") ∷ x_of (type.Id 2) ∷ unnamed (kind.Handle (handle.Own 0)) ∷ [] → ⊥
   -- where t is a number no `own` comes
-  pub no_own : united (merge_of_graphs one_number record_x) ≡ record_x
+  pub no_own : merged (merge_of_graphs one_number record_x) ≡ record_x
   -- and a value that is there stays as it is
-  pub not_owned : united (merge_of_graphs resource_record resource_t) ≡ resource_record
+  pub not_owned : merged (merge_of_graphs resource_record resource_t) ≡ resource_record
   -- i uses j now, so a world that imports i imports j, before it
-  pub elaborated : (united (merge_of_graphs world_of_i i_uses_j)).worlds ≡ world_of (codes "w") (entry_of 1 ∷ entry_of 0 ∷ []) [] ∷ []
-  pub not_as_listed : (united (merge_of_graphs world_of_i i_uses_j)).worlds ≡ world_of_i.worlds → ⊥
+  pub elaborated : (merged (merge_of_graphs world_of_i i_uses_j)).worlds ≡ world_of (codes "w") (entry_of 1 ∷ entry_of 0 ∷ []) [] ∷ []
+  pub not_as_listed : (merged (merge_of_graphs world_of_i i_uses_j)).worlds ≡ world_of_i.worlds → ⊥
   -- the interface without a name takes what the other one has
-  pub inner_joined : united (merge_of_graphs (inner ((codes "t", 0) ∷ []) (number_in 0 (codes "t") ∷ []) []) (inner ((codes "u", 0) ∷ []) (number_in 0 (codes "u") ∷ []) (function_of (codes "f") (type.Id 0 ∷ []) None ∷ [])))
+  pub inner_joined : merged (merge_of_graphs (inner ((codes "t", 0) ∷ []) (number_in 0 (codes "t") ∷ []) []) (inner ((codes "u", 0) ∷ []) (number_in 0 (codes "u") ∷ []) (function_of (codes "f") (type.Id 0 ∷ []) None ∷ [])))
       ≡ inner ((codes "t", 0) ∷ (codes "u", 1) ∷ []) (number_in 0 (codes "t") ∷ number_in 0 (codes "u") ∷ []) (function_of (codes "f") (type.Id 1 ∷ []) None ∷ [])
   -- a function of a matched world doesn't come again
-  pub function_once : united (merge_of_graphs world_function world_function) ≡ world_function
+  pub function_once : merged (merge_of_graphs world_function world_function) ≡ world_function
   -- a world comes with its own types, at the next ids, and they are of it, not of the world that had its id
-  pub world_comes : united (merge_of_graphs world_of_i v_alone) ≡ record world_of_i {
+  pub world_comes : merged (merge_of_graphs world_of_i v_alone) ≡ record world_of_i {
     types = number_in 0 (codes "t") ∷ types_of_v 1 1;
     worlds = world_of (codes "w") (entry_of 0 ∷ []) [] ∷ v_of 1 ∷ [];
     packages = foo_bar_of ((codes "i", 0) ∷ []) ((codes "w", 0) ∷ (codes "v", 1) ∷ []) ∷ [];
   }
-  pub not_of_another : (united (merge_of_graphs world_of_i v_alone)).types ≡ number_in 0 (codes "t") ∷ types_of_v 0 1 → ⊥
+  pub not_of_another : (merged (merge_of_graphs world_of_i v_alone)).types ≡ number_in 0 (codes "t") ∷ types_of_v 0 1 → ⊥
   -- a matched world takes none
-  pub types_once : united (merge_of_graphs v_alone v_alone) ≡ v_alone
+  pub types_once : merged (merge_of_graphs v_alone v_alone) ≡ v_alone
   -- packages: what each has joins under its name, and one that isn't there comes last
-  pub packages : (united (merge_of_graphs b_uses_a a_beside_b)).packages ≡ package_named (codes "a") ((codes "i", 0) ∷ (codes "h", 3) ∷ []) ∷ package_named (codes "b") ((codes "j", 1) ∷ (codes "k", 2) ∷ []) ∷ []
-  pub package_comes : (united (merge_of_graphs b_uses_a only_c)).packages
+  pub packages : (merged (merge_of_graphs b_uses_a a_beside_b)).packages ≡ package_named (codes "a") ((codes "i", 0) ∷ (codes "h", 3) ∷ []) ∷ package_named (codes "b") ((codes "j", 1) ∷ (codes "k", 2) ∷ []) ∷ []
+  pub package_comes : (merged (merge_of_graphs b_uses_a only_c)).packages
       ≡ package_named (codes "a") ((codes "i", 0) ∷ []) ∷ package_named (codes "b") ((codes "j", 1) ∷ []) ∷ package_named (codes "c") ((codes "k", 2) ∷ []) ∷ []
-  pub named_once : (united (merge_of_graphs b_uses_a only_c)).package_names ≡ (foo_named (codes "a"), 0) ∷ (foo_named (codes "b"), 1) ∷ (foo_named (codes "c"), 2) ∷ []
-  pub of_its_package : (united (merge_of_graphs b_uses_a only_c)).interfaces
+  pub named_once : (merged (merge_of_graphs b_uses_a only_c)).package_names ≡ (foo_named (codes "a"), 0) ∷ (foo_named (codes "b"), 1) ∷ (foo_named (codes "c"), 2) ∷ []
+  pub of_its_package : (merged (merge_of_graphs b_uses_a only_c)).interfaces
       ≡ interface_in 0 (codes "i") ((codes "t", 0) ∷ []) ∷ interface_in 1 (codes "j") ((codes "t", 1) ∷ []) ∷ interface_in 2 (codes "k") ((codes "v", 2) ∷ []) ∷ []
   -- a gate replaces none, and stays where none comes
-  pub gate_comes : united (merge_of_graphs one_number (gated gate_f)) ≡ gated gate_f
-  pub gate_stays : united (merge_of_graphs (gated gate_f) one_number) ≡ gated gate_f
+  pub gate_comes : merged (merge_of_graphs one_number (gated gate_f)) ≡ gated gate_f
+  pub gate_stays : merged (merge_of_graphs (gated gate_f) one_number) ≡ gated gate_f
   -- spans of what moves move
-  pub moved : (united (record { graph = empty_graph; other = record one_number { interfaces = record (interface_of (Some (codes "i")) ((codes "t", 0) ∷ [])) { span = Some (20, 25) } ∷ [] }; offset = 16 })).interfaces
+  pub moved : (merged (record { graph = empty_graph; other = record one_number { interfaces = record (interface_of (Some (codes "i")) ((codes "t", 0) ∷ [])) { span = Some (20, 25) } ∷ [] }; offset = 16 })).interfaces
       ≡ record (interface_of (Some (codes "i")) ((codes "t", 0) ∷ [])) { span = Some (36, 41) } ∷ []

@@ -25,16 +25,16 @@ use Rattle.wit_graph_theory.specs.facts.OptionFacts.{some_same}
 use Rattle.wit_graph_theory.specs.examples.TestFacts.{none_in, none_some, not_passed, only_one}
 use Rattle.wit_link.specs.GroupOrder.{AreSorted, IsDefinedTwice, IsGroupOrder, IsSortCause, Unresolved, group_uses}
 use Rattle.wit_link_spec.specs.Addition.{Addition}
-use Rattle.wit_link_spec.specs.Cause.{AdditionIsAccepted, IsCause}
+use Rattle.wit_link_spec.specs.Cause.{AdditionIsAccepted, IsAdditionCause}
 use Rattle.wit_link_spec.specs.Cause as reason
 use Rattle.wit_link_spec.specs.Gates.{IsAsked}
 use Rattle.wit_link_spec.specs.Gates as asked
-use Rattle.wit_link_spec.specs.Pushed.{pushed}
+use Rattle.wit_link_spec.specs.Added.{added}
 use Rattle.wit_link_spec.specs.Reasons.{IsActiveFunction, IsResolved, RefersTo, Thing}
 use Rattle.wit_link_spec.specs.Reasons as part
 use Rattle.wit_link_spec.specs.WorldReasons.{AtWorld}
 use Rattle.wit_link_spec.specs.facts.WorldCauseFacts.{cause_world}
-use Rattle.wit_link.specs.Appending.{ArePushed, FilesPassTheEnd, IsGroupsCause, addition, files_end}
+use Rattle.wit_link.specs.Appending.{AreAdded, FilesPassTheEnd, IsGroupsCause, addition, files_end}
 use Rattle.wit_resolve_graph.specs.examples.Examples.{first_package}
 use Rattle.examples_script.specs.SourceExamples.{made_of}
 
@@ -100,7 +100,7 @@ module _ (features : Features) (g : Graph) (offset : ℕ) where
   -- ---- adding it
 
   -- where it is there, 5 is told
-  pub duplicate : is_some (lookup (same_package foo_bar) g.package_names) ≡ true → IsCause of_first (DuplicatePackage foo_bar None None)
+  pub duplicate : is_some (lookup (same_package foo_bar) g.package_names) ≡ true → IsAdditionCause of_first (DuplicatePackage foo_bar None None)
   duplicate there = reason.duplicate_5 foo_bar None None (record { there = there; name_is = refl; span1_is = refl; span2_is = refl })
 
   no_world : (k : ℕ) → AtWorld of_first k → ⊥
@@ -138,7 +138,7 @@ module _ (features : Features) (g : Graph) (offset : ℕ) where
   }
 
   -- what adding it makes is determined
-  pub pushed_alone : (new : Graph) (ids : List ℕ) → ArePushed features g alone new ids → (ids ≡ length g.packages ∷ []) × (new ≡ pushed of_first)
+  pub pushed_alone : (new : Graph) (ids : List ℕ) → AreAdded features g alone new ids → (ids ≡ length g.packages ∷ []) × (new ≡ added of_first)
   pushed_alone new [] none = absurd none
   pushed_alone new (id ∷ []) (mid, added, same) = (ap (λ (i : ℕ). i ∷ []) added.id_is, same ∙ added.graph_is)
   pushed_alone new (id ∷ id' ∷ ids) (mid, added, more) = absurd more
@@ -170,12 +170,12 @@ module _ (features : Features) (g : Graph) (offset : ℕ) where
     head_is : (x y : Unresolved) (xs ys : List Unresolved) → x ∷ xs ≡ y ∷ ys → x ≡ y
     head_is x y xs ys same = cc
 
-    none_refused : (before after : List Unresolved) (p : Unresolved) (mid : Graph) (ids : List ℕ) (error : ResolveErrorKind) → alone ≡ before ++ p ∷ after → ArePushed features g before mid ids
-        → IsCause (addition features mid p.0 p.1) error → ⊥
+    none_refused : (before after : List Unresolved) (p : Unresolved) (mid : Graph) (ids : List ℕ) (error : ResolveErrorKind) → alone ≡ before ++ p ∷ after → AreAdded features g before mid ids
+        → IsAdditionCause (addition features mid p.0 p.1) error → ⊥
     none_refused [] after p mid [] error is same cause =
-        let of_it : IsCause (addition features mid first_package offset) error =
-        subst (λ (q : Unresolved). IsCause (addition features mid q.0 q.1) error) (sym (head_is (first_package, offset) p [] after is)) cause in
-        accepted error (subst (λ (m : Graph). IsCause (addition features m first_package offset) error) same of_it)
+        let of_it : IsAdditionCause (addition features mid first_package offset) error =
+        subst (λ (q : Unresolved). IsAdditionCause (addition features mid q.0 q.1) error) (sym (head_is (first_package, offset) p [] after is)) cause in
+        accepted error (subst (λ (m : Graph). IsAdditionCause (addition features m first_package offset) error) same of_it)
     none_refused [] after p mid (id ∷ ids) error is pushes cause = absurd pushes
     none_refused (x ∷ xs) after p mid ids error is pushes cause = no_more xs after p (tail_is (first_package, offset) x [] (xs ++ p ∷ after) is)
 

@@ -14,7 +14,7 @@ use Rattle.wit_graph_theory.specs.examples.TestFacts.{all_uses, falls, no_cycle,
 use Rattle.wit_merge_spec.specs.Cause.{GraphsDiffer, AreJoined, IsMergeCause, MergeIsAccepted, StabilitiesMismatch}
 use Rattle.wit_merge_spec.specs.Cause as merging
 use Rattle.wit_merge_spec.specs.Matches.{GraphMerge, Pair, counterpart_interface, counterpart_type, counterpart_world}
-use Rattle.wit_merge_spec.specs.United.{joined_graph}
+use Rattle.wit_merge_spec.specs.Merged.{joined_graph}
 use Rattle.wit_merge_spec.specs.Structure.{DifferInStructure, Feature, structure, structure_within}
 use Rattle.examples_script.specs.SmallGraphs.{bare, gate, gated}
 

@@ -6,7 +6,7 @@ use Rattle.std.specs.Prelude.{codes, flat_map}
 use Rattle.wit_names.specs.declared.track.TrackRule.TheVariants.{WithPrereleases}
 use Rattle.wit_graph_data.specs.declared.graph.Graph.{Graph}
 use Rattle.wit_merge_spec.specs.Cause.{MergeIsAccepted}
-use Rattle.wit_merge_spec.specs.United.{united}
+use Rattle.wit_merge_spec.specs.Merged.{merged}
 use Rattle.wit_resolve_graph.specs.Merging.{merge_of}
 use Rattle.wit_resolve_graph.specs.State.{State, new_state}
 use Rattle.wit_resolve_graph.specs.Step.{Run}
@@ -28,7 +28,7 @@ use Rattle.examples_script.specs.StepExamples.{both}
 record IsDone (old other new : State) (text : List ℕ) : Type 0 where
   says : letter text ≡ 109
   accepted : MergeIsAccepted (merge_of old other)
-  graph : new.graph ≡ united (merge_of old other)
+  graph : new.graph ≡ merged (merge_of old other)
   rule : new.track_rule ≡ old.track_rule
 
 record IsRefused (old new : State) (text : List ℕ) : Type 0 where

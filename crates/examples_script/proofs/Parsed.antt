@@ -11,8 +11,8 @@ use Rattle.wit_graph_data.specs.declared.graph.Graph.{Graph}
 use Rattle.wit_graph_data.specs.declared.error_kind.ResolveErrorKind.{ResolveErrorKind}
 use Rattle.wit_graph_data.specs.declared.error_kind.ResolveErrorKind.TheVariants.{DuplicatePackage, OffsetOverflow, OutOfMemory}
 use Rattle.wit_link.specs.GroupOrder.{Unresolved}
-use Rattle.wit_link_spec.specs.Pushed.{pushed}
-use Rattle.wit_link.specs.Appending.{ArePushed, IsGroupsCause, files_end}
+use Rattle.wit_link_spec.specs.Added.{added}
+use Rattle.wit_link.specs.Appending.{AreAdded, IsGroupsCause, files_end}
 use Rattle.wit_resolve_graph.specs.examples.Examples.{first_package}
 use Rattle.wit_resolve_graph.specs.examples.FilesExamples.{ending}
 use Rattle.wit_resolve_graph.specs.Merging.{HasSourcesAfter}
@@ -148,11 +148,11 @@ pushed_first = record {
   accepted = λ kind c. no_cause once.features nothing 25 refl file kind (lit< tt) c;
 }
 
-pushes_are : (old : State) (id : ℕ) (new : State) → PushesGroups old (made_of file) [] id new → (id ≡ length old.graph.packages) × (new.graph ≡ pushed (of_first old.features old.graph old.source_map.end))
+pushes_are : (old : State) (id : ℕ) (new : State) → PushesGroups old (made_of file) [] id new → (id ≡ length old.graph.packages) × (new.graph ≡ added (of_first old.features old.graph old.source_map.end))
 pushes_are old id new p =
     let same = sorted_alone old.features old.graph old.source_map.end p.order p.sorted p.are_sorted in
     let are =
-    pushed_alone old.features old.graph old.source_map.end new.graph p.ids (subst (λ (s : List Unresolved). ArePushed old.features old.graph s new.graph p.ids) (sym same) p.are_pushed) in
+    pushed_alone old.features old.graph old.source_map.end new.graph p.ids (subst (λ (s : List Unresolved). AreAdded old.features old.graph s new.graph p.ids) (sym same) p.are_pushed) in
     (sym (the_one (length old.graph.packages) id p.place (subst (λ (ids : List ℕ). slice_get ids p.place ≡ Some id) are.0 p.id_is)), are.1)
 
 pub parsed : ExamplesOfParsed

@@ -15,7 +15,7 @@ use Rattle.wit_resolve_graph.specs.Step.{Run}
 use Rattle.wit_resolve_graph.specs.declared.command.Reply.{Reply}
 use Rattle.wit_resolve_graph.specs.declared.command.Reply.TheVariants as reply
 use Rattle.wit_resolve_graph.specs.declared.command.Command.TheVariants.{SetTrackRule}
-use Rattle.wit_semver_spec.specs.Rewritten.{rewritten, IsTrackCause}
+use Rattle.wit_semver_spec.specs.SemverMerged.{semver_merged, IsSemverMergeCause}
 use Rattle.examples_merge.specs.CauseExamples.{ExamplesOfCauses, failed, without_type}
 use Rattle.examples_merge.specs.Releases.{foo_main}
 use Rattle.examples_merge.specs.RewrittenExamples.{ExamplesOfRewriting, ExamplesOfRules, first_release, of_three, three}
@@ -67,20 +67,20 @@ module _ (rewriting : ExamplesOfRewriting) (rules : ExamplesOfRules) (causes : E
     merged = (published (three 1 (1 ∷ 3 ∷ 2 ∷ [])), record { w = 0; there = w_of_three; accepted = causes.not_missing; is_changed = ap published (sym rewriting.merged) }, refl);
     not_kept = λ run.
         rewriting.not_kept
-        (graph_of_step run.0 (published of_three) (rewritten Published of_three) run.1.w (only _ run.1.w w_of_three run.1.there) (ap (λ (s : State). s.graph) run.1.is_changed) run.2);
+        (graph_of_step run.0 (published of_three) (semver_merged Published of_three) run.1.w (only _ run.1.w w_of_three run.1.there) (ap (λ (s : State). s.graph) run.1.is_changed) run.2);
     rule_kept = λ run. false≢true (sym (ap is_other_rule (run.2 ∙ run.1.is_changed)));
     not_absent = λ new run. none-some 0 (sym run.1.0 ∙ w_of_three);
     not_refused = λ message new run.
         elim run.1.cause [
           | inl memory ↦ cc
-          | inr told ↦ causes.not_missing (Semantic None message UpgradeMismatch) (subst (λ (w : ℕ). IsTrackCause Published of_three w (Semantic None message UpgradeMismatch)) (sym (only _ run.1.w w_of_three run.1.there)) told)
+          | inr told ↦ causes.not_missing (Semantic None message UpgradeMismatch) (subst (λ (w : ℕ). IsSemverMergeCause Published of_three w (Semantic None message UpgradeMismatch)) (sym (only _ run.1.w w_of_three run.1.there)) told)
         ];
     absent = (published of_three, (no_v, refl), refl);
     not_there = λ new run. none-some run.1.w (sym no_v ∙ run.1.there);
     missing = (published without_type, record { w = 0; there = w_without_type; cause = inr causes.missing; same = refl }, refl);
     not_done = λ new run.
         run.1.accepted (failed (codes "type `t` is missing"))
-        (subst (λ (w : ℕ). IsTrackCause Published without_type w (failed (codes "type `t` is missing"))) (only _ run.1.w w_without_type run.1.there) causes.missing);
+        (subst (λ (w : ℕ). IsSemverMergeCause Published without_type w (failed (codes "type `t` is missing"))) (only _ run.1.w w_without_type run.1.there) causes.missing);
     by_rule = (
       by_prereleases releases,
       refl,
@@ -89,7 +89,7 @@ module _ (rewriting : ExamplesOfRewriting) (rules : ExamplesOfRules) (causes : E
     before = (published releases, record { w = 0; there = w_of_releases; accepted = causes.accepted_apart; is_changed = ap published (sym rules.apart) }, refl);
     not_ignored = λ run.
         rules.not_ignored
-        (graph_of_step run.0 (by_prereleases releases) (rewritten WithPrereleases releases) run.1.w (only _ run.1.w w_of_releases run.1.there)
+        (graph_of_step run.0 (by_prereleases releases) (semver_merged WithPrereleases releases) run.1.w (only _ run.1.w w_of_releases run.1.there)
         (ap (λ (s : State). s.graph) run.1.is_changed) run.2
         ∙ sym rules.apart);
   }

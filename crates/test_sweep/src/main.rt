@@ -1,5 +1,5 @@
 //! Makes each call that takes memory, and each that takes none, on the graphs of worked scripts, and tells what each
-//! answers and what there is after it. `bench/sweep.py` refuses a request for memory in each of many runs of it, and
+//! answers and what there is after it. `check/sweep.py` refuses a request for memory in each of many runs of it, and
 //! judges what is told then.
 //!
 //! A case of standard input is a line `=== NAME` and a script below it. The last command is run on what the others make.

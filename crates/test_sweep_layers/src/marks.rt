@@ -1,7 +1,7 @@
 //! The lines between which a call is made, and what is told of its answer.
 //!
 //! A line `call NAME` comes before a call that takes memory, and a line `answer ..` after it: between them
-//! `bench/sweep.py` refuses requests for memory. `bare NAME` comes before a call that takes none: there it refuses each.
+//! `check/sweep.py` refuses requests for memory. `bare NAME` comes before a call that takes none: there it refuses each.
 //! Nothing of this is seen where nobody refuses.
 ghost use Rattle.std.specs.Prelude.{◌≡◌, IfSome};
 

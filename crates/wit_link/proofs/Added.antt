@@ -16,9 +16,9 @@ use Rattle.wit_graph_theory.specs.facts.ListFacts.{contained_at, place_of}
 use Rattle.wit_elaboration.specs.facts.Filters.{Contains-filter}
 use Rattle.wit_link_spec.specs.Addition.{Addition, active_includes, active_world_id, addition_maps, own_worlds, remapped_world}
 use Rattle.wit_link_spec.specs.steps.AdditionRefs.{new_ids_of}
-use Rattle.wit_link_spec.specs.Cause.{AdditionIsAccepted, IsCause, borrow_in_result_15, duplicate_5, excluded_11, excluded_owner_12, gate_unreleased_10, gate_without_version_9, interface_not_found_3, not_a_resource_14, of_world, offset_overflow_27, package_not_found_1, type_not_defined_13, world_not_found_2}
+use Rattle.wit_link_spec.specs.Cause.{AdditionIsAccepted, IsAdditionCause, borrow_in_result_15, duplicate_5, excluded_11, excluded_owner_12, gate_unreleased_10, gate_without_version_9, interface_not_found_3, not_a_resource_14, of_world, offset_overflow_27, package_not_found_1, type_not_defined_13, world_not_found_2}
 use Rattle.wit_link_spec.specs.Gates.{include_is_active}
-use Rattle.wit_link_spec.specs.Pushed.{updated_include, pushed}
+use Rattle.wit_link_spec.specs.Added.{updated_include, added}
 use Rattle.wit_link_spec.specs.facts.Linked.{updated_includes}
 use Rattle.wit_link_spec.specs.WorldReasons.{WorldIsAccepted}
 use Rattle.wit_link_spec.specs.facts.PassedFacts.{has_image}
@@ -49,19 +49,19 @@ module _ (a : Addition) (is_new : IsNew a) (checked : IsChecked a) (each_world :
   is_accepted _ (of_world k error reached is) = each_world k error is
 
   -- and it is added
-  pub is_added : (new : Graph) → new ≡ pushed a → IsAdded a new (length a.graph.packages)
+  pub is_added : (new : Graph) → new ≡ added a → IsAdded a new (length a.graph.packages)
   is_added new is = record { accepted = is_accepted; graph_is = is; id_is = refl }
 
 -- ---- refusals before anything else is looked at
 
 -- that the name is there
-pub taken : (a : Addition) → a.offset < 2 ^ 32 → HasPackage a.graph a.unresolved.name → (error : ResolveErrorKind) → IsNameTaken a.offset a.unresolved error → (error ≡ OutOfMemory) ⊎ IsCause a error
+pub taken : (a : Addition) → a.offset < 2 ^ 32 → HasPackage a.graph a.unresolved.name → (error : ResolveErrorKind) → IsNameTaken a.offset a.unresolved error → (error ≡ OutOfMemory) ⊎ IsAdditionCause a error
 taken a small there error (inl is) =
-    inr (subst (IsCause a) (sym is) (duplicate_5 a.unresolved.name _ None (record { there = there; name_is = refl; span1_is = refl; span2_is = refl })))
-taken a small there error (inr far) = inr (subst (IsCause a) (sym far.0) (offset_overflow_27 (passes-of_not_fitting a small (λ fits. far.1 fits.name))))
+    inr (subst (IsAdditionCause a) (sym is) (duplicate_5 a.unresolved.name _ None (record { there = there; name_is = refl; span1_is = refl; span2_is = refl })))
+taken a small there error (inr far) = inr (subst (IsAdditionCause a) (sym far.0) (offset_overflow_27 (passes-of_not_fitting a small (λ fits. far.1 fits.name))))
 
 -- that a span is too far
-pub too_far : (a : Addition) → a.offset < 2 ^ 32 → (PackageFits a.offset a.unresolved → ⊥) → IsCause a OffsetOverflow
+pub too_far : (a : Addition) → a.offset < 2 ^ 32 → (PackageFits a.offset a.unresolved → ⊥) → IsAdditionCause a OffsetOverflow
 too_far a small fits_not = offset_overflow_27 (passes-of_not_fitting a small fits_not)
 
 not_there : (o : Option ℕ) → is_some o ≡ false → is_some o ≡ true → ⊥

@@ -14,8 +14,8 @@ use Rattle.wit_graph_data.specs.declared.error_kind.ResolveErrorKind.{ResolveErr
 use Rattle.wit_graph_data.specs.declared.error_kind.ResolveErrorKind.TheVariants.{OutOfMemory}
 use Rattle.wit_graph_theory.specs.facts.ListFacts.{from_map}
 use Rattle.wit_link_spec.specs.Addition.{Addition, own_worlds}
-use Rattle.wit_link_spec.specs.Cause.{IsCause, IsReached}
-use Rattle.wit_link_spec.specs.Pushed.{pushed, with_parts, with_world, with_worlds}
+use Rattle.wit_link_spec.specs.Cause.{IsAdditionCause, IsReached}
+use Rattle.wit_link_spec.specs.Added.{added, with_parts, with_world, with_worlds}
 use Rattle.wit_link_spec.specs.facts.Linked.{updated_includes}
 use Rattle.wit_link_spec.specs.Reasons.{IsResolved}
 use Rattle.wit_link_spec.specs.WorldReasons.{AtWorld, WorldIsAccepted}
@@ -62,7 +62,7 @@ module _ (a : Addition) (done rest : List UpdatedWorld) (updated : UpdatedWorld)
         fine = subst (IsReached a) (sym long) (below_more (WorldIsAccepted a) (length done) is.fine one);
       }
 
-  pub refused_here : IsResolved a → (kind : ResolveErrorKind) → (kind ≡ OutOfMemory) ⊎ local.IsWorldCause (home a) g updated.world updated.includes kind → (kind ≡ OutOfMemory) ⊎ IsCause a kind
+  pub refused_here : IsResolved a → (kind : ResolveErrorKind) → (kind ≡ OutOfMemory) ⊎ local.IsWorldCause (home a) g updated.world updated.includes kind → (kind ≡ OutOfMemory) ⊎ IsAdditionCause a kind
   refused_here image kind (inl memory) = inl memory
   refused_here image kind (inr why) =
       inr (world_cause a (length done) turn image is.fine kind (back (λ (h : Graph) (w : World) (l : List WorldInclude). local.IsWorldCause (home a) h w l kind) why))
@@ -93,7 +93,7 @@ module _ (a : Addition) (done : List UpdatedWorld) (g : Graph) (is : IsAdding a 
   all_long : length done ≡ length (own_worlds a)
   all_long = ap length are ∙ length-map (own_worlds a) (ready_world a)
 
-  pub all_pushed : g ≡ pushed a
+  pub all_pushed : g ≡ added a
   all_pushed = is.graph ∙ ap (with_worlds a) all_long ∙ ap (fold (with_world a) (with_parts a)) (take-all (own_worlds a) (length (own_worlds a)) (omega arith))
 
   pub all_reached : IsReached a (length (own_worlds a))

@@ -14,8 +14,8 @@ use Rattle.wit_graph_data.specs.declared.error_kind.ResolveErrorKind.TheVariants
 use Rattle.wit_link.specs.GroupOrder.{AreSorted, IsSortCause, Unresolved}
 use Rattle.wit_link_resources.specs.steps.Leading.{AreRight}
 use Rattle.wit_link_spec.specs.Addition.{Addition}
-use Rattle.wit_link_spec.specs.Cause.{AdditionIsAccepted, IsCause}
-use Rattle.wit_link_spec.specs.Pushed.{pushed}
+use Rattle.wit_link_spec.specs.Cause.{AdditionIsAccepted, IsAdditionCause}
+use Rattle.wit_link_spec.specs.Added.{added}
 
 -- the addition of a package to a graph, under features, its spans moved by an offset
 abbrev pub addition : Features → Graph → UnresolvedPackage → ℕ → Addition
@@ -24,7 +24,7 @@ addition features g u offset = record { features = features; graph = g; unresolv
 -- the package is added: no cause holds against it, the graph is what comes of it, and its id is the next one
 pub record IsAdded (a : Addition) (new : Graph) (id : ℕ) : Type 0 where
   pub accepted : AdditionIsAccepted a
-  pub graph_is : new ≡ pushed a
+  pub graph_is : new ≡ added a
   pub id_is : id ≡ length a.graph.packages
 
 -- of types of a graph it is known whether they lead to a resource along aliases
@@ -36,11 +36,11 @@ abbrev pub CanAppend : Unresolved → Type 0
 CanAppend unresolved = IsShaped unresolved.0
 
 -- packages accepted one after another take the graph g to new and get these ids
-abbrev pub ArePushed : Features → Graph → List Unresolved → Graph → List ℕ → Type 0
-ArePushed features g [] new [] = new ≡ g
-ArePushed features g (p ∷ ps) new (id ∷ ids) = (mid : Graph) × IsAdded (addition features g p.0 p.1) mid id × ArePushed features mid ps new ids
-ArePushed features g [] new (id ∷ ids) = ⊥
-ArePushed features g (p ∷ ps) new [] = ⊥
+abbrev pub AreAdded : Features → Graph → List Unresolved → Graph → List ℕ → Type 0
+AreAdded features g [] new [] = new ≡ g
+AreAdded features g (p ∷ ps) new (id ∷ ids) = (mid : Graph) × IsAdded (addition features g p.0 p.1) mid id × AreAdded features mid ps new ids
+AreAdded features g [] new (id ∷ ids) = ⊥
+AreAdded features g (p ∷ ps) new [] = ⊥
 
 -- one of several packages has a reason to be refused with this error, in what those before it make of the graph
 pub record IsOneRefused (features : Features) (g : Graph) (packages : List Unresolved) (error : ResolveErrorKind) : Type 0 where
@@ -50,8 +50,8 @@ pub record IsOneRefused (features : Features) (g : Graph) (packages : List Unres
   pub packages_are : packages ≡ before ++ p ∷ after
   pub mid : Graph
   pub ids : List ℕ
-  pub pushed : ArePushed features g before mid ids
-  pub cause : IsCause (addition features mid p.0 p.1) error
+  pub pushed : AreAdded features g before mid ids
+  pub cause : IsAdditionCause (addition features mid p.0 p.1) error
 
 -- the packages of groups, the nested ones of a group before its main one, where the files of the first
 -- group begin at this position and those of the others follow
@@ -63,7 +63,7 @@ packages_of at (group ∷ groups) = map (λ (u : UnresolvedPackage). (u, at)) (g
 
 -- adding unresolved packages has a reason to be refused with this error: they can be sorted, and one of them
 -- can't be added to what those before it make of the graph
-pub record IsPushCause (features : Features) (g : Graph) (unresolved : List Unresolved) (error : ResolveErrorKind) : Type 0 where
+pub record IsAdditionsCause (features : Features) (g : Graph) (unresolved : List Unresolved) (error : ResolveErrorKind) : Type 0 where
   pub sortable : NoCause (IsSortCause unresolved)
   pub order : List ℕ
   pub sorted : List Unresolved
@@ -84,4 +84,4 @@ FilesPassTheEnd at groups _ = ⊥
 -- error: in sorting them, in one package, or in the end of their files
 abbrev pub IsGroupsCause : Features → Graph → ℕ → List UnresolvedPackageGroup → ResolveErrorKind → Type 0
 IsGroupsCause features g at groups error =
-    IsSortCause (packages_of at groups) error ⊎ (IsPushCause features g (packages_of at groups) error ⊎ FilesPassTheEnd at groups error)
+    IsSortCause (packages_of at groups) error ⊎ (IsAdditionsCause features g (packages_of at groups) error ⊎ FilesPassTheEnd at groups error)

@@ -1,7 +1,7 @@
 //! Adding a package to a graph.
 ghost use Rattle.std.specs.Prelude.{◌≡◌, ◌⊎◌, IfErr, IfOk, OnErr, OnOk};
 ghost use Rattle.wit_link_spec.specs.steps.AdditionRefs.{activity_of, new_ids_of, values_of};
-ghost use Rattle.wit_link_spec.specs.Cause.{IsCause};
+ghost use Rattle.wit_link_spec.specs.Cause.{IsAdditionCause};
 ghost use Rattle.wit_elaboration.specs.Elaboration.{graph_uses};
 ghost use Rattle.wit_elaboration.specs.Valid.{IsValid};
 ghost use Rattle.wit_graph_data.specs.declared.error_kind.ResolveErrorKind.{ResolveErrorKind};
@@ -9,7 +9,7 @@ ghost use Rattle.wit_graph_data.specs.declared.error_kind.ResolveErrorKind.TheVa
 ghost use Rattle.wit_data.specs.Shape.{IsShaped};
 ghost use Rattle.wit_link.specs.Appending.{IsAdded, KnowsLeads, addition};
 ghost use Rattle.wit_link.specs.steps.Checked.{IsChecked, IsNameTaken, IsNew};
-ghost use Rattle.wit_link_spec.specs.Pushed.{with_parts};
+ghost use Rattle.wit_link_spec.specs.Added.{with_parts};
 ghost use Rattle.wit_link.specs.steps.Including.{ready_worlds};
 ghost use Rattle.wit_remap.specs.Grown.{Begins, Grown};
 
@@ -49,8 +49,8 @@ pub fn append(
     ensures valid { IsValid graph.new }
     ensures err { OnErr result (graph.new ≡ graph.old) }
     ensures grown { Grown graph.old graph.new }
-    ensures cause { IfErr result (λ kind. (kind ≡ OutOfMemory) ⊎ IsCause (addition features.now graph.old «package» span_offset) kind) }
-    ensures refuses { (kind : ResolveErrorKind) → IsCause (addition features.now graph.old «package» span_offset) kind → OnOk result ⊥ }
+    ensures cause { IfErr result (λ kind. (kind ≡ OutOfMemory) ⊎ IsAdditionCause (addition features.now graph.old «package» span_offset) kind) }
+    ensures refuses { (kind : ResolveErrorKind) → IsAdditionCause (addition features.now graph.old «package» span_offset) kind → OnOk result ⊥ }
 {
     let types = graph.types.as_slice();
     let mut elaborator = Elaborator::new(alloc, types, graph.interfaces.as_slice())?;
@@ -92,8 +92,8 @@ pub fn append_with(
     ensures err { OnErr result (graph.new ≡ graph.old) }
     ensures grown { Grown graph.old graph.new }
     ensures rows { Begins elaborator.old elaborator.new }
-    ensures cause { IfErr result (λ kind. (kind ≡ OutOfMemory) ⊎ IsCause (addition features.now graph.old «package» span_offset) kind) }
-    ensures refuses { (kind : ResolveErrorKind) → IsCause (addition features.now graph.old «package» span_offset) kind → OnOk result ⊥ }
+    ensures cause { IfErr result (λ kind. (kind ≡ OutOfMemory) ⊎ IsAdditionCause (addition features.now graph.old «package» span_offset) kind) }
+    ensures refuses { (kind : ResolveErrorKind) → IsAdditionCause (addition features.now graph.old «package» span_offset) kind → OnOk result ⊥ }
 {
     if graph.package_names.contains_key(&package.name) {
         return Err(name_taken(package, span_offset));
@@ -167,7 +167,7 @@ fn add_checked(
     ensures uses { OnOk result (elaborator.new ≡ graph_uses graph.new) }
     ensures grown { Grown graph.old graph.new }
     ensures rows { Begins elaborator.old elaborator.new }
-    ensures cause { IfErr result (λ kind. (kind ≡ OutOfMemory) ⊎ IsCause (addition features.now graph.old «package» span_offset) kind) }
+    ensures cause { IfErr result (λ kind. (kind ≡ OutOfMemory) ⊎ IsAdditionCause (addition features.now graph.old «package» span_offset) kind) }
 {
     pushes_stay_valid();
     includes_can_be();

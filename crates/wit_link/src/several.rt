@@ -5,7 +5,7 @@ ghost use Rattle.wit_elaboration.specs.Elaboration.{graph_uses};
 ghost use Rattle.wit_elaboration.specs.Valid.{IsValid};
 ghost use Rattle.wit_graph_data.specs.declared.error_kind.ResolveErrorKind.{ResolveErrorKind};
 ghost use Rattle.wit_graph_data.specs.declared.error_kind.ResolveErrorKind.TheVariants.{OutOfMemory};
-ghost use Rattle.wit_link.specs.Appending.{ArePushed, CanAppend, IsOneRefused, KnowsLeads};
+ghost use Rattle.wit_link.specs.Appending.{AreAdded, CanAppend, IsOneRefused, KnowsLeads};
 ghost use Rattle.wit_remap.specs.Grown.{Begins, Grown};
 
 use crate::adding::append_with;
@@ -27,7 +27,7 @@ pub fn append_all(
 ) -> ResolveResult<Items<PackageId>>
     requires packages { AllByRecursion CanAppend packages }
     requires valid { IsValid graph.old }
-    ensures ok { IfOk result (λ ids. ArePushed features.now graph.old packages graph.new ids) }
+    ensures ok { IfOk result (λ ids. AreAdded features.now graph.old packages graph.new ids) }
     ensures valid { IsValid graph.new }
     ensures err { OnErr result (graph.new ≡ graph.old) }
     ensures cause { IfErr result (λ kind. (kind ≡ OutOfMemory) ⊎ IsOneRefused features.now graph.old packages kind) }
@@ -56,7 +56,7 @@ pub fn append_all_with(
     requires met { KnowsLeads graph.old.types met.old }
     ensures met { KnowsLeads graph.new.types met.new }
     ensures met_before { Begins met.old met.new }
-    ensures ok { IfOk result (λ ids. ArePushed features.now graph.old packages graph.new ids) }
+    ensures ok { IfOk result (λ ids. AreAdded features.now graph.old packages graph.new ids) }
     ensures valid { IsValid graph.new }
     ensures uses { elaborator.new ≡ graph_uses graph.new }
     ensures err { OnErr result (graph.new ≡ graph.old) }
@@ -92,7 +92,7 @@ fn append_each(
     requires met { KnowsLeads graph.old.types met.old }
     ensures met { KnowsLeads graph.new.types met.new }
     ensures met_before { Begins met.old met.new }
-    ensures ok { IfOk result (λ ids. ArePushed features.now graph.old packages graph.new ids) }
+    ensures ok { IfOk result (λ ids. AreAdded features.now graph.old packages graph.new ids) }
     ensures valid { IsValid graph.new }
     ensures uses { elaborator.new ≡ graph_uses graph.new }
     ensures grown { Grown graph.old graph.new }

@@ -15,7 +15,7 @@ use Rattle.wit_graph_data.specs.declared.error_kind.ResolveErrorKind.{ResolveErr
 use Rattle.wit_graph_data.specs.declared.error_kind.ResolveErrorKind.TheVariants.{OutOfMemory}
 use Rattle.wit_graph_theory.specs.facts.ListFacts.{same_at}
 use Rattle.wit_link_spec.specs.Include.{PartiallyLinked, lists_of, with_entry_lists}
-use Rattle.wit_link_spec.specs.Pushed.{with_finished}
+use Rattle.wit_link_spec.specs.Added.{with_finished}
 use Rattle.wit_link_spec.specs.WorldReasons.{IsFinishCause}
 use Rattle.wit_remap.specs.Grown.{Grown}
 use Rattle.wit_remap.specs.facts.GrownFacts.{Begins-more, Begins-same, Grown-same, Grown-then}

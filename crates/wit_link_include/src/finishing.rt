@@ -1,7 +1,7 @@
 //! A world is finished.
 ghost use Rattle.std.specs.Prelude.{◌≡◌, ◌⊎◌, IfErr, IfOk, OnOk, OnErr, length};
 ghost use Rattle.wit_graph_data.specs.Error.{NoCause};
-ghost use Rattle.wit_link_spec.specs.Pushed.{with_finished, with_setters_placed};
+ghost use Rattle.wit_link_spec.specs.Added.{with_finished, with_setters_placed};
 ghost use Rattle.wit_link_spec.specs.WorldReasons.{IsFinishCause};
 ghost use Rattle.wit_elaboration.specs.Elaboration.{elaborated_world, IsConflictError, graph_uses};
 ghost use Rattle.wit_elaboration.specs.Imported.{HasTransitiveConflict};

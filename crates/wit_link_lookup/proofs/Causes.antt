@@ -21,7 +21,7 @@ use Rattle.wit_graph_data.specs.declared.cause.Cause.TheVariants.{TypeNotDefined
 use Rattle.wit_graph_data.specs.declared.error_kind.ResolveErrorKind.TheVariants.{PackageNotFound, Semantic}
 use Rattle.wit_graph_theory.specs.facts.ListFacts.{below_or_same, contained_at, found_at, some_at}
 use Rattle.wit_link_spec.specs.Addition.{Addition}
-use Rattle.wit_link_spec.specs.Cause.{IsCause, interface_not_found_3, package_not_found_1, type_not_defined_13, world_not_found_2}
+use Rattle.wit_link_spec.specs.Cause.{IsAdditionCause, interface_not_found_3, package_not_found_1, type_not_defined_13, world_not_found_2}
 use Rattle.wit_link_spec.specs.CauseText.{type_not_defined_text}
 use Rattle.wit_link_spec.specs.facts.ForeignFound.{named_into}
 use Rattle.wit_link_spec.specs.Gates.{OptionalSpan, interface_is_active, type_is_active}
@@ -38,7 +38,7 @@ not_there (Some x) none some = cc
 -- 1
 pub package_missing : (a : Addition) (at : ℕ) (name : PackageName) (items : List ForeignItem) (s : OptionalSpan) → slice_get a.unresolved.foreign_deps at ≡ Some (name, items) → items ≢ []
     → lookup (same_package name) a.graph.package_names ≡ None → same_package a.unresolved.name name ≡ false → slice_get a.unresolved.foreign_dep_spans at ≡ Some s
-    → IsCause a (PackageNotFound (moved_by a.offset s) name (known_packages a))
+    → IsAdditionCause a (PackageNotFound (moved_by a.offset s) name (known_packages a))
 package_missing a at name items s there some none other span =
     package_not_found_1 (moved_by a.offset s) name (known_packages a)
     (record {
@@ -54,7 +54,7 @@ package_missing a at name items s there some none other span =
 
 -- 2, 3
 pub item_missing : (a : Addition) (name : PackageName) (home : Option ℕ) (requested : List ℕ) (it : AstItem) (s : OptionalSpan) → NamesItem a name home requested it → named_is_active a it ≡ true
-    → item_in a.graph home requested it ≡ None → IsItemAt a.unresolved it s → IsCause a (not_found it (moved_by a.offset s) requested name)
+    → item_in a.graph home requested it ≡ None → IsItemAt a.unresolved it s → IsAdditionCause a (not_found it (moved_by a.offset s) requested name)
 item_missing a name home requested (item.Interface i) s named active none at =
     let there = found_at (λ (interface : Interface). s ≡ interface.span) a.unresolved.interfaces i at in
     interface_not_found_3 (moved_by a.offset s) requested name
@@ -86,7 +86,7 @@ item_missing a name home requested (item.World w) s named active none at =
 pub type_missing : (a : Addition) (t : ℕ) (def : TypeDef) (name : List ℕ) (i i' : ℕ) (s : OptionalSpan) → slice_get a.unresolved.types t ≡ Some def → is_foreign_type a.unresolved t ≡ true
     → type_is_active a.features a.unresolved.types t ≡ true → def.name ≡ Some name → def.owner ≡ owner.Interface i → interface_is_active a.features a.unresolved i ≡ true
     → foreign_interface_id a.graph a.unresolved i ≡ Some i' → interface_type a.graph name i' ≡ None → slice_get a.unresolved.unknown_type_spans t ≡ Some s
-    → IsCause a (Semantic (moved_by a.offset s) (type_not_defined_text name) TypeNotDefined)
+    → IsAdditionCause a (Semantic (moved_by a.offset s) (type_not_defined_text name) TypeNotDefined)
 type_missing a t def name i i' s at foreign active called owned owner_active found absent span =
     type_not_defined_13 (moved_by a.offset s) (type_not_defined_text name)
     (record {

@@ -19,7 +19,7 @@ use Rattle.wit_graph_data.specs.declared.error_kind.ResolveErrorKind.{ResolveErr
 use Rattle.wit_graph_data.specs.declared.error_kind.ResolveErrorKind.TheVariants.{Semantic}
 use Rattle.wit_graph_theory.specs.facts.ListFacts.{Contains-map, Contains-map_cases, contained_at, place_of}
 use Rattle.wit_link_spec.specs.Addition.{Addition}
-use Rattle.wit_link_spec.specs.Cause.{IsCause, excluded_11, excluded_owner_12}
+use Rattle.wit_link_spec.specs.Cause.{IsAdditionCause, excluded_11, excluded_owner_12}
 use Rattle.wit_link_spec.specs.CauseText.{excluded_owner_text, excluded_text}
 use Rattle.wit_link_spec.specs.Gates.{HasEntry, OptionalSpan, world_is_active}
 use Rattle.wit_link_spec.specs.steps.Passed.{NeedsNothingExcluded}
@@ -39,7 +39,7 @@ left-out a (AWorld w) none = none
 pub told-excluded : (checker : Checker) (thing : Thing) (place : OptionalSpan) (error : ResolveErrorKind) → IsReferred checker thing place → thing_is_active (seen checker) thing ≡ false
     → error ≡ Semantic (moved_by checker.addition.offset place) (excluded_text (word_of thing)) cause.Excluded → MayRefuse checker error
 told-excluded checker thing place error refers none is =
-    inr (subst (IsCause (seen checker)) (sym is) (excluded_11 (moved_by checker.addition.offset place) (excluded_text (word_of thing)) (record {
+    inr (subst (IsAdditionCause (seen checker)) (sym is) (excluded_11 (moved_by checker.addition.offset place) (excluded_text (word_of thing)) (record {
       thing = thing;
       place = place;
       refers = refers;
@@ -52,7 +52,7 @@ pub told-owner : (checker : Checker) (def : TypeDef) (thing : Thing) (error : Re
     → thing_is_active (seen checker) thing ≡ false
     → error ≡ Semantic (moved_by checker.addition.offset def.span) (excluded_owner_text (word_of thing)) cause.ExcludedOwner → MayRefuse checker error
 told-owner checker def thing error taken own owner none is =
-    inr (subst (IsCause (seen checker)) (sym is) (excluded_owner_12 (moved_by checker.addition.offset def.span) (excluded_owner_text (word_of thing)) (record {
+    inr (subst (IsAdditionCause (seen checker)) (sym is) (excluded_owner_12 (moved_by checker.addition.offset def.span) (excluded_owner_text (word_of thing)) (record {
       t = taken.t;
       def = def;
       thing = thing;

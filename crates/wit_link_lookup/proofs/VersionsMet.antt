@@ -27,7 +27,7 @@ use Rattle.wit_graph_data.specs.declared.features.Features.{Features}
 use Rattle.wit_graph_data.specs.declared.error_kind.ResolveErrorKind.{ResolveErrorKind}
 use Rattle.wit_graph_data.specs.declared.error_kind.ResolveErrorKind.TheVariants.{Semantic}
 use Rattle.wit_graph_theory.specs.facts.ListFacts.{contained_at, found_at, place_of}
-use Rattle.wit_link_spec.specs.Cause.{IsCause, gate_unreleased_10, gate_without_version_9}
+use Rattle.wit_link_spec.specs.Cause.{IsAdditionCause, gate_unreleased_10, gate_without_version_9}
 use Rattle.wit_link_spec.specs.CauseText.{gate_unreleased_text, gate_without_version_text}
 use Rattle.wit_link_spec.specs.Gates.{IsAsked, OptionalSpan, asked_gates, foreign_gates, foreign_items, interface_gates, is_active, of_entry, of_function, of_include, of_interface, of_type, of_world, world_gates}
 use Rattle.wit_link_spec.specs.steps.Passed.{GatesAreMet}
@@ -48,7 +48,7 @@ pub told-lacking : (checker : Checker) (since : Parts) (deprecated : Option Part
     → checker.addition.unresolved.now.name.version ≡ None
     → kind ≡ Semantic (moved_by checker.addition.offset place) (gate_without_version_text checker.addition.unresolved.now.name) cause.GateWithoutVersion → MayRefuse checker kind
 told-lacking checker since deprecated place kind asked none is =
-    inr (subst (IsCause (seen checker)) (sym is) (gate_without_version_9 (moved_by checker.addition.offset place) (gate_without_version_text checker.addition.unresolved.now.name) (record {
+    inr (subst (IsAdditionCause (seen checker)) (sym is) (gate_without_version_9 (moved_by checker.addition.offset place) (gate_without_version_text checker.addition.unresolved.now.name) (record {
       note = Stable since deprecated;
       place = place;
       asked = asked;
@@ -63,7 +63,7 @@ pub told-unreleased : (checker : Checker) (since : Parts) (deprecated : Option P
     → checker.addition.unresolved.now.name.version ≡ Some version → is_lt (version_cmp version since) ≡ true
     → kind ≡ Semantic (moved_by checker.addition.offset place) (gate_unreleased_text since checker.addition.unresolved.now.name version) cause.GateUnreleased → MayRefuse checker kind
 told-unreleased checker since deprecated version place kind asked some below is =
-    inr (subst (IsCause (seen checker)) (sym is) (gate_unreleased_10 (moved_by checker.addition.offset place) (gate_unreleased_text since checker.addition.unresolved.now.name version) (record {
+    inr (subst (IsAdditionCause (seen checker)) (sym is) (gate_unreleased_10 (moved_by checker.addition.offset place) (gate_unreleased_text since checker.addition.unresolved.now.name version) (record {
       since = since;
       deprecated = deprecated;
       version = version;

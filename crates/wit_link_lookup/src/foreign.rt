@@ -4,7 +4,7 @@ ghost use Rattle.std.specs.List.{range_with_len};
 ghost use Rattle.wit_graph_data.specs.declared.error_kind.ResolveErrorKind.TheVariants.{OutOfMemory};
 ghost use Rattle.wit_data.specs.Shape.{IsShaped};
 ghost use Rattle.wit_link_spec.specs.steps.AdditionRefs.{activity_of, addition_of};
-ghost use Rattle.wit_link_spec.specs.Cause.{IsCause};
+ghost use Rattle.wit_link_spec.specs.Cause.{IsAdditionCause};
 ghost use Rattle.wit_link_spec.specs.Lookup.{named_items};
 ghost use Rattle.wit_link_lookup.specs.steps.ForeignItems.{ArePackagesThere, AreThere, HasEntryFor, NamesItem, found_among, interface_in, item_in, named_before, named_is_active, with_item, world_in};
 
@@ -35,7 +35,7 @@ pub(crate) fn find_foreign(
     ensures found { IfOk result (λ found. found ≡ found_among (addition_of addition.now) (named_items addition.now.unresolved.now.foreign_deps)) }
     ensures there { OnOk result (AreThere (addition_of addition.now) (named_items addition.now.unresolved.now.foreign_deps)) }
     ensures packages { OnOk result (ArePackagesThere (addition_of addition.now) (length addition.now.unresolved.now.foreign_deps)) }
-    ensures cause { IfErr result (λ kind. (kind ≡ OutOfMemory) ⊎ IsCause (addition_of addition.now) kind) }
+    ensures cause { IfErr result (λ kind. (kind ≡ OutOfMemory) ⊎ IsAdditionCause (addition_of addition.now) kind) }
 {
     let interfaces = nothing(alloc, addition.unresolved.interfaces.len())?;
     let worlds = nothing(alloc, addition.unresolved.worlds.len())?;
@@ -74,7 +74,7 @@ fn find_named(
     ensures found { OnOk result (found.new ≡ found_among (addition_of addition.now) (named_before addition.now.unresolved.now.foreign_deps (index + 1))) }
     ensures there { OnOk result (AreThere (addition_of addition.now) (named_before addition.now.unresolved.now.foreign_deps (index + 1))) }
     ensures packages { OnOk result (ArePackagesThere (addition_of addition.now) (index + 1)) }
-    ensures cause { IfErr result (λ kind. (kind ≡ OutOfMemory) ⊎ IsCause (addition_of addition.now) kind) }
+    ensures cause { IfErr result (λ kind. (kind ≡ OutOfMemory) ⊎ IsAdditionCause (addition_of addition.now) kind) }
 {
     let home = find_home(alloc, addition, index)?;
     for (requested, (item, _)) in home.items.iter() {
@@ -127,7 +127,7 @@ fn check_inactive(
     requires named { NamesItem (addition_of addition.now) home.now.name.now home.now.id requested.now item.now }
     requires absent { item_in addition.now.graph.now home.now.id requested.now item.now ≡ None }
     ensures inactive { OnOk result (named_is_active (addition_of addition.now) item.now ≡ false) }
-    ensures cause { IfErr result (λ kind. (kind ≡ OutOfMemory) ⊎ IsCause (addition_of addition.now) kind) }
+    ensures cause { IfErr result (λ kind. (kind ≡ OutOfMemory) ⊎ IsAdditionCause (addition_of addition.now) kind) }
 {
     let active = match *item {
         AstItem::Interface(id) => *activity.interfaces.at(id.index()),

@@ -3,7 +3,7 @@ ghost use Rattle.std.specs.Prelude.{◌≡◌, ◌⊎◌, IfErr, IfOk, OnOk};
 ghost use Rattle.wit_graph_data.specs.declared.error_kind.ResolveErrorKind.TheVariants.{OutOfMemory};
 ghost use Rattle.wit_data.specs.Shape.{IsShaped};
 ghost use Rattle.wit_link_spec.specs.steps.AdditionRefs.{activity_of, addition_of, new_ids_of};
-ghost use Rattle.wit_link_spec.specs.Cause.{IsCause};
+ghost use Rattle.wit_link_spec.specs.Cause.{IsAdditionCause};
 ghost use Rattle.wit_link_spec.specs.steps.Passed.{IsAllFound};
 
 use crate::foreign::find_foreign;
@@ -31,7 +31,7 @@ pub fn new_ids_of(
     requires activity { activity.now ≡ activity_of (addition_of addition.now) }
     ensures new_ids { IfOk result (λ new_ids. new_ids ≡ new_ids_of (addition_of addition.now)) }
     ensures found { OnOk result (IsAllFound (addition_of addition.now)) }
-    ensures cause { IfErr result (λ kind. (kind ≡ OutOfMemory) ⊎ IsCause (addition_of addition.now) kind) }
+    ensures cause { IfErr result (λ kind. (kind ≡ OutOfMemory) ⊎ IsAdditionCause (addition_of addition.now) kind) }
 {
     let found = find_foreign(alloc, addition, activity)?;
     let types = type_ids(alloc, addition, activity, &found)?;

@@ -3,7 +3,7 @@ ghost use Rattle.std.specs.Prelude.{◌≡◌, ◌⊎◌, ◌<◌, IfErr, IfOk, 
 ghost use Rattle.wit_graph_data.specs.declared.error_kind.ResolveErrorKind.TheVariants.{OutOfMemory};
 ghost use Rattle.wit_data.specs.Shape.{IsShaped};
 ghost use Rattle.wit_link_spec.specs.steps.AdditionRefs.{addition_of};
-ghost use Rattle.wit_link_spec.specs.Cause.{IsCause};
+ghost use Rattle.wit_link_spec.specs.Cause.{IsAdditionCause};
 ghost use Rattle.wit_link_lookup.specs.steps.ForeignItems.{IsHome};
 
 use crate::refusal::package_not_found;
@@ -32,7 +32,7 @@ pub(crate) fn find_home<'a>(
     requires shaped { IsShaped addition.now.unresolved.now }
     requires inside { index < length addition.now.unresolved.now.foreign_deps }
     ensures home { IfOk result (λ home. IsHome (addition_of addition.now) index home.name.now home.items.now home.id) }
-    ensures cause { IfErr result (λ kind. (kind ≡ OutOfMemory) ⊎ IsCause (addition_of addition.now) kind) }
+    ensures cause { IfErr result (λ kind. (kind ≡ OutOfMemory) ⊎ IsAdditionCause (addition_of addition.now) kind) }
 {
     let (name, items) = addition.unresolved.foreign_deps.entry_at(index);
     let id = match addition.graph.package_names.get(name) {

@@ -9,7 +9,7 @@ ghost use Rattle.wit_data.specs.declared.types.TypeDefKind.TheVariants as kinds;
 ghost use Rattle.wit_graph_data.specs.declared.cause.Cause.TheVariants as cause;
 ghost use Rattle.wit_graph_data.specs.declared.error_kind.ResolveErrorKind.TheVariants.{OutOfMemory, Semantic};
 ghost use Rattle.wit_link_spec.specs.steps.AdditionRefs.{activity_of, addition_of};
-ghost use Rattle.wit_link_spec.specs.Cause.{IsCause};
+ghost use Rattle.wit_link_spec.specs.Cause.{IsAdditionCause};
 ghost use Rattle.wit_link_spec.specs.CauseText.{excluded_owner_text, excluded_text};
 ghost use Rattle.wit_link_spec.specs.steps.Passed.{NeedsNothingExcluded};
 ghost use Rattle.wit_link_spec.specs.Reasons.{AType, word_of};
@@ -40,7 +40,7 @@ pub fn check_references(
     requires shaped { IsShaped addition.now.unresolved.now }
     requires activity { activity.now ≡ activity_of (addition_of addition.now) }
     ensures met { OnOk result (NeedsNothingExcluded (addition_of addition.now)) }
-    ensures cause { IfErr result (λ kind. (kind ≡ OutOfMemory) ⊎ IsCause (addition_of addition.now) kind) }
+    ensures cause { IfErr result (λ kind. (kind ≡ OutOfMemory) ⊎ IsAdditionCause (addition_of addition.now) kind) }
 {
     let checker = Checker {
         alloc,

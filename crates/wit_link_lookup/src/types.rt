@@ -6,7 +6,7 @@ ghost use Rattle.wit_data.specs.Shape.{IsShaped};
 ghost use Rattle.wit_link_spec.specs.Addition.{active_type_id, own_type};
 ghost use Rattle.wit_remap_spec.specs.Selected.{rank};
 ghost use Rattle.wit_link_spec.specs.steps.AdditionRefs.{activity_of, addition_of};
-ghost use Rattle.wit_link_spec.specs.Cause.{IsCause};
+ghost use Rattle.wit_link_spec.specs.Cause.{IsAdditionCause};
 ghost use Rattle.wit_link_spec.specs.Gates.{type_is_active};
 ghost use Rattle.wit_link_spec.specs.Lookup.{foreign_type_id, named_items};
 ghost use Rattle.wit_graph_data.specs.Named.{interface_type};
@@ -34,7 +34,7 @@ pub(crate) fn type_ids(
     requires found { found.now ≡ found_among (addition_of addition.now) (named_items addition.now.unresolved.now.foreign_deps) }
     ensures new_ids { IfOk result (λ new_ids. new_ids ≡ map (active_type_id (addition_of addition.now)) (range_with_len 0 (length addition.now.unresolved.now.types))) }
     ensures there { OnOk result (AreTypesThere (addition_of addition.now) (length addition.now.unresolved.now.types)) }
-    ensures cause { IfErr result (λ kind. (kind ≡ OutOfMemory) ⊎ IsCause (addition_of addition.now) kind) }
+    ensures cause { IfErr result (λ kind. (kind ≡ OutOfMemory) ⊎ IsAdditionCause (addition_of addition.now) kind) }
 {
     let mut new_ids = Items::new(alloc);
     let mut next = addition.graph.types.len();
@@ -61,7 +61,7 @@ fn new_type_id(
     ensures id { IfOk result (λ id. id ≡ active_type_id (addition_of addition.now) t) }
     ensures next { OnOk result (next.new ≡ length addition.now.graph.now.types + rank (own_type (addition_of addition.now)) (t + 1)) }
     ensures there { OnOk result (IsTypeThere (addition_of addition.now) t) }
-    ensures cause { IfErr result (λ kind. (kind ≡ OutOfMemory) ⊎ IsCause (addition_of addition.now) kind) }
+    ensures cause { IfErr result (λ kind. (kind ≡ OutOfMemory) ⊎ IsAdditionCause (addition_of addition.now) kind) }
 {
     let active = *activity.types.at(t);
     if active && t < addition.unresolved.unknown_type_spans.len() {
@@ -86,7 +86,7 @@ fn foreign_type(
     requires active { type_is_active addition.now.features.now addition.now.unresolved.now.types t ≡ true }
     ensures id { IfOk result (λ id. id ≡ foreign_type_id addition.now.graph.now addition.now.unresolved.now t) }
     ensures there { OnOk result (IsTypeThere (addition_of addition.now) t) }
-    ensures cause { IfErr result (λ kind. (kind ≡ OutOfMemory) ⊎ IsCause (addition_of addition.now) kind) }
+    ensures cause { IfErr result (λ kind. (kind ≡ OutOfMemory) ⊎ IsAdditionCause (addition_of addition.now) kind) }
 {
     let def = addition.unresolved.types.at(t);
     let Some(name) = &def.name else {

@@ -15,7 +15,7 @@ ghost use Rattle.wit_data.specs.declared.stability.Stability.TheVariants.{Stable
 ghost use Rattle.wit_graph_data.specs.declared.cause.Cause.TheVariants as cause;
 ghost use Rattle.wit_graph_data.specs.declared.error_kind.ResolveErrorKind.TheVariants.{OutOfMemory, Semantic};
 ghost use Rattle.wit_link_spec.specs.steps.AdditionRefs.{activity_of, addition_of};
-ghost use Rattle.wit_link_spec.specs.Cause.{IsCause};
+ghost use Rattle.wit_link_spec.specs.Cause.{IsAdditionCause};
 ghost use Rattle.wit_link_spec.specs.CauseText.{gate_unreleased_text, gate_without_version_text};
 ghost use Rattle.wit_link_spec.specs.Gates.{asked_gates, foreign_items};
 ghost use Rattle.wit_link_spec.specs.steps.Passed.{GatesAreMet};
@@ -46,7 +46,7 @@ pub fn check_versions(
     requires shaped { IsShaped addition.now.unresolved.now }
     requires activity { activity.now ≡ activity_of (addition_of addition.now) }
     ensures met { OnOk result (GatesAreMet (addition_of addition.now)) }
-    ensures cause { IfErr result (λ kind. (kind ≡ OutOfMemory) ⊎ IsCause (addition_of addition.now) kind) }
+    ensures cause { IfErr result (λ kind. (kind ≡ OutOfMemory) ⊎ IsAdditionCause (addition_of addition.now) kind) }
 {
     let checker = Checker {
         alloc,

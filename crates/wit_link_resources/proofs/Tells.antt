@@ -14,7 +14,7 @@ use Rattle.wit_graph_data.specs.declared.error_kind.ResolveErrorKind.{ResolveErr
 use Rattle.wit_graph_data.specs.declared.error_kind.ResolveErrorKind.TheVariants.{OffsetOverflow}
 use Rattle.wit_graph_theory.specs.facts.ListFacts.{Contains-map, contained_at}
 use Rattle.wit_link_spec.specs.Addition.{Addition}
-use Rattle.wit_link_spec.specs.Cause.{IsCause, borrow_in_result_15, not_a_resource_14, offset_overflow_27}
+use Rattle.wit_link_spec.specs.Cause.{IsAdditionCause, borrow_in_result_15, not_a_resource_14, offset_overflow_27}
 use Rattle.wit_link_spec.specs.CauseText.{not_a_resource_text}
 use Rattle.wit_remap_spec.specs.Borrows.{borrow_text}
 use Rattle.wit_link_spec.specs.Gates.{OptionalSpan, type_is_active, package_spans}
@@ -27,9 +27,9 @@ use Rattle.wit_link_resources.specs.steps.Borrows.{IsErrorAtSpan}
 module _ (a : Addition) where
   -- a place that would pass the end
   too_far : (place : OptionalSpan) (kind : ResolveErrorKind) → Contains (package_spans a.unresolved) place
-      → (kind ≡ OffsetOverflow) × ((range : ℕ × ℕ) × (place ≡ Some range) × (2 ^ 32 ≤ range.1 + a.offset)) → IsCause a kind
+      → (kind ≡ OffsetOverflow) × ((range : ℕ × ℕ) × (place ≡ Some range) × (2 ^ 32 ≤ range.1 + a.offset)) → IsAdditionCause a kind
   too_far place kind known told =
-      subst (λ (k : ResolveErrorKind). IsCause a k) (sym told.0)
+      subst (λ (k : ResolveErrorKind). IsAdditionCause a k) (sym told.0)
       (offset_overflow_27 (record { from = told.1.0.0; to = told.1.0.1; known = subst (λ (p : OptionalSpan). Contains (package_spans a.unresolved) p) told.1.1 known; past = told.1.2 }))
 
   -- the places of what has to be a resource
@@ -81,15 +81,15 @@ module _ (a : Addition) where
           ])))
 
   pub resource_cause : (t t' : ℕ) (place : OptionalSpan) (kind : ResolveErrorKind) → Contains a.unresolved.required_resource_types (t, place) → type_is_active a.features a.unresolved.types t ≡ true
-      → foreign_type_id a.graph a.unresolved t ≡ Some t' → leads_to_resource a.graph.types t' ≡ false → IsErrorAtSpan place a.offset not_a_resource_text cause.NotAResource kind → IsCause a kind
+      → foreign_type_id a.graph a.unresolved t ≡ Some t' → leads_to_resource a.graph.types t' ≡ false → IsErrorAtSpan place a.offset not_a_resource_text cause.NotAResource kind → IsAdditionCause a kind
   resource_cause t t' place kind required active found none (inl far) = too_far place kind (required_known t place required) far
   resource_cause t t' place kind required active found none (inr is) =
-      subst (λ (k : ResolveErrorKind). IsCause a k) (sym is)
+      subst (λ (k : ResolveErrorKind). IsAdditionCause a k) (sym is)
       (not_a_resource_14 _ _ (record { t = t; t' = t'; place = place; required = required; active = active; found = found; no_resource = none; span_is = refl; message_is = refl }))
 
   pub borrow_cause : (f : Function) (t : ℕ) (kind : ResolveErrorKind) → IsActiveFunction a f → Contains (named_option f.result_) t → MayHoldBorrow a t
-      → IsErrorAtSpan f.span a.offset (borrow_text f.name) cause.BorrowInResult kind → IsCause a kind
+      → IsErrorAtSpan f.span a.offset (borrow_text f.name) cause.BorrowInResult kind → IsAdditionCause a kind
   borrow_cause f t kind active returned holds (inl far) = too_far f.span kind (function_known f active) far
   borrow_cause f t kind active returned holds (inr is) =
-      subst (λ (k : ResolveErrorKind). IsCause a k) (sym is)
+      subst (λ (k : ResolveErrorKind). IsAdditionCause a k) (sym is)
       (borrow_in_result_15 _ _ (record { f = f; t = t; active = active; result_is = returned; holds = holds; span_is = refl; message_is = refl }))

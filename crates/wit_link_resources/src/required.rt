@@ -4,7 +4,7 @@ ghost use Rattle.wit_data.specs.Shape.{IsShaped};
 ghost use Rattle.wit_elaboration.specs.Valid.{IsValid};
 ghost use Rattle.wit_graph_data.specs.declared.error_kind.ResolveErrorKind.TheVariants.{OutOfMemory};
 ghost use Rattle.wit_link_spec.specs.steps.AdditionRefs.{addition_of, new_ids_of};
-ghost use Rattle.wit_link_spec.specs.Cause.{IsCause};
+ghost use Rattle.wit_link_spec.specs.Cause.{IsAdditionCause};
 ghost use Rattle.wit_link_spec.specs.steps.Passed.{HasResources};
 ghost use Rattle.wit_link_resources.specs.steps.Leading.{AreRight, LeadsWhereFound};
 
@@ -38,7 +38,7 @@ pub fn check_resources(
     ensures met { AreRight addition.now.graph.now.types met.new }
     ensures begins { take (length met.old) met.new ≡ met.old }
     ensures resources { OnOk result (HasResources (addition_of addition.now)) }
-    ensures cause { IfErr result (λ kind. (kind ≡ OutOfMemory) ⊎ IsCause (addition_of addition.now) kind) }
+    ensures cause { IfErr result (λ kind. (kind ≡ OutOfMemory) ⊎ IsAdditionCause (addition_of addition.now) kind) }
 {
     for &(id, span) in addition.unresolved.required_resource_types.as_slice() {
         check_required(alloc, addition, new_ids, met, id, span)?;
@@ -62,7 +62,7 @@ fn check_required(
     requires met { AreRight addition.now.graph.now.types met.old }
     requires required { Contains addition.now.unresolved.now.required_resource_types (id, span) }
     ensures ok { OnOk result (LeadsWhereFound (addition_of addition.now) id) }
-    ensures cause { IfErr result (λ kind. (kind ≡ OutOfMemory) ⊎ IsCause (addition_of addition.now) kind) }
+    ensures cause { IfErr result (λ kind. (kind ≡ OutOfMemory) ⊎ IsAdditionCause (addition_of addition.now) kind) }
     ensures met { AreRight addition.now.graph.now.types met.new }
     ensures begins { take (length met.old) met.new ≡ met.old }
 {

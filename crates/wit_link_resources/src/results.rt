@@ -6,7 +6,7 @@ ghost use Rattle.wit_data.specs.Shape.{IsShaped};
 ghost use Rattle.wit_elaboration.specs.Valid.{IsValid};
 ghost use Rattle.wit_graph_data.specs.declared.error_kind.ResolveErrorKind.TheVariants.{OutOfMemory};
 ghost use Rattle.wit_link_spec.specs.steps.AdditionRefs.{activity_of, addition_of, new_ids_of};
-ghost use Rattle.wit_link_spec.specs.Cause.{IsCause};
+ghost use Rattle.wit_link_spec.specs.Cause.{IsAdditionCause};
 ghost use Rattle.wit_link_spec.specs.steps.Passed.{ReturnsNoBorrow};
 ghost use Rattle.wit_link_spec.specs.Reasons.{IsActiveFunction, IsResolved};
 ghost use Rattle.wit_link_resources.specs.steps.Borrows.{AreFreeOfUnresolved, AreFreeTypes, ReturnsNone};
@@ -40,7 +40,7 @@ pub fn check_results(
     requires new_ids { new_ids.now ≡ new_ids_of (addition_of addition.now) }
     requires image { IsResolved (addition_of addition.now) }
     ensures no_borrow { OnOk result (ReturnsNoBorrow (addition_of addition.now)) }
-    ensures cause { IfErr result (λ kind. (kind ≡ OutOfMemory) ⊎ IsCause (addition_of addition.now) kind) }
+    ensures cause { IfErr result (λ kind. (kind ≡ OutOfMemory) ⊎ IsAdditionCause (addition_of addition.now) kind) }
 {
     let functions = active_functions(alloc, addition, activity)?;
     let mut free = Free::new(alloc);
@@ -68,7 +68,7 @@ fn check_result(
     ensures none { OnOk result (ReturnsNone (addition_of addition.now) function.now) }
     ensures unresolved { OnOk result (AreFreeOfUnresolved (addition_of addition.now) free.new.unresolved.keys) }
     ensures graph { OnOk result (AreFreeTypes addition.now.graph.now.types free.new.graph.keys) }
-    ensures cause { IfErr result (λ kind. (kind ≡ OutOfMemory) ⊎ IsCause (addition_of addition.now) kind) }
+    ensures cause { IfErr result (λ kind. (kind ≡ OutOfMemory) ⊎ IsAdditionCause (addition_of addition.now) kind) }
 {
     let Some(id) = result_type(function) else {
         return Ok(());

@@ -4,7 +4,7 @@ pub mod CauseText
 pub mod Gates
 pub mod Include
 pub mod Lookup
-pub mod Pushed
+pub mod Added
 pub mod Reasons
 pub mod WorldReasons
 pub mod facts

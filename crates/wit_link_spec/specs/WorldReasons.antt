@@ -19,7 +19,7 @@ use Rattle.wit_link_spec.specs.CauseText.{clash_text, getter_text, rename_text}
 use Rattle.wit_link_spec.specs.Gates.{OptionalSpan}
 use Rattle.wit_link_spec.specs.Include.{PartiallyLinked, IsListCalled, is_other_package, lists_of}
 use Rattle.wit_remap_spec.specs.Joined.{include_stability, Disagree, HasStability}
-use Rattle.wit_link_spec.specs.Pushed.{updated_include, unfinished_world, with_all_includes, with_includes, with_worlds}
+use Rattle.wit_link_spec.specs.Added.{updated_include, unfinished_world, with_all_includes, with_includes, with_worlds}
 use Rattle.wit_link_spec.specs.Reasons.{IsResolved}
 use Rattle.std.specs.Map.{keys_of}
 use Rattle.wit_data.specs.Each.{Each}

@@ -15,9 +15,9 @@ use Rattle.wit_remap_spec.specs.ValueRemap.{value_id}
 use Rattle.wit_remap.specs.steps.Movers.{goes, id_or, maps_of}
 use Rattle.wit_remap.specs.declared.mover.Mover.{Mover}
 use Rattle.wit_merge_spec.specs.Matches.{GraphMerge}
-use Rattle.wit_merge_spec.specs.United.{merge_maps, merged_interface, merged_package, merged_type, merged_world, remap_of_merge}
+use Rattle.wit_merge_spec.specs.Merged.{merge_maps, merged_interface, merged_package, merged_type, merged_world, remap_of_merge}
 use Rattle.wit_merge.specs.steps.UnionSteps.{EntryWithin, FunctionMoves, InterfaceMoves, TypeMoves, CanUnite, merging_of}
-use Rattle.wit_merge.specs.declared.union_plan.UnionPlan.{UnionPlan}
+use Rattle.wit_merge.specs.declared.merge_plan.MergePlan.{MergePlan}
 use Rattle.wit_merge.proofs.NamesStay.{name_stays}
 use Rattle.wit_merge.proofs.SameImages.{Agree, each_same, entries_same, function_same, interface_same, type_same}
 
@@ -25,7 +25,7 @@ use Rattle.wit_merge.proofs.SameImages.{Agree, each_same, entries_same, function
 goes_there : (new_ids : List (Option ℕ)) (f : ℕ → ℕ) (n x : ℕ) → new_ids ≡ map (λ (t : ℕ). Some (f t)) (range_with_len 0 n) → x < n → goes new_ids x ≡ f x
 goes_there new_ids f n x are below = ap (λ (l : List (Option ℕ)). id_or x (slice_get l x)) are ∙ ap (id_or x) (range-at (λ (t : ℕ). Some (f t)) n x below)
 
-module _ (u : UnionPlan) (ready : CanUnite u) where
+module _ (u : MergePlan) (ready : CanUnite u) where
   abbrev m : GraphMerge
   m = merging_of u
 

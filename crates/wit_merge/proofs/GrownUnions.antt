@@ -18,7 +18,7 @@ use Rattle.wit_remap_spec.specs.Image.{function_image}
 use Rattle.wit_remap_spec.specs.Borrows.{borrow_text, HoldsBorrow}
 use Rattle.wit_merge_spec.specs.Cause.{HasNoMismatch, IsMergeCause, MergeIsAccepted, MergeReturnsBorrow, borrow_in_result_15}
 use Rattle.wit_merge_spec.specs.Matches.{GraphMerge}
-use Rattle.wit_merge_spec.specs.United.{joined_graph, merge_maps, moved_functions, united}
+use Rattle.wit_merge_spec.specs.Merged.{joined_graph, merge_maps, moved_functions, merged}
 use Rattle.wit_merge_spec.specs.steps.Leaving.{LeavesGraph, grown_graph, new_worlds}
 use Rattle.wit_merge_laws.specs.facts.PackagesStand.{good_names}
 use Rattle.wit_merge_laws.specs.laws.GrowingLaws.{FunctionsCome, GrowsAlone, GrowthIsAccepted, JoinedIsGrown, NewWorldsAreSound, NothingNewIsCyclic, UnionsGrow, UsesGrow}
@@ -77,7 +77,7 @@ module _ (m : GraphMerge) (valid : IsValid m.graph) (valid_other : IsValid m.oth
       abbrev alone : GrowsAlone m
       alone = grows m valid valid_other one leaves
 
-      pub is_union : with_elaborated m.graph coming ≡ united m
+      pub is_union : with_elaborated m.graph coming ≡ merged m
       is_union = (λ j. record (behind j) { worlds = m.graph.worlds ++ map (elaborated_world (is_joined j)) (is.worlds j) }) ∙ sym alone.united_is
 
       pub is_told : (kind : ResolveErrorKind) → IsAppendCause m.graph coming kind → IsMergeCause m kind

@@ -13,14 +13,14 @@ use Rattle.wit_data.specs.declared.world.WorldKey.TheVariants as key
 use Rattle.wit_elaboration.specs.Valid.{IsValid}
 use Rattle.wit_remap_spec.specs.Image.{entry_image, item_image}
 use Rattle.wit_remap_spec.specs.Joined.{joined_entry, joined_item}
-use Rattle.wit_merge_spec.specs.United.{is_under_id, merge_maps, merged_interface, moves_interface}
+use Rattle.wit_merge_spec.specs.Merged.{is_under_id, merge_maps, merged_interface, moves_interface}
 use Rattle.wit_merge_spec.specs.Matches.{GraphMerge, counterpart_interface}
 use Rattle.wit_merge_laws.specs.facts.InterfacesStand.{moved_interface_remapped}
 use Rattle.wit_merge_laws.specs.facts.ListedStand.{interfaces_apart}
 use Rattle.wit_merge_laws.specs.facts.MatchFacts.{goes_to}
 use Rattle.wit_merge_laws.specs.facts.TypesStand.{matched_some}
 use Rattle.wit_merge.specs.steps.UnionSteps.{KeyWithin, KnowsCounterparts, entry_joined, stability_joined, stability_of, stability_under, CanUnite, first_from, merging_of}
-use Rattle.wit_merge.specs.declared.union_plan.UnionPlan.{UnionPlan}
+use Rattle.wit_merge.specs.declared.merge_plan.MergePlan.{MergePlan}
 use Rattle.wit_merge.proofs.CounterpartSteps.{is_matched, none_matched}
 
 -- two items, where the first stands under the key of the second
@@ -88,7 +88,7 @@ module _ (m : GraphMerge) (valid : IsValid m.graph) (valid_other : IsValid m.oth
   label_under label ((key.Name other, held) ∷ from) = label_under label from
   label_under label ((key.Interface j, held) ∷ from) = label_under label from
 
-module _ (u : UnionPlan) (ready : CanUnite u) (counterparts : List (Option ℕ)) (known : KnowsCounterparts u counterparts) (w : ℕ) (from : List Entry) where
+module _ (u : MergePlan) (ready : CanUnite u) (counterparts : List (Option ℕ)) (known : KnowsCounterparts u counterparts) (w : ℕ) (from : List Entry) where
   abbrev m : GraphMerge
   m = merging_of u
 

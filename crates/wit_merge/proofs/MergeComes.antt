@@ -14,7 +14,7 @@ use Rattle.wit_remap_spec.specs.Resources.{signature_positions, value_positions}
 use Rattle.wit_remap_spec.specs.Selected.{rank, selected}
 use Rattle.wit_link_spec.specs.steps.NewThings.{is_from, is_new}
 use Rattle.wit_merge_spec.specs.Matches.{GraphMerge, counterpart_type}
-use Rattle.wit_merge_spec.specs.United.{merged_type, moved_functions, moves_type, remap_of_merge}
+use Rattle.wit_merge_spec.specs.Merged.{merged_type, moved_functions, moves_type, remap_of_merge}
 use Rattle.wit_merge_laws.specs.facts.MatchFacts.{type_is}
 use Rattle.wit_merge_match.specs.steps.Matched.{merge_remap_of}
 use Rattle.wit_link_resources.specs.steps.IncomingTypes.{CanCome, IsRemapOf, IsRemapped}

@@ -29,7 +29,7 @@ use Rattle.wit_graph_theory.specs.facts.GraphSource.{mapped_is_good}
 use Rattle.wit_remap_spec.specs.Image.{identity}
 use Rattle.wit_graph_theory.specs.facts.ListFacts.{found_at, place_of}
 use Rattle.wit_graph_theory.specs.steps.Sources.{IsGoodSource, OwnerIsActive, Source}
-use Rattle.wit_merge_spec.specs.United.{joined_graph, joined_package, united, with_interface, with_package, moves_package}
+use Rattle.wit_merge_spec.specs.Merged.{joined_graph, joined_package, merged, with_interface, with_package, moves_package}
 use Rattle.wit_merge_spec.specs.Matches.{GraphMerge, counterpart_interface, counterpart_interface_by, counterpart_package, counterpart_world, named_in_counterpart}
 use Rattle.wit_merge_laws.specs.facts.InterfacesStand.{counterpart_is, old_interface_at, with_counterpart}
 use Rattle.wit_merge_laws.specs.facts.JoinedGood.{joined_good}
@@ -37,7 +37,7 @@ use Rattle.wit_merge_laws.specs.facts.ListedStand.{moved_comes}
 use Rattle.wit_merge_laws.specs.facts.MatchedOnce.{package_once}
 use Rattle.wit_merge_laws.specs.facts.PackagesStand.{old_package_at, packages_good}
 use Rattle.wit_merge.specs.steps.UnionSteps.{EntryWithin, FunctionsMove, InterfaceJoins, InterfaceMoves, OwnerWithin, PackageJoins, PackageMoves, TypeMoves, Within, WorldJoins, WorldMoves, CanUnite, merging_of}
-use Rattle.wit_merge.specs.declared.union_plan.UnionPlan.{UnionPlan}
+use Rattle.wit_merge.specs.declared.merge_plan.MergePlan.{MergePlan}
 use Rattle.wit_merge.proofs.Agrees.{of_any}
 
 -- what is said of a package is said of one that is there
@@ -45,7 +45,7 @@ home_there : {X : Type 0} (packages : List X) (home : Option ℕ) (P : ℕ → X
 home_there packages None P is = absurd is
 home_there packages (Some p) P is = let there = found_at (P p) packages p is in (p, refl, slice_get_within packages p there.0 there.1)
 
-module _ (u : UnionPlan) (ready : CanUnite u) where
+module _ (u : MergePlan) (ready : CanUnite u) where
   abbrev m : GraphMerge
   m = merging_of u
 
@@ -174,8 +174,8 @@ module _ (u : UnionPlan) (ready : CanUnite u) where
       let joined : joined_package m (p', into) ≡ with_package m from into =
       ap (λ (o : Option (ℕ × Package)). option_map_or (λ (e : ℕ × Package). with_package m e.1 into) o into)
       (counterpart_is (counterpart_package m) other.packages p' (λ i j. package_once m ready.valid ready.valid_other i j p') p from from_at found) in
-      let at : slice_get (united m).packages p' ≡ Some (with_package m from into) = old_package_at m p' into into_at ∙ ap (λ (x : Package). Some x) joined in
-      let is : IsGoodPackage (united m).interfaces (united m).worlds p' (with_package m from into) = packages_good m ready.valid ready.valid_other p' (with_package m from into) at in
+      let at : slice_get (merged m).packages p' ≡ Some (with_package m from into) = old_package_at m p' into into_at ∙ ap (λ (x : Package). Some x) joined in
+      let is : IsGoodPackage (merged m).interfaces (merged m).worlds p' (with_package m from into) = packages_good m ready.valid ready.valid_other p' (with_package m from into) at in
       record {
         interfaces_apart = is.distinct_interfaces;
         worlds_apart = is.distinct_worlds;

@@ -5,9 +5,9 @@ use Rattle.wit_elaboration.specs.facts.Filters.{Contains-filter}
 use Rattle.wit_merge_match.specs.steps.Matched.{moves}
 use Rattle.wit_remap.specs.steps.Movers.{goes}
 use Rattle.wit_merge_spec.specs.Matches.{GraphMerge, counterpart_interface, counterpart_type, counterpart_world}
-use Rattle.wit_merge_spec.specs.United.{merged_interface, merged_type, merged_world, moves_interface, moves_type, moves_world}
+use Rattle.wit_merge_spec.specs.Merged.{merged_interface, merged_type, merged_world, moves_interface, moves_type, moves_world}
 use Rattle.wit_merge.specs.steps.UnionSteps.{moved_names, CanUnite, merging_of}
-use Rattle.wit_merge.specs.declared.union_plan.UnionPlan.{UnionPlan}
+use Rattle.wit_merge.specs.declared.merge_plan.MergePlan.{MergePlan}
 use Rattle.wit_merge.proofs.Agrees.{interfaces_go, types_go, worlds_go}
 use Rattle.wit_merge.proofs.SameImages.{each_same}
 use Rattle.wit_merge.proofs.UnitedIs.{moves_is}
@@ -29,7 +29,7 @@ all_move kept (e ∷ from) all =
     ap (λ (b : Bool). cond b (e ∷ filter (λ (d : List ℕ × ℕ). kept d.1) from) (filter (λ (d : List ℕ × ℕ). kept d.1) from)) (all e (Contains-here e from))
     ∙ ap (λ (l : Table). e ∷ l) (all_move kept from (λ d has. all d (Contains-there e d from has)))
 
-module _ (u : UnionPlan) (ready : CanUnite u) where
+module _ (u : MergePlan) (ready : CanUnite u) where
   abbrev m : GraphMerge
   m = merging_of u
 

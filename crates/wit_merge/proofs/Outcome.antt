@@ -9,7 +9,7 @@ use Rattle.wit_graph_data.specs.declared.error_kind.ResolveErrorKind.TheVariants
 use Rattle.wit_elaboration.specs.AllElaborated.{all_elaborated}
 use Rattle.wit_merge_spec.specs.Cause.{HasNoMismatch, IsMergeCause, MergeIsAccepted, MergeOverflows, MergeReturnsBorrow, borrow_in_result_15, graph_spans}
 use Rattle.wit_merge_spec.specs.Matches.{GraphMerge}
-use Rattle.wit_merge_spec.specs.United.{joined_graph, united}
+use Rattle.wit_merge_spec.specs.Merged.{joined_graph, merged}
 use Rattle.wit_unite_common.specs.steps.Reasons.{CanBeElaborated, ElaborationCause}
 use Rattle.wit_merge.specs.steps.UnionSteps.{DoAgree, IsBorrowError}
 use Rattle.wit_merge.proofs.Elaborates.{can_merge, can_settle, cause_from}
@@ -44,5 +44,5 @@ module _ (m : GraphMerge) where
     nothing_speaks agree none settled = can_merge m agree none (λ e cause. settled e (subst (λ (g : Graph). ElaborationCause g e) (sym is) cause))
 
   -- it is the graph with the other one
-  pub is_united : (joined made : Graph) → joined ≡ joined_graph m → made ≡ all_elaborated joined → made ≡ united m
+  pub is_united : (joined made : Graph) → joined ≡ joined_graph m → made ≡ all_elaborated joined → made ≡ merged m
   is_united joined made is settled = settled ∙ ap all_elaborated is

@@ -18,7 +18,7 @@ use Rattle.wit_remap_spec.specs.Selected.{selected_with_index}
 use Rattle.wit_remap_spec.specs.Resources.{is_value, signature_positions, value_positions}
 use Rattle.wit_remap_spec.specs.ValueRemap.{positions}
 use Rattle.wit_merge_spec.specs.Matches.{GraphMerge}
-use Rattle.wit_merge_spec.specs.United.{moved_functions, moved_types, moves_type, remap_of_merge}
+use Rattle.wit_merge_spec.specs.Merged.{moved_functions, moved_types, moves_type, remap_of_merge}
 use Rattle.wit_merge_laws.specs.facts.FunctionsThere.{moved_refers}
 
 -- a value position of a function is a reference of it

@@ -22,7 +22,7 @@ use Rattle.wit_remap_spec.specs.Borrows.{borrow_text, HoldsBorrow}
 use Rattle.wit_remap_spec.specs.Resources.{signature_positions}
 use Rattle.wit_remap_spec.specs.ValueRemap.{value_id}
 use Rattle.wit_merge_spec.specs.Matches.{GraphMerge}
-use Rattle.wit_merge_spec.specs.United.{merge_maps, merged_type, moved_functions, remap_of_merge, joined_graph}
+use Rattle.wit_merge_spec.specs.Merged.{merge_maps, merged_type, moved_functions, remap_of_merge, joined_graph}
 use Rattle.wit_merge_spec.specs.Cause.{MergeReturnsBorrow}
 use Rattle.wit_merge_laws.specs.facts.TypesStand.{type_stands, values_stand}
 use Rattle.wit_merge.specs.steps.UnionSteps.{ReturnsFree}

@@ -1,5 +1,5 @@
 -- What a merge answers: where the things of the incoming graph are in the united one.
-use Rattle.wit_merge_spec.specs.United.{MergeRemap}
+use Rattle.wit_merge_spec.specs.Merged.{MergeRemap}
 use Rattle.wit_remap.specs.declared.remap.Remap.{Remap}
 
 -- the ids of all types, interfaces, worlds and packages, as a remap

@@ -1,14 +1,14 @@
 //! What comes of another graph behind what a graph has.
 ghost use Rattle.std.specs.Prelude.{◌≡◌, IfOk};
 ghost use Rattle.wit_remap_spec.specs.ValueRemap.{owns as owns_of};
-ghost use Rattle.wit_merge_spec.specs.United.{remap_of_merge};
+ghost use Rattle.wit_merge_spec.specs.Merged.{remap_of_merge};
 ghost use Rattle.wit_merge.specs.steps.Behind.{IsComing};
 ghost use Rattle.wit_merge.specs.steps.UnionSteps.{CanUnite, merging_of};
 
 use crate::interfaces::moved_interfaces;
+use crate::merge_plan::MergePlan;
 use crate::packages::{moved_names, moved_packages};
 use crate::types::moved_types;
-use crate::union_plan::UnionPlan;
 use crate::worlds::moved_worlds;
 use std::alloc::{AllocError, Global};
 use wit_data::{Interface, Items, PackageId, PackageName, TypeDef, World};
@@ -28,7 +28,7 @@ pub(crate) struct Coming {
 /// What comes.
 pub(crate) fn moved_things(
     alloc: Global,
-    plan: &UnionPlan<'_>,
+    plan: &MergePlan<'_>,
     owns: Items<TypeDef>,
 ) -> Result<Coming, AllocError>
     requires ready { CanUnite plan.now }

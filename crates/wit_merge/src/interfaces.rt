@@ -1,14 +1,14 @@
 //! The interfaces of two graphs as one.
 ghost use Rattle.std.specs.Prelude.{◌≡◌, ◌++◌, IfOk, OnOk, map};
 ghost use Rattle.wit_remap_spec.specs.Image.{function_image, interface_image};
-ghost use Rattle.wit_merge_spec.specs.United.{merge_maps, joined_graph, moved_interfaces};
+ghost use Rattle.wit_merge_spec.specs.Merged.{merge_maps, joined_graph, moved_interfaces};
 ghost use Rattle.wit_merge.specs.steps.UnionSteps.{FunctionMoves, FunctionsMove, brought_matched, functions_image, CanUnite, KnowsCounterparts, merging_of};
 ghost use Rattle.wit_values.specs.Table.{HasDistinctKeys};
 
+use crate::merge_plan::MergePlan;
 use crate::names::push_moved;
 use crate::parts::{Part, joined_list, move_all};
 use crate::stabilities::join_stability;
-use crate::union_plan::UnionPlan;
 use std::alloc::{AllocError, Global};
 use wit_data::{Function, Interface, Items, Names, TryClone};
 use wit_remap::Update;
@@ -16,7 +16,7 @@ use wit_remap::Update;
 /// One that moves takes its place; one that stays gets what the other brings behind what it has, and the stability of
 /// the other is joined to its own.
 impl Part for Interface {
-    ghost use Rattle.wit_merge_spec.specs.United.{with_interface};
+    ghost use Rattle.wit_merge_spec.specs.Merged.{with_interface};
     ghost use Rattle.wit_merge.specs.steps.UnionSteps.{InterfaceJoins, InterfaceMoves};
 
     ghost can_move = { InterfaceMoves };
@@ -27,7 +27,7 @@ impl Part for Interface {
 
     ghost union = { λ m p into. with_interface m p.1 into };
 
-    fn moved(&self, plan: &UnionPlan<'_>) -> Result<Interface, AllocError> {
+    fn moved(&self, plan: &MergePlan<'_>) -> Result<Interface, AllocError> {
         let mut moved = self.try_clone()?;
         moved.update(&plan.mover(self.package));
         Ok(moved)
@@ -35,7 +35,7 @@ impl Part for Interface {
 
     fn joined(
         &self,
-        plan: &UnionPlan<'_>,
+        plan: &MergePlan<'_>,
         _counterparts: &Items<Option<usize>>,
         from: &Interface,
     ) -> Result<Interface, AllocError> {
@@ -60,7 +60,7 @@ impl Part for Interface {
 
 /// Adds those functions of another interface whose names aren't among the known ones, with new ids and spans.
 fn push_functions(
-    plan: &UnionPlan<'_>,
+    plan: &MergePlan<'_>,
     into: &mut Names<Function>,
     known: &Names<Function>,
     from: &Names<Function>,
@@ -81,7 +81,7 @@ fn push_functions(
 }
 
 /// A function with new ids and spans.
-fn moved_function(plan: &UnionPlan<'_>, function: &Function) -> Result<Function, AllocError>
+fn moved_function(plan: &MergePlan<'_>, function: &Function) -> Result<Function, AllocError>
     requires ready { CanUnite plan.now }
     requires moves { FunctionMoves (merging_of plan.now) function.now }
     ensures { IfOk result (λ moved. moved ≡ function_image (merge_maps (merging_of plan.now)) function.now) }
@@ -94,7 +94,7 @@ fn moved_function(plan: &UnionPlan<'_>, function: &Function) -> Result<Function,
 /// The interfaces of the two as one.
 pub(crate) fn joined_interfaces(
     alloc: Global,
-    plan: &UnionPlan<'_>,
+    plan: &MergePlan<'_>,
     counterparts: &Items<Option<usize>>,
 ) -> Result<Items<Interface>, AllocError>
     requires ready { CanUnite plan.now }
@@ -110,7 +110,7 @@ pub(crate) fn joined_interfaces(
 /// The interfaces that move.
 pub(crate) fn moved_interfaces(
     alloc: Global,
-    plan: &UnionPlan<'_>,
+    plan: &MergePlan<'_>,
 ) -> Result<Items<Interface>, AllocError>
     requires { CanUnite plan.now }
     ensures { IfOk result (λ interfaces. interfaces ≡ map (interface_image (merge_maps (merging_of plan.now))) (moved_interfaces (merging_of plan.now))) }

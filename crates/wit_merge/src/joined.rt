@@ -1,14 +1,14 @@
 //! The two graphs as one, as they are listed.
 ghost use Rattle.std.specs.Prelude.{◌≡◌, IfOk};
-ghost use Rattle.wit_merge_spec.specs.United.{joined_graph, remap_of_merge};
+ghost use Rattle.wit_merge_spec.specs.Merged.{joined_graph, remap_of_merge};
 ghost use Rattle.wit_merge.specs.steps.UnionSteps.{CanUnite, merging_of};
 ghost use Rattle.wit_remap_spec.specs.ValueRemap.{owns as owns_of};
 
 use crate::counterparts::counterparts;
 use crate::interfaces::joined_interfaces;
+use crate::merge_plan::MergePlan;
 use crate::packages::{joined_names, joined_packages};
 use crate::types::joined_types;
-use crate::union_plan::UnionPlan;
 use crate::worlds::joined_worlds;
 use std::alloc::{AllocError, Global};
 use wit_data::{Items, TypeDef};
@@ -17,7 +17,7 @@ use wit_graph_data::Graph;
 /// The two graphs as one, with the lists of worlds as they were listed.
 pub(crate) fn joined_graph(
     alloc: Global,
-    plan: &UnionPlan<'_>,
+    plan: &MergePlan<'_>,
     owns: Items<TypeDef>,
 ) -> Result<Graph, AllocError>
     requires ready { CanUnite plan.now }

@@ -8,6 +8,7 @@ mod counterparts;
 mod functions;
 mod interfaces;
 mod joined;
+mod merge_plan;
 mod names;
 mod owning;
 mod packages;
@@ -15,7 +16,6 @@ mod parts;
 mod results;
 mod stabilities;
 mod types;
-mod union_plan;
 mod whole;
 mod worlds;
 

@@ -3,7 +3,7 @@ ghost use Rattle.std.specs.Prelude.{◌≡◌, ℕ, IfOk};
 ghost use Rattle.wit_elaboration.specs.Valid.{IsValid};
 ghost use Rattle.wit_remap_spec.specs.ValueRemap.{owns};
 ghost use Rattle.wit_link_resources.specs.steps.Leading.{AreRight};
-ghost use Rattle.wit_merge_spec.specs.United.{remap_of_merge};
+ghost use Rattle.wit_merge_spec.specs.Merged.{remap_of_merge};
 ghost use Rattle.wit_remap.specs.Grown.{Begins};
 ghost use Rattle.wit_merge_match.specs.Differing.{merge_of_graphs_by};
 ghost use Rattle.wit_merge_match.specs.steps.Matched.{AreMatches, merge_of_graphs, merge_remap_of};

@@ -2,20 +2,20 @@
 ghost use Rattle.std.specs.Prelude.{◌≡◌, ◌++◌, IfOk, OnOk, map};
 ghost use Rattle.wit_values.specs.Table.{HasDistinctKeys};
 ghost use Rattle.wit_remap_spec.specs.Selected.{selected};
-ghost use Rattle.wit_merge_spec.specs.United.{joined_graph, moves_package, package_image};
+ghost use Rattle.wit_merge_spec.specs.Merged.{joined_graph, moves_package, package_image};
 ghost use Rattle.wit_merge.specs.steps.Behind.{new_names};
 ghost use Rattle.wit_merge.specs.steps.UnionSteps.{moved_names, CanUnite, KnowsCounterparts, merging_of};
 
+use crate::merge_plan::MergePlan;
 use crate::names::{moves, push_moved};
 use crate::parts::{Part, joined_list, move_all};
-use crate::union_plan::UnionPlan;
 use std::alloc::{AllocError, Global};
 use wit_data::{Items, Names, PackageId, PackageName, Table, TryClone};
 use wit_graph_data::Package;
 
 /// Behind the interfaces and worlds of one that stays come those of the other that move.
 impl Part for Package {
-    ghost use Rattle.wit_merge_spec.specs.United.{package_image, with_package};
+    ghost use Rattle.wit_merge_spec.specs.Merged.{package_image, with_package};
     ghost use Rattle.wit_merge.specs.steps.UnionSteps.{PackageJoins, PackageMoves};
 
     ghost can_move = { PackageMoves };
@@ -26,7 +26,7 @@ impl Part for Package {
 
     ghost union = { λ m p into. with_package m p.1 into };
 
-    fn moved(&self, plan: &UnionPlan<'_>) -> Result<Package, AllocError> {
+    fn moved(&self, plan: &MergePlan<'_>) -> Result<Package, AllocError> {
         let alloc = self.interfaces.allocator();
         let mut moved = Package {
             name: self.name.try_clone()?,
@@ -40,7 +40,7 @@ impl Part for Package {
 
     fn joined(
         &self,
-        plan: &UnionPlan<'_>,
+        plan: &MergePlan<'_>,
         _counterparts: &Items<Option<usize>>,
         from: &Package,
     ) -> Result<Package, AllocError> {
@@ -51,7 +51,7 @@ impl Part for Package {
 }
 
 /// Adds the interfaces and worlds of a package of the other graph that move.
-fn push_tables(plan: &UnionPlan<'_>, into: &mut Package, from: &Package) -> Result<(), AllocError>
+fn push_tables(plan: &MergePlan<'_>, into: &mut Package, from: &Package) -> Result<(), AllocError>
     requires interfaces { HasDistinctKeys (into.old.interfaces ++ moved_names plan.now.matches.now.interfaces plan.now.merge_remap.now.new_ids.interfaces from.now.interfaces) }
     requires worlds { HasDistinctKeys (into.old.worlds ++ moved_names plan.now.matches.now.worlds plan.now.merge_remap.now.new_ids.worlds from.now.worlds) }
     ensures { OnOk result (into.new ≡ record into.old {
@@ -77,7 +77,7 @@ fn push_tables(plan: &UnionPlan<'_>, into: &mut Package, from: &Package) -> Resu
 /// The packages of the two as one.
 pub(crate) fn joined_packages(
     alloc: Global,
-    plan: &UnionPlan<'_>,
+    plan: &MergePlan<'_>,
     counterparts: &Items<Option<usize>>,
 ) -> Result<Items<Package>, AllocError>
     requires ready { CanUnite plan.now }
@@ -92,7 +92,7 @@ pub(crate) fn joined_packages(
 
 /// The names of the packages of the two as one.
 pub(crate) fn joined_names(
-    plan: &UnionPlan<'_>,
+    plan: &MergePlan<'_>,
 ) -> Result<Table<PackageName, PackageId>, AllocError>
     requires { CanUnite plan.now }
     ensures { IfOk result (λ names. names ≡ (joined_graph (merging_of plan.now)).package_names) }
@@ -109,7 +109,7 @@ pub(crate) fn joined_names(
 /// The packages that move.
 pub(crate) fn moved_packages(
     alloc: Global,
-    plan: &UnionPlan<'_>,
+    plan: &MergePlan<'_>,
 ) -> Result<Items<Package>, AllocError>
     requires { CanUnite plan.now }
     ensures { IfOk result (λ packages. packages ≡ map (package_image (merging_of plan.now)) (selected (moves_package (merging_of plan.now)) plan.now.other.now.packages)) }
@@ -120,7 +120,7 @@ pub(crate) fn moved_packages(
 /// The names of the packages that move.
 pub(crate) fn moved_names(
     alloc: Global,
-    plan: &UnionPlan<'_>,
+    plan: &MergePlan<'_>,
 ) -> Result<Items<(PackageName, PackageId)>, AllocError>
     requires { CanUnite plan.now }
     ensures { IfOk result (λ names. names ≡ new_names (merging_of plan.now)) }

@@ -8,8 +8,8 @@ ghost use Rattle.wit_merge_spec.specs.Matches.{GraphMerge, counterpart_of};
 ghost use Rattle.wit_merge.specs.steps.UnionSteps.{CanUnite, KnowsCounterparts, merging_of, placed_at};
 
 use crate::counterparts::counterparts;
+use crate::merge_plan::MergePlan;
 use crate::names::moves;
-use crate::union_plan::UnionPlan;
 use std::alloc::{AllocError, Global};
 use wit_data::{Id, Items, TryClone};
 
@@ -28,7 +28,7 @@ pub(crate) trait Part: TryClone + Drop {
     ghost union: { GraphMerge → ℕ × Self → Self → Self };
 
     /// A copy as it comes to be where it goes, at whatever index of the other graph it stands.
-    fn moved(&self, plan: &UnionPlan<'_>) -> Result<Self, AllocError>
+    fn moved(&self, plan: &MergePlan<'_>) -> Result<Self, AllocError>
         requires ready { CanUnite plan.now }
         requires can { can_move (merging_of plan.now) self.now }
         ensures { IfOk result (λ made. (index : ℕ) → made ≡ image (merging_of plan.now) (index, self.now)) };
@@ -37,7 +37,7 @@ pub(crate) trait Part: TryClone + Drop {
     /// graph each one is matched.
     fn joined(
         &self,
-        plan: &UnionPlan<'_>,
+        plan: &MergePlan<'_>,
         counterparts: &Items<Option<usize>>,
         from: &Self,
     ) -> Result<Self, AllocError>
@@ -51,7 +51,7 @@ pub(crate) trait Part: TryClone + Drop {
 /// those of the other graph that move. With which interface of the other graph each one of the graph is matched comes in.
 pub(crate) fn joined_list<S, T: Part>(
     alloc: Global,
-    plan: &UnionPlan<'_>,
+    plan: &MergePlan<'_>,
     interfaces: &Items<Option<usize>>,
     found: &Items<Option<Id<S>>>,
     others: &Items<T>,
@@ -72,7 +72,7 @@ pub(crate) fn joined_list<S, T: Part>(
 /// Those of the graph.
 fn join_all<S, T: Part>(
     alloc: Global,
-    plan: &UnionPlan<'_>,
+    plan: &MergePlan<'_>,
     interfaces: &Items<Option<usize>>,
     found: &Items<Option<Id<S>>>,
     others: &Items<T>,
@@ -96,7 +96,7 @@ fn join_all<S, T: Part>(
 
 /// A copy of a thing, with the one at an index joined to it, if there is one.
 fn join_one<T: Part>(
-    plan: &UnionPlan<'_>,
+    plan: &MergePlan<'_>,
     interfaces: &Items<Option<usize>>,
     others: &Items<T>,
     index: Option<usize>,
@@ -119,7 +119,7 @@ fn join_one<T: Part>(
 /// Those that move.
 pub(crate) fn move_all<S, T: Part>(
     alloc: Global,
-    plan: &UnionPlan<'_>,
+    plan: &MergePlan<'_>,
     found: &Items<Option<Id<S>>>,
     others: &Items<T>,
 ) -> Result<Items<T>, AllocError>

@@ -5,14 +5,14 @@ ghost use Rattle.wit_graph_data.specs.declared.error_kind.ResolveErrorKind.TheVa
 ghost use Rattle.wit_digraph.specs.Relation.{IsAcyclic};
 ghost use Rattle.wit_data.specs.Kind.{type_references};
 ghost use Rattle.wit_remap_spec.specs.Borrows.{borrow_text};
-ghost use Rattle.wit_merge_spec.specs.United.{moved_functions, joined_graph};
+ghost use Rattle.wit_merge_spec.specs.Merged.{moved_functions, joined_graph};
 ghost use Rattle.wit_merge_spec.specs.Cause.{MergeReturnsBorrow};
 ghost use Rattle.wit_link_resources.specs.steps.Borrows.{AreFreeTypes};
 ghost use Rattle.wit_merge.specs.steps.Behind.{AreReturned, ReturnNoBorrow, ReturnsBorrow, functions_of as listed_functions};
 ghost use Rattle.wit_merge.specs.steps.UnionSteps.{CanUnite, IsBorrowError, ReturnsFree, merging_of};
 
 use crate::functions::{functions_of, moved_functions};
-use crate::union_plan::UnionPlan;
+use crate::merge_plan::MergePlan;
 use indexmap::IndexSet;
 use std::alloc::{AllocError, Global};
 use wit_data::{Function, Interface, Items, Span, Text, TypeDef, World};
@@ -24,7 +24,7 @@ use wit_link_resources::{holds_borrow, result_type};
 /// It takes a step for each function that moves, and for each type that their results hold, once for all functions.
 pub(crate) fn check_results(
     alloc: Global,
-    plan: &UnionPlan<'_>,
+    plan: &MergePlan<'_>,
     types: &[TypeDef],
 ) -> ResolveResult<()>
     requires ready { CanUnite plan.now }
@@ -43,7 +43,7 @@ pub(crate) fn check_results(
 /// Refuses one function that moves, where its result holds a borrow.
 fn check_result(
     alloc: Global,
-    plan: &UnionPlan<'_>,
+    plan: &MergePlan<'_>,
     types: &[TypeDef],
     free: &mut IndexSet<usize>,
     function: &Function,

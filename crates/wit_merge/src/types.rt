@@ -1,12 +1,12 @@
 //! The types of two graphs as one.
 ghost use Rattle.std.specs.Prelude.{◌≡◌, IfOk};
-ghost use Rattle.wit_merge_spec.specs.United.{joined_graph, remap_of_merge};
+ghost use Rattle.wit_merge_spec.specs.Merged.{joined_graph, remap_of_merge};
 ghost use Rattle.wit_merge.specs.steps.UnionSteps.{CanUnite, KnowsCounterparts, merging_of};
 ghost use Rattle.wit_remap_spec.specs.ValueRemap.{owns as owns_of, types_behind};
 
+use crate::merge_plan::MergePlan;
 use crate::parts::{Part, joined_list, move_all};
 use crate::stabilities::join_stability;
-use crate::union_plan::UnionPlan;
 use std::alloc::{AllocError, Global};
 use wit_data::{Items, TryClone, TypeDef};
 use wit_remap::Update;
@@ -14,7 +14,7 @@ use wit_remap::Update;
 /// One that moves takes its place; to one that stays the stability of the other is joined.
 impl Part for TypeDef {
     ghost use Rattle.wit_remap_spec.specs.Image.{type_image};
-    ghost use Rattle.wit_merge_spec.specs.United.{with_type, merge_maps};
+    ghost use Rattle.wit_merge_spec.specs.Merged.{with_type, merge_maps};
     ghost use Rattle.wit_merge.specs.steps.UnionSteps.{TypeMoves};
 
     ghost can_move = { TypeMoves };
@@ -25,7 +25,7 @@ impl Part for TypeDef {
 
     ghost union = { λ m p into. with_type p.1 into };
 
-    fn moved(&self, plan: &UnionPlan<'_>) -> Result<TypeDef, AllocError> {
+    fn moved(&self, plan: &MergePlan<'_>) -> Result<TypeDef, AllocError> {
         let mut moved = self.try_clone()?;
         moved.update(&plan.mover(None));
         Ok(moved)
@@ -33,7 +33,7 @@ impl Part for TypeDef {
 
     fn joined(
         &self,
-        _plan: &UnionPlan<'_>,
+        _plan: &MergePlan<'_>,
         _counterparts: &Items<Option<usize>>,
         from: &TypeDef,
     ) -> Result<TypeDef, AllocError> {
@@ -47,7 +47,7 @@ impl Part for TypeDef {
 /// the `own`s that values ask for.
 pub(crate) fn joined_types(
     alloc: Global,
-    plan: &UnionPlan<'_>,
+    plan: &MergePlan<'_>,
     counterparts: &Items<Option<usize>>,
     owns: Items<TypeDef>,
 ) -> Result<Items<TypeDef>, AllocError>
@@ -67,7 +67,7 @@ pub(crate) fn joined_types(
 /// The types that come: those that move, and the `own`s that values ask for.
 pub(crate) fn moved_types(
     alloc: Global,
-    plan: &UnionPlan<'_>,
+    plan: &MergePlan<'_>,
     owns: Items<TypeDef>,
 ) -> Result<Items<TypeDef>, AllocError>
     requires ready { CanUnite plan.now }

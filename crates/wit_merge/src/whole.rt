@@ -6,7 +6,7 @@ ghost use Rattle.wit_graph_data.specs.declared.error_kind.ResolveErrorKind.{Reso
 ghost use Rattle.wit_graph_data.specs.declared.error_kind.ResolveErrorKind.TheVariants.{OutOfMemory};
 ghost use Rattle.wit_merge_match.specs.Differing.{merge_of_graphs_by};
 ghost use Rattle.wit_merge_match.specs.steps.Matched.{AreMatches, merge_remap_of};
-ghost use Rattle.wit_merge_spec.specs.United.{merge_remap as ids_of, joined_graph, united};
+ghost use Rattle.wit_merge_spec.specs.Merged.{merge_remap as ids_of, joined_graph, merged};
 ghost use Rattle.wit_merge_spec.specs.Cause.{IsMergeCause, MergeReturnsBorrow};
 ghost use Rattle.wit_merge_spec.specs.steps.Leaving.{LeavesGraph};
 ghost use Rattle.wit_remap.specs.Grown.{Begins, Grown};
@@ -19,9 +19,9 @@ use crate::agreement::check_agreement;
 use crate::appending::append;
 use crate::coming::{Coming, moved_things};
 use crate::joined::joined_graph;
+use crate::merge_plan::MergePlan;
 use crate::owning::values;
 use crate::results::check_results;
-use crate::union_plan::UnionPlan;
 use std::alloc::{AllocError, Global};
 use wit_data::{Table, TypeId};
 use wit_elaboration::Elaborator;
@@ -54,7 +54,7 @@ pub fn unite(
 ) -> ResolveResult<(Graph, Remap)>
     requires valid { IsValid graph.now }
     requires other { IsValid other }
-    ensures ok { IfOk result (λ made. made.0 ≡ united (merge_of_graphs_by graph.now other offset)) }
+    ensures ok { IfOk result (λ made. made.0 ≡ merged (merge_of_graphs_by graph.now other offset)) }
     ensures remap { IfOk result (λ made. made.1 ≡ remap_of (ids_of (merge_of_graphs_by graph.now other offset))) }
     ensures valid { IfOk result (λ made. IsValid made.0) }
     ensures cause { IfErr result (λ e. (e ≡ OutOfMemory) ⊎ IsMergeCause (merge_of_graphs_by graph.now other offset) e) }
@@ -79,7 +79,7 @@ pub fn unite(
 pub fn union_of(alloc: Global, graph: &Graph, other: &Graph, offset: u32) -> ResolveResult<United>
     requires valid { IsValid graph.now }
     requires other { IsValid other.now }
-    ensures graph { IfOk result (λ made. made.graph ≡ united (merge_of_graphs_by graph.now other.now offset)) }
+    ensures graph { IfOk result (λ made. made.graph ≡ merged (merge_of_graphs_by graph.now other.now offset)) }
     ensures remap { IfOk result (λ made. made.remap ≡ remap_of (ids_of (merge_of_graphs_by graph.now other.now offset))) }
     ensures valid { IfOk result (λ made. IsValid made.graph) }
     ensures cause { IfErr result (λ e. (e ≡ OutOfMemory) ⊎ IsMergeCause (merge_of_graphs_by graph.now other.now offset) e) }
@@ -121,7 +121,7 @@ pub fn united_by(
     requires other { IsValid other.now }
     requires agree { DoAgree (merge_of_graphs_by graph.now other.now offset) }
     requires matches { AreMatches graph.now other.now matches.now }
-    ensures graph { IfOk result (λ made. made.graph ≡ united (merge_of_graphs_by graph.now other.now offset)) }
+    ensures graph { IfOk result (λ made. made.graph ≡ merged (merge_of_graphs_by graph.now other.now offset)) }
     ensures remap { IfOk result (λ made. made.remap ≡ remap_of (ids_of (merge_of_graphs_by graph.now other.now offset))) }
     ensures valid { IfOk result (λ made. IsValid made.graph) }
     ensures cause { IfErr result (λ e. (e ≡ OutOfMemory) ⊎ IsMergeCause (merge_of_graphs_by graph.now other.now offset) e) }
@@ -159,7 +159,7 @@ pub fn append_union(
     requires leaves { LeavesGraph (merge_of_graphs_by graph.old other.now offset) }
     requires uses { elaborator.old ≡ graph_uses graph.old }
     requires met { AreRight graph.old.types met.old }
-    ensures graph { OnOk result (graph.new ≡ united (merge_of_graphs_by graph.old other.now offset)) }
+    ensures graph { OnOk result (graph.new ≡ merged (merge_of_graphs_by graph.old other.now offset)) }
     ensures remap { IfOk result (λ remap. remap ≡ remap_of (ids_of (merge_of_graphs_by graph.old other.now offset))) }
     ensures valid { IsValid graph.new }
     ensures uses { elaborator.new ≡ graph_uses graph.new }
@@ -209,7 +209,7 @@ fn what_comes(
         new_ids: value_ids,
         owns,
     } = values(alloc, graph, other, matches, merge_remap, met)?;
-    let plan = UnionPlan {
+    let plan = MergePlan {
         graph,
         other,
         matches,
@@ -256,7 +256,7 @@ fn as_listed(
         new_ids: value_ids,
         owns,
     } = values(alloc, graph, other, matches, merge_remap, &mut met)?;
-    let plan = UnionPlan {
+    let plan = MergePlan {
         graph,
         other,
         matches,

@@ -2,13 +2,13 @@
 ghost use Rattle.std.specs.Prelude.{◌≡◌, IfOk, None, get_or, map};
 ghost use Rattle.std.specs.Option.{option_copied};
 ghost use Rattle.wit_values.specs.Table.{HasDistinctKeys};
-ghost use Rattle.wit_merge_spec.specs.United.{joined_graph};
+ghost use Rattle.wit_merge_spec.specs.Merged.{joined_graph};
 ghost use Rattle.wit_merge_spec.specs.steps.Leaving.{new_worlds};
 ghost use Rattle.wit_merge.specs.steps.UnionSteps.{entry_joined, stability_joined, stability_of, stability_under, CanUnite, KnowsCounterparts, merging_of};
 
+use crate::merge_plan::MergePlan;
 use crate::parts::{Part, joined_list, move_all};
 use crate::stabilities::join_stability;
-use crate::union_plan::UnionPlan;
 use std::alloc::{AllocError, Global};
 use std::mem;
 use wit_data::{InterfaceId, Items, Stability, Table, TryClone, World, WorldItem, WorldKey};
@@ -18,7 +18,7 @@ use wit_remap::{Moves, updated_entries};
 /// stabilities of the other are joined.
 impl Part for World {
     ghost use Rattle.wit_remap_spec.specs.Image.{world_image};
-    ghost use Rattle.wit_merge_spec.specs.United.{with_world, merge_maps};
+    ghost use Rattle.wit_merge_spec.specs.Merged.{with_world, merge_maps};
     ghost use Rattle.wit_merge.specs.steps.UnionSteps.{WorldJoins, WorldMoves};
 
     ghost can_move = { WorldMoves };
@@ -29,7 +29,7 @@ impl Part for World {
 
     ghost union = { with_world };
 
-    fn moved(&self, plan: &UnionPlan<'_>) -> Result<World, AllocError> {
+    fn moved(&self, plan: &MergePlan<'_>) -> Result<World, AllocError> {
         let mover = plan.mover(self.package);
         let alloc = self.imports.allocator();
         let mut moved = self.try_clone()?;
@@ -46,7 +46,7 @@ impl Part for World {
 
     fn joined(
         &self,
-        _plan: &UnionPlan<'_>,
+        _plan: &MergePlan<'_>,
         counterparts: &Items<Option<usize>>,
         from: &World,
     ) -> Result<World, AllocError> {
@@ -133,7 +133,7 @@ fn stability_of(item: &WorldItem) -> Option<&Stability>
 /// The worlds of the two as one.
 pub(crate) fn joined_worlds(
     alloc: Global,
-    plan: &UnionPlan<'_>,
+    plan: &MergePlan<'_>,
     counterparts: &Items<Option<usize>>,
 ) -> Result<Items<World>, AllocError>
     requires ready { CanUnite plan.now }
@@ -147,7 +147,7 @@ pub(crate) fn joined_worlds(
 }
 
 /// The worlds that move.
-pub(crate) fn moved_worlds(alloc: Global, plan: &UnionPlan<'_>) -> Result<Items<World>, AllocError>
+pub(crate) fn moved_worlds(alloc: Global, plan: &MergePlan<'_>) -> Result<Items<World>, AllocError>
     requires { CanUnite plan.now }
     ensures { IfOk result (λ worlds. worlds ≡ new_worlds (merging_of plan.now)) }
 {

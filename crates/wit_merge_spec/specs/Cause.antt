@@ -25,7 +25,7 @@ use Rattle.wit_remap_spec.specs.Spans.{interface_spans, type_spans, world_spans}
 use Rattle.wit_sources.specs.Span.{OptionalSpan}
 use Rattle.wit_remap_spec.specs.Joined.{Disagree, HasStability}
 use Rattle.wit_merge_spec.specs.Matches.{GraphMerge, Pair, counterpart_interface, counterpart_type, counterpart_world, FirstDiffers, counterpart_item, type_pairs}
-use Rattle.wit_merge_spec.specs.United.{merge_maps, moved_functions, joined_graph}
+use Rattle.wit_merge_spec.specs.Merged.{merge_maps, moved_functions, joined_graph}
 use Rattle.wit_data.specs.declared.world.WorldItem.{WorldItem}
 use Rattle.wit_data.specs.declared.world.WorldItem.TheVariants as item
 use Rattle.wit_graph_data.specs.IdText.{key_text}

@@ -2,7 +2,7 @@ pub mod Cause
 pub mod Matches
 pub mod MismatchText
 pub mod Structure
-pub mod United
+pub mod Merged
 pub mod examples
 pub mod facts
 pub mod steps

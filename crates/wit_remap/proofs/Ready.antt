@@ -20,7 +20,7 @@ use Rattle.wit_link_spec.specs.steps.AdditionRefs.{new_ids_of}
 use Rattle.wit_link_spec.specs.Addition.{Addition, active, addition_maps, own_interface, own_type, own_world, remap_of_addition}
 use Rattle.wit_remap_spec.specs.Selected.{selected, selected_with_index}
 use Rattle.wit_link_spec.specs.Gates.{include_is_active, interface_is_active, world_is_active}
-use Rattle.wit_link_spec.specs.Pushed.{with_parts}
+use Rattle.wit_link_spec.specs.Added.{with_parts}
 use Rattle.wit_link_spec.specs.facts.RankFacts.{selected_with_index-from}
 use Rattle.wit_link_spec.specs.Reasons.{AdditionOverflows, IsResolved}
 use Rattle.wit_link_spec.specs.declared.addition.NewIds.{NewIds}

@@ -4,7 +4,7 @@ ghost use Rattle.std.specs.List.{IsDistinct};
 ghost use Rattle.std.specs.Map.{keys_of, lookup};
 ghost use Rattle.std.specs.Str.{bytes_eq};
 ghost use Rattle.wit_link_spec.specs.steps.AdditionRefs.{activity_of, new_ids_of, values_of};
-ghost use Rattle.wit_link_spec.specs.Pushed.{with_parts};
+ghost use Rattle.wit_link_spec.specs.Added.{with_parts};
 ghost use Rattle.wit_remap_spec.specs.Selected.{selected, selected_with_index};
 ghost use Rattle.wit_link_spec.specs.Reasons.{AdditionOverflows, IsResolved};
 ghost use Rattle.wit_link_spec.specs.steps.NewThings.{is_new};

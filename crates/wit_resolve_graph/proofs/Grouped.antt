@@ -28,8 +28,8 @@ use Rattle.wit_graph_theory.specs.facts.ListFacts.{at_map, contained_at, from_ma
 use Rattle.wit_link.specs.GroupOrder.{AreSorted, IsGroupOrder, IsSortCause, Unresolved, group_deps, group_uses, names_of}
 use Rattle.wit_link_spec.specs.Addition.{own_worlds}
 use Rattle.wit_link_spec.specs.Cause.{AdditionIsAccepted, duplicate_5}
-use Rattle.wit_link_spec.specs.Pushed.{pushed, with_parts}
-use Rattle.wit_link.specs.Appending.{ArePushed, CanAppend, FilesPassTheEnd, IsAdded, IsGroupsCause, IsOneRefused, IsPushCause, addition, files_end, packages_of}
+use Rattle.wit_link_spec.specs.Added.{added, with_parts}
+use Rattle.wit_link.specs.Appending.{AreAdded, CanAppend, FilesPassTheEnd, IsAdded, IsGroupsCause, IsOneRefused, IsAdditionsCause, addition, files_end, packages_of}
 use Rattle.wit_remap.specs.Grown.{Begins}
 use Rattle.wit_remap.specs.facts.GrownFacts.{Begins-then}
 use Rattle.wit_resolve_graph.specs.steps.Grouping.{AreAdded}
@@ -234,21 +234,21 @@ absent features g p accepted = by (lookup (same_package p.0.name) g.package_name
     by None is = refl
     by (Some id) is = absurd (accepted (DuplicatePackage p.0.name (moved_by p.1 p.0.package_name_span) None) (duplicate_5 p.0.name (moved_by p.1 p.0.package_name_span) None (record { there = ap is_some is; name_is = refl; span1_is = refl; span2_is = refl })))
 
-listed_here : (features : Features) (g mid new : Graph) (p : Unresolved) (ps : List Unresolved) (id : ℕ) (ids : List ℕ) → IsAdded (addition features g p.0 p.1) mid id → ArePushed features mid ps new ids
+listed_here : (features : Features) (g mid new : Graph) (p : Unresolved) (ps : List Unresolved) (id : ℕ) (ids : List ℕ) → IsAdded (addition features g p.0 p.1) mid id → AreAdded features mid ps new ids
     → lookup (same_package p.0.name) new.package_names ≡ Some id
-listed_here features g mid new p ps id ids added later =
+listed_here features g mid new p ps id ids comes later =
     let a = addition features g p.0 p.1 in
     let same = same_package p.0.name in
     let names = g.package_names ++ (p.0.name, length g.packages) ∷ [] in
     let own = keeps_worlds a (own_worlds a) (with_parts a) in
     let others = keeps_pushes features mid ps new ids later in
-    let first : lookup same names ≡ Some (length g.packages) = lookup-push same g.package_names p.0.name (length g.packages) (absent features g p added.accepted) (own_name p.0.name) in
-    let second : lookup same (pushed a).package_names ≡ Some (length g.packages) =
+    let first : lookup same names ≡ Some (length g.packages) = lookup-push same g.package_names p.0.name (length g.packages) (absent features g p comes.accepted) (own_name p.0.name) in
+    let second : lookup same (added a).package_names ≡ Some (length g.packages) =
     ap (lookup same) own.names.1 ∙ lookup-append same names own.names.0 (length g.packages) first in
-    let third : lookup same mid.package_names ≡ Some (length g.packages) = ap (λ (x : Graph). lookup same x.package_names) added.graph_is ∙ second in
-    ap (lookup same) others.names.1 ∙ lookup-append same mid.package_names others.names.0 (length g.packages) third ∙ ap (λ (i : ℕ). Some i) (sym added.id_is)
+    let third : lookup same mid.package_names ≡ Some (length g.packages) = ap (λ (x : Graph). lookup same x.package_names) comes.graph_is ∙ second in
+    ap (lookup same) others.names.1 ∙ lookup-append same mid.package_names others.names.0 (length g.packages) third ∙ ap (λ (i : ℕ). Some i) (sym comes.id_is)
 
-found : (features : Features) (g : Graph) (ps : List Unresolved) (new : Graph) (ids : List ℕ) (name : PackageName) → ArePushed features g ps new ids → Contains (names_of ps) name → IsFound ps ids new name
+found : (features : Features) (g : Graph) (ps : List Unresolved) (new : Graph) (ids : List ℕ) (name : PackageName) → AreAdded features g ps new ids → Contains (names_of ps) name → IsFound ps ids new name
 found features g [] new ids name pushed has = absurd (Contains-nil has)
 found features g (p ∷ ps) new [] name pushed has = absurd pushed
 found features g (p ∷ ps) new (id ∷ ids) name pushed has = elim (Contains-cons_cases p.0.name name (names_of ps) has) [
@@ -264,7 +264,7 @@ found features g (p ∷ ps) new (id ∷ ids) name pushed has = elim (Contains-co
       record { place = suc rest.place; id = rest.id; name_is = rest.name_is; id_is = rest.id_is; listed = rest.listed }
 ]
 
-module _ (features : Features) (g : Graph) (unresolved sorted : List Unresolved) (name : PackageName) (named : Contains (names_of unresolved) name) (is : (order : List ℕ) × AreSorted unresolved order sorted) (new : Graph) (ids : List ℕ) (pushed : ArePushed features g sorted new ids) where
+module _ (features : Features) (g : Graph) (unresolved sorted : List Unresolved) (name : PackageName) (named : Contains (names_of unresolved) name) (is : (order : List ℕ) × AreSorted unresolved order sorted) (new : Graph) (ids : List ℕ) (pushed : AreAdded features g sorted new ids) where
   in_table : IsFound sorted ids new name
   in_table = found features g sorted new ids name pushed (named_sorted unresolved is.0 sorted name is.1 named)
 
@@ -287,7 +287,7 @@ module _ (features : Features) (g : Graph) (unresolved sorted : List Unresolved)
 
 -- what holds against adding packages holds against adding the sorted ones one after another
 pub one_refused : (features : Features) (g : Graph) (unresolved sorted : List Unresolved) → ((error : ResolveErrorKind) → IsSortCause unresolved error → ⊥) → (order : List ℕ) × AreSorted unresolved order sorted → (kind : ResolveErrorKind)
-    → IsSortCause unresolved kind ⊎ IsPushCause features g unresolved kind → IsOneRefused features g sorted kind
+    → IsSortCause unresolved kind ⊎ IsAdditionsCause features g unresolved kind → IsOneRefused features g sorted kind
 one_refused features g unresolved sorted sortable is kind (inl cause) = absurd (sortable kind cause)
 one_refused features g unresolved sorted sortable is kind (inr cause) =
     subst (λ (l : List Unresolved). IsOneRefused features g l kind) (one_sorted unresolved (differ unresolved sortable) cause.order is.0 cause.sorted sorted cause.are_sorted is.1) cause.refused
@@ -313,8 +313,8 @@ module _ (old now : Sources) (groups : List Group) (placed : now ≡ with_files 
 
 -- what is told of a graph is told of the same graph elsewhere
 pub added_to : {new now : Graph} (r : Result ℕ ResolveErrorKind) (features : Features) (g : Graph) (packages : List Unresolved) (name : PackageName) → new ≡ now → IfOk r (λ id. AreAdded features g packages name id new) → IfOk r (λ id. AreAdded features g packages name id now)
-added_to (Ok id) features g packages name same added = subst (λ (x : Graph). AreAdded features g packages name id x) same added
-added_to (Err kind) features g packages name same added = tt
+added_to (Ok id) features g packages name same comes = subst (λ (x : Graph). AreAdded features g packages name id x) same comes
+added_to (Err kind) features g packages name same comes = tt
 
 pub same_after : {T : Type 0} (old new now : Graph) (r : Result T ResolveErrorKind) → now ≡ new → OnErr r (new ≡ old) → OnErr r (now ≡ old)
 same_after old new now (Ok id) is same = tt
@@ -326,7 +326,7 @@ module _ (old : State) (main : Group) (deps : List Group) (packages : List Unres
   unresolved = packages_of old.source_map.end (main ∷ deps)
 
   abbrev IsCauseOf : List Unresolved → ResolveErrorKind → Type 0
-  IsCauseOf l kind = IsSortCause l kind ⊎ IsPushCause old.features old.graph l kind
+  IsCauseOf l kind = IsSortCause l kind ⊎ IsAdditionsCause old.features old.graph l kind
 
   groups_cause : (kind : ResolveErrorKind) → (kind ≡ OutOfMemory) ⊎ IsCauseOf packages kind → (kind ≡ OutOfMemory) ⊎ IsGroupsCause old.features old.graph old.source_map.end (main ∷ deps) kind
   groups_cause kind (inl memory) = inl memory
@@ -348,19 +348,19 @@ module _ (old : State) (main : Group) (deps : List Group) (packages : List Unres
       → IfOk r (λ id. AreAdded old.features old.graph packages name id new.graph) → IfOk r (λ id. PushesGroups old main deps id new)
   pushes new (Err kind) fits features rule files are = tt
   pushes new (Ok id) fits features rule files are =
-      let added : AreAdded old.features old.graph unresolved main.main.name id new.graph =
+      let comes : AreAdded old.features old.graph unresolved main.main.name id new.graph =
       subst (λ (l : List Unresolved). AreAdded old.features old.graph l main.main.name id new.graph) taken (subst (λ (n : PackageName). AreAdded old.features old.graph packages n id new.graph) named are) in
       record {
-        order = added.order;
-        sorted = added.sorted;
-        ids = added.ids;
-        place = added.place;
-        sortable = added.sortable;
+        order = comes.order;
+        sorted = comes.sorted;
+        ids = comes.ids;
+        place = comes.place;
+        sortable = comes.sortable;
         fits = fits;
-        are_sorted = added.are_sorted;
-        are_pushed = added.are_pushed;
-        main_is = main_first added.order added.sorted added.place added.sortable added.are_sorted added.name_is;
-        id_is = added.id_is;
+        are_sorted = comes.are_sorted;
+        are_pushed = comes.are_pushed;
+        main_is = main_first comes.order comes.sorted comes.place comes.sortable comes.are_sorted comes.name_is;
+        id_is = comes.id_is;
         features = features;
         rule = rule;
         files = files;

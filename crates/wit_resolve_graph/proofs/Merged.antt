@@ -9,7 +9,7 @@ use Rattle.wit_graph_data.specs.declared.error_kind.ResolveErrorKind.TheVariants
 use Rattle.wit_remap.specs.declared.remap.Remap.{Remap}
 use Rattle.wit_merge_spec.specs.Cause.{IsMergeCause}
 use Rattle.wit_merge_spec.specs.Matches.{GraphMerge}
-use Rattle.wit_merge_spec.specs.United.{merge_remap, united}
+use Rattle.wit_merge_spec.specs.Merged.{merge_remap, merged}
 use Rattle.wit_merge_match.specs.Differing.{merge_of_graphs_by}
 use Rattle.wit_merge.specs.Remapped.{remap_of}
 use Rattle.wit_resolve_graph.specs.Merging.{FilesPass, Merges, RefusesMerge, merge_of}
@@ -48,14 +48,14 @@ module _ (old other : State) (g : Graph) (offset : ℕ) (same : g ≡ other.grap
   caused kind (inr cause) = inr (inl (subst (λ (m : GraphMerge). IsMergeCause m kind) one cause))
 
   -- the states are merged
-  pub merges : (new : State) (r : Result Remap ResolveErrorKind) → old.source_map.end + other.source_map.end < 2 ^ 32 → OnOk r (new.graph ≡ united (merge_of_graphs_by old.graph g offset))
+  pub merges : (new : State) (r : Result Remap ResolveErrorKind) → old.source_map.end + other.source_map.end < 2 ^ 32 → OnOk r (new.graph ≡ merged (merge_of_graphs_by old.graph g offset))
       → IfOk r (λ remap. remap ≡ remap_of (merge_remap (merge_of_graphs_by old.graph g offset))) → new.features ≡ old.features → new.track_rule ≡ old.track_rule → new.source_map ≡ with_sources old.source_map other.source_map
       → ((kind : ResolveErrorKind) → IsMergeCause (merge_of_graphs_by old.graph g offset) kind → OnOk r ⊥) → IfOk r (λ remap. Merges old other remap new)
   merges new (Err kind) fits graph remap features rule files refuses = tt
   merges new (Ok remap) fits graph is features rule files refuses = record {
     fits = fits;
     accepted = λ kind cause. refuses kind (subst (λ (m : GraphMerge). IsMergeCause m kind) (sym one) cause);
-    graph = graph ∙ ap united one;
+    graph = graph ∙ ap merged one;
     features = features;
     rule = rule;
     files = files;

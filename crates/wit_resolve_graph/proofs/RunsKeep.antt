@@ -17,15 +17,15 @@ use Rattle.wit_graph_theory.specs.facts.ListFacts.{found_at, same_at, some_at}
 use Rattle.wit_link.specs.GroupOrder.{Unresolved}
 use Rattle.wit_link_spec.specs.Addition.{Addition, active_includes, addition_maps, own_worlds, remapped_world}
 use Rattle.wit_link_spec.specs.Include.{PartiallyLinked, lists_of, with_copies, with_world_included}
-use Rattle.wit_link_spec.specs.Pushed.{new_package, pushed, with_all_includes, with_include, with_parts, with_world}
+use Rattle.wit_link_spec.specs.Added.{added, new_package, with_all_includes, with_include, with_parts, with_world}
 use Rattle.wit_link_spec.specs.facts.Linked.{linked_world}
 use Rattle.wit_remap_spec.specs.Image.{Maps, world_image}
-use Rattle.wit_link.specs.Appending.{ArePushed, addition}
+use Rattle.wit_link.specs.Appending.{AreAdded, addition}
 use Rattle.wit_merge_spec.specs.Matches.{GraphMerge}
 use Rattle.wit_merge_spec.specs.facts.Unchanged.{SameHome, SameInterface, SamePackage, SameType}
-use Rattle.wit_merge_spec.specs.United.{united}
+use Rattle.wit_merge_spec.specs.Merged.{merged}
 use Rattle.wit_merge_laws.specs.facts.KeptFacts.{interfaces_stay, names_stay, packages_stay, types_stay, worlds_stay}
-use Rattle.wit_semver_spec.specs.Rewritten.{rewritten}
+use Rattle.wit_semver_spec.specs.SemverMerged.{semver_merged}
 use Rattle.wit_semver_spec.specs.laws.Unchanged.{IsAlias, SameButLists, SameButTarget, SameKind}
 use Rattle.wit_semver_spec.specs.laws.TrackLaws.{KeepsThings, RewrittenKeep}
 use Rattle.wit_resolve_graph.specs.Merging.{merge_of}
@@ -148,8 +148,8 @@ module _ (a : Addition) where
   keeps_worlds (e ∷ es) g = keeps_on g (with_world a g e) (fold (with_world a) (with_world a g e) es) (keeps_world g e) (keeps_worlds es (with_world a g e))
 
   -- an addition keeps it
-  pub keeps_pushed : Keeps a.graph (pushed a)
-  keeps_pushed = keeps_on a.graph (with_parts a) (pushed a) parts (keeps_worlds (own_worlds a) (with_parts a))
+  pub keeps_pushed : Keeps a.graph (added a)
+  keeps_pushed = keeps_on a.graph (with_parts a) (added a) parts (keeps_worlds (own_worlds a) (with_parts a))
     where
       parts : Keeps a.graph (with_parts a)
       parts = record {
@@ -160,7 +160,7 @@ module _ (a : Addition) where
         names = (_, refl);
       }
 
-pub keeps_pushes : (features : Features) (g : Graph) (ps : List Unresolved) (new : Graph) (ids : List ℕ) → ArePushed features g ps new ids → Keeps g new
+pub keeps_pushes : (features : Features) (g : Graph) (ps : List Unresolved) (new : Graph) (ids : List ℕ) → AreAdded features g ps new ids → Keeps g new
 keeps_pushes features g [] new [] same = subst (Keeps g) (sym same) (keeps_all g)
 keeps_pushes features g (p ∷ ps) new (id ∷ ids) pushed =
     keeps_on g pushed.0 new (subst (Keeps g) (sym pushed.1.graph_is) (keeps_pushed (addition features g p.0 p.1))) (keeps_pushes features pushed.0 ps new ids pushed.2)
@@ -223,11 +223,11 @@ but_target old new same =
     record { rest = same.0 ∙ ap (λ (s : Stability). record old { kind = new.kind; stability = s }) (sym stabilities); kind = same.1 }
 
 -- a merge keeps it
-pub keeps_united : (m : GraphMerge) → Keeps m.graph (united m)
+pub keeps_united : (m : GraphMerge) → Keeps m.graph (merged m)
 keeps_united m = record {
   types = λ t def at.
-      let there = found_at (SameType def) (united m).types t (types_stay m t def at) in
-      some_at (KeepsType def) (united m).types t there.0 there.1 (but_stability def there.0 there.2);
+      let there = found_at (SameType def) (merged m).types t (types_stay m t def at) in
+      some_at (KeepsType def) (merged m).types t there.0 there.1 (but_stability def there.0 there.2);
   interfaces = interfaces_stay m;
   worlds = worlds_stay m;
   packages = packages_stay m;
@@ -274,7 +274,7 @@ keeps_step kept old (Exportize home world out keys) reply.NoWorld new step = unc
 keeps_step kept old (Exportize home world out keys) (reply.Refused error) new step = unchanged old new step.same
 keeps_step kept old (Exportize home world out keys) _ new step = absurd step
 keeps_step kept old (Semver home world) reply.Done new step =
-    subst (λ (s : State). Keeps old.graph s.graph) (sym step.is_changed) (keeps_things old.graph (rewritten old.track_rule old.graph step.w) (kept old.track_rule old.graph step.w))
+    subst (λ (s : State). Keeps old.graph s.graph) (sym step.is_changed) (keeps_things old.graph (semver_merged old.track_rule old.graph step.w) (kept old.track_rule old.graph step.w))
 keeps_step kept old (Semver home world) reply.NoWorld new step = unchanged old new step.1
 keeps_step kept old (Semver home world) (reply.Refused error) new step = unchanged old new step.same
 keeps_step kept old (Semver home world) _ new step = absurd step

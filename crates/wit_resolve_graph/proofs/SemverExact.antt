@@ -5,7 +5,7 @@ use Rattle.wit_graph_theory.specs.facts.ListFacts.{found_at, get_at}
 use Rattle.wit_resolve_graph.specs.State.{State}
 use Rattle.wit_resolve_graph.specs.facts.NamedWorlds.{world_within}
 use Rattle.wit_semver_spec.specs.laws.TrackLaws.{KeysAreExact, RewrittenKeep}
-use Rattle.wit_semver_spec.specs.Rewritten.{rewritten}
+use Rattle.wit_semver_spec.specs.SemverMerged.{semver_merged}
 use Rattle.wit_semver_spec.specs.laws.Unchanged.{SameButLists}
 use Rattle.wit_resolve_graph.specs.laws.SemverLaws.{CallIsExact, CommandIsExact, ImportsLessReplaced}
 
@@ -14,7 +14,7 @@ module _ (exact : KeysAreExact) (keep : RewrittenKeep) (old : State) (valid : Is
   pub call_exact : CallIsExact old
   call_exact w within accepted =
       let before = get_at old.graph.worlds w within in
-      let new = found_at (SameButLists before.0) (rewritten old.track_rule old.graph w).worlds w ((keep old.track_rule old.graph w).worlds w before.0 before.1) in
+      let new = found_at (SameButLists before.0) (semver_merged old.track_rule old.graph w).worlds w ((keep old.track_rule old.graph w).worlds w before.0 before.1) in
       record {
         before = before.0;
         was = before.1;

@@ -7,7 +7,7 @@ use Rattle.wit_remap.specs.declared.remap.Remap.{Remap}
 use Rattle.wit_merge.specs.Remapped.{remap_of}
 use Rattle.wit_merge_spec.specs.Cause.{IsMergeCause, MergeIsAccepted}
 use Rattle.wit_merge_spec.specs.Matches.{GraphMerge}
-use Rattle.wit_merge_spec.specs.United.{merge_remap, united}
+use Rattle.wit_merge_spec.specs.Merged.{merge_remap, merged}
 use Rattle.wit_resolve_graph.specs.State.{State}
 
 -- the graph of another state goes into that of a state; its spans move to the end of the sources, as its files do
@@ -24,7 +24,7 @@ FilesPass old other _ = ⊥
 pub record Merges (old other : State) (remap : Remap) (new : State) : Type 0 where
   pub fits : old.source_map.end + other.source_map.end < 2 ^ 32
   pub accepted : MergeIsAccepted (merge_of old other)
-  pub graph : new.graph ≡ united (merge_of old other)
+  pub graph : new.graph ≡ merged (merge_of old other)
   pub features : new.features ≡ old.features
   pub rule : new.track_rule ≡ old.track_rule
   pub files : new.source_map ≡ with_sources old.source_map other.source_map

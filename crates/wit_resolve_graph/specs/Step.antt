@@ -15,12 +15,12 @@ use Rattle.wit_graph_data.specs.declared.error_kind.ResolveErrorKind.{ResolveErr
 use Rattle.wit_elaboration.specs.Entries.{Entry}
 use Rattle.wit_graph_data.specs.IdText.{key_text}
 use Rattle.wit_graph_data.specs.declared.error_kind.ResolveErrorKind.TheVariants.{OffsetOverflow, OutOfMemory}
-use Rattle.wit_link.specs.Appending.{ArePushed, IsGroupsCause, files_end, packages_of}
+use Rattle.wit_link.specs.Appending.{AreAdded, IsGroupsCause, files_end, packages_of}
 use Rattle.wit_link.specs.GroupOrder.{AreSorted, IsSortCause, Unresolved}
 use Rattle.wit_resolve_graph.specs.Merging.{HasSourcesAfter, Merges, RefusesMerge}
 use Rattle.wit_graph_data.specs.Named.{world_named}
 use Rattle.wit_resolve_graph.specs.State.{State}
-use Rattle.wit_semver_spec.specs.Rewritten.{rewritten, IsTrackCause}
+use Rattle.wit_semver_spec.specs.SemverMerged.{semver_merged, IsSemverMergeCause}
 use Rattle.wit_transform.specs.Transformed.{IsExportizeCause, IsImportizeCause, imports_at, exportized, importized, transformed}
 use Rattle.wit_resolve_graph.specs.declared.command.Command.{Command}
 use Rattle.wit_resolve_graph.specs.declared.command.Command.TheVariants.{AddFeature, Exportize, Importize, Merge, PushGroups, Semver, SetAllFeatures, SetTrackRule}
@@ -51,7 +51,7 @@ pub record PushesGroups (old : State) (main : UnresolvedPackageGroup) (deps : Li
   pub sortable : NoCause (IsSortCause (packages_of old.source_map.end (main ∷ deps)))
   pub fits : files_end old.source_map.end (main ∷ deps) < 2 ^ 32
   pub are_sorted : AreSorted (packages_of old.source_map.end (main ∷ deps)) order sorted
-  pub are_pushed : ArePushed old.features old.graph sorted new.graph ids
+  pub are_pushed : AreAdded old.features old.graph sorted new.graph ids
   pub main_is : slice_get order place ≡ Some (length main.nested)
   pub id_is : slice_get ids place ≡ Some id
   pub features : new.features ≡ old.features
@@ -129,8 +129,8 @@ Step old (Exportize home world out keys) Done new =
 Step old (Exportize home world out keys) (Refused error) new = RefusesTransform old home world (λ w. IsExportizeCause old.graph w (answers_at old keys w) out) error new
 Step old (Exportize home world out keys) _ new = ⊥
 Step old (Semver home world) NoWorld new = (world_named old.graph home world ≡ None) × (new ≡ old)
-Step old (Semver home world) Done new = Transforms old home world (rewritten old.track_rule old.graph) (IsTrackCause old.track_rule old.graph) new
-Step old (Semver home world) (Refused error) new = RefusesTransform old home world (IsTrackCause old.track_rule old.graph) error new
+Step old (Semver home world) Done new = Transforms old home world (semver_merged old.track_rule old.graph) (IsSemverMergeCause old.track_rule old.graph) new
+Step old (Semver home world) (Refused error) new = RefusesTransform old home world (IsSemverMergeCause old.track_rule old.graph) error new
 Step old (Semver home world) _ new = ⊥
 
 -- one step after another, with one reply to each command

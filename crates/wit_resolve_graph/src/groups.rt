@@ -4,7 +4,7 @@ ghost use Rattle.std.specs.List.{AllByRecursion};
 ghost use Rattle.wit_graph_data.specs.declared.error_kind.ResolveErrorKind.{ResolveErrorKind};
 ghost use Rattle.wit_graph_data.specs.declared.error_kind.ResolveErrorKind.TheVariants.{OutOfMemory};
 ghost use Rattle.wit_data.specs.declared.unresolved.UnresolvedPackage.{UnresolvedPackage};
-ghost use Rattle.wit_link.specs.Appending.{CanAppend, FilesPassTheEnd, IsPushCause, files_end, packages_of};
+ghost use Rattle.wit_link.specs.Appending.{CanAppend, FilesPassTheEnd, IsAdditionsCause, files_end, packages_of};
 ghost use Rattle.wit_remap.specs.Grown.{Begins};
 ghost use Rattle.wit_resolve_graph.specs.steps.Grouping.{AreAdded};
 ghost use Rattle.wit_resolve_graph.specs.State.{AreKept};
@@ -124,8 +124,8 @@ pub(crate) fn add_packages(
     ensures ok { IfOk result (λ id. AreAdded features.now graph.old packages name.now id graph.new) }
     ensures kept { AreKept graph.new kept.new }
     ensures err { OnErr result (graph.new ≡ graph.old) }
-    ensures cause { IfErr result (λ kind. (kind ≡ OutOfMemory) ⊎ (IsSortCause packages kind ⊎ IsPushCause features.now graph.old packages kind)) }
-    ensures refuses { (kind : ResolveErrorKind) → IsSortCause packages kind ⊎ IsPushCause features.now graph.old packages kind → OnOk result ⊥ }
+    ensures cause { IfErr result (λ kind. (kind ≡ OutOfMemory) ⊎ (IsSortCause packages kind ⊎ IsAdditionsCause features.now graph.old packages kind)) }
+    ensures refuses { (kind : ResolveErrorKind) → IsSortCause packages kind ⊎ IsAdditionsCause features.now graph.old packages kind → OnOk result ⊥ }
 {
     let sorted = sort_groups(alloc, packages)?;
     let mark = Mark::of(graph);

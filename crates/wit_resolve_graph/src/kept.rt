@@ -4,7 +4,7 @@ ghost use Rattle.wit_elaboration.specs.Valid.{IsValid};
 ghost use Rattle.wit_graph_data.specs.declared.error_kind.ResolveErrorKind.{ResolveErrorKind};
 ghost use Rattle.wit_graph_data.specs.declared.error_kind.ResolveErrorKind.TheVariants.{OutOfMemory};
 ghost use Rattle.wit_data.specs.Shape.{IsShaped};
-ghost use Rattle.wit_link_spec.specs.Cause.{IsCause};
+ghost use Rattle.wit_link_spec.specs.Cause.{IsAdditionCause};
 ghost use Rattle.wit_link.specs.Appending.{IsAdded, addition};
 ghost use Rattle.wit_remap.specs.Grown.{cut_at};
 ghost use Rattle.wit_queries.specs.ValidBits.{AreValidBits, AreValidBitsOf};
@@ -126,8 +126,8 @@ pub(crate) fn append_kept(
     ensures ok { IfOk result (λ id. IsAdded (addition features.now graph.old «package» span_offset) graph.new id) }
     ensures kept { AreKept graph.new kept.new }
     ensures err { OnErr result (graph.new ≡ graph.old) }
-    ensures cause { IfErr result (λ kind. (kind ≡ OutOfMemory) ⊎ IsCause (addition features.now graph.old «package» span_offset) kind) }
-    ensures refuses { (kind : ResolveErrorKind) → IsCause (addition features.now graph.old «package» span_offset) kind → OnOk result ⊥ }
+    ensures cause { IfErr result (λ kind. (kind ≡ OutOfMemory) ⊎ IsAdditionCause (addition features.now graph.old «package» span_offset) kind) }
+    ensures refuses { (kind : ResolveErrorKind) → IsAdditionCause (addition features.now graph.old «package» span_offset) kind → OnOk result ⊥ }
 {
     let mark = Mark::of(graph);
     let rows = kept.elaborator.interfaces();

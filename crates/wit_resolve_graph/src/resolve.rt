@@ -8,7 +8,7 @@ ghost use Rattle.wit_graph_data.specs.declared.error_kind.ResolveErrorKind.{Reso
 ghost use Rattle.wit_graph_data.specs.declared.error_kind.ResolveErrorKind.TheVariants.{OffsetOverflow, OutOfMemory};
 ghost use Rattle.wit_data.specs.Shape.{IsGroupShaped, IsShaped};
 ghost use Rattle.wit_sources.specs.SourceMap.{with_sources};
-ghost use Rattle.wit_link_spec.specs.Cause.{IsCause};
+ghost use Rattle.wit_link_spec.specs.Cause.{IsAdditionCause};
 ghost use Rattle.wit_link.specs.Appending.{IsAdded, IsGroupsCause, addition};
 ghost use Rattle.wit_merge_spec.specs.Cause.{IsMergeCause};
 ghost use Rattle.wit_queries.specs.ValidBits.{AreValidBitsOf};
@@ -16,7 +16,7 @@ ghost use Rattle.wit_queries.specs.Selection.{IsSelectionError, selected_world};
 ghost use Rattle.wit_resolve_graph.specs.Merging.{FilesPass, Merges, RefusesMerge, merge_of};
 ghost use Rattle.wit_resolve_graph.specs.State.{new_state};
 ghost use Rattle.wit_resolve_graph.specs.Step.{PushesGroups, RefusesGroups, with_feature};
-ghost use Rattle.wit_semver_spec.specs.Rewritten.{rewritten, IsTrackCause};
+ghost use Rattle.wit_semver_spec.specs.SemverMerged.{semver_merged, IsSemverMergeCause};
 ghost use Rattle.wit_transform.specs.Transformed.{AreAnswers, Exportizes, IsExportizeCause, IsImportizeCause, RefusesExportize, imports_at, exportized, importized, transformed};
 
 use crate::groups::{add_packages, place_groups};
@@ -271,8 +271,8 @@ impl Resolve {
         ensures source_map { self.new.source_map ≡ self.old.source_map }
         ensures track_rule { self.new.track_rule ≡ self.old.track_rule }
         ensures err { OnErr result (self.new ≡ self.old) }
-        ensures cause { IfErr result (λ kind. (kind ≡ OutOfMemory) ⊎ IsCause (addition self.old.features self.old.graph «package» span_offset) kind) }
-        ensures refuses { (kind : ResolveErrorKind) → IsCause (addition self.old.features self.old.graph «package» span_offset) kind → OnOk result ⊥ }
+        ensures cause { IfErr result (λ kind. (kind ≡ OutOfMemory) ⊎ IsAdditionCause (addition self.old.features self.old.graph «package» span_offset) kind) }
+        ensures refuses { (kind : ResolveErrorKind) → IsAdditionCause (addition self.old.features self.old.graph «package» span_offset) kind → OnOk result ⊥ }
     {
         append_kept(
             alloc,
@@ -517,10 +517,10 @@ impl Resolve {
         world: WorldId,
     ) -> ResolveResult<()>
         requires { world < length self.old.graph.worlds }
-        ensures ok { OnOk result (self.new ≡ record self.old { graph = rewritten self.old.track_rule self.old.graph world }) }
+        ensures ok { OnOk result (self.new ≡ record self.old { graph = semver_merged self.old.track_rule self.old.graph world }) }
         ensures err { OnErr result (self.new ≡ self.old) }
-        ensures cause { IfErr result (λ kind. (kind ≡ OutOfMemory) ⊎ IsTrackCause self.old.track_rule self.old.graph world kind) }
-        ensures refuses { (kind : ResolveErrorKind) → IsTrackCause self.old.track_rule self.old.graph world kind → OnOk result ⊥ }
+        ensures cause { IfErr result (λ kind. (kind ≡ OutOfMemory) ⊎ IsSemverMergeCause self.old.track_rule self.old.graph world kind) }
+        ensures refuses { (kind : ResolveErrorKind) → IsSemverMergeCause self.old.track_rule self.old.graph world kind → OnOk result ⊥ }
     {
         merge_kept_by_track(
             alloc,

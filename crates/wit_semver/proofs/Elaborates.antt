@@ -22,14 +22,14 @@ use Rattle.wit_graph_theory.specs.facts.ListFacts.{from_row, in_row}
 use Rattle.wit_graph_theory.specs.facts.NamedUses.{used_is_named}
 use Rattle.wit_graph_theory.specs.facts.OptionFacts.{option_cases}
 use Rattle.wit_graph_theory.specs.facts.PackageCycleFacts.{used_package}
-use Rattle.wit_semver_spec.specs.Rewritten.{new_target, retargeted, rewritten, rewritten_types, with_new_entries_at, Upgrade, Agrees, IsComplete, SemverMergeIsAccepted, UpgradeCause, conflict_4, functions_disagree_25, interface_cycle_22, package_cycle_6, type_cycle_23, type_missing_25, upgrade}
+use Rattle.wit_semver_spec.specs.SemverMerged.{new_target, retargeted, semver_merged, rewritten_types, with_new_entries_at, SemverMerge, Agrees, IsComplete, SemverMergeIsAccepted, SemverMergeCause, conflict_4, functions_disagree_25, interface_cycle_22, package_cycle_6, type_cycle_23, type_missing_25, semver_merge}
 use Rattle.wit_semver_spec.specs.facts.Accepting.{id_of_named, in_order, new_aliases, relisted_worlds, rewritten_is}
 use Rattle.wit_semver_spec.specs.facts.TypesAfter.{type_after}
 use Rattle.wit_semver_spec.specs.facts.TypesGood.{refers_in_range, unnamed_plain}
 use Rattle.wit_unite_common.specs.steps.Reasons.{CanBeElaborated, ElaborationCause, IsSomeNamed}
 use Rattle.wit_unite_common.specs.steps.Reasons as settles
 
-module _ (u : Upgrade) (valid : IsValid u.graph) (w : ℕ) (there : slice_get u.graph.worlds w ≡ Some u.world) where
+module _ (u : SemverMerge) (valid : IsValid u.graph) (w : ℕ) (there : slice_get u.graph.worlds w ≡ Some u.world) where
   abbrev types : List TypeDef
   types = u.graph.types
 
@@ -84,13 +84,13 @@ module _ (u : Upgrade) (valid : IsValid u.graph) (w : ℕ) (there : slice_get u.
 
 -- ---- reasons
 
-pub cause_from : (u : Upgrade) (w : ℕ) → IsComplete u → (e : ResolveErrorKind) → ElaborationCause (with_new_entries_at u w) e → UpgradeCause u w e
+pub cause_from : (u : SemverMerge) (w : ℕ) → IsComplete u → (e : ResolveErrorKind) → ElaborationCause (with_new_entries_at u w) e → SemverMergeCause u w e
 cause_from u w complete e (settles.conflict_4 span name is) = conflict_4 span name complete is
 cause_from u w complete e (settles.package_cycle_6 home is) = package_cycle_6 home complete is
 cause_from u w complete e (settles.interface_cycle_22 message is) = interface_cycle_22 message complete is
 cause_from u w complete e (settles.type_cycle_23 message is) = type_cycle_23 message complete is
 
-cause_into : (u : Upgrade) (w : ℕ) → IsComplete u → Agrees u → ((e : ResolveErrorKind) → ElaborationCause (with_new_entries_at u w) e → ⊥) → (e : ResolveErrorKind) → UpgradeCause u w e → ⊥
+cause_into : (u : SemverMerge) (w : ℕ) → IsComplete u → Agrees u → ((e : ResolveErrorKind) → ElaborationCause (with_new_entries_at u w) e → ⊥) → (e : ResolveErrorKind) → SemverMergeCause u w e → ⊥
 cause_into u w complete agree none e (conflict_4 span name whole is) = none e (settles.conflict_4 span name is)
 cause_into u w complete agree none e (package_cycle_6 home whole is) = none e (settles.package_cycle_6 home is)
 cause_into u w complete agree none e (interface_cycle_22 message whole is) = none e (settles.interface_cycle_22 message is)
@@ -102,11 +102,11 @@ cause_into u w complete agree none e (functions_disagree_25 f message differ) = 
 same_world : (a b : World) → Some a ≡ Some b → a ≡ b
 same_world a b same = cc
 
-pub accepted_from : (rule : TrackRule) (g : Graph) (w : ℕ) (world : World) → slice_get g.worlds w ≡ Some world → IsComplete (upgrade rule g world) → Agrees (upgrade rule g world)
-    → ((e : ResolveErrorKind) → ElaborationCause (with_new_entries_at (upgrade rule g world) w) e → ⊥) → SemverMergeIsAccepted rule g w
+pub accepted_from : (rule : TrackRule) (g : Graph) (w : ℕ) (world : World) → slice_get g.worlds w ≡ Some world → IsComplete (semver_merge rule g world) → Agrees (semver_merge rule g world)
+    → ((e : ResolveErrorKind) → ElaborationCause (with_new_entries_at (semver_merge rule g world) w) e → ⊥) → SemverMergeIsAccepted rule g w
 accepted_from rule g w world there complete agree none e told =
     let one : told.0 ≡ world = same_world told.0 world (sym told.1 ∙ there) in
-    cause_into (upgrade rule g world) w complete agree none e (subst (λ (x : World). UpgradeCause (upgrade rule g x) w e) one told.2)
+    cause_into (semver_merge rule g world) w complete agree none e (subst (λ (x : World). SemverMergeCause (semver_merge rule g x) w e) one told.2)
 
-pub rewritten_from : (rule : TrackRule) (g : Graph) (w : ℕ) (world : World) → slice_get g.worlds w ≡ Some world → (made : Graph) → made ≡ with_new_entries_at (upgrade rule g world) w → all_elaborated made ≡ rewritten rule g w
+pub rewritten_from : (rule : TrackRule) (g : Graph) (w : ℕ) (world : World) → slice_get g.worlds w ≡ Some world → (made : Graph) → made ≡ with_new_entries_at (semver_merge rule g world) w → all_elaborated made ≡ semver_merged rule g w
 rewritten_from rule g w world there made is = ap all_elaborated is ∙ sym (rewritten_is rule g w world there)

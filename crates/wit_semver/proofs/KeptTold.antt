@@ -10,7 +10,7 @@ use Rattle.wit_data.specs.contracts.world.WorldKeyPartialEq.TheImpl.{eq-value}
 use Rattle.wit_data.specs.declared.world.WorldKey.{WorldKey}
 use Rattle.wit_elaboration.specs.facts.Filters.{Contains-filter}
 use Rattle.wit_elaboration.specs.Entries.{Entry, key_interface}
-use Rattle.wit_semver_spec.specs.Rewritten.{is_replaced_entry, Upgrade, is_replaced, newest}
+use Rattle.wit_semver_spec.specs.SemverMerged.{is_replaced_entry, SemverMerge, is_replaced, newest}
 use Rattle.wit_transform.specs.facts.Looked.{new_at}
 use Rattle.wit_semver.specs.steps.Replacing.{AreReplacements}
 
@@ -19,7 +19,7 @@ any_same : (p q : ℕ → Bool) → ((i : ℕ) → p i ≡ q i) → (ids : List 
 any_same p q same [] = refl
 any_same p q same (i ∷ ids) = ap (λ (b : Bool). b || list_any p ids) (same i) ∙ ap (λ (b : Bool). q i || b) (any_same p q same ids)
 
-module _ (u : Upgrade) (found : List (Option ℕ)) (are : AreReplacements u found) where
+module _ (u : SemverMerge) (found : List (Option ℕ)) (are : AreReplacements u found) where
   is_told : (i : ℕ) → is_some (get_or found i None) ≡ is_replaced u i
   is_told i = ap is_some (are.1 i) ∙ by (is_replaced u i)
     where

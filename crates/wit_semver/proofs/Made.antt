@@ -11,7 +11,7 @@ use Rattle.wit_elaboration.specs.Valid.{IsValid}
 use Rattle.wit_graph_data.specs.declared.graph.Graph.{Graph}
 use Rattle.wit_graph_data.specs.declared.error_kind.ResolveErrorKind.{ResolveErrorKind}
 use Rattle.wit_graph_data.specs.declared.error_kind.ResolveErrorKind.TheVariants.{OutOfMemory}
-use Rattle.wit_semver_spec.specs.Rewritten.{IsTrackCause, SemverMergeIsAccepted, Upgrade, rewritten, with_new_entries_at, upgrade}
+use Rattle.wit_semver_spec.specs.SemverMerged.{IsSemverMergeCause, SemverMergeIsAccepted, SemverMerge, semver_merged, with_new_entries_at, semver_merge}
 use Rattle.wit_semver_spec.specs.laws.TrackLaws.{RetargetsNone, RewrittenStayValid, SameTypesKeepWorlds}
 use Rattle.wit_unite_common.specs.steps.Reasons.{CanBeElaborated, ElaborationCause}
 use Rattle.wit_semver.specs.steps.Replacing.{AreNewEntries, with_imports, with_lists}
@@ -26,11 +26,11 @@ none_read (None ∷ targets) zero off = refl
 none_read (None ∷ targets) (suc t) off = none_read targets t off
 
 module _ (rule : TrackRule) (g : Graph) (w : ℕ) (imports : List Entry) (targets : List (Option ℕ)) (valid : IsValid g) (stay_valid : RewrittenStayValid) (found : AreNewEntries rule g w imports targets) where
-  abbrev u : Upgrade
-  u = upgrade rule g found.world
+  abbrev u : SemverMerge
+  u = semver_merge rule g found.world
 
   -- with it the graph is valid, where nothing holds against it
-  valid_by : (new : Graph) → new ≡ rewritten rule g w → SemverMergeIsAccepted rule g w → IsValid new
+  valid_by : (new : Graph) → new ≡ semver_merged rule g w → SemverMergeIsAccepted rule g w → IsValid new
   valid_by new is accepted = subst IsValid (sym is) (stay_valid rule g w found.world valid found.there accepted)
 
   -- ---- where each type names what it named
@@ -42,7 +42,7 @@ module _ (rule : TrackRule) (g : Graph) (w : ℕ) (imports : List Entry) (target
     pub kept_accepted : SemverMergeIsAccepted rule g w
     kept_accepted = (same u w valid found.there retargets_none found.complete found.agree).0
 
-    pub kept_is : with_imports g w imports ≡ rewritten rule g w
+    pub kept_is : with_imports g w imports ≡ semver_merged rule g w
     kept_is =
         ap (λ (o : Option World). record g { worlds = option_map_or (λ (world : World). slice_set g.worlds w (record world { imports = imports })) o g.worlds }) found.there
         ∙ ap (λ (es : List Entry). record g { worlds = slice_set g.worlds w (record found.world { imports = es }) }) found.imports_are
@@ -60,14 +60,14 @@ module _ (rule : TrackRule) (g : Graph) (w : ℕ) (imports : List Entry) (target
     pub can_be_elaborated : CanBeElaborated made
     can_be_elaborated = subst CanBeElaborated (sym made_is) (can_settle u valid w found.there)
 
-    pub refused : (e : ResolveErrorKind) → (e ≡ OutOfMemory) ⊎ ElaborationCause made e → (e ≡ OutOfMemory) ⊎ IsTrackCause rule g w e
+    pub refused : (e : ResolveErrorKind) → (e ≡ OutOfMemory) ⊎ ElaborationCause made e → (e ≡ OutOfMemory) ⊎ IsSemverMergeCause rule g w e
     refused e (inl memory) = inl memory
     refused e (inr told) = inr (found.world, found.there, cause_from u w found.complete e (subst (λ (x : Graph). ElaborationCause x e) made_is told))
 
     pub accepted : ((e : ResolveErrorKind) → ElaborationCause made e → ⊥) → SemverMergeIsAccepted rule g w
     accepted none = accepted_from rule g w found.world found.there found.complete found.agree (λ e told. none e (subst (λ (x : Graph). ElaborationCause x e) (sym made_is) told))
 
-    pub elaborated_is : all_elaborated made ≡ rewritten rule g w
+    pub elaborated_is : all_elaborated made ≡ semver_merged rule g w
     elaborated_is = rewritten_from rule g w found.world found.there made made_is
 
     pub elaborated_valid : (new : Graph) → new ≡ all_elaborated made → ((e : ResolveErrorKind) → ElaborationCause made e → ⊥) → IsValid new

@@ -22,7 +22,7 @@ use Rattle.wit_elaboration.specs.Valid.{IsValid}
 use Rattle.wit_graph_data.specs.declared.graph.Graph.{Graph}
 use Rattle.wit_graph_theory.specs.facts.EntryFacts.{key_entry}
 use Rattle.wit_graph_theory.specs.facts.ListFacts.{found_at, place_of}
-use Rattle.wit_semver_spec.specs.Rewritten.{Upgrade, entry_types, kept_imports, new_target, newest_type, retargeted, rewritable_types, rewritten_types, types_of, upgrade, with_new_entries_at}
+use Rattle.wit_semver_spec.specs.SemverMerged.{SemverMerge, entry_types, kept_imports, new_target, newest_type, retargeted, rewritable_types, rewritten_types, types_of, semver_merge, with_new_entries_at}
 use Rattle.wit_semver.specs.steps.Replacing.{IsFilled, with_lists, with_targets}
 
 -- ---- what is named is there
@@ -76,8 +76,8 @@ module _ (g : Graph) (valid : IsValid g) (w : ℕ) (world : World) (there : slic
   export_within (key.Name name) (item.Type_ s span) t is has = absurd is
 
   module _ (rule : TrackRule) where
-    abbrev u : Upgrade
-    u = upgrade rule g world
+    abbrev u : SemverMerge
+    u = semver_merge rule g world
 
     pub following_within : (t : ℕ) → Contains (rewritable_types u) t → t < length g.types
     following_within t has =
@@ -94,7 +94,7 @@ module _ (g : Graph) (valid : IsValid g) (w : ℕ) (world : World) (there : slic
 
 -- ---- the types that follow
 
-pub following_is : (u : Upgrade) (ids : List ℕ) → ids ≡ flat_map (entry_types u.graph.interfaces) (kept_imports u) ++ flat_map (entry_types u.graph.interfaces) u.world.exports → ids ≡ rewritable_types u
+pub following_is : (u : SemverMerge) (ids : List ℕ) → ids ≡ flat_map (entry_types u.graph.interfaces) (kept_imports u) ++ flat_map (entry_types u.graph.interfaces) u.world.exports → ids ≡ rewritable_types u
 following_is u ids is = is ∙ sym (flat_map-append (entry_types u.graph.interfaces) (kept_imports u) u.world.exports)
 
 -- ---- the graph
@@ -103,7 +103,7 @@ map_same : {X Y : Type 0} (f h : X → Y) (xs : List X) → ((x : X) → f x ≡
 map_same f h [] same = refl
 map_same f h (x ∷ xs) same = ap (λ (y : _). y ∷ map f xs) (same x) ∙ ap (λ (ys : List _). h x ∷ ys) (map_same f h xs same)
 
-module _ (u : Upgrade) (targets : List (Option ℕ)) (filled : IsFilled (newest_type u) (rewritable_types u) (length u.graph.types) targets) where
+module _ (u : SemverMerge) (targets : List (Option ℕ)) (filled : IsFilled (newest_type u) (rewritable_types u) (length u.graph.types) targets) where
   pub target_is : (t : ℕ) → get_or targets t None ≡ new_target u t
   target_is = filled.1
 

@@ -20,7 +20,7 @@ use Rattle.wit_names.specs.PackageName.{same_package}
 use Rattle.wit_names.specs.declared.track.TrackRule.{TrackRule}
 use Rattle.wit_elaboration.specs.Valid.{IsValid}
 use Rattle.wit_graph_data.specs.declared.graph.Graph.{Graph}
-use Rattle.wit_semver_spec.specs.Rewritten.{Upgrade, Versioned, both, have_one_track, imported, is_below, is_older_than, is_replaced, newest, versioned}
+use Rattle.wit_semver_spec.specs.SemverMerged.{SemverMerge, Versioned, both, have_one_track, imported, is_below, is_older_than, is_replaced, newest, versioned}
 use Rattle.wit_semver_spec.specs.facts.Greatest.{any_of, any_with, below_itself, below_trans, both_from, both_into, both_true, inside, newest_stays, stays_from, track_into}
 use Rattle.wit_semver_spec.specs.facts.Merged.{equal_versions, one_track}
 use Rattle.wit_semver.specs.steps.Replacing.{IsNewestTable, is_newer, is_smaller, key_at, key_of, replacement, same_track}
@@ -180,7 +180,7 @@ above_level g valid v w x up level = by (version_cmp w.version x.version) refl
         subst (λ (n : _). is_lt (version_cmp v.version n) ≡ true) (sym same) up
     by Greater is = below_trans v x w up (ap is_lt (version_cmp_total.antisymm x.version w.version ∙ ap ordering_reverse is))
 
-module _ (u : Upgrade) (valid : IsValid u.graph) (table : List (TrackKey × ℕ)) (tells : IsNewestTable u.rule u.graph (imported u) table) (i : ℕ) (has : Contains (imported u) i) where
+module _ (u : SemverMerge) (valid : IsValid u.graph) (table : List (TrackKey × ℕ)) (tells : IsNewestTable u.rule u.graph (imported u) table) (i : ℕ) (has : Contains (imported u) i) where
   abbrev at_ : ℕ → Option Versioned
   at_ j = versioned u.graph j
 

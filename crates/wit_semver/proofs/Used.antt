@@ -4,11 +4,11 @@ use Rattle.std.proofs.lemmas.List.Elements.{Contains-append_cases}
 use Rattle.wit_digraph.specs.facts.MemberFacts.{Contains-cons_cases, Contains-nil}
 use Rattle.wit_data.specs.declared.interface.Interface.{Interface}
 use Rattle.wit_remap_spec.specs.FunctionMismatch.{HaveFunctionMismatch}
-use Rattle.wit_semver_spec.specs.Rewritten.{Disagrees, LacksType, Upgrade, disagreement_text, is_replaced, newest, upgrade_text}
+use Rattle.wit_semver_spec.specs.SemverMerged.{Disagrees, LacksType, SemverMerge, disagreement_text, is_replaced, newest, semver_merge_text}
 use Rattle.wit_semver.specs.steps.Replacing.{AreReplacements, LackTypes}
 
 -- one type more, which lacks nothing
-pub none_lacks-next : (u : Upgrade) (ids : List ℕ) (t : ℕ) (message : List ℕ) → ((message : List ℕ) → LackTypes u ids message → ⊥) → ((message : List ℕ) → LacksType u t message → ⊥) → LackTypes u (ids ++ t ∷ []) message → ⊥
+pub none_lacks-next : (u : SemverMerge) (ids : List ℕ) (t : ℕ) (message : List ℕ) → ((message : List ℕ) → LackTypes u ids message → ⊥) → ((message : List ℕ) → LacksType u t message → ⊥) → LackTypes u (ids ++ t ∷ []) message → ⊥
 none_lacks-next u ids t message before here lacks = elim (Contains-append_cases ids (t ∷ []) lacks.0 lacks.1) [
   | inl among ↦ before message (lacks.0, among, lacks.2)
   | inr last ↦ elim (Contains-cons_cases t lacks.0 [] last) [
@@ -28,7 +28,7 @@ same_id x y same = cc
 same_interface : (x y : Interface) → Some x ≡ Some y → x ≡ y
 same_interface x y same = cc
 
-module _ (u : Upgrade) (found : List (Option ℕ)) (are : AreReplacements u found) (f n : ℕ) (told : Some n ≡ get_or found f None) where
+module _ (u : SemverMerge) (found : List (Option ℕ)) (are : AreReplacements u found) (f n : ℕ) (told : Some n ≡ get_or found f None) where
   test_is : (b : Bool) → is_replaced u f ≡ b → Some n ≡ (if b then Some (newest u f) else None)
   test_is b is = told ∙ are.1 f ∙ ap (λ (c : Bool). if c then Some (newest u f) else None) is
 
@@ -41,7 +41,7 @@ module _ (u : Upgrade) (found : List (Option ℕ)) (are : AreReplacements u foun
 
   module _ (from into : Interface) (from_is : slice_get u.graph.interfaces f ≡ Some from) (into_is : slice_get u.graph.interfaces n ≡ Some into) where
     pub they_disagree : (mismatch : List ℕ) → HaveFunctionMismatch from into mismatch
-        → Disagrees u f (upgrade_text u.graph f n (disagreement_text mismatch))
+        → Disagrees u f (semver_merge_text u.graph f n (disagreement_text mismatch))
     they_disagree mismatch have = record {
       old = from;
       new = into;
@@ -50,7 +50,7 @@ module _ (u : Upgrade) (found : List (Option ℕ)) (are : AreReplacements u foun
       old_is = from_is;
       new_is = ap (slice_get u.graph.interfaces) (sym told_replaced.1) ∙ into_is;
       have = have;
-      message_is = ap (λ (m : ℕ). upgrade_text u.graph f m (disagreement_text mismatch)) told_replaced.1;
+      message_is = ap (λ (m : ℕ). semver_merge_text u.graph f m (disagreement_text mismatch)) told_replaced.1;
     }
 
     pub they_agree : ((text : List ℕ) → HaveFunctionMismatch from into text → ⊥) → (message : List ℕ) → Disagrees u f message → ⊥

@@ -2,23 +2,23 @@
 ghost use Rattle.std.specs.Prelude.{◌≡◌, ◌⊎◌, ℕ, List, IfErr, None, OnOk};
 ghost use Rattle.wit_graph_data.specs.declared.cause.Cause.TheVariants as cause;
 ghost use Rattle.wit_graph_data.specs.declared.error_kind.ResolveErrorKind.TheVariants.{OutOfMemory, Semantic};
-ghost use Rattle.wit_semver_spec.specs.Rewritten.{Agrees, Disagrees};
-ghost use Rattle.wit_semver.specs.steps.Replacing.{IsUpgradeReady, upgrade_of};
+ghost use Rattle.wit_semver_spec.specs.SemverMerged.{Agrees, Disagrees};
+ghost use Rattle.wit_semver.specs.steps.Replacing.{IsSemverMergeReady, semver_merge_of};
 
 use crate::refusal::functions_disagree;
-use crate::upgrade_plan::{UpgradePlan, replacement_of};
+use crate::semver_merge_plan::{SemverMergePlan, replacement_of};
 use std::alloc::Global;
 use wit_data::InterfaceId;
 use wit_graph_data::ResolveResult;
 use wit_unite_common::interface_mismatch;
 
-impl<'a> UpgradePlan<'a> {
+impl<'a> SemverMergePlan<'a> {
     /// Refused where an interface that is replaced disagrees with the one that replaces it in a function
     /// that both have (25).
     pub(crate) fn check_functions(&self, alloc: Global) -> ResolveResult<()>
-        requires ready { IsUpgradeReady self.now }
-        ensures agree { OnOk result (Agrees (upgrade_of self.now)) }
-        ensures cause { IfErr result (λ e. (e ≡ OutOfMemory) ⊎ ((f : ℕ) × (message : List ℕ) × Disagrees (upgrade_of self.now) f message × (e ≡ Semantic None message cause.UpgradeMismatch))) }
+        requires ready { IsSemverMergeReady self.now }
+        ensures agree { OnOk result (Agrees (semver_merge_of self.now)) }
+        ensures cause { IfErr result (λ e. (e ≡ OutOfMemory) ⊎ ((f : ℕ) × (message : List ℕ) × Disagrees (semver_merge_of self.now) f message × (e ≡ Semantic None message cause.UpgradeMismatch))) }
     {
         for index in 0..self.replaced.len() {
             self.check_interface(alloc, InterfaceId::from_index(index))?;
@@ -28,9 +28,9 @@ impl<'a> UpgradePlan<'a> {
 
     /// The same of one interface.
     fn check_interface(&self, alloc: Global, old: InterfaceId) -> ResolveResult<()>
-        requires ready { IsUpgradeReady self.now }
-        ensures agree { OnOk result ((message : List ℕ) → Disagrees (upgrade_of self.now) old message → ⊥) }
-        ensures cause { IfErr result (λ e. (e ≡ OutOfMemory) ⊎ ((message : List ℕ) × Disagrees (upgrade_of self.now) old message × (e ≡ Semantic None message cause.UpgradeMismatch))) }
+        requires ready { IsSemverMergeReady self.now }
+        ensures agree { OnOk result ((message : List ℕ) → Disagrees (semver_merge_of self.now) old message → ⊥) }
+        ensures cause { IfErr result (λ e. (e ≡ OutOfMemory) ⊎ ((message : List ℕ) × Disagrees (semver_merge_of self.now) old message × (e ≡ Semantic None message cause.UpgradeMismatch))) }
     {
         let Some(new) = replacement_of(&self.replaced, old) else {
             return Ok(());

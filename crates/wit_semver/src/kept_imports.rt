@@ -5,23 +5,23 @@ ghost use Rattle.std.specs.Map.{lookup};
 ghost use Rattle.wit_data.specs.contracts.world.WorldKeyPartialEq.TheImpl.{eq-value};
 ghost use Rattle.wit_data.specs.declared.world.WorldKey.{WorldKey};
 ghost use Rattle.wit_elaboration.specs.Entries.{key_interface};
-ghost use Rattle.wit_semver_spec.specs.Rewritten.{entry_types, kept_imports};
-ghost use Rattle.wit_semver.specs.steps.Replacing.{IsUpgradeReady, upgrade_of};
+ghost use Rattle.wit_semver_spec.specs.SemverMerged.{entry_types, kept_imports};
+ghost use Rattle.wit_semver.specs.steps.Replacing.{IsSemverMergeReady, semver_merge_of};
 
-use crate::upgrade_plan::{UpgradePlan, replacement_of};
+use crate::semver_merge_plan::{SemverMergePlan, replacement_of};
 use std::alloc::{AllocError, Global};
 use wit_data::{InterfaceId, Items, Names, Table, TypeId, WorldItem, WorldKey};
 use wit_graph_data::Graph;
 use wit_values::try_clone_two;
 
-impl<'a> UpgradePlan<'a> {
+impl<'a> SemverMergePlan<'a> {
     /// Copies of the imports of the world that aren't replaced.
     pub(crate) fn kept_imports(
         &self,
         alloc: Global,
     ) -> Result<Table<WorldKey, WorldItem>, AllocError>
-        requires { IsUpgradeReady self.now }
-        ensures { IfOk result (λ imports. imports ≡ kept_imports (upgrade_of self.now)) }
+        requires { IsSemverMergeReady self.now }
+        ensures { IfOk result (λ imports. imports ≡ kept_imports (semver_merge_of self.now)) }
     {
         let mut imports = Table::new(alloc);
         for (key, item) in self.world.imports.iter() {

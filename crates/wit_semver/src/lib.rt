@@ -9,8 +9,8 @@ mod new_entries;
 mod newest;
 mod refusal;
 mod replaced;
+mod semver_merge_plan;
 mod targets;
 mod tracks;
-mod upgrade_plan;
 
-pub use crate::merging::{SemverMerge, find_semver_merge, merge_by_track, place_imports};
+pub use crate::merging::{SemverChange, find_semver_merge, merge_by_track, place_imports};

@@ -4,13 +4,13 @@ ghost use Rattle.std.specs.List.{list_any};
 ghost use Rattle.wit_elaboration.specs.Valid.{IsValid};
 ghost use Rattle.wit_graph_data.specs.declared.error_kind.ResolveErrorKind.{ResolveErrorKind};
 ghost use Rattle.wit_graph_data.specs.declared.error_kind.ResolveErrorKind.TheVariants.{OutOfMemory};
-ghost use Rattle.wit_semver_spec.specs.Rewritten.{rewritten, IsTrackCause};
-ghost use Rattle.wit_semver.specs.steps.Merging.{semver_merged};
+ghost use Rattle.wit_semver_spec.specs.SemverMerged.{semver_merged, IsSemverMergeCause};
+ghost use Rattle.wit_semver.specs.steps.Merging.{graph_after};
 ghost use Rattle.wit_semver.specs.steps.Replacing.{AreNewEntries, with_imports};
 
 use crate::kept_imports::types_of_entries;
 use crate::new_entries::with_new_entries;
-use crate::upgrade_plan::UpgradePlan;
+use crate::semver_merge_plan::SemverMergePlan;
 use std::alloc::Global;
 use wit_data::{Items, Table, TrackRule, TypeId, WorldId, WorldItem, WorldKey};
 use wit_graph_data::{Graph, ResolveResult};
@@ -26,7 +26,7 @@ struct NewEntries {
 
 /// What merging the imports of a world by tracks changes of a graph, made beside it.
 #[derive(Drop)]
-pub enum SemverMerge {
+pub enum SemverChange {
     /// Each type names what it named, so all stays but the imports of the world, of which these are left.
     Imports(Table<WorldKey, WorldItem>),
     /// Some types name others, so any world may have to import others: the whole graph.
@@ -44,10 +44,10 @@ fn new_entries(
     requires valid { IsValid graph.now }
     requires world { world < length graph.now.worlds }
     ensures ok { IfOk result (λ entries. AreNewEntries rule graph.now world entries.imports entries.targets) }
-    ensures cause { IfErr result (λ e. (e ≡ OutOfMemory) ⊎ IsTrackCause rule graph.now world e) }
+    ensures cause { IfErr result (λ e. (e ≡ OutOfMemory) ⊎ IsSemverMergeCause rule graph.now world e) }
 {
     let current = graph.worlds.at(world.index());
-    let plan = UpgradePlan::new(alloc, graph, current, rule)?;
+    let plan = SemverMergePlan::new(alloc, graph, current, rule)?;
     plan.check_functions(alloc)?;
     let imports = plan.kept_imports(alloc)?;
     let rewritable_types = types_of_entries(alloc, graph, &imports, &current.exports)?;
@@ -80,24 +80,24 @@ pub fn find_semver_merge(
     graph: &Graph,
     world: WorldId,
     rule: TrackRule,
-) -> ResolveResult<SemverMerge>
+) -> ResolveResult<SemverChange>
     requires valid { IsValid graph.now }
     requires world { world < length graph.now.worlds }
-    ensures ok { IfOk result (λ merge. semver_merged graph.now world merge ≡ rewritten rule graph.now world) }
-    ensures valid { IfOk result (λ merge. IsValid (semver_merged graph.now world merge)) }
-    ensures cause { IfErr result (λ e. (e ≡ OutOfMemory) ⊎ IsTrackCause rule graph.now world e) }
-    ensures refuses { (e : ResolveErrorKind) → IsTrackCause rule graph.now world e → OnOk result ⊥ }
+    ensures ok { IfOk result (λ merge. graph_after graph.now world merge ≡ semver_merged rule graph.now world) }
+    ensures valid { IfOk result (λ merge. IsValid (graph_after graph.now world merge)) }
+    ensures cause { IfErr result (λ e. (e ≡ OutOfMemory) ⊎ IsSemverMergeCause rule graph.now world e) }
+    ensures refuses { (e : ResolveErrorKind) → IsSemverMergeCause rule graph.now world e → OnOk result ⊥ }
 {
     rewritten_stay_valid();
     same_types_keep_worlds();
     let entries = new_entries(alloc, graph, world, rule)?;
     let NewEntries { imports, targets } = entries;
     if !is_any_retargeted(&targets) {
-        return Ok(SemverMerge::Imports(imports));
+        return Ok(SemverChange::Imports(imports));
     }
     let mut merged = with_new_entries(alloc, graph, world, imports, &targets)?;
     check_and_elaborate(alloc, &mut merged)?;
-    Ok(SemverMerge::Graph(merged))
+    Ok(SemverChange::Graph(merged))
 }
 
 /// Puts imports in the place of those of a world. It takes no memory.
@@ -121,19 +121,19 @@ pub fn merge_by_track(
 ) -> ResolveResult<()>
     requires valid { IsValid graph.old }
     requires world { world < length graph.old.worlds }
-    ensures ok { OnOk result (graph.new ≡ rewritten rule graph.old world) }
+    ensures ok { OnOk result (graph.new ≡ semver_merged rule graph.old world) }
     ensures valid { OnOk result (IsValid graph.new) }
     ensures err { OnErr result (graph.new ≡ graph.old) }
-    ensures cause { IfErr result (λ e. (e ≡ OutOfMemory) ⊎ IsTrackCause rule graph.old world e) }
-    ensures refuses { (e : ResolveErrorKind) → IsTrackCause rule graph.old world e → OnOk result ⊥ }
+    ensures cause { IfErr result (λ e. (e ≡ OutOfMemory) ⊎ IsSemverMergeCause rule graph.old world e) }
+    ensures refuses { (e : ResolveErrorKind) → IsSemverMergeCause rule graph.old world e → OnOk result ⊥ }
 {
     let merge = find_semver_merge(alloc, graph, world, rule)?;
     match merge {
-        SemverMerge::Imports(imports) => {
+        SemverChange::Imports(imports) => {
             place_imports(graph, world, imports);
             Ok(())
         }
-        SemverMerge::Graph(merged) => {
+        SemverChange::Graph(merged) => {
             *graph = merged;
             Ok(())
         }

@@ -1,6 +1,6 @@
 //! The graph whose types name what they name after the rewriting, and whose world lists what stays.
 ghost use Rattle.std.specs.Prelude.{◌≡◌, ◌<◌, IfOk, length};
-ghost use Rattle.wit_semver_spec.specs.Rewritten.{retargeted};
+ghost use Rattle.wit_semver_spec.specs.SemverMerged.{retargeted};
 ghost use Rattle.wit_semver.specs.steps.Replacing.{with_lists, with_targets};
 
 use std::alloc::{AllocError, Global};

@@ -2,7 +2,7 @@
 ghost use Rattle.std.specs.Prelude.{◌≡◌, IfErr, IfOk, None};
 ghost use Rattle.wit_graph_data.specs.declared.cause.Cause.TheVariants as cause;
 ghost use Rattle.wit_graph_data.specs.declared.error_kind.ResolveErrorKind.TheVariants.{OutOfMemory, Semantic};
-ghost use Rattle.wit_semver_spec.specs.Rewritten.{disagreement_text, missing_text, upgrade_text};
+ghost use Rattle.wit_semver_spec.specs.SemverMerged.{disagreement_text, missing_text, semver_merge_text};
 
 use std::alloc::Global;
 use wit_data::{InterfaceId, Span, Text, WorldKey};
@@ -16,7 +16,7 @@ pub(crate) fn type_missing(
     new: InterfaceId,
     name: &Text,
 ) -> ResolveResult<ResolveError>
-    ensures error { IfOk result (λ e. e ≡ Semantic None (upgrade_text graph.now old new (missing_text name.now)) cause.UpgradeMismatch) }
+    ensures error { IfOk result (λ e. e ≡ Semantic None (semver_merge_text graph.now old new (missing_text name.now)) cause.UpgradeMismatch) }
     ensures err { IfErr result (λ e. e ≡ OutOfMemory) }
 {
     let reason = format!(in alloc; "type `{name}` is missing")?;
@@ -31,7 +31,7 @@ pub(crate) fn functions_disagree(
     new: InterfaceId,
     mismatch: &str,
 ) -> ResolveResult<ResolveError>
-    ensures error { IfOk result (λ e. e ≡ Semantic None (upgrade_text graph.now old new (disagreement_text mismatch.now)) cause.UpgradeMismatch) }
+    ensures error { IfOk result (λ e. e ≡ Semantic None (semver_merge_text graph.now old new (disagreement_text mismatch.now)) cause.UpgradeMismatch) }
     ensures err { IfErr result (λ e. e ≡ OutOfMemory) }
 {
     let reason = format!(in alloc; "failed to merge interfaces: {mismatch}")?;
@@ -46,7 +46,7 @@ fn upgrade_mismatch(
     new: InterfaceId,
     reason: &str,
 ) -> ResolveResult<ResolveError>
-    ensures error { IfOk result (λ e. e ≡ Semantic None (upgrade_text graph.now old new reason.now) cause.UpgradeMismatch) }
+    ensures error { IfOk result (λ e. e ≡ Semantic None (semver_merge_text graph.now old new reason.now) cause.UpgradeMismatch) }
     ensures err { IfErr result (λ e. e ≡ OutOfMemory) }
 {
     let old = graph.name_world_key(alloc, &WorldKey::Interface(old))?;

@@ -4,7 +4,7 @@ ghost use Rattle.std.specs.Option.{option_map_or};
 ghost use Rattle.wit_elaboration.specs.Valid.{IsValid};
 ghost use Rattle.wit_elaboration.specs.Entries.{keyed_interfaces};
 ghost use Rattle.wit_data.specs.declared.world.World.{World};
-ghost use Rattle.wit_semver_spec.specs.Rewritten.{is_below, versioned, upgrade};
+ghost use Rattle.wit_semver_spec.specs.SemverMerged.{is_below, versioned, semver_merge};
 ghost use Rattle.wit_semver.specs.steps.Replacing.{AreReplacements, IsNewestTable, replacement, told};
 
 use crate::newest::newest_by_track;
@@ -24,7 +24,7 @@ pub(crate) fn replacements(
 ) -> Result<Items<Option<InterfaceId>>, AllocError>
     requires valid { IsValid graph.now }
     requires in_range { (i : ℕ) → Contains (keyed_interfaces world.now.imports) i → i < length graph.now.interfaces }
-    ensures { IfOk result (λ found. AreReplacements (upgrade rule graph.now world.now) found) }
+    ensures { IfOk result (λ found. AreReplacements (semver_merge rule graph.now world.now) found) }
 {
     let newest = newest_by_track(alloc, graph, rule, &world.imports)?;
     let mut found = Items::from_vec(vec![in alloc; None; graph.interfaces.len()]?);
@@ -49,7 +49,7 @@ fn replacement(
     id: InterfaceId,
 ) -> Result<Option<InterfaceId>, AllocError>
     requires valid { IsValid graph.now }
-    ensures { IfOk result (λ by. (world : World) → IsNewestTable rule graph.now (keyed_interfaces world.imports) newest.now.entries → Contains (keyed_interfaces world.imports) id → by ≡ replacement (upgrade rule graph.now world) id) }
+    ensures { IfOk result (λ by. (world : World) → IsNewestTable rule graph.now (keyed_interfaces world.imports) newest.now.entries → Contains (keyed_interfaces world.imports) id → by ≡ replacement (semver_merge rule graph.now world) id) }
 {
     let Some(interface) = versioned(graph, id) else {
         return Ok(None);

@@ -3,18 +3,18 @@ ghost use Rattle.std.specs.Prelude.{◌≡◌, ◌⊎◌, ◌<◌, ℕ, List, Co
 ghost use Rattle.std.specs.Option.{option_copied};
 ghost use Rattle.wit_graph_data.specs.declared.cause.Cause.TheVariants as cause;
 ghost use Rattle.wit_graph_data.specs.declared.error_kind.ResolveErrorKind.TheVariants.{OutOfMemory, Semantic};
-ghost use Rattle.wit_semver_spec.specs.Rewritten.{LacksType, interface_type, newest_type, target_name};
-ghost use Rattle.wit_semver.specs.steps.Replacing.{IsFilled, IsUpgradeReady, LackTypes, upgrade_of};
+ghost use Rattle.wit_semver_spec.specs.SemverMerged.{LacksType, interface_type, newest_type, target_name};
+ghost use Rattle.wit_semver.specs.steps.Replacing.{IsFilled, IsSemverMergeReady, LackTypes, semver_merge_of};
 
 use crate::refusal::type_missing;
-use crate::upgrade_plan::{UpgradePlan, replacement_of};
+use crate::semver_merge_plan::{SemverMergePlan, replacement_of};
 use std::alloc::Global;
 use wit_data::{
     Interface, InterfaceId, Items, Text, TypeDef, TypeId, alias_target, type_interface_dep,
 };
 use wit_graph_data::ResolveResult;
 
-impl<'a> UpgradePlan<'a> {
+impl<'a> SemverMergePlan<'a> {
     /// Of each type what it names after the rewriting, None where it stays as it is: of some types that
     /// may be rewritten, each that uses a replaced interface names the type of the same name in the one that
     /// replaces it. Refused where that has none (25).
@@ -23,11 +23,11 @@ impl<'a> UpgradePlan<'a> {
         alloc: Global,
         rewritable_types: &Items<TypeId>,
     ) -> ResolveResult<Items<Option<TypeId>>>
-        requires ready { IsUpgradeReady self.now }
+        requires ready { IsSemverMergeReady self.now }
         requires in_range { (t : ℕ) → Contains rewritable_types.now t → t < length self.now.graph.now.types }
-        ensures ok { IfOk result (λ targets. IsFilled (newest_type (upgrade_of self.now)) rewritable_types.now (length self.now.graph.now.types) targets) }
-        ensures complete { OnOk result ((message : List ℕ) → LackTypes (upgrade_of self.now) rewritable_types.now message → ⊥) }
-        ensures cause { IfErr result (λ e. (e ≡ OutOfMemory) ⊎ ((message : List ℕ) × LackTypes (upgrade_of self.now) rewritable_types.now message × (e ≡ Semantic None message cause.UpgradeMismatch))) }
+        ensures ok { IfOk result (λ targets. IsFilled (newest_type (semver_merge_of self.now)) rewritable_types.now (length self.now.graph.now.types) targets) }
+        ensures complete { OnOk result ((message : List ℕ) → LackTypes (semver_merge_of self.now) rewritable_types.now message → ⊥) }
+        ensures cause { IfErr result (λ e. (e ≡ OutOfMemory) ⊎ ((message : List ℕ) × LackTypes (semver_merge_of self.now) rewritable_types.now message × (e ≡ Semantic None message cause.UpgradeMismatch))) }
     {
         let mut targets = Items::from_vec(vec![in alloc; None; self.graph.types.len()]?);
         for id in rewritable_types.as_slice() {
@@ -39,10 +39,10 @@ impl<'a> UpgradePlan<'a> {
 
     /// What a type that may be rewritten names then, None where it stays as it is.
     fn new_target(&self, alloc: Global, id: TypeId) -> ResolveResult<Option<TypeId>>
-        requires ready { IsUpgradeReady self.now }
-        ensures ok { IfOk result (λ target. target ≡ newest_type (upgrade_of self.now) id) }
-        ensures complete { OnOk result ((message : List ℕ) → LacksType (upgrade_of self.now) id message → ⊥) }
-        ensures cause { IfErr result (λ e. (e ≡ OutOfMemory) ⊎ ((message : List ℕ) × LacksType (upgrade_of self.now) id message × (e ≡ Semantic None message cause.UpgradeMismatch))) }
+        requires ready { IsSemverMergeReady self.now }
+        ensures ok { IfOk result (λ target. target ≡ newest_type (semver_merge_of self.now) id) }
+        ensures complete { OnOk result ((message : List ℕ) → LacksType (semver_merge_of self.now) id message → ⊥) }
+        ensures cause { IfErr result (λ e. (e ≡ OutOfMemory) ⊎ ((message : List ℕ) × LacksType (semver_merge_of self.now) id message × (e ≡ Semantic None message cause.UpgradeMismatch))) }
     {
         let types = self.graph.types.as_slice();
         let Some(old) = type_interface_dep(types, id) else {

@@ -1,7 +1,7 @@
 //! Tracks of interfaces: what is the same for all on one track, and which of two is of a greater version.
 ghost use Rattle.std.specs.Prelude.{◌≡◌, IfOk};
 ghost use Rattle.std.specs.Option.{option_map};
-ghost use Rattle.wit_semver_spec.specs.Rewritten.{is_below, versioned};
+ghost use Rattle.wit_semver_spec.specs.SemverMerged.{is_below, versioned};
 ghost use Rattle.wit_semver.specs.steps.Replacing.{key_of, told};
 
 use std::alloc::{AllocError, Global};

@@ -10,16 +10,16 @@ use Rattle.wit_elaboration.specs.Valid.{IsValid}
 use Rattle.wit_graph_data.specs.declared.graph.Graph.{Graph}
 use Rattle.wit_graph_theory.specs.facts.ListFacts.{at_map}
 use Rattle.wit_elaboration.specs.AllElaborated.{all_elaborated, elaborated_world}
-use Rattle.wit_semver_spec.specs.Rewritten.{rewritten, with_new_entries, with_new_entries_at, Upgrade, SemverMergeIsAccepted}
+use Rattle.wit_semver_spec.specs.SemverMerged.{semver_merged, with_new_entries, with_new_entries_at, SemverMerge, SemverMergeIsAccepted}
 use Rattle.wit_semver_spec.specs.facts.Accepting.{elaborates, rewritten_is}
 
 some_same : (x y : World) → Some x ≡ Some y → x ≡ y
 some_same x y same = cc
 
 pub worlds_are_elaborated : ConflictsAreRefused → (rule : TrackRule) (g : Graph) (w : ℕ) (old : World) (v : ℕ) (listed new : World) → IsValid g → slice_get g.worlds w ≡ Some old → SemverMergeIsAccepted rule g w
-    → slice_get (with_new_entries rule g w).worlds v ≡ Some listed → slice_get (rewritten rule g w).worlds v ≡ Some new → Elaborated (rewritten rule g w).types (graph_uses (rewritten rule g w)) listed new
+    → slice_get (with_new_entries rule g w).worlds v ≡ Some listed → slice_get (semver_merged rule g w).worlds v ≡ Some new → Elaborated (semver_merged rule g w).types (graph_uses (semver_merged rule g w)) listed new
 worlds_are_elaborated refused rule g w old v listed new valid there accepted at is =
-    let u : Upgrade = record { rule = rule; graph = g; world = old } in
+    let u : SemverMerge = record { rule = rule; graph = g; world = old } in
     let now = rewritten_is rule g w old there in
     let here : slice_get (with_new_entries_at u w).worlds v ≡ Some listed =
     subst (λ (o : Option World). slice_get (option_map_or (λ (world : World). with_new_entries_at (record { rule = rule; graph = g; world = world }) w) o g).worlds v ≡ Some listed) there at in

@@ -12,7 +12,7 @@ use Rattle.wit_graph_theory.specs.facts.ListFacts.{at_map, found_at, same_at, so
 use Rattle.wit_graph_theory.specs.facts.OptionFacts.{some_by}
 use Rattle.wit_elaboration.specs.AllElaborated.{all_elaborated, elaborated_world}
 use Rattle.wit_values.specs.facts.Lists.{kept-cases, slice_get-set}
-use Rattle.wit_semver_spec.specs.Rewritten.{listed_world, new_target, retargeted, rewritten_types, upgrade, with_new_entries_at, Upgrade, newest, name_of, target_name}
+use Rattle.wit_semver_spec.specs.SemverMerged.{listed_world, new_target, retargeted, rewritten_types, semver_merge, with_new_entries_at, SemverMerge, newest, name_of, target_name}
 use Rattle.wit_semver_spec.specs.laws.Unchanged.{SameButLists, SameButTarget}
 use Rattle.wit_semver_spec.specs.laws.TrackLaws.{AliasesKeepNames, KeepsThings, RewrittenKeep}
 use Rattle.wit_semver_spec.specs.facts.TypesAfter.{after, needs_as_alias, retargeted_from, retargeted_name, retargeted_type, type_after, type_into}
@@ -25,7 +25,7 @@ elaborated_at g v world listed at same =
     some_at (SameButLists world) (all_elaborated g).worlds v (elaborated_world g listed) (at_map (elaborated_world g) g.worlds v listed at)
     (ap (λ (x : World). record x { imports = (elaborated_world g listed).imports; exports = (elaborated_world g listed).exports }) same)
 
-module _ (u : Upgrade) (w : ℕ) (there : slice_get u.graph.worlds w ≡ Some u.world) where
+module _ (u : SemverMerge) (w : ℕ) (there : slice_get u.graph.worlds w ≡ Some u.world) where
   worlds_kept : EachAt (λ v (world : World). SomeAt (all_elaborated (with_new_entries_at u w)).worlds v (SameButLists world)) u.graph.worlds
   worlds_kept v world at =
       elim (kept-cases u.graph.worlds w (listed_world u) v world at) [
@@ -40,7 +40,7 @@ module _ (u : Upgrade) (w : ℕ) (there : slice_get u.graph.worlds w ≡ Some u.
 
 -- ---- types
 
-module _ (u : Upgrade) where
+module _ (u : SemverMerge) where
   -- what is rewritten was an alias, and is one
   same_but : (t : ℕ) (def : TypeDef) (o : Option ℕ) → slice_get u.graph.types t ≡ Some def → new_target u t ≡ o → SameButTarget def (retargeted def o)
   same_but t def None at is = (refl, inl refl)
@@ -57,7 +57,7 @@ module _ (u : Upgrade) where
 pub rewritten_keep : RewrittenKeep
 rewritten_keep rule g w = by (slice_get g.worlds w) refl
   where
-    by : (o : Option World) → slice_get g.worlds w ≡ o → KeepsThings g (all_elaborated (option_map_or (λ (world : World). with_new_entries_at (upgrade rule g world) w) o g))
+    by : (o : Option World) → slice_get g.worlds w ≡ o → KeepsThings g (all_elaborated (option_map_or (λ (world : World). with_new_entries_at (semver_merge rule g world) w) o g))
     by None none = record {
       types = λ t def at. some_at (SameButTarget def) g.types t def at (refl, inl refl);
       interfaces = refl;
@@ -66,16 +66,16 @@ rewritten_keep rule g w = by (slice_get g.worlds w) refl
       names = refl;
     }
     by (Some world) there = record {
-      types = types_kept (upgrade rule g world);
+      types = types_kept (semver_merge rule g world);
       interfaces = refl;
-      worlds = worlds_kept (upgrade rule g world) w there;
+      worlds = worlds_kept (semver_merge rule g world) w there;
       packages = refl;
       names = refl;
     }
 
 -- ---- names
 
-module _ (u : Upgrade) where
+module _ (u : SemverMerge) where
   -- types have their names
   names_kept : (s : ℕ) → name_of (rewritten_types u) s ≡ name_of u.graph.types s
   names_kept s = by (slice_get u.graph.types s) refl (slice_get (rewritten_types u) s) refl
@@ -119,6 +119,6 @@ module _ (u : Upgrade) where
 pub aliases_keep_names : AliasesKeepNames
 aliases_keep_names rule g w valid = by (slice_get g.worlds w)
   where
-    by : (o : Option World) (t : ℕ) → target_name (all_elaborated (option_map_or (λ (world : World). with_new_entries_at (upgrade rule g world) w) o g)).types t ≡ target_name g.types t
+    by : (o : Option World) (t : ℕ) → target_name (all_elaborated (option_map_or (λ (world : World). with_new_entries_at (semver_merge rule g world) w) o g)).types t ≡ target_name g.types t
     by None t = refl
-    by (Some world) t = targets_kept (upgrade rule g world) valid t
+    by (Some world) t = targets_kept (semver_merge rule g world) valid t

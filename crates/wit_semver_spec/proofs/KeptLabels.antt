@@ -25,7 +25,7 @@ use Rattle.wit_graph_theory.specs.facts.ListFacts.{found_at, place_of, same_at}
 use Rattle.wit_elaboration.specs.AllElaborated.{elaborated_world}
 use Rattle.wit_graph_theory.specs.facts.LawsOfElaboration.{LawsOfElaboration}
 use Rattle.wit_graph_theory.specs.facts.OptionFacts.{option_cases}
-use Rattle.wit_semver_spec.specs.Rewritten.{is_replaced_entry, kept_imports, listed_world, new_target, retargeted, rewritten_types, with_new_entries_at, Upgrade, newest, IsComplete}
+use Rattle.wit_semver_spec.specs.SemverMerged.{is_replaced_entry, kept_imports, listed_world, new_target, retargeted, rewritten_types, with_new_entries_at, SemverMerge, newest, IsComplete}
 use Rattle.wit_semver_spec.specs.facts.Accepting.{complete, elaborates, in_order, listed_there, new_types, new_uses, uses_acyclic}
 use Rattle.wit_semver_spec.specs.facts.Merged.{is_done}
 use Rattle.wit_semver_spec.specs.facts.TypesAfter.{after, needs_after, retargeted_from, retargeted_owner, retargeted_type, type_into}
@@ -74,7 +74,7 @@ both_or_none (Some j) (Some f) back there = refl
 both_or_none None (Some f) back there = let some = there f refl in let no = some.1 in cc
 both_or_none (Some j) None back there = let some = back j refl in let no = some.1 in cc
 
-module _ (u : Upgrade) (valid : IsValid u.graph) (complete : IsComplete u) (w : ℕ) where
+module _ (u : SemverMerge) (valid : IsValid u.graph) (complete : IsComplete u) (w : ℕ) where
   abbrev types : List TypeDef
   types = u.graph.types
 
@@ -128,12 +128,12 @@ module _ (u : Upgrade) (valid : IsValid u.graph) (complete : IsComplete u) (w : 
 
 -- ---- labels
 
-kept_label : (u : Upgrade) (k : WorldKey) (held : WorldItem) → is_label k ≡ true → not (is_replaced_entry u (k, held)) ≡ true
+kept_label : (u : SemverMerge) (k : WorldKey) (held : WorldItem) → is_label k ≡ true → not (is_replaced_entry u (k, held)) ≡ true
 kept_label u (key.Name name) held label = refl
 kept_label u (key.Interface i) held label = cc
 
 module _ (laws : LawsOfElaboration) (rule : TrackRule) (g : Graph) (w : ℕ) (old new : World) (merged : IsSemverMerged rule g w old new) where
-  abbrev u : Upgrade
+  abbrev u : SemverMerge
   u = record { rule = rule; graph = g; world = old }
 
   abbrev now : List TypeDef

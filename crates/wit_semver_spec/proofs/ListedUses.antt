@@ -31,7 +31,7 @@ use Rattle.wit_graph_theory.specs.facts.UnnamedOnceFrom.{StandsOnceOnly-from_onc
 use Rattle.wit_graph_theory.specs.laws.PackageCycles.{ListsUses}
 use Rattle.wit_graph_theory.specs.facts.PackagesAcyclic.{there_is}
 use Rattle.wit_transform.specs.facts.UnnamedOnceTransformed.{set_split}
-use Rattle.wit_semver_spec.specs.Rewritten.{entry_types, is_replaced_entry, kept_imports, listed_world, rewritable_types, rewritten_types, types_of, Upgrade, IsComplete}
+use Rattle.wit_semver_spec.specs.SemverMerged.{entry_types, is_replaced_entry, kept_imports, listed_world, rewritable_types, rewritten_types, types_of, SemverMerge, IsComplete}
 use Rattle.wit_semver_spec.specs.facts.Accepting.{new_uses, relisted_worlds}
 use Rattle.wit_semver_spec.specs.facts.KeptKeys.{named_lists_uses}
 use Rattle.wit_semver_spec.specs.facts.TypesAfter.{needs_after}
@@ -41,7 +41,7 @@ instance_item (item.Interface id stability docs span external_id) i has = ap (λ
 instance_item (item.Function f) i has = absurd (Contains-nil has)
 instance_item (item.Type_ t span) i has = absurd (Contains-nil has)
 
-module _ (least : ImportsAreLeast) (u : Upgrade) (valid : IsValid u.graph) (w : ℕ) (there : slice_get u.graph.worlds w ≡ Some u.world) (complete : IsComplete u) where
+module _ (least : ImportsAreLeast) (u : SemverMerge) (valid : IsValid u.graph) (w : ℕ) (there : slice_get u.graph.worlds w ≡ Some u.world) (complete : IsComplete u) where
   abbrev interfaces : List Interface
   interfaces = u.graph.interfaces
 

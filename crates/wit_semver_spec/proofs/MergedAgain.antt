@@ -15,7 +15,7 @@ use Rattle.wit_graph_data.specs.declared.graph.Graph.{Graph}
 use Rattle.wit_graph_theory.specs.facts.LawsOfElaboration.{LawsOfElaboration}
 use Rattle.wit_graph_theory.specs.facts.ListFacts.{at_map}
 use Rattle.wit_values.specs.facts.Lists.{slice_get-set}
-use Rattle.wit_semver_spec.specs.Rewritten.{imported, interface_type, is_replaced, is_replaced_entry, kept_imports, listed_world, new_target, newest, newest_type, replaced_use, rewritable_types, rewritten, target_name, with_new_entries_at, Upgrade, SemverMergeIsAccepted}
+use Rattle.wit_semver_spec.specs.SemverMerged.{imported, interface_type, is_replaced, is_replaced_entry, kept_imports, listed_world, new_target, newest, newest_type, replaced_use, rewritable_types, semver_merged, target_name, with_new_entries_at, SemverMerge, SemverMergeIsAccepted}
 use Rattle.wit_semver_spec.specs.facts.Accepting.{rewritten_is}
 use Rattle.wit_semver_spec.specs.facts.Greatest.{newest_stays}
 use Rattle.wit_semver_spec.specs.facts.Merged.{one_on_each}
@@ -44,7 +44,7 @@ either_none false o none = refl
 
 -- ---- of a valid graph in which no import is replaced
 
-module _ (u : Upgrade) (stay : (i : ℕ) → is_replaced u i ≡ false) (w : ℕ) (there : slice_get u.graph.worlds w ≡ Some u.world) where
+module _ (u : SemverMerge) (stay : (i : ℕ) → is_replaced u i ≡ false) (w : ℕ) (there : slice_get u.graph.worlds w ≡ Some u.world) where
   entries_stay : kept_imports u ≡ u.world.imports
   entries_stay = all_stay (λ (e : Entry). not (is_replaced_entry u e)) u.world.imports (λ e. ap not (none_passes (is_replaced u) (key_interface e.0) stay))
 
@@ -65,7 +65,7 @@ module _ (u : Upgrade) (stay : (i : ℕ) → is_replaced u i ≡ false) (w : ℕ
       ap (λ (entries : List Entry). slice_set u.graph.worlds w (record u.world { imports = entries })) entries_stay ∙ set_same u.graph.worlds w u.world there
 
   -- so no cause holds, and all stays
-  changes_nothing : LawsOfElaboration → ImportsKeepOrder → IsValid u.graph → SemverMergeIsAccepted u.rule u.graph w × (rewritten u.rule u.graph w ≡ u.graph)
+  changes_nothing : LawsOfElaboration → ImportsKeepOrder → IsValid u.graph → SemverMergeIsAccepted u.rule u.graph w × (semver_merged u.rule u.graph w ≡ u.graph)
   changes_nothing laws order valid =
       let same = same_types_keep_worlds laws order u w valid there no_target (λ t message follows lacks. false≢true (sym (stay lacks.f) ∙ (replaced_use_from u t lacks.f lacks.uses).1)) (λ f message differ. false≢true (sym (stay f) ∙ differ.replaced)) in
       (same.0, same.1 ∙ ap (λ (worlds : List World). record u.graph { worlds = worlds }) worlds_stay)
@@ -74,9 +74,9 @@ module _ (u : Upgrade) (stay : (i : ℕ) → is_replaced u i ≡ false) (w : ℕ
 
 module _ (laws : LawsOfElaboration) (rule : TrackRule) (g : Graph) (w : ℕ) (old : World) (valid : IsValid g) (there : slice_get g.worlds w ≡ Some old) (accepted : SemverMergeIsAccepted rule g w) where
   abbrev merged : Graph
-  merged = rewritten rule g w
+  merged = semver_merged rule g w
 
-  abbrev again : World → Upgrade
+  abbrev again : World → SemverMerge
   again world = record { rule = rule; graph = merged; world = world }
 
   stay : (world : World) → slice_get merged.worlds w ≡ Some world → (i : ℕ) → is_replaced (again world) i ≡ false
@@ -89,7 +89,7 @@ module _ (laws : LawsOfElaboration) (rule : TrackRule) (g : Graph) (w : ℕ) (ol
     | inr off ↦ off
   ]
 
-  abbrev first : Upgrade
+  abbrev first : SemverMerge
   first = record { rule = rule; graph = g; world = old }
 
   abbrev done : World
@@ -103,5 +103,5 @@ module _ (laws : LawsOfElaboration) (rule : TrackRule) (g : Graph) (w : ℕ) (ol
   valid_after : IsValid merged
   valid_after = rewritten_is_valid laws rule g w old valid there accepted
 
-  pub semver_merges_once : ImportsKeepOrder → SemverMergeIsAccepted rule merged w × (rewritten rule merged w ≡ merged)
+  pub semver_merges_once : ImportsKeepOrder → SemverMergeIsAccepted rule merged w × (semver_merged rule merged w ≡ merged)
   semver_merges_once order = changes_nothing (again done) (stay done there_after) w there_after laws order valid_after

@@ -48,7 +48,7 @@ use Rattle.wit_graph_theory.specs.facts.ListFacts.{Contains-map, place_of}
 use Rattle.wit_graph_theory.specs.facts.PackageCycleFacts.{row_from, row_into}
 use Rattle.wit_graph_theory.specs.facts.PackagesAcyclic.{is_there, there_is}
 use Rattle.wit_transform.specs.facts.UnnamedOnceTransformed.{set_split}
-use Rattle.wit_semver_spec.specs.Rewritten.{Agrees, IsComplete, Upgrade, UpgradeCause, conflict_4, functions_disagree_25, interface_cycle_22, is_replaced, is_replaced_entry, kept_imports, listed_world, new_target, package_cycle_6, retargeted, rewritten_types, type_cycle_23, type_missing_25, with_new_entries_at}
+use Rattle.wit_semver_spec.specs.SemverMerged.{Agrees, IsComplete, SemverMerge, SemverMergeCause, conflict_4, functions_disagree_25, interface_cycle_22, is_replaced, is_replaced_entry, kept_imports, listed_world, new_target, package_cycle_6, retargeted, rewritten_types, type_cycle_23, type_missing_25, with_new_entries_at}
 use Rattle.wit_semver_spec.specs.facts.Accepting.{in_order, listed_there, relisted_from, rewritten_is}
 use Rattle.wit_semver_spec.specs.facts.Greatest.{any_of}
 use Rattle.wit_semver_spec.specs.facts.KeptKeys.{kept_holds, kept_into, kept_test, passed}
@@ -138,7 +138,7 @@ fewer_named types world before i fewer same has =
       | inr among ↦ Contains-append_right (entry_interfaces types before.imports) (entry_interfaces types before.exports) i (subst (λ (es : List Entry). Contains (entry_interfaces types es) i) same among)
     ]
 
-module _ (laws : LawsOfElaboration) (order : ImportsKeepOrder) (u : Upgrade) (valid : IsValid u.graph) (w : ℕ) (there : slice_get u.graph.worlds w ≡ Some u.world)
+module _ (laws : LawsOfElaboration) (order : ImportsKeepOrder) (u : SemverMerge) (valid : IsValid u.graph) (w : ℕ) (there : slice_get u.graph.worlds w ≡ Some u.world)
     (stay : RetargetsNone u) (complete : IsComplete u) where
   abbrev types : List TypeDef
   types = u.graph.types
@@ -307,7 +307,7 @@ module _ (laws : LawsOfElaboration) (order : ImportsKeepOrder) (u : Upgrade) (va
   so : (P : Graph → Type 0) → P (record u.graph { worlds = relisted }) → P (with_new_entries_at u w)
   so P = subst P (λ i. record u.graph { types = sym types_stay i; worlds = relisted })
 
-  pub no_cause : Agrees u → (error : ResolveErrorKind) → UpgradeCause u w error → ⊥
+  pub no_cause : Agrees u → (error : ResolveErrorKind) → SemverMergeCause u w error → ⊥
   no_cause agree error (conflict_4 span name whole is) =
       so (λ h. (world : World) → Contains h.worlds world → HasTransitiveConflict (graph_uses h) world.exports → ⊥) no_conflict is.world is.there is.conflict
   no_cause agree error (package_cycle_6 home whole is) = no_cycle (graph_package_uses (with_new_entries_at u w)) (so (λ h. IsAcyclic (graph_package_uses h)) packages_acyclic) is.p is.q is.on_cycle
@@ -323,6 +323,6 @@ pub same_types_keep_worlds : LawsOfElaboration → ImportsKeepOrder → SameType
 same_types_keep_worlds laws order u w valid there stay complete agree = (
   λ error cause.
       let one : cause.0 ≡ u.world = some_world cause.0 u.world (sym cause.1 ∙ there) in
-      no_cause laws order u valid w there stay complete agree error (subst (λ (x : World). UpgradeCause (record u { world = x }) w error) one cause.2),
+      no_cause laws order u valid w there stay complete agree error (subst (λ (x : World). SemverMergeCause (record u { world = x }) w error) one cause.2),
   rewritten_is u.rule u.graph w u.world there ∙ merged_is laws order u valid w there stay complete,
 )

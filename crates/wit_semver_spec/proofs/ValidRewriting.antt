@@ -24,14 +24,14 @@ use Rattle.wit_graph_theory.specs.facts.UnnamedOnceFacts.{StandOnce-from_entries
 use Rattle.wit_graph_theory.specs.facts.PackageCycleFacts.{acyclic_packages, packages_stay_acyclic}
 use Rattle.wit_elaboration.specs.AllElaborated.{elaborated_world, graph_package_uses, type_cycle_text}
 use Rattle.wit_graph_theory.specs.facts.LawsOfElaboration.{LawsOfElaboration}
-use Rattle.wit_semver_spec.specs.Rewritten.{listed_world, new_target, rewritten, with_new_entries_at, Upgrade, SemverMergeIsAccepted}
+use Rattle.wit_semver_spec.specs.SemverMerged.{listed_world, new_target, semver_merged, with_new_entries_at, SemverMerge, SemverMergeIsAccepted}
 use Rattle.wit_semver_spec.specs.facts.Accepting.{complete, elaborates, listed_there, new_aliases, new_exports, new_imports, no_package_cycle, no_type_cycle, relisted_worlds, rewritten_is, uses_acyclic}
 use Rattle.wit_semver_spec.proofs.ListedUses.{listed_lists_uses}
 use Rattle.wit_semver_spec.specs.facts.TypesAfter.{retargeted_name, retargeted_owner, type_after}
 use Rattle.wit_semver_spec.specs.facts.TypesGood.{interface_after, known_after, on_the_way, refers_in_range, refers_to_own, unnamed_plain}
 use Rattle.wit_semver_spec.proofs.WorldsGood.{done, done_is_canonical, done_is_good, from, new, one_place_new, same_name, same_package, types_stay, with_new_entries, world_from}
 
-module _ (laws : LawsOfElaboration) (u : Upgrade) (valid : IsValid u.graph) (w : ℕ) (there : slice_get u.graph.worlds w ≡ Some u.world) (accepted : SemverMergeIsAccepted u.rule u.graph w) where
+module _ (laws : LawsOfElaboration) (u : SemverMerge) (valid : IsValid u.graph) (w : ℕ) (there : slice_get u.graph.worlds w ≡ Some u.world) (accepted : SemverMergeIsAccepted u.rule u.graph w) where
   abbrev g : Graph
   g = u.graph
 
@@ -187,7 +187,7 @@ module _ (laws : LawsOfElaboration) (u : Upgrade) (valid : IsValid u.graph) (w :
   pub valid_made : IsValid made
   valid_made = IsValid-from_good made good_made whole_made
 
-pub rewritten_is_valid : (laws : LawsOfElaboration) (rule : TrackRule) (g : Graph) (w : ℕ) (old : World) → IsValid g → slice_get g.worlds w ≡ Some old → SemverMergeIsAccepted rule g w → IsValid (rewritten rule g w)
+pub rewritten_is_valid : (laws : LawsOfElaboration) (rule : TrackRule) (g : Graph) (w : ℕ) (old : World) → IsValid g → slice_get g.worlds w ≡ Some old → SemverMergeIsAccepted rule g w → IsValid (semver_merged rule g w)
 rewritten_is_valid laws rule g w old valid there accepted =
-    let u : Upgrade = record { rule = rule; graph = g; world = old } in
+    let u : SemverMerge = record { rule = rule; graph = g; world = old } in
     subst IsValid (sym (rewritten_is rule g w old there)) (valid_made laws u valid w there accepted)

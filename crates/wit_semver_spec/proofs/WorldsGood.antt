@@ -35,7 +35,7 @@ use Rattle.wit_graph_theory.specs.facts.UnnamedOnceFrom.{StandsOnceOnly-from_onc
 use Rattle.wit_elaboration.specs.AllElaborated.{all_elaborated, elaborated_world}
 use Rattle.wit_graph_theory.specs.facts.ElaboratedCome.{interface_without_span}
 use Rattle.wit_graph_theory.specs.facts.LawsOfElaboration.{LawsOfElaboration}
-use Rattle.wit_semver_spec.specs.Rewritten.{is_replaced_entry, with_new_entries_at, Upgrade, is_replaced, SemverMergeIsAccepted}
+use Rattle.wit_semver_spec.specs.SemverMerged.{is_replaced_entry, with_new_entries_at, SemverMerge, is_replaced, SemverMergeIsAccepted}
 use Rattle.wit_semver_spec.specs.facts.Accepting.{Relisted, elaborates, in_order, new_aliases, new_exports, new_imports, new_types, new_uses, relisted_from, relisted_worlds, uses_acyclic}
 use Rattle.wit_semver_spec.specs.facts.TypesGood.{item_own_after}
 
@@ -43,7 +43,7 @@ abbrev entry : WorldKey → WorldItem → Entry
 entry k held = (k, held)
 
 -- a type that an entry lists stands under a label, has no span to lose, and isn't replaced
-listed_is : (u : Upgrade) (e : Entry) (n : List ℕ × ℕ) → Contains (entry_type e.0 e.1) n → (not (is_replaced_entry u e) ≡ true) × (is_label e.0 ≡ true) × (listed_without_span e ≡ e)
+listed_is : (u : SemverMerge) (e : Entry) (n : List ℕ × ℕ) → Contains (entry_type e.0 e.1) n → (not (is_replaced_entry u e) ≡ true) × (is_label e.0 ≡ true) × (listed_without_span e ≡ e)
 listed_is u e n has = by e.0 e.1 has
   where
     by : (k : WorldKey) (held : WorldItem) → Contains (entry_type k held) n → (not (list_any (is_replaced u) (key_interface k)) ≡ true) × (is_label k ≡ true) × (entry k (without_span held) ≡ entry k held)
@@ -52,7 +52,7 @@ listed_is u e n has = by e.0 e.1 has
     by (key.Name name) (item.Function fn) has = absurd (Contains-nil has)
     by (key.Interface f) held has = absurd (Contains-nil has)
 
-module _ (laws : LawsOfElaboration) (u : Upgrade) (valid : IsValid u.graph) (w : ℕ) (there : slice_get u.graph.worlds w ≡ Some u.world) (accepted : SemverMergeIsAccepted u.rule u.graph w) where
+module _ (laws : LawsOfElaboration) (u : SemverMerge) (valid : IsValid u.graph) (w : ℕ) (there : slice_get u.graph.worlds w ≡ Some u.world) (accepted : SemverMergeIsAccepted u.rule u.graph w) where
   abbrev types : List TypeDef
   types = new_types u valid w there
 

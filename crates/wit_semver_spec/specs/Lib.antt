@@ -1,3 +1,3 @@
-pub mod Rewritten
+pub mod SemverMerged
 pub mod facts
 pub mod laws

@@ -20,11 +20,11 @@ use Rattle.wit_graph_theory.specs.facts.ListFacts.{Contains-map, Contains-map_ca
 use Rattle.wit_labels.specs.Setters.{getter_label}
 use Rattle.wit_labels.specs.Strong.{Clashes}
 use Rattle.wit_link_spec.specs.Addition.{Addition, active_includes, addition_maps, own_worlds, remapped_world}
-use Rattle.wit_link_spec.specs.Cause.{IsCause, IsReached, of_world}
+use Rattle.wit_link_spec.specs.Cause.{IsAdditionCause, IsReached, of_world}
 use Rattle.wit_link_spec.specs.WorldReasons.{IsFinishCause, LabelsClash, SetterIsAlone, no_getter_18, not_strongly_unique_17, IsIncludeCause, AtWorld, IncludeIsAccepted, IsCauseAtFinish, IsCauseAtInclude, WorldIsAccepted, of_finish, of_include, written_no_getter_18, written_not_strongly_unique_17}
 use Rattle.wit_link_spec.specs.Gates.{include_is_active}
 use Rattle.wit_link_spec.specs.Include.{IsListCalled, PartiallyLinked, lists_of, with_entry_lists, with_include_of}
-use Rattle.wit_link_spec.specs.Pushed.{updated_include, with_all_includes, with_finished, with_include, with_includes, with_parts, with_world, with_worlds}
+use Rattle.wit_link_spec.specs.Added.{updated_include, with_all_includes, with_finished, with_include, with_includes, with_parts, with_world, with_worlds}
 use Rattle.wit_link_spec.specs.facts.Linked.{updated_includes}
 use Rattle.wit_link_spec.specs.Reasons.{IsResolved}
 use Rattle.wit_link_include.specs.steps.Included as local
@@ -207,7 +207,7 @@ include_reached a k j at fine = include_is_accepted a k j (λ at'. one_world a k
 
 -- why a world is refused at its stage is a cause of the addition
 pub world_cause : (a : Addition) (k : ℕ) (at : AtWorld a k) → IsResolved a → IsReached a k → (kind : ResolveErrorKind)
-    → local.IsWorldCause (home a) (with_worlds a k) (image_at a at.id at.world) (updated_includes a at.world) kind → IsCause a kind
+    → local.IsWorldCause (home a) (with_worlds a k) (image_at a at.id at.world) (updated_includes a at.world) kind → IsAdditionCause a kind
 world_cause a k at image reached kind (local.at_include j stops) =
     of_world k kind reached (of_include j kind image (λ i before. include_reached a k i at (stops.earlier i before)) (stage_cause a k j at stops.include stops.is kind stops.cause))
 world_cause a k at image reached kind (local.as_finished fine is) =

@@ -21,7 +21,7 @@ use Rattle.wit_link_spec.specs.Addition.{Addition, active_includes, remapped_wor
 use Rattle.wit_link_spec.specs.Cause.{IsReached}
 use Rattle.wit_link_spec.specs.facts.Linked.{IncludeIsReached}
 use Rattle.wit_link_spec.specs.Include.{PartiallyLinked}
-use Rattle.wit_link_spec.specs.Pushed.{updated_include, with_parts, with_worlds}
+use Rattle.wit_link_spec.specs.Added.{updated_include, with_parts, with_worlds}
 use Rattle.wit_link_spec.specs.facts.Linked.{updated_includes}
 use Rattle.wit_link_spec.specs.Reasons.{IsResolved}
 use Rattle.wit_link_spec.specs.WorldReasons.{AtWorld}

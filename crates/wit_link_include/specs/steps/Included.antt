@@ -33,7 +33,7 @@ use Rattle.wit_link_spec.specs.CauseText.{clash_text, getter_text}
 use Rattle.wit_link_spec.specs.Gates.{OptionalSpan}
 use Rattle.wit_link_spec.specs.Include.{EntryLists, PartiallyLinked, joined_entries, lists_of, with_entry_lists, with_include_of, belongs_to, entry_mentions, is_owned_within, is_unnamed_type, named_types, owner_belongs_to}
 use Rattle.wit_remap_spec.specs.Joined.{include_stability, Disagree}
-use Rattle.wit_link_spec.specs.Pushed.{with_finished}
+use Rattle.wit_link_spec.specs.Added.{with_finished}
 use Rattle.wit_link_spec.specs.WorldReasons.{IsFinishCause, IsIncludeCause, IsRenamed, IsShadowed}
 use Rattle.wit_link_laws.specs.laws.StageFacts.{CanBeLinked, CanInclude, IsPartiallyLinked}
 use Rattle.wit_link_include.specs.declared.copies.Copies.{Copies}

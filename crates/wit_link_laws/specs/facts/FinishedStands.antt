@@ -33,7 +33,7 @@ use Rattle.wit_graph_theory.specs.steps.UnnamedOnce.{Holds, Origin, StandsOnceOn
 use Rattle.wit_graph_theory.specs.facts.UnnamedOnceCarried.{StandsOnceOnly-of_covered, named_not}
 use Rattle.wit_graph_theory.specs.facts.UnnamedOnceFrom.{cut_has_one_place}
 use Rattle.wit_graph_theory.specs.steps.Sources.{Carries, IsGoodSource, Source}
-use Rattle.wit_link_spec.specs.Pushed.{with_setters_placed}
+use Rattle.wit_link_spec.specs.Added.{with_setters_placed}
 use Rattle.wit_labels.specs.Setters.{setters_placed}
 use Rattle.wit_link_laws.specs.facts.ListedTypes.{lists_type}
 use Rattle.wit_link_laws.specs.facts.PartiallyLinked.{IsSoundSoFar}

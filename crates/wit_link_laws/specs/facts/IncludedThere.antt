@@ -12,7 +12,7 @@ use Rattle.wit_graph_theory.specs.facts.ListFacts.{contained_at, get_at, place_o
 use Rattle.wit_link_spec.specs.Addition.{Addition, active_includes, own_world, own_worlds, remapped_world}
 use Rattle.wit_link_spec.specs.facts.ClosedCut.{kept_world}
 use Rattle.wit_link_spec.specs.Gates.{include_is_active, is_foreign_world, world_is_active}
-use Rattle.wit_link_spec.specs.Pushed.{with_worlds}
+use Rattle.wit_link_spec.specs.Added.{with_worlds}
 use Rattle.wit_link_spec.specs.facts.RankFacts.{rank-strict}
 use Rattle.wit_link_spec.specs.Reasons.{IsResolved, of_include}
 use Rattle.wit_link_spec.specs.facts.Standing.{foreign_world_within, own_world_remapped}

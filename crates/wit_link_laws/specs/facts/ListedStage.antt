@@ -27,7 +27,7 @@ use Rattle.wit_graph_theory.specs.steps.Sources.{Carries, InterfaceStands, Sourc
 use Rattle.wit_link_spec.specs.Addition.{Addition, addition_maps, own_world, own_worlds, remapped_world}
 use Rattle.wit_remap_spec.specs.Selected.{rank}
 use Rattle.wit_link_spec.specs.facts.ActivePart.{part}
-use Rattle.wit_link_spec.specs.Pushed.{with_parts}
+use Rattle.wit_link_spec.specs.Added.{with_parts}
 use Rattle.wit_link_spec.specs.Reasons.{IsResolved}
 use Rattle.wit_link_spec.specs.facts.Standing.{own_world_remapped}
 use Rattle.wit_link_laws.specs.facts.OldWorlds.{old_world_comes}

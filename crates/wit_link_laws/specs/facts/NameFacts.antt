@@ -15,7 +15,7 @@ use Rattle.wit_graph_data.specs.declared.graph.Graph.{Graph}
 use Rattle.wit_graph_data.specs.declared.graph.Package.{Package}
 use Rattle.wit_graph_theory.specs.facts.ListFacts.{SomeAt-old, contained_at, old_or_new, some_at}
 use Rattle.wit_link_spec.specs.Addition.{Addition}
-use Rattle.wit_link_spec.specs.Pushed.{new_package}
+use Rattle.wit_link_spec.specs.Added.{new_package}
 use Rattle.wit_link_spec.specs.Reasons.{HasPackage}
 use Rattle.wit_link_laws.specs.facts.Grown.{IsGrown}
 use Rattle.wit_link_laws.specs.facts.TableFacts.{each_pushed}

@@ -17,7 +17,7 @@ use Rattle.wit_link_spec.specs.Addition.{Addition, own_interface, remapped_inter
 use Rattle.wit_remap_spec.specs.Selected.{rank, selected_with_index}
 use Rattle.wit_link_spec.specs.Gates.{interface_is_active, is_foreign_interface}
 use Rattle.wit_link_spec.specs.facts.OwnThingFacts.{own_part}
-use Rattle.wit_link_spec.specs.Pushed.{new_package}
+use Rattle.wit_link_spec.specs.Added.{new_package}
 use Rattle.wit_link_spec.specs.facts.RankFacts.{selected_with_index-from}
 
 -- ---- lists

@@ -36,7 +36,7 @@ use Rattle.wit_graph_theory.specs.facts.ListFacts.{at_below, found_at, from_map,
 use Rattle.wit_graph_theory.specs.facts.PackageCycleFacts.{other_from}
 use Rattle.wit_graph_theory.specs.facts.PackagesAcyclic.{packages_acyclic, there_is}
 use Rattle.wit_link_spec.specs.Addition.{Addition, addition_maps, own_interfaces}
-use Rattle.wit_link_spec.specs.Pushed.{new_package, with_parts}
+use Rattle.wit_link_spec.specs.Added.{new_package, with_parts}
 use Rattle.wit_link_spec.specs.Reasons.{IsResolved}
 use Rattle.wit_link_laws.specs.facts.Grown.{IsGrown, interfaces_behind, more_interfaces, more_types, types_behind}
 use Rattle.wit_link_laws.specs.facts.CanonicalStays.{interface_stays, type_stays}

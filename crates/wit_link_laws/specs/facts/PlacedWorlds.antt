@@ -21,7 +21,7 @@ use Rattle.wit_elaboration.specs.facts.SoundFacts.{HasSoundEntries-of_world, lis
 use Rattle.wit_graph_data.specs.declared.graph.Graph.{Graph}
 use Rattle.wit_graph_theory.specs.facts.ListFacts.{contained_at, place_of}
 use Rattle.wit_graph_theory.specs.facts.NamedUses.{IsUsed_named}
-use Rattle.wit_link_spec.specs.Pushed.{with_setters_placed}
+use Rattle.wit_link_spec.specs.Added.{with_setters_placed}
 use Rattle.wit_labels.specs.Setters.{setters_placed}
 use Rattle.wit_link_laws.specs.facts.PartiallyLinked.{IsSoundSoFar}
 use Rattle.wit_link_laws.specs.facts.PlacedFacts.{placed_distinct, placed_in}

@@ -24,7 +24,7 @@ use Rattle.wit_graph_theory.specs.facts.LawsOfElaboration.{LawsOfElaboration}
 use Rattle.wit_graph_theory.specs.facts.ListFacts.{at_map, get_at}
 use Rattle.wit_link_spec.specs.Addition.{Addition, active_includes, addition_maps, own_worlds, remapped_world}
 use Rattle.wit_link_spec.specs.Include.{IsListCalled, PartiallyLinked, lists_of}
-use Rattle.wit_link_spec.specs.Pushed.{unfinished_world, with_all_includes, with_include, with_includes, with_parts, with_setters_placed, with_world, with_worlds}
+use Rattle.wit_link_spec.specs.Added.{unfinished_world, with_all_includes, with_include, with_includes, with_parts, with_setters_placed, with_world, with_worlds}
 use Rattle.wit_link_spec.specs.facts.Linked.{linked_world}
 use Rattle.wit_link_spec.specs.Reasons.{IsResolved}
 use Rattle.wit_link_spec.specs.WorldReasons.{conflict_4, IsShadowed, renamed_key, shadowing_7, IncludeIsAccepted, WorldIsAccepted, of_finish}

@@ -21,7 +21,7 @@ use Rattle.wit_graph_theory.specs.laws.Theory.{HasGoodTables}
 use Rattle.wit_link_spec.specs.Addition.{Addition, addition_maps, own_interface, own_interfaces, remapped_interface}
 use Rattle.wit_remap_spec.specs.Selected.{rank, selected_with_index}
 use Rattle.wit_link_spec.specs.facts.ActivePart.{part}
-use Rattle.wit_link_spec.specs.Pushed.{new_package, with_parts}
+use Rattle.wit_link_spec.specs.Added.{new_package, with_parts}
 use Rattle.wit_link_spec.specs.facts.RankFacts.{selected_with_index-at}
 use Rattle.wit_link_spec.specs.Reasons.{IsResolved}
 use Rattle.wit_link_laws.specs.facts.NamesOnce.{distinct_interfaces, table_entry}

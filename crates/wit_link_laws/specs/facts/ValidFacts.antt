@@ -18,7 +18,7 @@ use Rattle.wit_graph_theory.specs.facts.ListFacts.{get_at}
 use Rattle.wit_graph_theory.specs.facts.UnnamedOnceFacts.{StandOnce-from_entries}
 use Rattle.wit_link_spec.specs.Addition.{Addition, addition_maps, own_interfaces, own_types, own_worlds, remap_of_addition}
 use Rattle.wit_link_spec.specs.Cause.{IsReached}
-use Rattle.wit_link_spec.specs.Pushed.{pushed, with_parts, with_world, with_worlds}
+use Rattle.wit_link_spec.specs.Added.{added, with_parts, with_world, with_worlds}
 use Rattle.wit_link_spec.specs.Reasons.{HasPackage, IsResolved}
 use Rattle.wit_remap_spec.specs.ValueRemap.{owns}
 use Rattle.wit_link_laws.specs.facts.Grown.{IsGrown, grown}
@@ -52,10 +52,10 @@ module _ (laws : LawsOfElaboration) (a : Addition) (valid : IsValid a.graph) (sh
 
   -- ---- the last is the whole
 
-  all_worlds : with_worlds a (length (own_worlds a)) ≡ pushed a
+  all_worlds : with_worlds a (length (own_worlds a)) ≡ added a
   all_worlds = ap (fold (with_world a) (with_parts a)) (take_all (length (own_worlds a)) (own_worlds a) (omega arith))
 
-  last_stage : stage a (length (own_worlds a)) ≡ pushed a
+  last_stage : stage a (length (own_worlds a)) ≡ added a
   last_stage =
       let past : length (listed_images a) ≤ length (own_worlds a) = let long = length-map (own_worlds a) (λ (e : ℕ × World). world_image (addition_maps a) e.0 e.1) in omega arith in
       let none : drop (length (own_worlds a)) (listed_images a) ≡ [] = drop_of_length-le (listed_images a) past in
@@ -63,18 +63,18 @@ module _ (laws : LawsOfElaboration) (a : Addition) (valid : IsValid a.graph) (sh
       ap (λ (later : List World). let r : Graph = record g { worlds = g.worlds ++ later } in r) none ∙ ap (λ (ws : List World). let r : Graph = record g { worlds = ws } in r) (append-nil g.worlds) ∙ all_worlds
 
   module _ (reached : IsReached a (length (own_worlds a))) where
-    pub pushed_stands : IsSoundSoFar (pushed a)
+    pub pushed_stands : IsSoundSoFar (added a)
     pushed_stands = subst IsSoundSoFar last_stage (stage_stands (length (own_worlds a)) (omega arith) reached)
 
-    pushed_canonical : Each (λ (world : World). Elaborated (pushed a).types (graph_uses (pushed a)) world world) (pushed a).worlds
+    pushed_canonical : Each (λ (world : World). Elaborated (added a).types (graph_uses (added a)) world world) (added a).worlds
     pushed_canonical = subst (λ (g : Graph). Each (λ (world : World). Elaborated g.types (graph_uses g) world world) g.worlds) all_worlds (stage_canonical (length (own_worlds a)) (omega arith) reached)
 
-    pushed_grown : IsGrown a (length (own_worlds a)) (pushed a)
+    pushed_grown : IsGrown a (length (own_worlds a)) (added a)
     pushed_grown = subst (IsGrown a (length (own_worlds a))) all_worlds (grown a (length (own_worlds a)) (omega arith))
 
-    things : HasGoodThings (pushed a)
+    things : HasGoodThings (added a)
     things =
-        let tables = good_tables a valid shaped image (length (own_worlds a)) (pushed a) pushed_grown (new_table a valid shaped (pushed a) pushed_grown) (new_worlds_distinct a shaped) (worlds_in_tables a valid shaped (pushed a) pushed_grown) in
+        let tables = good_tables a valid shaped image (length (own_worlds a)) (added a) pushed_grown (new_table a valid shaped (added a) pushed_grown) (new_worlds_distinct a shaped) (worlds_in_tables a valid shaped (added a) pushed_grown) in
         record {
           types = pushed_stands.items.types;
           known = pushed_stands.items.known;
@@ -86,14 +86,14 @@ module _ (laws : LawsOfElaboration) (a : Addition) (valid : IsValid a.graph) (sh
         }
 
     module _ (absent : HasPackage a.graph a.unresolved.name → ⊥) where
-      whole : IsGoodAsAWhole (pushed a)
+      whole : IsGoodAsAWhole (added a)
       whole = record {
-        package_names = added_names a valid absent (length (own_worlds a)) (pushed a) pushed_grown;
-        once = StandOnce-from_entries (pushed a).interfaces (pushed a).worlds pushed_stands.once;
-        no_cycles = record { uses = pushed_stands.uses; types = pushed_stands.references; packages = added_packages_acyclic a valid shaped image (length (own_worlds a)) (pushed a) pushed_grown };
+        package_names = added_names a valid absent (length (own_worlds a)) (added a) pushed_grown;
+        once = StandOnce-from_entries (added a).interfaces (added a).worlds pushed_stands.once;
+        no_cycles = record { uses = pushed_stands.uses; types = pushed_stands.references; packages = added_packages_acyclic a valid shaped image (length (own_worlds a)) (added a) pushed_grown };
         canonical = pushed_canonical;
       }
 
       -- a valid graph to which a package is added is valid
-      pub valid_pushes : IsValid (pushed a)
-      valid_pushes = IsValid-from_good (pushed a) things whole
+      pub valid_pushes : IsValid (added a)
+      valid_pushes = IsValid-from_good (added a) things whole

@@ -16,7 +16,7 @@ use Rattle.wit_graph_theory.specs.facts.ListFacts.{at_map, at_new, contained_at,
 use Rattle.wit_link_spec.specs.Addition.{Addition, own_world, own_worlds, remapped_world}
 use Rattle.wit_remap_spec.specs.Selected.{rank, selected_with_index}
 use Rattle.wit_link_spec.specs.Gates.{is_foreign_world, world_is_active}
-use Rattle.wit_link_spec.specs.Pushed.{new_package}
+use Rattle.wit_link_spec.specs.Added.{new_package}
 use Rattle.wit_link_spec.specs.facts.RankFacts.{selected_with_index-at, selected_with_index-from}
 use Rattle.wit_link_spec.specs.facts.Standing.{own_world_remapped}
 use Rattle.wit_link_laws.specs.facts.Grown.{IsCalled, IsGrown}

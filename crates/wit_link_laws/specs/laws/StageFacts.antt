@@ -17,7 +17,7 @@ use Rattle.wit_link_spec.specs.Addition.{Addition, active_includes, own_worlds, 
 use Rattle.wit_link_spec.specs.Cause.{IsReached}
 use Rattle.wit_link_spec.specs.facts.Linked.{IncludeIsReached}
 use Rattle.wit_link_spec.specs.Include.{PartiallyLinked, is_owned_within, named_types}
-use Rattle.wit_link_spec.specs.Pushed.{pushed, with_all_includes, with_includes, with_worlds}
+use Rattle.wit_link_spec.specs.Added.{added, with_all_includes, with_includes, with_worlds}
 use Rattle.wit_link_spec.specs.Reasons.{HasPackage, IsResolved}
 use Rattle.wit_link_spec.specs.WorldReasons.{AtInclude, AtWorld, IncludeIsAccepted}
 use Rattle.wit_labels.specs.Setters.{setters_placed}
@@ -61,4 +61,4 @@ WorldsCanBe = (a : Addition) (k : ℕ) → IsValid a.graph → IsShaped a.unreso
 -- a valid graph to which a package is added is valid, where the package has its shape and an image in the graph, the
 -- graph doesn't have it yet, and each of its worlds is accepted
 abbrev pub PushesStayValid : Type 0
-PushesStayValid = (a : Addition) → IsValid a.graph → IsShaped a.unresolved → IsResolved a → (HasPackage a.graph a.unresolved.name → ⊥) → IsReached a (length (own_worlds a)) → IsValid (pushed a)
+PushesStayValid = (a : Addition) → IsValid a.graph → IsShaped a.unresolved → IsResolved a → (HasPackage a.graph a.unresolved.name → ⊥) → IsReached a (length (own_worlds a)) → IsValid (added a)

@@ -30,7 +30,7 @@ use Rattle.wit_graph_data.specs.declared.error_kind.ResolveErrorKind.{ResolveErr
 use Rattle.wit_graph_data.specs.declared.error_kind.ResolveErrorKind.TheVariants.{OutOfMemory}
 use Rattle.wit_link_spec.specs.Addition.{Addition}
 use Rattle.wit_link_spec.specs.steps.AdditionRefs.{activity_of, addition_of}
-use Rattle.wit_link_spec.specs.Cause.{IsCause}
+use Rattle.wit_link_spec.specs.Cause.{IsAdditionCause}
 use Rattle.wit_link_spec.specs.Gates.{HasOwnGate, IsAsked, OptionalSpan, asked_gates, function_is_active, include_is_active, interface_is_active, is_active, is_foreign_interface, is_foreign_world, some_active, type_is_active, world_is_active}
 use Rattle.wit_link_spec.specs.Reasons.{AType, AWorld, AnInterface, IsActiveFunction, IsExcluded, RefersTo, Thing, kind_references, owner_thing}
 use Rattle.wit_link_spec.specs.declared.addition.Activity.{Activity}
@@ -96,7 +96,7 @@ pub record IsCheckerReady (checker : Checker) : Type 0 where
 
 -- a refusal tells a reason, or that memory is wanting
 abbrev pub MayRefuse : Checker → ResolveErrorKind → Type 0
-MayRefuse checker kind = (kind ≡ OutOfMemory) ⊎ IsCause (seen checker) kind
+MayRefuse checker kind = (kind ≡ OutOfMemory) ⊎ IsAdditionCause (seen checker) kind
 
 -- ---- versions
 

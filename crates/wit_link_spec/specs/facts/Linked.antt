@@ -5,7 +5,7 @@ use Rattle.wit_data.specs.declared.world.WorldInclude.{WorldInclude}
 use Rattle.wit_link_spec.specs.Addition.{Addition, active_includes}
 use Rattle.wit_link_spec.specs.Include.{PartiallyLinked}
 use Rattle.wit_link_spec.specs.Cause.{IsReached}
-use Rattle.wit_link_spec.specs.Pushed.{finished_world, updated_include, unfinished_world}
+use Rattle.wit_link_spec.specs.Added.{finished_world, updated_include, unfinished_world}
 use Rattle.wit_link_spec.specs.Reasons.{IsResolved}
 use Rattle.wit_link_spec.specs.WorldReasons.{IncludeIsAccepted}
 

@@ -15,10 +15,10 @@ use Rattle.wit_remap_spec.specs.Borrows.{HoldsBorrow}
 use Rattle.wit_remap_spec.specs.ValueRemap.{value_id}
 use Rattle.wit_remap.specs.steps.Fits.{PartsFit, Fits, FunctionFits, InterfaceFits, TypeFits, WorldFits}
 use Rattle.wit_merge_spec.specs.Matches.{GraphMerge}
-use Rattle.wit_merge_spec.specs.United.{merge_maps, remap_of_merge, joined_graph, with_interface, with_package, moves_interface, moves_world}
+use Rattle.wit_merge_spec.specs.Merged.{merge_maps, remap_of_merge, joined_graph, with_interface, with_package, moves_interface, moves_world}
 use Rattle.wit_merge_spec.specs.Cause.{HasNoMismatch, MergeOverflows, MergeReturnsBorrow, StabilitiesMismatch}
 use Rattle.wit_merge_match.specs.steps.Matched.{AreMatches, merge_remap_of, moves}
-use Rattle.wit_merge.specs.declared.union_plan.UnionPlan.{UnionPlan}
+use Rattle.wit_merge.specs.declared.merge_plan.MergePlan.{MergePlan}
 use Rattle.std.specs.Map.{lookup}
 use Rattle.wit_values.specs.Table.{HasDistinctKeys}
 use Rattle.wit_data.specs.Entries.{Entry}
@@ -49,7 +49,7 @@ abbrev pub placed_at : {X : Type 0} → List X → Option ℕ → Option (ℕ ×
 placed_at {X} xs place = option_and_then (λ x. option_map (λ (it : X). (x, it)) (slice_get xs x)) place
 
 -- the merge
-abbrev pub merging_of : UnionPlan → GraphMerge
+abbrev pub merging_of : MergePlan → GraphMerge
 merging_of u = record { graph = u.graph.now; other = u.other.now; offset = u.offset }
 
 -- where the types of the other graph go at value positions, as a list
@@ -57,7 +57,7 @@ abbrev pub value_ids : GraphMerge → List ℕ
 value_ids m = map (value_id (remap_of_merge m)) (range_with_len 0 (length m.other.types))
 
 -- the graphs are valid, nothing differs of them that has to agree, what is handed on is theirs, and spans can be moved
-pub record CanUnite (u : UnionPlan) : Type 0 where
+pub record CanUnite (u : MergePlan) : Type 0 where
   pub valid : IsValid u.graph.now
   pub valid_other : IsValid u.other.now
   pub one : HasNoMismatch (merging_of u)
@@ -67,7 +67,7 @@ pub record CanUnite (u : UnionPlan) : Type 0 where
   pub fits : PartsFit u.offset u.other.now.types u.other.now.interfaces u.other.now.worlds
 
 -- with which interface of the other graph each one of the graph is matched
-abbrev pub KnowsCounterparts : UnionPlan → List (Option ℕ) → Type 0
+abbrev pub KnowsCounterparts : MergePlan → List (Option ℕ) → Type 0
 KnowsCounterparts u counterparts = counterparts ≡ firsts_from 0 u.matches.now.interfaces (length u.graph.now.interfaces)
 
 -- nothing differs that has to agree, all stabilities can be joined, and all spans can be moved

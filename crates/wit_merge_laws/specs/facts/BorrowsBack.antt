@@ -34,7 +34,7 @@ use Rattle.wit_remap_spec.specs.Resources.{own_of}
 use Rattle.wit_remap_spec.specs.ValueRemap.{needs_own, value_id}
 use Rattle.wit_merge_spec.specs.Structure.{held_features, structure}
 use Rattle.wit_merge_spec.specs.facts.StructureFacts.{part_refers}
-use Rattle.wit_merge_spec.specs.United.{joined_graph, joined_type, merge_maps, merged_type, moves_type, remap_of_merge}
+use Rattle.wit_merge_spec.specs.Merged.{joined_graph, joined_type, merge_maps, merged_type, moves_type, remap_of_merge}
 use Rattle.wit_merge_spec.specs.Matches.{GraphMerge, counterpart_type}
 use Rattle.wit_merge_spec.specs.Cause.{HasNoMismatch}
 use Rattle.wit_merge_laws.specs.laws.BorrowLaws.{MergesMakeNoBorrow}

@@ -5,7 +5,7 @@ use Rattle.wit_elaboration.specs.Valid.{IsValid}
 use Rattle.wit_graph_theory.specs.facts.LawsOfElaboration.{LawsOfElaboration}
 use Rattle.wit_merge_spec.specs.Matches.{GraphMerge}
 use Rattle.wit_merge_spec.specs.Cause.{HasNoMismatch}
-use Rattle.wit_merge_spec.specs.United.{united}
+use Rattle.wit_merge_spec.specs.Merged.{merged}
 use Rattle.wit_merge_laws.specs.facts.JoinedGood.{UnionCanElaborate}
 use Rattle.wit_merge_laws.specs.laws.MergingLaws.{UnionsHaveBothNames}
 use Rattle.wit_merge_laws.specs.laws.Names.{HasName, Name}
@@ -15,12 +15,12 @@ use Rattle.wit_merge_laws.specs.facts.NamesParts.{going_to, graph_part, other_pa
 use Rattle.wit_merge_laws.specs.facts.NoCycles.{are_one, can_elaborate}
 
 -- so where the two agree and can be elaborated as one
-pub names_of_both : LawsOfElaboration → (m : GraphMerge) (name : Name) → IsValid m.graph → IsValid m.other → HasNoMismatch m → UnionCanElaborate m → HasName (united m) name ↔ (HasName m.graph name ⊎ HasName m.other name)
+pub names_of_both : LawsOfElaboration → (m : GraphMerge) (name : Name) → IsValid m.graph → IsValid m.other → HasNoMismatch m → UnionCanElaborate m → HasName (merged m) name ↔ (HasName m.graph name ⊎ HasName m.other name)
 names_of_both laws m name valid valid_other one elaborates = (
   λ has. names_come laws m valid valid_other one elaborates name has,
   λ has. elim has [
-    | inl mine ↦ names_go m.graph (united m) staying (graph_part laws m valid valid_other one elaborates) name mine
-    | inr theirs ↦ names_go m.other (united m) (going_to m) (other_part laws m valid valid_other one elaborates) name theirs
+    | inl mine ↦ names_go m.graph (merged m) staying (graph_part laws m valid valid_other one elaborates) name mine
+    | inr theirs ↦ names_go m.other (merged m) (going_to m) (other_part laws m valid valid_other one elaborates) name theirs
   ],
 )
 

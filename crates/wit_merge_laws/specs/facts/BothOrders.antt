@@ -13,7 +13,7 @@ use Rattle.wit_graph_data.specs.declared.graph.Graph.{Graph}
 use Rattle.wit_graph_theory.specs.facts.ListFacts.{from_row}
 use Rattle.wit_graph_theory.specs.facts.NamedUses.{used_is_named}
 use Rattle.wit_merge_spec.specs.Matches.{GraphMerge, counterpart_interface, counterpart_world}
-use Rattle.wit_merge_spec.specs.United.{merged_interface, moves_interface, joined_graph}
+use Rattle.wit_merge_spec.specs.Merged.{merged_interface, moves_interface, joined_graph}
 use Rattle.wit_merge_spec.specs.Cause.{HasNoMismatch}
 use Rattle.wit_merge_laws.specs.facts.InterfacesStand.{moved_interface_remapped}
 use Rattle.wit_merge_laws.specs.facts.ListedStand.{interfaces_apart}

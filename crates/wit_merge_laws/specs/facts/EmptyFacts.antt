@@ -12,7 +12,7 @@ use Rattle.wit_graph_theory.specs.facts.LawsOfElaboration.{LawsOfElaboration}
 use Rattle.wit_remap_spec.specs.Selected.{rank, selected}
 use Rattle.wit_link_spec.specs.facts.RankFacts.{rank-kept}
 use Rattle.wit_merge_spec.specs.Matches.{GraphMerge, WorldLabel, counterpart_at_label, counterpart_interface, counterpart_interface_by, counterpart_package, counterpart_type, counterpart_type_by, counterpart_world, matched_world, named_in_counterpart}
-use Rattle.wit_merge_spec.specs.United.{merged_interface, merged_package, merged_world, moves_package, package_image, united}
+use Rattle.wit_merge_spec.specs.Merged.{merged_interface, merged_package, merged_world, moves_package, package_image, merged}
 use Rattle.wit_merge_laws.specs.facts.NoCycles.{are_one, can_elaborate}
 use Rattle.wit_merge_laws.specs.facts.NothingFacts.{map_same, nothing, unnumbered}
 use Rattle.wit_merge_laws.specs.facts.OrderFree.{merging_is_order_free}
@@ -27,7 +27,7 @@ pub becomes_alike : LawsOfElaboration → ExamplesOfValidity → EmptyBecomesAli
 becomes_alike laws examples g offset valid =
     let m = merge_of_graphs g empty_graph offset in
     let accepted = nothing g offset valid in
-    subst (λ (x : Graph). AreAlike x (united (merge_of_graphs empty_graph g offset))) accepted.1
+    subst (λ (x : Graph). AreAlike x (merged (merge_of_graphs empty_graph g offset))) accepted.1
     (merging_is_order_free laws g empty_graph offset offset valid examples.empty (are_one m accepted.0) (can_elaborate m valid examples.empty accepted.0 laws.refused))
 
 -- ---- ids

@@ -43,7 +43,7 @@ use Rattle.wit_remap_spec.specs.Selected.{rank, selected}
 use Rattle.wit_link_spec.specs.facts.RankFacts.{rank-injective}
 use Rattle.wit_merge_spec.specs.Cause.{HasNoMismatch}
 use Rattle.wit_merge_spec.specs.Matches.{GraphMerge, counterpart_interface, counterpart_package, counterpart_type_by, counterpart_world}
-use Rattle.wit_merge_spec.specs.United.{joined_graph, merge_maps, merged_interface, merged_package, merged_type, merged_world, moves_interface, moves_package, moves_type, moves_world, package_image}
+use Rattle.wit_merge_spec.specs.Merged.{joined_graph, merge_maps, merged_interface, merged_package, merged_type, merged_world, moves_interface, moves_package, moves_type, moves_world, package_image}
 use Rattle.wit_merge_spec.specs.steps.Leaving.{LeavesGraph, new_worlds}
 use Rattle.wit_merge_laws.specs.facts.GrownUses.{interfaces_are, more_interfaces, more_types, new_use, types_are, valid_items}
 use Rattle.wit_merge_laws.specs.facts.InterfacesStand.{moved_interface_remapped, new_interface_at, old_interface_at, with_counterpart}

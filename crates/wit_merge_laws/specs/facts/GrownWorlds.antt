@@ -19,7 +19,7 @@ use Rattle.wit_graph_theory.specs.facts.ListFacts.{place_of}
 use Rattle.wit_link_laws.specs.facts.CanonicalStays.{canonical_longer}
 use Rattle.wit_merge_spec.specs.Cause.{HasNoMismatch, IsMergeCause, MergeIsAccepted, borrow_in_result_15, conflict_4, interface_cycle_22, merge_mismatch_24, mismatch_8, offset_overflow_27, package_cycle_6}
 use Rattle.wit_merge_spec.specs.Matches.{GraphMerge}
-use Rattle.wit_merge_spec.specs.United.{joined_graph, united}
+use Rattle.wit_merge_spec.specs.Merged.{joined_graph, merged}
 use Rattle.wit_merge_spec.specs.steps.Leaving.{LeavesGraph, grown_graph, new_worlds, with_new_worlds}
 use Rattle.wit_merge_laws.specs.facts.GrownPackages.{grown_packages_acyclic}
 use Rattle.wit_merge_laws.specs.facts.GrownUses.{grown_uses_acyclic, is_grown, more_interfaces, more_types, types_are, uses_are, valid_items}
@@ -59,7 +59,7 @@ module _ (laws : LawsOfElaboration) (m : GraphMerge) (valid : IsValid m.graph) (
   worlds_are : joined.worlds ≡ m.graph.worlds ++ new_worlds m
   worlds_are = ap (λ (l : List World). l ++ new_worlds m) leaves.worlds
 
-  united_is : united m ≡ record (grown_graph m) { worlds = m.graph.worlds ++ map (elaborated_world joined) (new_worlds m) }
+  united_is : merged m ≡ record (grown_graph m) { worlds = m.graph.worlds ++ map (elaborated_world joined) (new_worlds m) }
   united_is = λ k. record (is_grown m leaves k) { worlds = elaborated k }
     where
       elaborated : map (elaborated_world joined) joined.worlds ≡ m.graph.worlds ++ map (elaborated_world joined) (new_worlds m)

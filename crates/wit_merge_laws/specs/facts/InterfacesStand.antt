@@ -37,7 +37,7 @@ use Rattle.wit_graph_data.specs.Named.{interface_type}
 use Rattle.wit_link_spec.specs.facts.RankFacts.{selected-at, selected_with_index-from}
 use Rattle.wit_remap_spec.specs.Selected.{rank, selected_with_index}
 use Rattle.wit_link_laws.specs.facts.KeysApart.{joined_apart}
-use Rattle.wit_merge_spec.specs.United.{joined_graph, joined_interface, with_interface, brought_functions, brought_types, merge_maps, merged_interface, merged_type, moved_interfaces, moves_interface, moves_type}
+use Rattle.wit_merge_spec.specs.Merged.{joined_graph, joined_interface, with_interface, brought_functions, brought_types, merge_maps, merged_interface, merged_type, moved_interfaces, moves_interface, moves_type}
 use Rattle.wit_merge_spec.specs.Matches.{GraphMerge, counterpart_interface, counterpart_of, counterpart_type, counterpart_type_by}
 use Rattle.wit_merge_laws.specs.facts.MatchFacts.{goes_to, interface_is}
 use Rattle.wit_merge_laws.specs.facts.MatchedOnce.{interface_once}

@@ -17,7 +17,7 @@ use Rattle.wit_remap_spec.specs.Kept.{everything}
 use Rattle.wit_graph_theory.specs.Operations.{merge_sources}
 use Rattle.wit_graph_theory.specs.steps.Sources.{Source}
 use Rattle.wit_merge_spec.specs.Matches.{GraphMerge}
-use Rattle.wit_merge_spec.specs.United.{merge_maps, joined_graph}
+use Rattle.wit_merge_spec.specs.Merged.{merge_maps, joined_graph}
 use Rattle.wit_merge_spec.specs.Cause.{HasNoMismatch}
 use Rattle.wit_merge_laws.specs.facts.WorldsStand.{joined_covered, joined_stands, sources_good}
 

@@ -13,7 +13,7 @@ use Rattle.wit_graph_data.specs.declared.graph.Package.{Package}
 use Rattle.wit_elaboration.specs.AllElaborated.{elaborated_world}
 use Rattle.wit_graph_theory.specs.facts.ListFacts.{at_map, some_at}
 use Rattle.wit_graph_theory.specs.facts.PackagesAcyclic.{numbered_into}
-use Rattle.wit_merge_spec.specs.United.{joined_graph, joined_interface, joined_package, joined_type, joined_world, united, with_interface, with_package, with_type, with_world}
+use Rattle.wit_merge_spec.specs.Merged.{joined_graph, joined_interface, joined_package, joined_type, joined_world, merged, with_interface, with_package, with_type, with_world}
 use Rattle.wit_merge_spec.specs.Matches.{GraphMerge, counterpart_interface, counterpart_of, counterpart_package, counterpart_type, counterpart_world}
 use Rattle.wit_merge_spec.specs.facts.Unchanged.{SameHome, SameInterface, SamePackage, SameType}
 
@@ -25,26 +25,26 @@ front_at f xs ys i x at =
 
 module _ (m : GraphMerge) where
   -- a type is what it was, but for its stability
-  pub types_stay : EachAt (λ t (def : TypeDef). SomeAt (united m).types t (SameType def)) m.graph.types
-  types_stay t def at = some_at (SameType def) (united m).types t (joined_type m (t, def)) (front_at (joined_type m) m.graph.types _ t def at) (by (counterpart_of (counterpart_type m) m.other.types t))
+  pub types_stay : EachAt (λ t (def : TypeDef). SomeAt (merged m).types t (SameType def)) m.graph.types
+  types_stay t def at = some_at (SameType def) (merged m).types t (joined_type m (t, def)) (front_at (joined_type m) m.graph.types _ t def at) (by (counterpart_of (counterpart_type m) m.other.types t))
     where
       by : (o : Option (ℕ × TypeDef)) → SameType def (option_map_or (λ (p : ℕ × TypeDef). with_type p.1 def) o def)
       by None = refl
       by (Some p) = refl
 
   -- an interface has its name and its package, and in front what it had
-  pub interfaces_stay : EachAt (λ i (interface : Interface). SomeAt (united m).interfaces i (SameInterface interface)) m.graph.interfaces
+  pub interfaces_stay : EachAt (λ i (interface : Interface). SomeAt (merged m).interfaces i (SameInterface interface)) m.graph.interfaces
   interfaces_stay i interface at =
-      some_at (SameInterface interface) (united m).interfaces i (joined_interface m (i, interface)) (front_at (joined_interface m) m.graph.interfaces _ i interface at) (by (counterpart_of (counterpart_interface m) m.other.interfaces i))
+      some_at (SameInterface interface) (merged m).interfaces i (joined_interface m (i, interface)) (front_at (joined_interface m) m.graph.interfaces _ i interface at) (by (counterpart_of (counterpart_interface m) m.other.interfaces i))
     where
       by : (o : Option (ℕ × Interface)) → SameInterface interface (option_map_or (λ (p : ℕ × Interface). with_interface m p.1 interface) o interface)
       by None = record { name = refl; home = refl; types = ([], sym (append-nil interface.types)); functions = ([], sym (append-nil interface.functions)) }
       by (Some p) = record { name = refl; home = refl; types = (_, refl); functions = (_, refl) }
 
   -- a world has its package
-  pub worlds_stay : EachAt (λ w (world : World). SomeAt (united m).worlds w (SameHome world)) m.graph.worlds
+  pub worlds_stay : EachAt (λ w (world : World). SomeAt (merged m).worlds w (SameHome world)) m.graph.worlds
   worlds_stay w world at =
-      some_at (SameHome world) (united m).worlds w (elaborated_world (joined_graph m) (joined_world m (w, world)))
+      some_at (SameHome world) (merged m).worlds w (elaborated_world (joined_graph m) (joined_world m (w, world)))
       (at_map (elaborated_world (joined_graph m)) (joined_graph m).worlds w (joined_world m (w, world)) (front_at (joined_world m) m.graph.worlds _ w world at)) (by (counterpart_of (counterpart_world m) m.other.worlds w))
     where
       by : (o : Option (ℕ × World)) → SameHome world (option_map_or (λ (p : ℕ × World). with_world m p world) o world)
@@ -52,12 +52,12 @@ module _ (m : GraphMerge) where
       by (Some p) = refl
 
   -- a package has its name, and in front the interfaces that it had
-  pub packages_stay : EachAt (λ p (home : Package). SomeAt (united m).packages p (SamePackage home)) m.graph.packages
-  packages_stay p home at = some_at (SamePackage home) (united m).packages p (joined_package m (p, home)) (front_at (joined_package m) m.graph.packages _ p home at) (by (counterpart_of (counterpart_package m) m.other.packages p))
+  pub packages_stay : EachAt (λ p (home : Package). SomeAt (merged m).packages p (SamePackage home)) m.graph.packages
+  packages_stay p home at = some_at (SamePackage home) (merged m).packages p (joined_package m (p, home)) (front_at (joined_package m) m.graph.packages _ p home at) (by (counterpart_of (counterpart_package m) m.other.packages p))
     where
       by : (o : Option (ℕ × Package)) → SamePackage home (option_map_or (λ (x : ℕ × Package). with_package m x.1 home) o home)
       by None = (refl, ([], sym (append-nil home.interfaces)))
       by (Some x) = (refl, (_, refl))
 
-  pub names_stay : (more : List (PackageName × ℕ)) × ((united m).package_names ≡ m.graph.package_names ++ more)
+  pub names_stay : (more : List (PackageName × ℕ)) × ((merged m).package_names ≡ m.graph.package_names ++ more)
   names_stay = (_, refl)

@@ -23,7 +23,7 @@ use Rattle.wit_graph_theory.specs.facts.ListFacts.{Contains-map_cases, found_at,
 use Rattle.wit_graph_theory.specs.facts.OptionFacts.{some_same}
 use Rattle.wit_remap_spec.specs.Joined.{joined_entry, joined_item}
 use Rattle.wit_merge_spec.specs.Cause.{same_sort, HasNoMismatch}
-use Rattle.wit_merge_spec.specs.United.{is_under_id, joined_graph, joined_world, united, with_world, merge_maps, merged_world, moves_world}
+use Rattle.wit_merge_spec.specs.Merged.{is_under_id, joined_graph, joined_world, merged, with_world, merge_maps, merged_world, moves_world}
 use Rattle.wit_merge_spec.specs.Matches.{GraphMerge, counterpart_of, counterpart_world}
 use Rattle.wit_merge_laws.specs.facts.JoinedGood.{UnionCanElaborate}
 use Rattle.wit_merge_laws.specs.facts.LabelsStay.{no_label}
@@ -147,9 +147,9 @@ module _ (laws : LawsOfElaboration) (m : GraphMerge) (valid : IsValid m.graph) (
     sort_of_other : (w : ℕ) (old : World) (d : WorldItem) → slice_get m.other.worlds w ≡ Some old → moves_world m w ≡ true → w' ≡ merged_world m w → Contains (entries_of exported old) (entry (key.Name label) d) → sort_of d ≡ sort_of held
         → SortFrom w' exported label held
 
-  pub sort_from : (w' : ℕ) (exported : Bool) (label : List ℕ) (held : WorldItem) → HasLabel (united m) w' exported label held → SortFrom w' exported label held
+  pub sort_from : (w' : ℕ) (exported : Bool) (label : List ℕ) (held : WorldItem) → HasLabel (merged m) w' exported label held → SortFrom w' exported label held
   sort_from w' exported label held has =
-      let world = found_at (λ (world : World). Contains (entries_of exported world) (entry (key.Name label) held)) (united m).worlds w' has in
+      let world = found_at (λ (world : World). Contains (entries_of exported world) (entry (key.Name label) held)) (merged m).worlds w' has in
       let listed = from_map (elaborated_world g) g.worlds w' world.0 world.1 in
       let before = listed_from w' listed.0 listed.1 exported label held (subst (λ (x : World). Contains (entries_of exported x) (entry (key.Name label) held)) (sym listed.2) world.2) in
       by listed.0 before.there before.has before.sort (world_at_from m w' listed.0 listed.1)

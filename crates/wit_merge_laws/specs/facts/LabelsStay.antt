@@ -21,7 +21,7 @@ use Rattle.wit_graph_theory.specs.facts.LawsOfElaboration.{LawsOfElaboration}
 use Rattle.wit_graph_theory.specs.facts.ListFacts.{Contains-map, Contains-map_cases}
 use Rattle.wit_merge_spec.specs.Matches.{GraphMerge}
 use Rattle.wit_merge_spec.specs.Cause.{HasNoMismatch}
-use Rattle.wit_merge_spec.specs.United.{joined_graph}
+use Rattle.wit_merge_spec.specs.Merged.{joined_graph}
 use Rattle.wit_merge_laws.specs.facts.JoinedGood.{UnionCanElaborate, in_order}
 use Rattle.wit_merge_laws.specs.facts.ListedStand.{worlds_come}
 use Rattle.wit_merge_laws.specs.facts.MatchedOnce.{one_under}

@@ -21,7 +21,7 @@ use Rattle.wit_remap_spec.specs.Image.{kind_image, type_image}
 use Rattle.wit_graph_theory.specs.facts.ListFacts.{from_row, in_row}
 use Rattle.wit_graph_theory.specs.facts.ReferredFacts.{alias_image}
 use Rattle.wit_remap_spec.specs.Resources.{is_resource, is_resource_kind, leads_to_resource}
-use Rattle.wit_merge_spec.specs.United.{joined_graph, joined_type, merge_maps, merged_type, moves_type}
+use Rattle.wit_merge_spec.specs.Merged.{joined_graph, joined_type, merge_maps, merged_type, moves_type}
 use Rattle.wit_merge_spec.specs.Matches.{GraphMerge, counterpart_type}
 use Rattle.wit_merge_spec.specs.Cause.{HasNoMismatch}
 use Rattle.wit_merge_laws.specs.facts.MatchFacts.{goes_to, type_is}

@@ -24,7 +24,7 @@ use Rattle.wit_graph_theory.specs.facts.ListFacts.{found_at, from_map, place_of,
 use Rattle.wit_graph_theory.specs.Operations.{merge_sources}
 use Rattle.wit_graph_theory.specs.steps.Sources.{Source}
 use Rattle.wit_merge_spec.specs.Matches.{GraphMerge, counterpart_interface, counterpart_world, world_labels}
-use Rattle.wit_merge_spec.specs.United.{merge_maps, merged_interface, merged_world, moves_interface, moves_world, joined_graph, united}
+use Rattle.wit_merge_spec.specs.Merged.{merge_maps, merged_interface, merged_world, moves_interface, moves_world, joined_graph, merged}
 use Rattle.wit_merge_spec.specs.Cause.{HasNoMismatch}
 use Rattle.wit_merge_laws.specs.facts.InterfacesStand.{interface_at_from, interfaces_come, moved_interface_remapped}
 use Rattle.wit_merge_laws.specs.facts.InterfacesStand as interfaces
@@ -79,10 +79,10 @@ module _ (laws : LawsOfElaboration) (m : GraphMerge) (valid : IsValid m.graph) (
   abbrev g : Graph
   g = joined_graph m
 
-  abbrev mine : MapsInto m.graph (united m) staying
+  abbrev mine : MapsInto m.graph (merged m) staying
   mine = graph_part laws m valid valid_other one can
 
-  abbrev theirs : MapsInto m.other (united m) (going_to m)
+  abbrev theirs : MapsInto m.other (merged m) (going_to m)
   theirs = other_part laws m valid valid_other one can
 
   -- ---- what stands under a label of a united world
@@ -92,9 +92,9 @@ module _ (laws : LawsOfElaboration) (m : GraphMerge) (valid : IsValid m.graph) (
     under_other : (w : ℕ) (old : World) (d : WorldItem) → slice_get m.other.worlds w ≡ Some old → moves_world m w ≡ true → w' ≡ merged_world m w → Contains (entries_of exported old) (entry (key.Name label) d)
         → ((i' : ℕ) → item_interface held ≡ i' ∷ [] → (i : ℕ) × (item_interface d ≡ i ∷ []) × (i' ≡ merged_interface m i)) → LabelFrom w' exported label held
 
-  stands_from : (w' : ℕ) (exported : Bool) (label : List ℕ) (held : WorldItem) → HasLabel (united m) w' exported label held → LabelFrom w' exported label held
+  stands_from : (w' : ℕ) (exported : Bool) (label : List ℕ) (held : WorldItem) → HasLabel (merged m) w' exported label held → LabelFrom w' exported label held
   stands_from w' exported label held has =
-      let world = found_at (λ (world : World). Contains (entries_of exported world) (entry (key.Name label) held)) (united m).worlds w' has in
+      let world = found_at (λ (world : World). Contains (entries_of exported world) (entry (key.Name label) held)) (merged m).worlds w' has in
       let listed = from_map (elaborated_world g) g.worlds w' world.0 world.1 in
       let before = label_from laws m valid valid_other one can w' listed.0 listed.1 exported label held (subst (λ (x : World). Contains (entries_of exported x) (entry (key.Name label) held)) (sym listed.2) world.2) in
       by listed.0 before.there before.has before.same (world_at_from m w' listed.0 listed.1)
@@ -111,32 +111,32 @@ module _ (laws : LawsOfElaboration) (m : GraphMerge) (valid : IsValid m.graph) (
 
   -- ---- interfaces without names
 
-  unnamed_in_graph : (l : Label) (i : ℕ) (old : Interface) → slice_get m.graph.interfaces i ≡ Some old → IsUnnamedAt (united m) l i → IsUnnamedAt m.graph l i
+  unnamed_in_graph : (l : Label) (i : ℕ) (old : Interface) → slice_get m.graph.interfaces i ≡ Some old → IsUnnamedAt (merged m) l i → IsUnnamedAt m.graph l i
   unnamed_in_graph l i old at is = by (stands_from is.w l.exported l.label is.held is.stands)
     where
       by : LabelFrom is.w l.exported l.label is.held → IsUnnamedAt m.graph l i
       by (under_graph world d there has same) = record {
         w = is.w;
-        of = world_back m.graph (united m) staying mine valid l.home l.world is.w world there is.of;
+        of = world_back m.graph (merged m) staying mine valid l.home l.world is.w world there is.of;
         held = d;
         stands = some_at (λ (x : World). Contains (entries_of l.exported x) (entry (key.Name l.label) d)) m.graph.worlds is.w world there has;
         is = sym same ∙ is.is;
-        unnamed = unnamed_back m.graph (united m) staying mine valid i old at is.unnamed;
+        unnamed = unnamed_back m.graph (merged m) staying mine valid i old at is.unnamed;
       }
       by (under_other w world d there moves place has goes) =
           let from = goes i is.is in
           let here = held_there m.other valid_other w world l.exported l.label d from.0 there has from.1 in
-          let unnamed = unnamed_back m.other (united m) (going_to m) theirs valid_other from.0 here.0 here.1 (subst (λ (x : ℕ). is_unnamed (united m).interfaces x ≡ true) from.2 is.unnamed) in
+          let unnamed = unnamed_back m.other (merged m) (going_to m) theirs valid_other from.0 here.0 here.1 (subst (λ (x : ℕ). is_unnamed (merged m).interfaces x ≡ true) from.2 is.unnamed) in
           let next = moved_interface_remapped m from.0 (unmatched m valid valid_other one w world there moves l.exported (entry (key.Name l.label) d) from.0 has from.1 unnamed) in
           let within = slice_get_within m.graph.interfaces i old at in
           let goes_there = from.2 in
           absurd (omega (arith, within, next, goes_there))
 
-  unnamed_in_other : (l : Label) (i : ℕ) (old : Interface) → slice_get m.other.interfaces i ≡ Some old → IsUnnamedAt (united m) l (merged_interface m i) → IsUnnamedAt m.other l i
+  unnamed_in_other : (l : Label) (i : ℕ) (old : Interface) → slice_get m.other.interfaces i ≡ Some old → IsUnnamedAt (merged m) l (merged_interface m i) → IsUnnamedAt m.other l i
   unnamed_in_other l i old at is = by (stands_from is.w l.exported l.label is.held is.stands)
     where
       unnamed : is_unnamed m.other.interfaces i ≡ true
-      unnamed = unnamed_back m.other (united m) (going_to m) theirs valid_other i old at is.unnamed
+      unnamed = unnamed_back m.other (merged m) (going_to m) theirs valid_other i old at is.unnamed
 
       -- it stands in a world of the graph, so it is matched
       matched : (i' : ℕ) → counterpart_interface m i ≡ Some i' → (world : World) (d : WorldItem) → slice_get m.graph.worlds is.w ≡ Some world → Contains (entries_of l.exported world) (entry (key.Name l.label) d) → item_interface d ≡ i' ∷ []
@@ -153,7 +153,7 @@ module _ (laws : LawsOfElaboration) (m : GraphMerge) (valid : IsValid m.graph) (
           let label : world_label.world_label.label ≡ l.label = same_label world_label.world_label.label l.label same.1 in
           record {
             w = w;
-            of = world_back m.other (united m) (going_to m) theirs valid_other l.home l.world w stands.world stands.there (subst (IsWorld (united m) l.home l.world) goes is.of);
+            of = world_back m.other (merged m) (going_to m) theirs valid_other l.home l.world w stands.world stands.there (subst (IsWorld (merged m) l.home l.world) goes is.of);
             held = stands.held;
             stands = some_at (λ (x : World). Contains (entries_of l.exported x) (entry (key.Name l.label) stands.held)) m.other.worlds w stands.world stands.there
                 (subst (λ (b : Bool). Contains (entries_of b stands.world) (entry (key.Name l.label) stands.held)) same.2
@@ -168,7 +168,7 @@ module _ (laws : LawsOfElaboration) (m : GraphMerge) (valid : IsValid m.graph) (
           let same : from.0 ≡ i = interfaces_apart m valid valid_other from.0 i (sym from.2) in
           record {
             w = w;
-            of = world_back m.other (united m) (going_to m) theirs valid_other l.home l.world w world there (subst (IsWorld (united m) l.home l.world) place is.of);
+            of = world_back m.other (merged m) (going_to m) theirs valid_other l.home l.world w world there (subst (IsWorld (merged m) l.home l.world) place is.of);
             held = d;
             stands = some_at (λ (x : World). Contains (entries_of l.exported x) (entry (key.Name l.label) d)) m.other.worlds w world there has;
             is = from.1 ∙ ap (λ (x : ℕ). x ∷ []) same;
@@ -187,80 +187,80 @@ module _ (laws : LawsOfElaboration) (m : GraphMerge) (valid : IsValid m.graph) (
 
   -- ---- interfaces
 
-  named_in_graph : (name : InterfaceName) (i : ℕ) (old : Interface) → slice_get m.graph.interfaces i ≡ Some old → IsNamedSo (united m) name i → IsNamedSo m.graph name i
-  named_in_graph (in_package home name) i old at is = interface_back m.graph (united m) staying mine valid home name i old at is
+  named_in_graph : (name : InterfaceName) (i : ℕ) (old : Interface) → slice_get m.graph.interfaces i ≡ Some old → IsNamedSo (merged m) name i → IsNamedSo m.graph name i
+  named_in_graph (in_package home name) i old at is = interface_back m.graph (merged m) staying mine valid home name i old at is
   named_in_graph (at_label l) i old at is = unnamed_in_graph l i old at is
 
-  named_in_other : (name : InterfaceName) (i : ℕ) (old : Interface) → slice_get m.other.interfaces i ≡ Some old → IsNamedSo (united m) name (merged_interface m i) → IsNamedSo m.other name i
-  named_in_other (in_package home name) i old at is = interface_back m.other (united m) (going_to m) theirs valid_other home name i old at is
+  named_in_other : (name : InterfaceName) (i : ℕ) (old : Interface) → slice_get m.other.interfaces i ≡ Some old → IsNamedSo (merged m) name (merged_interface m i) → IsNamedSo m.other name i
+  named_in_other (in_package home name) i old at is = interface_back m.other (merged m) (going_to m) theirs valid_other home name i old at is
   named_in_other (at_label l) i old at is = unnamed_in_other l i old at is
 
-  named_there : (name : InterfaceName) (i' : ℕ) → IsNamedSo (united m) name i' → (interface : Interface) × (slice_get (united m).interfaces i' ≡ Some interface)
-  named_there (in_package home name) i' is = let found = found_at (λ (interface : Interface). (interface.name ≡ Some name) × (interface.package ≡ Some is.p)) (united m).interfaces i' is.is in (found.0, found.1)
-  named_there (at_label l) i' is = let found = no_name (united m).interfaces i' is.unnamed in (found.0, found.1)
+  named_there : (name : InterfaceName) (i' : ℕ) → IsNamedSo (merged m) name i' → (interface : Interface) × (slice_get (merged m).interfaces i' ≡ Some interface)
+  named_there (in_package home name) i' is = let found = found_at (λ (interface : Interface). (interface.name ≡ Some name) × (interface.package ≡ Some is.p)) (merged m).interfaces i' is.is in (found.0, found.1)
+  named_there (at_label l) i' is = let found = no_name (merged m).interfaces i' is.unnamed in (found.0, found.1)
 
   -- ---- names
 
   abbrev FromEither : Name → Type 0
   FromEither name = HasName m.graph name ⊎ HasName m.other name
 
-  package_comes : (home : PackageName) (p' : ℕ) → IsPackage (united m) home p' → FromEither (of_package home)
+  package_comes : (home : PackageName) (p' : ℕ) → IsPackage (merged m) home p' → FromEither (of_package home)
   package_comes home p' is =
-      let new = found_at (λ (there : Package). there.name ≡ home) (united m).packages p' is in
+      let new = found_at (λ (there : Package). there.name ≡ home) (merged m).packages p' is in
       by new.0 (package_at_from m p' new.0 new.1)
     where
       by : (new : Package) → packages.PackageFrom m p' new → FromEither (of_package home)
-      by new (packages.of_graph old at same) = inl (p', package_back m.graph (united m) staying mine valid home p' old at is)
-      by new (packages.of_other p old at moves place same) = inr (p, package_back m.other (united m) (going_to m) theirs valid_other home p old at (subst (IsPackage (united m) home) place is))
+      by new (packages.of_graph old at same) = inl (p', package_back m.graph (merged m) staying mine valid home p' old at is)
+      by new (packages.of_other p old at moves place same) = inr (p, package_back m.other (merged m) (going_to m) theirs valid_other home p old at (subst (IsPackage (merged m) home) place is))
 
-  interface_comes : (name : InterfaceName) (i' : ℕ) → IsNamedSo (united m) name i' → FromEither (of_interface name)
+  interface_comes : (name : InterfaceName) (i' : ℕ) → IsNamedSo (merged m) name i' → FromEither (of_interface name)
   interface_comes name i' is = let new = named_there name i' is in by new.0 (interface_at_from m i' new.0 new.1)
     where
       by : (new : Interface) → interfaces.InterfaceFrom m i' new → FromEither (of_interface name)
       by new (interfaces.of_graph old at same) = inl (i', named_in_graph name i' old at is)
-      by new (interfaces.of_other i old at moves place same) = inr (i, named_in_other name i old at (subst (IsNamedSo (united m) name) place is))
+      by new (interfaces.of_other i old at moves place same) = inr (i, named_in_other name i old at (subst (IsNamedSo (merged m) name) place is))
 
-  world_comes : (home : PackageName) (name : List ℕ) (w' : ℕ) → IsWorld (united m) home name w' → FromEither (of_world home name)
+  world_comes : (home : PackageName) (name : List ℕ) (w' : ℕ) → IsWorld (merged m) home name w' → FromEither (of_world home name)
   world_comes home name w' is =
-      let new = found_at (λ (world : World). (world.name ≡ name) × (world.package ≡ Some is.p)) (united m).worlds w' is.is in
+      let new = found_at (λ (world : World). (world.name ≡ name) × (world.package ≡ Some is.p)) (merged m).worlds w' is.is in
       let listed = from_map (elaborated_world g) g.worlds w' new.0 new.1 in
       by listed.0 (world_at_from m w' listed.0 listed.1)
     where
       by : (listed : World) → worlds.WorldFrom m w' listed → FromEither (of_world home name)
-      by listed (worlds.of_graph old at same) = inl (w', world_back m.graph (united m) staying mine valid home name w' old at is)
-      by listed (worlds.of_other w old at moves place same) = inr (w, world_back m.other (united m) (going_to m) theirs valid_other home name w old at (subst (IsWorld (united m) home name) place is))
+      by listed (worlds.of_graph old at same) = inl (w', world_back m.graph (merged m) staying mine valid home name w' old at is)
+      by listed (worlds.of_other w old at moves place same) = inr (w, world_back m.other (merged m) (going_to m) theirs valid_other home name w old at (subst (IsWorld (merged m) home name) place is))
 
   abbrev at : ℕ → Source
   at = merge_sources m.graph m.other (merge_maps m)
 
-  type_comes : (owner : InterfaceName) (name : List ℕ) (i' : ℕ) → IsNamedSo (united m) owner i' → (k : ℕ) (from : InterfaceAt (at k) i') (t : ℕ) → Contains from.old.types (name, t) → FromEither (of_type owner name)
+  type_comes : (owner : InterfaceName) (name : List ℕ) (i' : ℕ) → IsNamedSo (merged m) owner i' → (k : ℕ) (from : InterfaceAt (at k) i') (t : ℕ) → Contains from.old.types (name, t) → FromEither (of_type owner name)
   type_comes owner name i' is zero from t listed =
       let there = interface_from m.graph valid identity from.f from.old from.there in
-      inl (from.f, t, named_in_graph owner from.f from.old there (subst (IsNamedSo (united m) owner) from.place is), some_at (λ (interface : Interface). Contains interface.types (name, t)) m.graph.interfaces from.f from.old there listed)
+      inl (from.f, t, named_in_graph owner from.f from.old there (subst (IsNamedSo (merged m) owner) from.place is), some_at (λ (interface : Interface). Contains interface.types (name, t)) m.graph.interfaces from.f from.old there listed)
   type_comes owner name i' is (suc k) from t listed =
       let there = interface_from m.other valid_other (merge_maps m) from.f from.old from.there in
-      inr (from.f, t, named_in_other owner from.f from.old there (subst (IsNamedSo (united m) owner) from.place is), some_at (λ (interface : Interface). Contains interface.types (name, t)) m.other.interfaces from.f from.old there listed)
+      inr (from.f, t, named_in_other owner from.f from.old there (subst (IsNamedSo (merged m) owner) from.place is), some_at (λ (interface : Interface). Contains interface.types (name, t)) m.other.interfaces from.f from.old there listed)
 
-  function_comes : (owner : InterfaceName) (name : List ℕ) (i' : ℕ) → IsNamedSo (united m) owner i' → (k : ℕ) (from : InterfaceAt (at k) i') (f : Function) → Contains from.old.functions (name, f) → FromEither (of_function owner name)
+  function_comes : (owner : InterfaceName) (name : List ℕ) (i' : ℕ) → IsNamedSo (merged m) owner i' → (k : ℕ) (from : InterfaceAt (at k) i') (f : Function) → Contains from.old.functions (name, f) → FromEither (of_function owner name)
   function_comes owner name i' is zero from f listed =
       let there = interface_from m.graph valid identity from.f from.old from.there in
-      inl (from.f, f, named_in_graph owner from.f from.old there (subst (IsNamedSo (united m) owner) from.place is), some_at (λ (interface : Interface). Contains interface.functions (name, f)) m.graph.interfaces from.f from.old there listed)
+      inl (from.f, f, named_in_graph owner from.f from.old there (subst (IsNamedSo (merged m) owner) from.place is), some_at (λ (interface : Interface). Contains interface.functions (name, f)) m.graph.interfaces from.f from.old there listed)
   function_comes owner name i' is (suc k) from f listed =
       let there = interface_from m.other valid_other (merge_maps m) from.f from.old from.there in
-      inr (from.f, f, named_in_other owner from.f from.old there (subst (IsNamedSo (united m) owner) from.place is), some_at (λ (interface : Interface). Contains interface.functions (name, f)) m.other.interfaces from.f from.old there listed)
+      inr (from.f, f, named_in_other owner from.f from.old there (subst (IsNamedSo (merged m) owner) from.place is), some_at (λ (interface : Interface). Contains interface.functions (name, f)) m.other.interfaces from.f from.old there listed)
 
-  label_comes : (l : Label) (w' : ℕ) (held : WorldItem) → IsWorld (united m) l.home l.world w' → LabelFrom w' l.exported l.label held → FromEither (of_label l)
+  label_comes : (l : Label) (w' : ℕ) (held : WorldItem) → IsWorld (merged m) l.home l.world w' → LabelFrom w' l.exported l.label held → FromEither (of_label l)
   label_comes l w' held is (under_graph old d there has same) =
-      inl (w', d, world_back m.graph (united m) staying mine valid l.home l.world w' old there is, some_at (λ (x : World). Contains (entries_of l.exported x) (entry (key.Name l.label) d)) m.graph.worlds w' old there has)
+      inl (w', d, world_back m.graph (merged m) staying mine valid l.home l.world w' old there is, some_at (λ (x : World). Contains (entries_of l.exported x) (entry (key.Name l.label) d)) m.graph.worlds w' old there has)
   label_comes l w' held is (under_other w old d there moves place has goes) =
       inr (
         w,
         d,
-        world_back m.other (united m) (going_to m) theirs valid_other l.home l.world w old there (subst (IsWorld (united m) l.home l.world) place is),
+        world_back m.other (merged m) (going_to m) theirs valid_other l.home l.world w old there (subst (IsWorld (merged m) l.home l.world) place is),
         some_at (λ (x : World). Contains (entries_of l.exported x) (entry (key.Name l.label) d)) m.other.worlds w old there has,
       )
 
-  export_comes : (home : PackageName) (world : List ℕ) (of : PackageName) (name : List ℕ) (w' i' : ℕ) (listed : World) (d : WorldItem) → IsWorld (united m) home world w' → IsInterface (united m) of name i' → Contains listed.exports (entry (key.Interface i') d)
+  export_comes : (home : PackageName) (world : List ℕ) (of : PackageName) (name : List ℕ) (w' i' : ℕ) (listed : World) (d : WorldItem) → IsWorld (merged m) home world w' → IsInterface (merged m) of name i' → Contains listed.exports (entry (key.Interface i') d)
       → worlds.WorldFrom m w' listed → FromEither (of_export home world of name)
   export_comes home world of name w' i' listed d is named stands (worlds.of_graph old at same) =
       let from = (world_keeps_entries m (w', old)).from true (entry (key.Interface i') d) (subst (λ (x : World). Contains x.exports (entry (key.Interface i') d)) (sym same) stands) in
@@ -270,8 +270,8 @@ module _ (laws : LawsOfElaboration) (m : GraphMerge) (valid : IsValid m.graph) (
         w',
         i',
         from.0.1,
-        world_back m.graph (united m) staying mine valid home world w' old at is,
-        interface_back m.graph (united m) staying mine valid of name i' there.0 there.1 named,
+        world_back m.graph (merged m) staying mine valid home world w' old at is,
+        interface_back m.graph (merged m) staying mine valid of name i' there.0 there.1 named,
         some_at (λ (x : World). Contains x.exports (entry (key.Interface i') from.0.1)) m.graph.worlds w' old at has,
       )
   export_comes home world of name w' i' listed d is named stands (worlds.of_other w old at moves place same) =
@@ -283,29 +283,29 @@ module _ (laws : LawsOfElaboration) (m : GraphMerge) (valid : IsValid m.graph) (
         w,
         at_key.0,
         from.0.1,
-        world_back m.other (united m) (going_to m) theirs valid_other home world w old at (subst (IsWorld (united m) home world) place is),
-        interface_back m.other (united m) (going_to m) theirs valid_other of name at_key.0 there.0 there.1 (subst (IsInterface (united m) of name) at_key.2 named),
+        world_back m.other (merged m) (going_to m) theirs valid_other home world w old at (subst (IsWorld (merged m) home world) place is),
+        interface_back m.other (merged m) (going_to m) theirs valid_other of name at_key.0 there.0 there.1 (subst (IsInterface (merged m) of name) at_key.2 named),
         some_at (λ (x : World). Contains x.exports (entry (key.Interface at_key.0) from.0.1)) m.other.worlds w old at has,
       )
 
   -- what the united graph has under a name, one of the two has
-  pub names_come : (name : Name) → HasName (united m) name → HasName m.graph name ⊎ HasName m.other name
+  pub names_come : (name : Name) → HasName (merged m) name → HasName m.graph name ⊎ HasName m.other name
   names_come (of_package home) (p', is) = package_comes home p' is
   names_come (of_interface name) (i', is) = interface_comes name i' is
   names_come (of_world home name) (w', is) = world_comes home name w' is
   names_come (of_type owner name) (i', t', is, has) =
-      let new = found_at (λ (interface : Interface). Contains interface.types (name, t')) (united m).interfaces i' has in
+      let new = found_at (λ (interface : Interface). Contains interface.types (name, t')) (merged m).interfaces i' has in
       let place = place_of new.0.types (name, t') new.2 in
       let from = (interfaces_come m valid valid_other i' new.0 new.1).types place.0 (name, t') place.1 in
       type_comes owner name i' is from.source from.from from.t from.listed
   names_come (of_function owner name) (i', f', is, has) =
-      let new = found_at (λ (interface : Interface). Contains interface.functions (name, f')) (united m).interfaces i' has in
+      let new = found_at (λ (interface : Interface). Contains interface.functions (name, f')) (merged m).interfaces i' has in
       let place = place_of new.0.functions (name, f') new.2 in
       let from = (interfaces_come m valid valid_other i' new.0 new.1).functions place.0 (name, f') place.1 in
       function_comes owner name i' is from.source from.from from.old from.listed
   names_come (of_label l) (w', held, is, has) = label_comes l w' held is (stands_from w' l.exported l.label held has)
   names_come (of_export home world of name) (w', i', held, is, named, has) =
-      let there = found_at (λ (x : World). Contains x.exports (entry (key.Interface i') held)) (united m).worlds w' has in
+      let there = found_at (λ (x : World). Contains x.exports (entry (key.Interface i') held)) (merged m).worlds w' has in
       let listed = from_map (elaborated_world g) g.worlds w' there.0 there.1 in
       let before = export_from laws m valid valid_other one can w' listed.0 listed.1 i' held (subst (λ (x : World). Contains x.exports (entry (key.Interface i') held)) (sym listed.2) there.2) in
       export_comes home world of name w' i' listed.0 before.0 is named before.1 (world_at_from m w' listed.0 listed.1)

@@ -31,7 +31,7 @@ use Rattle.wit_graph_theory.specs.facts.OptionFacts.{some_same}
 use Rattle.wit_graph_theory.specs.steps.Sources.{InterfaceStands}
 use Rattle.wit_merge_spec.specs.Cause.{same_sort, HasNoMismatch}
 use Rattle.wit_merge_spec.specs.Cause as differ
-use Rattle.wit_merge_spec.specs.United.{joined_graph, joined_interface, joined_world, united, with_interface, brought_functions, merge_maps, merged_interface, merged_package, merged_type, merged_world, moves_interface, moves_world}
+use Rattle.wit_merge_spec.specs.Merged.{joined_graph, joined_interface, joined_world, merged, with_interface, brought_functions, merge_maps, merged_interface, merged_package, merged_type, merged_world, moves_interface, moves_world}
 use Rattle.wit_merge_spec.specs.Matches.{GraphMerge, counterpart_interface, counterpart_of, counterpart_world}
 use Rattle.wit_merge_laws.specs.facts.InterfacesStand as interfaces
 use Rattle.wit_merge_laws.specs.facts.InterfacesStand.{option_is, option_so}
@@ -143,9 +143,9 @@ module _ (laws : LawsOfElaboration) (m : GraphMerge) (valid : IsValid m.graph) (
   g = joined_graph m
 
   elaborated_goes : (packages_to interfaces_to : ℕ → ℕ) (old : World) (w' : ℕ) (listed : World) → slice_get g.worlds w' ≡ Some listed → WorldRemap packages_to interfaces_to old listed
-      → SomeAt (united m).worlds w' (WorldRemap packages_to interfaces_to old)
+      → SomeAt (merged m).worlds w' (WorldRemap packages_to interfaces_to old)
   elaborated_goes packages_to interfaces_to old w' listed there goes =
-      some_at (WorldRemap packages_to interfaces_to old) (united m).worlds w' (elaborated_world g listed) (at_map (elaborated_world g) g.worlds w' listed there) (record {
+      some_at (WorldRemap packages_to interfaces_to old) (merged m).worlds w' (elaborated_world g listed) (at_map (elaborated_world g) g.worlds w' listed there) (record {
         name = goes.name;
         home = goes.home;
         labels = λ exported label held has.
@@ -159,31 +159,31 @@ module _ (laws : LawsOfElaboration) (m : GraphMerge) (valid : IsValid m.graph) (
 
   -- ---- the graph is a part
 
-  pub graph_part : MapsInto m.graph (united m) staying
+  pub graph_part : MapsInto m.graph (merged m) staying
   graph_part = record {
-    packages_go = λ p old there. some_at (λ (new : Package). new.name ≡ old.name) (united m).packages p _ (old_package_at m p old there) (package_keeps m (p, old)).name;
-    interfaces_go = λ i old there. some_at (InterfaceRemap (λ p. p) old) (united m).interfaces i (joined_interface m (i, old)) (interfaces.old_interface_at m i old there) (joined_goes m (i, old));
+    packages_go = λ p old there. some_at (λ (new : Package). new.name ≡ old.name) (merged m).packages p _ (old_package_at m p old there) (package_keeps m (p, old)).name;
+    interfaces_go = λ i old there. some_at (InterfaceRemap (λ p. p) old) (merged m).interfaces i (joined_interface m (i, old)) (interfaces.old_interface_at m i old there) (joined_goes m (i, old));
     worlds_go = λ w old there. elaborated_goes (λ p. p) (λ i. i) old w (joined_world m (w, old)) (old_world_at m w old there) (keeps_labels m (w, old));
   }
 
   -- ---- so is the other
 
-  other_interface_remapped : (i : ℕ) (old : Interface) → slice_get m.other.interfaces i ≡ Some old → SomeAt (united m).interfaces (merged_interface m i) (InterfaceRemap (merged_package m) old)
+  other_interface_remapped : (i : ℕ) (old : Interface) → slice_get m.other.interfaces i ≡ Some old → SomeAt (merged m).interfaces (merged_interface m i) (InterfaceRemap (merged_package m) old)
   other_interface_remapped i old there = elim (cases_Bool (moves_interface m i)) [
-    | inl moves ↦ some_at (InterfaceRemap (merged_package m) old) (united m).interfaces (merged_interface m i) _ (interfaces.new_interface_at m i old there moves) (image_goes m old)
+    | inl moves ↦ some_at (InterfaceRemap (merged_package m) old) (merged m).interfaces (merged_interface m i) _ (interfaces.new_interface_at m i old there moves) (image_goes m old)
     | inr stays ↦ matched (matched_some (counterpart_interface m i) stays)
   ]
     where
-      matched : (i' : ℕ) × (counterpart_interface m i ≡ Some i') → SomeAt (united m).interfaces (merged_interface m i) (InterfaceRemap (merged_package m) old)
+      matched : (i' : ℕ) × (counterpart_interface m i ≡ Some i') → SomeAt (merged m).interfaces (merged_interface m i) (InterfaceRemap (merged_package m) old)
       matched (i', found) =
           let is = interface_is m valid valid_other i i' found in
           let same : is.from ≡ old = some_same is.from old (sym is.from_is ∙ there) in
-          let at : slice_get (united m).interfaces (merged_interface m i) ≡ Some (with_interface m old is.into) =
-          ap (slice_get (united m).interfaces) (goes_to (counterpart_interface m i) _ i' found)
+          let at : slice_get (merged m).interfaces (merged_interface m i) ≡ Some (with_interface m old is.into) =
+          ap (slice_get (merged m).interfaces) (goes_to (counterpart_interface m i) _ i' found)
           ∙ (interfaces.old_interface_at m i' is.into is.into_is ∙ ap (λ (x : Interface). Some x) (interfaces.with_counterpart m valid valid_other i i' old is.into there found)) in
-          let stands = found_at (InterfaceStands (mapped_source m.other (merge_maps m)) old) (united m).interfaces (merged_interface m i) (interfaces.interface_stands m valid valid_other i old there) in
-          let new = same_at (united m).interfaces (merged_interface m i) (merged_interface m i) stands.0 (with_interface m old is.into) refl stands.1 at in
-          some_at (InterfaceRemap (merged_package m) old) (united m).interfaces (merged_interface m i) (with_interface m old is.into) at (record {
+          let stands = found_at (InterfaceStands (mapped_source m.other (merge_maps m)) old) (merged m).interfaces (merged_interface m i) (interfaces.interface_stands m valid valid_other i old there) in
+          let new = same_at (merged m).interfaces (merged_interface m i) (merged_interface m i) stands.0 (with_interface m old is.into) refl stands.1 at in
+          some_at (InterfaceRemap (merged_package m) old) (merged m).interfaces (merged_interface m i) (with_interface m old is.into) at (record {
             name = is.called ∙ ap (λ (x : Interface). x.name) same;
             home = λ p of. is.home ∙ ap (option_map (merged_package m)) (ap (λ (x : Interface). x.package) same ∙ of);
             types = λ name t has.
@@ -228,23 +228,23 @@ module _ (laws : LawsOfElaboration) (m : GraphMerge) (valid : IsValid m.graph) (
           exports = matched_exports;
         }
 
-  other_world_remapped : (w : ℕ) (old : World) → slice_get m.other.worlds w ≡ Some old → SomeAt (united m).worlds (merged_world m w) (WorldRemap (merged_package m) (merged_interface m) old)
+  other_world_remapped : (w : ℕ) (old : World) → slice_get m.other.worlds w ≡ Some old → SomeAt (merged m).worlds (merged_world m w) (WorldRemap (merged_package m) (merged_interface m) old)
   other_world_remapped w old there = elim (cases_Bool (moves_world m w)) [
     | inl moves ↦ elaborated_goes (merged_package m) (merged_interface m) old (merged_world m w) (world_image (merge_maps m) w old) (new_world_at m w old there moves) (world_image_goes m w old)
     | inr stays ↦ matched (matched_some (counterpart_world m w) stays)
   ]
     where
-      matched : (w' : ℕ) × (counterpart_world m w ≡ Some w') → SomeAt (united m).worlds (merged_world m w) (WorldRemap (merged_package m) (merged_interface m) old)
+      matched : (w' : ℕ) × (counterpart_world m w ≡ Some w') → SomeAt (merged m).worlds (merged_world m w) (WorldRemap (merged_package m) (merged_interface m) old)
       matched (w', found) =
           let is = world_is m valid w w' found in
-          subst (λ (x : ℕ). SomeAt (united m).worlds x (WorldRemap (merged_package m) (merged_interface m) old)) (sym (goes_to (counterpart_world m w) _ w' found))
+          subst (λ (x : ℕ). SomeAt (merged m).worlds x (WorldRemap (merged_package m) (merged_interface m) old)) (sym (goes_to (counterpart_world m w) _ w' found))
           (elaborated_goes (merged_package m) (merged_interface m) old w' (joined_world m (w', is.into)) (old_world_at m w' is.into is.into_is) (matched_remapped w w' old is.into there found is.into_is))
 
-  pub other_part : MapsInto m.other (united m) (going_to m)
+  pub other_part : MapsInto m.other (merged m) (going_to m)
   other_part = record {
     packages_go = λ p old there.
-        let stands = found_at (ListsMoved m valid valid_other old) (united m).packages (merged_package m p) (package_stands m valid valid_other p old there) in
-        some_at (λ (new : Package). new.name ≡ old.name) (united m).packages (merged_package m p) stands.0 stands.1 stands.2.name;
+        let stands = found_at (ListsMoved m valid valid_other old) (merged m).packages (merged_package m p) (package_stands m valid valid_other p old there) in
+        some_at (λ (new : Package). new.name ≡ old.name) (merged m).packages (merged_package m p) stands.0 stands.1 stands.2.name;
     interfaces_go = other_interface_remapped;
     worlds_go = other_world_remapped;
   }

@@ -18,7 +18,7 @@ use Rattle.wit_graph_theory.specs.facts.ListFacts.{place_of}
 use Rattle.wit_merge_spec.specs.Cause as differ
 use Rattle.wit_merge_spec.specs.Cause.{GraphsDiffer, AreJoined, MergeIsAccepted, borrow_in_result_15, conflict_4, entries, interface_cycle_22, interfaces, merge_mismatch_24, mismatch_8, offset_overflow_27, package_cycle_6, types, worlds}
 use Rattle.wit_merge_spec.specs.Matches.{GraphMerge, Pair, TypePair, counterpart_interface, counterpart_type, counterpart_world}
-use Rattle.wit_merge_spec.specs.United.{joined_graph}
+use Rattle.wit_merge_spec.specs.Merged.{joined_graph}
 use Rattle.wit_merge_laws.specs.laws.MergingLaws.{NothingComes, merge_of_graphs}
 
 -- the elements of a numbered list are the list

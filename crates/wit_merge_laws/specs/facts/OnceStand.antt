@@ -32,7 +32,7 @@ use Rattle.wit_graph_theory.specs.Operations.{merge_sources}
 use Rattle.wit_graph_theory.specs.facts.OptionFacts.{some_parts, some_same}
 use Rattle.wit_graph_theory.specs.steps.Sources.{InterfaceStands, Source}
 use Rattle.wit_remap_spec.specs.Joined.{joined_entry, joined_item}
-use Rattle.wit_merge_spec.specs.United.{is_under_id, joined_graph, joined_interface, united, with_world, merge_maps, merged_interface, merged_world, moves_interface}
+use Rattle.wit_merge_spec.specs.Merged.{is_under_id, joined_graph, joined_interface, merged, with_world, merge_maps, merged_interface, merged_world, moves_interface}
 use Rattle.wit_merge_spec.specs.Matches.{GraphMerge, counterpart_interface, counterpart_interface_by, counterpart_of, counterpart_world, world_labels}
 use Rattle.wit_merge_spec.specs.Cause.{HasNoMismatch}
 use Rattle.wit_merge_laws.specs.facts.InterfacesStand.{interface_stands, joined_keeps, moved_interface_remapped, old_interface_at}
@@ -220,11 +220,11 @@ module _ (m : GraphMerge) (valid : IsValid m.graph) (valid_other : IsValid m.oth
       by (of_other w old is moves place same) = image_side w old is d e (subst (λ (x : World). Contains x.imports d) (sym same) has) held (subst (λ (x : World). Contains x.exports e) (sym same) other) held_so
 
 module _ (laws : LawsOfElaboration) (m : GraphMerge) (valid : IsValid m.graph) (valid_other : IsValid m.other) (one : HasNoMismatch m) (can : UnionCanElaborate m) where
-  added_named : (j f' : ℕ) → j ∷ [] ≡ f' ∷ [] → IsNamed (united m).interfaces j → is_unnamed (united m).interfaces f' ≡ true → ⊥
-  added_named j f' same named unnamed = named_not (united m).interfaces j named (ap (is_unnamed (united m).interfaces) (same_one j f' same) ∙ unnamed)
+  added_named : (j f' : ℕ) → j ∷ [] ≡ f' ∷ [] → IsNamed (merged m).interfaces j → is_unnamed (merged m).interfaces f' ≡ true → ⊥
+  added_named j f' same named unnamed = named_not (merged m).interfaces j named (ap (is_unnamed (merged m).interfaces) (same_one j f' same) ∙ unnamed)
 
   -- the listed entry of an elaborated one that holds such an interface
-  listed_import : (w' : ℕ) (listed : World) → slice_get (joined_graph m).worlds w' ≡ Some listed → (f' : ℕ) (e : Entry) → is_unnamed (united m).interfaces f' ≡ true
+  listed_import : (w' : ℕ) (listed : World) → slice_get (joined_graph m).worlds w' ≡ Some listed → (f' : ℕ) (e : Entry) → is_unnamed (merged m).interfaces f' ≡ true
       → Contains (elaborated_world (joined_graph m) listed).imports e → item_interface e.1 ≡ f' ∷ [] → (d : Entry) × Contains listed.imports d × (item_interface d.1 ≡ f' ∷ [])
   listed_import w' listed there f' e unnamed has held =
       elim ((entries_from laws m valid valid_other one can w' listed there e).0 has) [
@@ -232,7 +232,7 @@ module _ (laws : LawsOfElaboration) (m : GraphMerge) (valid : IsValid m.graph) (
         | inr made ↦ absurd (added_named made.1 f' (ap (λ (d : Entry). item_interface d.1) (sym made.2) ∙ held) (used_is_named laws m valid valid_other one can w' listed there made.1 made.3) unnamed)
       ]
 
-  listed_export : (w' : ℕ) (listed : World) → slice_get (joined_graph m).worlds w' ≡ Some listed → (f' : ℕ) (e : Entry) → is_unnamed (united m).interfaces f' ≡ true
+  listed_export : (w' : ℕ) (listed : World) → slice_get (joined_graph m).worlds w' ≡ Some listed → (f' : ℕ) (e : Entry) → is_unnamed (merged m).interfaces f' ≡ true
       → Contains (elaborated_world (joined_graph m) listed).exports e → item_interface e.1 ≡ f' ∷ [] → Contains listed.exports e
   listed_export w' listed there f' e unnamed has held =
       elim ((entries_from laws m valid valid_other one can w' listed there e).1 has) [
@@ -240,18 +240,18 @@ module _ (laws : LawsOfElaboration) (m : GraphMerge) (valid : IsValid m.graph) (
         | inr made ↦ absurd (added_named made.1 f' (ap (λ (d : Entry). item_interface d.1) (sym made.2) ∙ held) (exported_is_named laws m valid valid_other one can w' listed there made.1 made.3) unnamed)
       ]
 
-  one_side : (w' i' j' f' : ℕ) → is_unnamed (united m).interfaces f' ≡ true → Holds (united m).worlds w' false i' f' → Holds (united m).worlds w' true j' f' → ⊥
+  one_side : (w' i' j' f' : ℕ) → is_unnamed (merged m).interfaces f' ≡ true → Holds (merged m).worlds w' false i' f' → Holds (merged m).worlds w' true j' f' → ⊥
   one_side w' i' j' f' unnamed x y =
       let from = from_map (elaborated_world (joined_graph m)) (joined_graph m).worlds w' x.world x.there in
-      let same = same_at (united m).worlds w' w' y.world x.world refl y.there x.there in
+      let same = same_at (merged m).worlds w' w' y.world x.world refl y.there x.there in
       let import : Contains (elaborated_world (joined_graph m) from.0).imports x.entry = subst (λ (z : World). Contains z.imports x.entry) (sym from.2) (contained_at x.world.imports i' x.entry x.at) in
       let export : Contains (elaborated_world (joined_graph m) from.0).exports y.entry = subst (λ (z : World). Contains z.exports y.entry) (same ∙ sym from.2) (contained_at y.world.exports j' y.entry y.at) in
       let d = listed_import w' from.0 from.1 f' x.entry unnamed import x.held in
       listed_side m valid valid_other f' unnamed w' from.0 from.1 d.0 y.entry d.1 d.2 (listed_export w' from.0 from.1 f' y.entry unnamed export y.held) y.held
 
   -- interfaces without names stay apart, so each has one place
-  pub stand_once : StandOnce (united m).interfaces (united m).worlds
+  pub stand_once : StandOnce (merged m).interfaces (merged m).worlds
   stand_once =
-      StandOnce-from_entries (united m).interfaces (united m).worlds
-      (StandsOnceOnly-of_covered (at m valid valid_other) (united m) (sources_good m valid valid_other one) (united_stands laws m valid valid_other one can) (united_covered laws m valid valid_other one can)
-      (record { injective = λ k f e takes other same unnamed. injective m valid valid_other k f e same; meet = meet m valid valid_other (united m); one_side = one_side }) (one_in m valid valid_other))
+      StandOnce-from_entries (merged m).interfaces (merged m).worlds
+      (StandsOnceOnly-of_covered (at m valid valid_other) (merged m) (sources_good m valid valid_other one) (united_stands laws m valid valid_other one can) (united_covered laws m valid valid_other one can)
+      (record { injective = λ k f e takes other same unnamed. injective m valid valid_other k f e same; meet = meet m valid valid_other (merged m); one_side = one_side }) (one_in m valid valid_other))

@@ -20,7 +20,7 @@ use Rattle.wit_graph_theory.specs.facts.ListFacts.{at_map, found_at, from_map, g
 use Rattle.wit_data.specs.Entries.{entries_of}
 use Rattle.wit_merge_spec.specs.Cause.{same_sort, HasNoMismatch}
 use Rattle.wit_merge_spec.specs.Matches.{GraphMerge, counterpart_world}
-use Rattle.wit_merge_spec.specs.United.{merge_maps, merged_world, moves_world, joined_graph, united}
+use Rattle.wit_merge_spec.specs.Merged.{merge_maps, merged_world, moves_world, joined_graph, merged}
 use Rattle.wit_merge_laws.specs.facts.AgreementBack.{agreement_is_symmetric}
 use Rattle.wit_merge_laws.specs.facts.BothNames.{names_of_both}
 use Rattle.wit_merge_laws.specs.facts.BothOrders.{Corresponds, InBothOrders, flip, of_graph, of_other, other_way}
@@ -57,10 +57,10 @@ module _ (laws : LawsOfElaboration) (g h : Graph) (offset back : ℕ) (both : In
   n = merge_of_graphs h g back
 
   abbrev there : Graph
-  there = united m
+  there = merged m
 
   abbrev here : Graph
-  here = united n
+  here = merged n
 
   abbrev graph_there : MapsInto g there staying
   graph_there = graph_part laws m both.valid both.valid_other both.one elaborates
@@ -199,7 +199,7 @@ module _ (laws : LawsOfElaboration) (g h : Graph) (offset back : ℕ) (both : In
 
 -- ---- the two unions are alike
 
-alike : LawsOfElaboration → (g h : Graph) (offset back : ℕ) → InBothOrders g h offset back → UnionCanElaborate (merge_of_graphs g h offset) → UnionCanElaborate (merge_of_graphs h g back) → AreAlike (united (merge_of_graphs g h offset)) (united (merge_of_graphs h g back))
+alike : LawsOfElaboration → (g h : Graph) (offset back : ℕ) → InBothOrders g h offset back → UnionCanElaborate (merge_of_graphs g h offset) → UnionCanElaborate (merge_of_graphs h g back) → AreAlike (merged (merge_of_graphs g h offset)) (merged (merge_of_graphs h g back))
 alike laws g h offset back both elaborates elaborates_back =
     let other_way_so = other_way g h offset back both in
     record {

@@ -51,7 +51,7 @@ use Rattle.wit_remap_spec.specs.ValueRemap.{types_behind}
 use Rattle.wit_remap_spec.specs.Selected.{selected, selected_with_index}
 use Rattle.wit_merge_spec.specs.Cause.{MergeIsAccepted}
 use Rattle.wit_merge_spec.specs.Matches.{GraphMerge, counterpart_at_label, counterpart_interface, counterpart_interface_by, counterpart_of, counterpart_package, counterpart_type, counterpart_type_by, counterpart_world, matched_world, named_in_counterpart, unnamed_item, world_labels}
-use Rattle.wit_merge_spec.specs.United.{brought_functions, brought_types, is_under_id, joined_graph, joined_interface, joined_package, joined_type, joined_world, merge_maps, merged_interface, merged_package, merged_type, merged_world, moved_interfaces, moved_worlds, moves_interface, moves_package, moves_type, moves_world, package_image, remap_of_merge, united, with_entries, with_interface, with_package, with_type, with_world}
+use Rattle.wit_merge_spec.specs.Merged.{brought_functions, brought_types, is_under_id, joined_graph, joined_interface, joined_package, joined_type, joined_world, merge_maps, merged_interface, merged_package, merged_type, merged_world, moved_interfaces, moved_worlds, moves_interface, moves_package, moves_type, moves_world, package_image, remap_of_merge, merged, with_entries, with_interface, with_package, with_type, with_world}
 use Rattle.wit_merge_laws.specs.facts.BothNames.{both_names}
 use Rattle.wit_merge_laws.specs.facts.FoundBack.{label_found, lookup_finds_entry, lookup_finds_name, lookup_finds_package, lookup_finds_world_type, unnamed_held, unnamed_so}
 use Rattle.wit_merge_laws.specs.facts.InterfacesStand.{counterpart_from, old_interface_at}
@@ -337,13 +337,13 @@ module _ (g : Graph) (offset : ℕ) (valid : IsValid g) where
           let one = some_parts (λ (home : Package). lookup (same_package home.name) g.package_names) (slice_get g.packages x) x' found in
           some_same x x' (sym (package_self x one.0 one.1) ∙ found)
 
-  same_packages : (united m).packages ≡ g.packages
+  same_packages : (merged m).packages ≡ g.packages
   same_packages =
       ap (λ (l : List Package). l ++ map (package_image m) (selected (moves_package m) g.packages)) (all_same (joined_package m) g.packages same_package_there)
       ∙ nothing_behind (package_image m) g.packages (selected (moves_package m) g.packages)
       (ap (map (λ (e : ℕ × Package). e.1)) (none_selected (moves_package m) g.packages (λ p home at. stays_put (counterpart_package m p) p (package_self p home at))))
 
-  same_names : (united m).package_names ≡ g.package_names
+  same_names : (merged m).package_names ≡ g.package_names
   same_names =
       nothing_behind (λ (e : PackageName × ℕ). (e.0, merged_package m e.1)) g.package_names (filter (λ (e : PackageName × ℕ). moves_package m e.1) g.package_names)
       (none_pass (λ (e : PackageName × ℕ). moves_package m e.1) g.package_names (λ k e on.
@@ -414,10 +414,10 @@ module _ (laws : LawsOfElaboration) (g : Graph) (offset : ℕ) (valid : IsValid 
       (subst IsAcyclic (λ k. uses_of (same_types k) (same_interfaces k)) acyclic) w world at (valid.canonical w world at) in
       (λ k. with_elaborated_lists (same_types k) (uses_of (same_types k) (same_interfaces k)) world) ∙ sym longer.world_is
 
-  same_all : (united copied).worlds ≡ g.worlds
+  same_all : (merged copied).worlds ≡ g.worlds
   same_all = ap (map (elaborated_world joined)) (same_worlds g offset valid) ∙ map_same (elaborated_world joined) g.worlds same_elaborated
 
-  same_name : HaveSameNames g (united copied)
+  same_name : HaveSameNames g (merged copied)
   same_name name =
       let both = both_names laws copied name valid valid can in
       (λ has. both.1 (inl has), λ has. elim (both.0 has) [ inl mine ↦ mine | inr theirs ↦ theirs ])

@@ -30,7 +30,7 @@ use Rattle.wit_graph_theory.specs.facts.EntryFacts.{key_entry}
 use Rattle.wit_graph_theory.specs.facts.LawsOfElaboration.{LawsOfElaboration}
 use Rattle.wit_graph_theory.specs.facts.ListFacts.{at_map, found_at, place_of, same_at, some_at}
 use Rattle.wit_graph_theory.specs.facts.OptionFacts.{some_same}
-use Rattle.wit_merge_spec.specs.United.{joined_graph, joined_world, united, merged_interface, merged_world, moves_world}
+use Rattle.wit_merge_spec.specs.Merged.{joined_graph, joined_world, merged, merged_interface, merged_world, moves_world}
 use Rattle.wit_merge_spec.specs.Matches.{GraphMerge, counterpart_world}
 use Rattle.wit_merge_spec.specs.Cause.{HasNoMismatch}
 use Rattle.wit_merge_laws.specs.facts.JoinedGood.{UnionCanElaborate, in_order, listed_imports}
@@ -128,13 +128,13 @@ module _ (laws : LawsOfElaboration) (m : GraphMerge) (valid : IsValid m.graph) (
   abbrev g : Graph
   g = joined_graph m
 
-  abbrev mine : MapsInto m.graph (united m) staying
+  abbrev mine : MapsInto m.graph (merged m) staying
   mine = graph_part laws m valid valid_other one elaborates
 
-  abbrev theirs : MapsInto m.other (united m) (going_to m)
+  abbrev theirs : MapsInto m.other (merged m) (going_to m)
   theirs = other_part laws m valid valid_other one elaborates
 
-  united_apart : TellApart (united m)
+  united_apart : TellApart (merged m)
   united_apart =
       let tables = good_tables m valid valid_other in
       record { names = good_names m valid valid_other; listed = tables.worlds; distinct = λ p there at. (tables.packages p there at).distinct_worlds }
@@ -143,9 +143,9 @@ module _ (laws : LawsOfElaboration) (m : GraphMerge) (valid : IsValid m.graph) (
     -- worlds of one name are matched
     pub matched : (into : World) → slice_get m.graph.worlds w' ≡ Some into → counterpart_world m w ≡ Some w'
     matched into into_there =
-        let here = world_remapped m.graph (united m) staying mine home world w' is_mine in
-        let there = world_remapped m.other (united m) (going_to m) theirs home world w is_theirs in
-        let same = worlds_unique (united m) united_apart home world (merged_world m w) w' there here in
+        let here = world_remapped m.graph (merged m) staying mine home world w' is_mine in
+        let there = world_remapped m.other (merged m) (going_to m) theirs home world w is_theirs in
+        let same = worlds_unique (merged m) united_apart home world (merged_world m w) w' there here in
         elim (cases_Bool (moves_world m w)) [
           | inl goes ↦
               let next = moved_world_remapped m w goes in
@@ -167,21 +167,21 @@ module _ (laws : LawsOfElaboration) (m : GraphMerge) (valid : IsValid m.graph) (
       abbrev done : World
       done = elaborated_world g listed
 
-      done_at : slice_get (united m).worlds w' ≡ Some done
+      done_at : slice_get (merged m).worlds w' ≡ Some done
       done_at = at_map (elaborated_world g) g.worlds w' listed listed_at
 
       -- an interface of the graph under its name
-      in_graph : (i : ℕ) → Contains (keyed_interfaces into.imports) i → IsInterface (united m) of name i → HasImport m.graph home world of name
+      in_graph : (i : ℕ) → Contains (keyed_interfaces into.imports) i → IsInterface (merged m) of name i → HasImport m.graph home world of name
       in_graph i has is =
           let by = imports_it m.graph w' into i into_there has in
           let at = imported_there m.graph valid w' into i into_there has in
-          (w', i, by.held, is_mine, interface_back m.graph (united m) staying mine valid of name i at.0 at.1 is, by.has)
+          (w', i, by.held, is_mine, interface_back m.graph (merged m) staying mine valid of name i at.0 at.1 is, by.has)
 
       from_other : HasImport m.other home world of name → HasImport m.graph home world of name
       from_other (v, i, held, is_world, is_interface, has) =
           let same = world_unique m.other valid_other home world v w is_world is_theirs in
           let imported = imported_by m.other w old i held there (subst (λ (x : ℕ). SomeAt m.other.worlds x (λ (y : World). Contains y.imports (entry (key.Interface i) held))) same has) in
-          in_graph (merged_interface m i) (import_into laws.least m valid valid_other one w w' old into there found into_there i imported) (interface_remapped m.other (united m) (going_to m) theirs of name i is_interface)
+          in_graph (merged_interface m i) (import_into laws.least m valid valid_other one w w' old into there found into_there i imported) (interface_remapped m.other (merged m) (going_to m) theirs of name i is_interface)
 
       into_other : HasImport m.graph home world of name → HasImport m.other home world of name
       into_other (v, i, held, is_world, is_interface, has) =
@@ -190,19 +190,19 @@ module _ (laws : LawsOfElaboration) (m : GraphMerge) (valid : IsValid m.graph) (
           let from = import_from laws.least m valid valid_other one w w' old into there found into_there i imported in
           let by = imports_it m.other w old from.0 there from.2 in
           let at = imported_there m.other valid_other w old from.0 there from.2 in
-          let placed = subst (IsInterface (united m) of name) from.1 (interface_remapped m.graph (united m) staying mine of name i is_interface) in
-          (w, from.0, by.held, is_theirs, interface_back m.other (united m) (going_to m) theirs valid_other of name from.0 at.0 at.1 placed, by.has)
+          let placed = subst (IsInterface (merged m) of name) from.1 (interface_remapped m.graph (merged m) staying mine of name i is_interface) in
+          (w, from.0, by.held, is_theirs, interface_back m.other (merged m) (going_to m) theirs valid_other of name from.0 at.0 at.1 placed, by.has)
 
-      from_united : HasImport (united m) home world of name → HasImport m.graph home world of name
+      from_united : HasImport (merged m) home world of name → HasImport m.graph home world of name
       from_united (v, i, held, is_world, is_interface, has) =
-          let same = worlds_unique (united m) united_apart home world v w' is_world (world_remapped m.graph (united m) staying mine home world w' is_mine) in
-          let imported = imported_by (united m) w' done i held done_at (subst (λ (x : ℕ). SomeAt (united m).worlds x (λ (y : World). Contains y.imports (entry (key.Interface i) held))) same has) in
+          let same = worlds_unique (merged m) united_apart home world v w' is_world (world_remapped m.graph (merged m) staying mine home world w' is_mine) in
+          let imported = imported_by (merged m) w' done i held done_at (subst (λ (x : ℕ). SomeAt (merged m).worlds x (λ (y : World). Contains y.imports (entry (key.Interface i) held))) same has) in
           let all = (laws.least g.types (graph_uses g) listed done elaborates.acyclic (in_order m valid valid_other one w' listed listed_at) (is_elaborated laws m valid valid_other one elaborates w' listed listed_at)).1
           (λ j. list_any (nat_eq j) (keyed_interfaces into.imports)) (holds_test laws.least m valid valid_other one w w' old into there found into_there) in
           let kept = All-contains (λ j. list_any (nat_eq j) (keyed_interfaces into.imports) ≡ true) (keyed_interfaces done.imports) i all imported in
           in_graph i (contains_from_any i (keyed_interfaces into.imports) kept) is_interface
 
-      into_united : HasImport m.graph home world of name → HasImport (united m) home world of name
+      into_united : HasImport m.graph home world of name → HasImport (merged m) home world of name
       into_united (v, i, held, is_world, is_interface, has) =
           let same = world_unique m.graph valid home world v w' is_world is_mine in
           let imported = imported_by m.graph w' into i held into_there (subst (λ (x : ℕ). SomeAt m.graph.worlds x (λ (y : World). Contains y.imports (entry (key.Interface i) held))) same has) in
@@ -212,13 +212,13 @@ module _ (laws : LawsOfElaboration) (m : GraphMerge) (valid : IsValid m.graph) (
           let is = keyed_import g.interfaces g.types w' (key.Interface i) now.0 i refl (listed_imports m valid valid_other one w' listed listed_at place.0 (entry (key.Interface i) now.0) place.1) in
           let root = Contains-flat_map (λ (e : Entry). roots_of (graph_uses g) e.0 (role_of g.types e.1)) listed.imports (entry (key.Interface i) now.0) i now.1 (key_root g.types (graph_uses g) now.0 i is) in
           let holds = (laws.least g.types (graph_uses g) listed done elaborates.acyclic (in_order m valid valid_other one w' listed listed_at) (is_elaborated laws m valid valid_other one elaborates w' listed listed_at)).0 in
-          let by = imports_it (united m) w' done i done_at (holds.roots i root) in
-          (w', i, by.held, world_remapped m.graph (united m) staying mine home world w' is_mine, interface_remapped m.graph (united m) staying mine of name i is_interface, by.has)
+          let by = imports_it (merged m) w' done i done_at (holds.roots i root) in
+          (w', i, by.held, world_remapped m.graph (merged m) staying mine home world w' is_mine, interface_remapped m.graph (merged m) staying mine of name i is_interface, by.has)
 
 -- so where the two agree and can be elaborated as one
 abbrev pub KeepSharedImports : GraphMerge → Type 0
 KeepSharedImports m = (home of : PackageName) (world name : List ℕ) → HasName m.graph (of_world home world) → HasName m.other (of_world home world)
-    → (HasImport (united m) home world of name ↔ HasImport m.graph home world of name) × (HasImport m.other home world of name ↔ HasImport m.graph home world of name)
+    → (HasImport (merged m) home world of name ↔ HasImport m.graph home world of name) × (HasImport m.other home world of name ↔ HasImport m.graph home world of name)
 
 pub imports_of_both : LawsOfElaboration → (m : GraphMerge) → IsValid m.graph → IsValid m.other → HasNoMismatch m → UnionCanElaborate m → KeepSharedImports m
 imports_of_both laws m valid valid_other one can home of world name (w', is_mine) (w, is_theirs) =

@@ -31,7 +31,7 @@ use Rattle.wit_graph_theory.specs.facts.NamedUses.{IsUsed_named}
 use Rattle.wit_graph_theory.specs.Operations.{merge_sources}
 use Rattle.wit_graph_theory.specs.steps.Sources.{Carries, Source, WorldStands}
 use Rattle.wit_merge_spec.specs.Matches.{GraphMerge}
-use Rattle.wit_merge_spec.specs.United.{merge_maps, joined_graph, united}
+use Rattle.wit_merge_spec.specs.Merged.{merge_maps, joined_graph, merged}
 use Rattle.wit_merge_spec.specs.Cause.{HasNoMismatch}
 use Rattle.wit_merge_laws.specs.facts.InterfacesStand as interfaces
 use Rattle.wit_merge_laws.specs.facts.JoinedGood.{UnionCanElaborate, aliases, in_order, listed_exports}
@@ -102,28 +102,28 @@ module _ (laws : LawsOfElaboration) (m : GraphMerge) (valid : IsValid m.graph) (
 
   -- ---- the united graph
 
-  pub united_canonical : Each (λ (world : World). Elaborated g.types (graph_uses g) world world) (united m).worlds
+  pub united_canonical : Each (λ (world : World). Elaborated g.types (graph_uses g) world world) (merged m).worlds
   united_canonical w' world there =
       let from = from_map (elaborated_world g) g.worlds w' world there in
       subst (λ (x : World). Elaborated g.types (graph_uses g) x x) from.2 (is_canonical w' from.0 from.1)
 
   -- what stood stands
-  stands_so : (s : Source) (w w' : ℕ) (old : World) → SomeAt g.worlds w' (WorldStands s w old) → SomeAt (united m).worlds w' (WorldStands s w old)
+  stands_so : (s : Source) (w w' : ℕ) (old : World) → SomeAt g.worlds w' (WorldStands s w old) → SomeAt (merged m).worlds w' (WorldStands s w old)
   stands_so s w w' old stands =
       let found = found_at (WorldStands s w old) g.worlds w' stands in
-      some_at (WorldStands s w old) (united m).worlds w' (elaborated_world g found.0) (at_map (elaborated_world g) g.worlds w' found.0 found.1) (record {
+      some_at (WorldStands s w old) (merged m).worlds w' (elaborated_world g found.0) (at_map (elaborated_world g) g.worlds w' found.0 found.1) (record {
         types = λ name t has taken. types_listed w' found.0 found.1 (s.maps.labels w name) (s.maps.types t) (found.2.types name t has taken);
         home = found.2.home;
       })
 
-  pub united_stands : (k : ℕ) → Carries (at k) (united m)
+  pub united_stands : (k : ℕ) → Carries (at k) (merged m)
   united_stands k =
       let stands = joined_stands m valid valid_other one k in
       record { types = stands.types; values = stands.values; interfaces = stands.interfaces; worlds = λ w old there takes. stands_so (at k) w ((at k).maps.worlds w) old (stands.worlds w old there takes) }
 
-  pub united_covered : IsCovered everything at (united m)
+  pub united_covered : IsCovered everything at (merged m)
   united_covered = record {
-    types = λ t' new there takes. types.types_come m valid valid_other (united m) t' new there;
+    types = λ t' new there takes. types.types_come m valid valid_other (merged m) t' new there;
     interfaces = λ f' new there takes. interfaces.interfaces_come m valid valid_other f' new there;
     worlds = λ w' new there takes.
         let from = from_map (elaborated_world g) g.worlds w' new there in

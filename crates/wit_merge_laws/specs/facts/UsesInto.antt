@@ -20,7 +20,7 @@ use Rattle.wit_graph_theory.specs.facts.OptionFacts.{some_same}
 use Rattle.wit_graph_theory.specs.facts.ReferredFacts.{alias_image}
 use Rattle.wit_graph_theory.specs.steps.Sources.{InterfaceStands, Stands}
 use Rattle.wit_graph_theory.specs.facts.UsesAcyclic.{other_from}
-use Rattle.wit_merge_spec.specs.United.{joined_graph, joined_interface, joined_type, merge_maps, merged_interface, merged_type, moves_type}
+use Rattle.wit_merge_spec.specs.Merged.{joined_graph, joined_interface, joined_type, merge_maps, merged_interface, merged_type, moves_type}
 use Rattle.wit_merge_spec.specs.Matches.{GraphMerge, counterpart_type}
 use Rattle.wit_merge_laws.specs.facts.InterfacesStand as interfaces
 use Rattle.wit_merge_laws.specs.facts.ListedStand.{interfaces_apart}

@@ -29,7 +29,7 @@ use Rattle.wit_graph_theory.specs.facts.UnnamedOnceCarried.{unnamed_same}
 use Rattle.wit_graph_theory.specs.laws.PackageCycles.{ListsKey, ListsUses}
 use Rattle.wit_graph_theory.specs.steps.Sources.{InterfaceStands}
 use Rattle.wit_remap_spec.specs.Joined.{joined_entry}
-use Rattle.wit_merge_spec.specs.United.{is_under_id, joined_graph, joined_interface, joined_world, with_world, merge_maps, merged_interface, moves_interface, moves_world}
+use Rattle.wit_merge_spec.specs.Merged.{is_under_id, joined_graph, joined_interface, joined_world, with_world, merge_maps, merged_interface, moves_interface, moves_world}
 use Rattle.wit_merge_spec.specs.Matches.{GraphMerge, counterpart_interface, counterpart_key, counterpart_of, counterpart_world, world_labels}
 use Rattle.wit_merge_spec.specs.Cause.{HasNoMismatch}
 use Rattle.wit_merge_laws.specs.facts.InterfacesStand.{interface_stands, joined_keeps, moved_interface_remapped, old_interface_at}

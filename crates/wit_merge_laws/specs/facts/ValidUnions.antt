@@ -18,7 +18,7 @@ use Rattle.wit_graph_theory.specs.facts.PackageCycleFacts.{acyclic_packages, pac
 use Rattle.wit_graph_theory.specs.laws.PackageCycles.{AreElaboratedFrom}
 use Rattle.wit_merge_spec.specs.Cause.{HasNoMismatch, MergeIsAccepted, package_cycle_6}
 use Rattle.wit_merge_spec.specs.Matches.{GraphMerge}
-use Rattle.wit_merge_spec.specs.United.{merge_maps, joined_graph, united}
+use Rattle.wit_merge_spec.specs.Merged.{merge_maps, joined_graph, merged}
 use Rattle.wit_merge_laws.specs.facts.JoinedGood.{UnionCanElaborate, aliases, listed_exports, listed_imports}
 use Rattle.wit_merge_laws.specs.laws.MergingLaws.{UnionsStayValid}
 use Rattle.wit_merge_laws.specs.facts.NoCycles.{are_one, can_elaborate, joined_types_acyclic}
@@ -45,7 +45,7 @@ module _ (laws : LawsOfElaboration) (m : GraphMerge) (valid : IsValid m.graph) (
       can (PackageCycle None home.name)
       (package_cycle_6 home.name one (record { p = p; q = q; on_cycle = cycle; there = home; is = there; home_is = refl })))
 
-  are_elaborated : AreElaboratedFrom g.types g.interfaces g.packages g.worlds (united m).worlds
+  are_elaborated : AreElaboratedFrom g.types g.interfaces g.packages g.worlds (merged m).worlds
   are_elaborated = record {
     aliases = aliases m valid valid_other one;
     uses = elaborates.acyclic;
@@ -63,18 +63,18 @@ module _ (laws : LawsOfElaboration) (m : GraphMerge) (valid : IsValid m.graph) (
   }
 
   -- nor with elaborated ones
-  packages_acyclic : IsAcyclic (graph_package_uses (united m))
-  packages_acyclic = packages_stay_acyclic laws.entries g.types g.interfaces g.packages g.worlds (united m).worlds are_elaborated listed_packages
+  packages_acyclic : IsAcyclic (graph_package_uses (merged m))
+  packages_acyclic = packages_stay_acyclic laws.entries g.types g.interfaces g.packages g.worlds (merged m).worlds are_elaborated listed_packages
 
-  pub united_valid : IsValid (united m)
+  pub united_valid : IsValid (merged m)
   united_valid =
-      let whole : IsGoodAsAWhole (united m) = record {
+      let whole : IsGoodAsAWhole (merged m) = record {
         package_names = good_names m valid valid_other;
         once = stand_once laws m valid valid_other one elaborates;
         no_cycles = record { uses = elaborates.acyclic; types = joined_types_acyclic m valid valid_other one; packages = packages_acyclic };
         canonical = united_canonical laws m valid valid_other one elaborates;
       } in
-      IsValid-of_covered (merge_sources m.graph m.other (merge_maps m)) (united m) (sources_good m valid valid_other one) (united_stands laws m valid valid_other one elaborates)
+      IsValid-of_covered (merge_sources m.graph m.other (merge_maps m)) (merged m) (sources_good m valid valid_other one) (united_stands laws m valid valid_other one elaborates)
       (united_covered laws m valid valid_other one elaborates) (good_tables m valid valid_other) whole
 
 pub valid_unions : LawsOfElaboration → UnionsStayValid

@@ -5,7 +5,7 @@ use Rattle.wit_data.specs.declared.function.Function.{Function}
 use Rattle.wit_elaboration.specs.Valid.{IsValid}
 use Rattle.wit_remap_spec.specs.Borrows.{HoldsBorrow}
 use Rattle.wit_merge_spec.specs.Matches.{GraphMerge}
-use Rattle.wit_merge_spec.specs.United.{moved_functions}
+use Rattle.wit_merge_spec.specs.Merged.{moved_functions}
 use Rattle.wit_merge_spec.specs.Cause.{HasNoMismatch, MergeReturnsBorrow}
 
 -- a function that moves returns a borrow in the incoming graph already

@@ -12,7 +12,7 @@ use Rattle.wit_graph_data.specs.declared.graph.Graph.{Graph}
 use Rattle.wit_graph_data.specs.declared.graph.Package.{Package}
 use Rattle.wit_merge_spec.specs.Cause.{MergeIsAccepted}
 use Rattle.wit_merge_spec.specs.Matches.{GraphMerge}
-use Rattle.wit_merge_spec.specs.United.{joined_graph, merged_interface, merged_package, merged_type, merged_world, united}
+use Rattle.wit_merge_spec.specs.Merged.{joined_graph, merged_interface, merged_package, merged_type, merged_world, merged}
 use Rattle.wit_merge_laws.specs.laws.MergingLaws.{merge_of_graphs}
 use Rattle.wit_merge_laws.specs.laws.Names.{HaveSameNames, InterfaceName, IsNamedSo}
 use Rattle.wit_merge_laws.specs.laws.OrderLaws.{AreAlike}
@@ -21,12 +21,12 @@ use Rattle.wit_merge_laws.specs.laws.OrderLaws.{AreAlike}
 
 -- an empty graph into which a valid one goes has its names, labels and keys
 abbrev pub EmptyBecomesAlike : Type 0
-EmptyBecomesAlike = (g : Graph) (offset : ℕ) → IsValid g → AreAlike g (united (merge_of_graphs empty_graph g offset))
+EmptyBecomesAlike = (g : Graph) (offset : ℕ) → IsValid g → AreAlike g (merged (merge_of_graphs empty_graph g offset))
 
 -- its packages and what stands in their tables are those of the other, and each thing keeps its id
 pub record KeepsIds (m : GraphMerge) : Type 0 where
-  pub packages : (united m).packages ≡ m.other.packages
-  pub package_names : (united m).package_names ≡ m.other.package_names
+  pub packages : (merged m).packages ≡ m.other.packages
+  pub package_names : (merged m).package_names ≡ m.other.package_names
   pub types : (t : ℕ) → merged_type m t ≡ t
   pub interfaces : (i : ℕ) → merged_interface m i ≡ i
   pub worlds : (w : ℕ) → merged_world m w ≡ w
@@ -50,11 +50,11 @@ IsPlacedType g owner.None = ⊥
 -- a graph with which a copy of it is merged: what it has stays as it is, until worlds are elaborated, and what has a name
 -- is where its copy goes
 pub record StaysItself (g : Graph) (m : GraphMerge) : Type 0 where
-  pub packages : (united m).packages ≡ g.packages
-  pub package_names : (united m).package_names ≡ g.package_names
+  pub packages : (merged m).packages ≡ g.packages
+  pub package_names : (merged m).package_names ≡ g.package_names
   pub worlds : (joined_graph m).worlds ≡ g.worlds
-  pub interfaces : EachAt (λ i (interface : Interface). slice_get (united m).interfaces i ≡ Some interface) g.interfaces
-  pub types : EachAt (λ t (def : TypeDef). slice_get (united m).types t ≡ Some def) g.types
+  pub interfaces : EachAt (λ i (interface : Interface). slice_get (merged m).interfaces i ≡ Some interface) g.interfaces
+  pub types : EachAt (λ t (def : TypeDef). slice_get (merged m).types t ≡ Some def) g.types
   pub package_ids : EachAt (λ p (home : Package). merged_package m p ≡ p) g.packages
   pub world_ids : EachAt (λ w (world : World). merged_world m w ≡ w) g.worlds
   pub interface_ids : (i : ℕ) → IsPlaced g i → merged_interface m i ≡ i
@@ -67,4 +67,4 @@ CopiesGoToThemselves = (g : Graph) (offset : ℕ) → IsValid g → StaysItself 
 
 -- where no cause holds against it, the graph keeps its names and its worlds, elaborated again
 abbrev pub AcceptedCopiesChangeNothing : Type 0
-AcceptedCopiesChangeNothing = (g : Graph) (offset : ℕ) → IsValid g → MergeIsAccepted (merge_of_graphs g g offset) → HaveSameNames g (united (merge_of_graphs g g offset)) × ((united (merge_of_graphs g g offset)).worlds ≡ g.worlds)
+AcceptedCopiesChangeNothing = (g : Graph) (offset : ℕ) → IsValid g → MergeIsAccepted (merge_of_graphs g g offset) → HaveSameNames g (merged (merge_of_graphs g g offset)) × ((merged (merge_of_graphs g g offset)).worlds ≡ g.worlds)

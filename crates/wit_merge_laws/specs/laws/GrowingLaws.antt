@@ -19,7 +19,7 @@ use Rattle.wit_remap_spec.specs.Image.{function_image, interface_image}
 use Rattle.wit_remap_spec.specs.Borrows.{borrow_text, HoldsBorrow}
 use Rattle.wit_merge_spec.specs.Cause.{HasNoMismatch, IsMergeCause, MergeIsAccepted, MergeOverflows, MergeReturnsBorrow, StabilitiesMismatch}
 use Rattle.wit_merge_spec.specs.Matches.{GraphMerge, Pair, counterpart_interface, counterpart_package, counterpart_type, counterpart_world}
-use Rattle.wit_merge_spec.specs.United.{joined_graph, merge_maps, moved_functions, moved_interfaces, united, with_interface, with_package, with_type, with_world}
+use Rattle.wit_merge_spec.specs.Merged.{joined_graph, merge_maps, moved_functions, moved_interfaces, merged, with_interface, with_package, with_type, with_world}
 use Rattle.wit_merge_spec.specs.steps.Leaving.{LeavesGraph, grown_graph, new_functions, new_worlds, with_new_worlds}
 
 -- what is matched leaves its counterpart as it is: it has no stability that this lacks, and nothing of it moves
@@ -97,7 +97,7 @@ BorrowsCome = (m : GraphMerge) (message : List ℕ) → IsValid m.graph → IsVa
 -- only the worlds that come are elaborated; of the causes that read the two graphs as one none is a cycle, and a conflict is
 -- one of these worlds
 pub record GrowsAlone (m : GraphMerge) : Type 0 where
-  pub united_is : united m ≡ record (grown_graph m) { worlds = m.graph.worlds ++ map (elaborated_world (joined_graph m)) (new_worlds m) }
+  pub united_is : merged m ≡ record (grown_graph m) { worlds = m.graph.worlds ++ map (elaborated_world (joined_graph m)) (new_worlds m) }
   pub no_use : (message : List ℕ) → UsesItself (joined_graph m) message → ⊥
   pub no_dependency : (home : PackageName) → DependsOnItself (joined_graph m) home → ⊥
   pub conflict : (span : _) (name : List ℕ) → HasWorldInConflict (joined_graph m) span name → IsRefusedWorld (with_new_worlds m) (InvalidTransitiveDependency span name)

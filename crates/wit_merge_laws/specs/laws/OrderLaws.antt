@@ -13,7 +13,7 @@ use Rattle.wit_graph_data.specs.declared.graph.Graph.{Graph}
 use Rattle.wit_remap_spec.specs.Resources.{leads_to_resource}
 use Rattle.wit_merge_spec.specs.Cause.{same_sort, HasNoMismatch, MergeIsAccepted}
 use Rattle.wit_merge_spec.specs.Matches.{GraphMerge}
-use Rattle.wit_merge_spec.specs.United.{merged_type, united}
+use Rattle.wit_merge_spec.specs.Merged.{merged_type, merged}
 use Rattle.wit_merge_laws.specs.facts.JoinedGood.{UnionCanElaborate}
 use Rattle.wit_merge_laws.specs.laws.MergingLaws.{merge_of_graphs}
 use Rattle.wit_merge_laws.specs.laws.Names.{HasLabel, HaveSameNames, IsInterface, IsWorld, Label}
@@ -59,13 +59,13 @@ pub record AreAlike (g h : Graph) : Type 0 where
 -- where merging succeeds in either order, both orders give the same
 abbrev pub MergesAreAlike : Type 0
 MergesAreAlike = (g h : Graph) (offset back : ℕ) → IsValid g → IsValid h → MergeIsAccepted (merge_of_graphs g h offset) → MergeIsAccepted (merge_of_graphs h g back)
-    → AreAlike (united (merge_of_graphs g h offset)) (united (merge_of_graphs h g back))
+    → AreAlike (merged (merge_of_graphs g h offset)) (merged (merge_of_graphs h g back))
 
 -- so they do where two graphs agree, and in their union no interface would use itself and no world is in conflict:
 -- whatever else refuses either order
 abbrev pub MergingIsOrderFree : Type 0
 MergingIsOrderFree = (g h : Graph) (offset back : ℕ) → IsValid g → IsValid h → HasNoMismatch (merge_of_graphs g h offset) → UnionCanElaborate (merge_of_graphs g h offset)
-    → AreAlike (united (merge_of_graphs g h offset)) (united (merge_of_graphs h g back))
+    → AreAlike (merged (merge_of_graphs g h offset)) (merged (merge_of_graphs h g back))
 
 -- since then the union of the other order has neither
 abbrev pub EitherOrderElaborates : Type 0
@@ -77,4 +77,4 @@ EitherOrderElaborates = (g h : Graph) (offset back : ℕ) → IsValid g → IsVa
 -- does each that is the argument of an `own` or a `borrow`
 abbrev pub ResourcesStay : Type 0
 ResourcesStay = (m : GraphMerge) (t : ℕ) → IsValid m.graph → IsValid m.other → HasNoMismatch m
-    → (leads_to_resource m.graph.types t ≡ true → leads_to_resource (united m).types t ≡ true) × (leads_to_resource m.other.types t ≡ true → leads_to_resource (united m).types (merged_type m t) ≡ true)
+    → (leads_to_resource m.graph.types t ≡ true → leads_to_resource (merged m).types t ≡ true) × (leads_to_resource m.other.types t ≡ true → leads_to_resource (merged m).types (merged_type m t) ≡ true)

@@ -16,7 +16,7 @@ use Rattle.wit_graph_data.specs.declared.graph.Package.{Package}
 use Rattle.wit_graph_data.specs.Named.{interface_type}
 use Rattle.wit_remap_spec.specs.Selected.{rank}
 use Rattle.wit_merge_spec.specs.Matches.{GraphMerge, WorldLabel, counterpart_at_label, counterpart_interface, counterpart_package, counterpart_type, counterpart_world, unnamed_item}
-use Rattle.wit_merge_spec.specs.United as moved
+use Rattle.wit_merge_spec.specs.Merged as moved
 use Rattle.wit_merge_match.specs.declared.matches.Matches.{Matches}
 use Rattle.wit_merge_match.specs.declared.merge_remap.MergeRemap.{MergeRemap}
 use Rattle.wit_merge_match.specs.declared.world_labels.LabelNotes.{LabelNotes}

@@ -11,11 +11,11 @@ use Rattle.wit_graph_data.specs.declared.graph.Graph.{Graph}
 use Rattle.wit_graph_data.specs.declared.graph.Package.{Package}
 use Rattle.wit_merge_spec.specs.facts.Unchanged.{SameHome, SameInterface, SamePackage}
 use Rattle.wit_semver_spec.specs.laws.Unchanged.{SameKind}
-use Rattle.wit_semver_spec.specs.Rewritten.{rewritten}
+use Rattle.wit_semver_spec.specs.SemverMerged.{semver_merged}
 use Rattle.wit_link_spec.specs.Addition.{Addition}
 use Rattle.wit_link.specs.Appending.{IsAdded}
 use Rattle.wit_merge_spec.specs.Matches.{GraphMerge}
-use Rattle.wit_merge_spec.specs.United.{united}
+use Rattle.wit_merge_spec.specs.Merged.{merged}
 use Rattle.wit_transform.specs.Transformed.{WorldLists, transformed}
 use Rattle.wit_resolve_graph.specs.Sources.{PushesAnswer}
 use Rattle.wit_resolve_graph.specs.State.{State}
@@ -59,7 +59,7 @@ TransformationsKeep = (g : Graph) (w : ℕ) (change : World → WorldLists) → 
 
 -- another graph is merged into it, or the imports of a world are merged by a rule of tracks
 abbrev pub MergesKeep : Type 0
-MergesKeep = (m : GraphMerge) → Keeps m.graph (united m)
+MergesKeep = (m : GraphMerge) → Keeps m.graph (merged m)
 
 abbrev pub SemverMergesKeep : Type 0
-SemverMergesKeep = (rule : TrackRule) (g : Graph) (w : ℕ) → Keeps g (rewritten rule g w)
+SemverMergesKeep = (rule : TrackRule) (g : Graph) (w : ℕ) → Keeps g (semver_merged rule g w)

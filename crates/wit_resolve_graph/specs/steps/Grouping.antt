@@ -4,7 +4,7 @@ use Rattle.wit_names.specs.declared.package_name.PackageName.{PackageName}
 use Rattle.wit_graph_data.specs.Error.{NoCause}
 use Rattle.wit_graph_data.specs.declared.features.Features.{Features}
 use Rattle.wit_graph_data.specs.declared.graph.Graph.{Graph}
-use Rattle.wit_link.specs.Appending.{ArePushed}
+use Rattle.wit_link.specs.Appending.{AreAdded}
 use Rattle.wit_link.specs.GroupOrder.{AreSorted, IsSortCause, Unresolved, names_of}
 
 -- packages are added in their order, no cause holds against it, and the one of a name has this id
@@ -15,6 +15,6 @@ pub record AreAdded (features : Features) (g : Graph) (unresolved : List Unresol
   pub place : ℕ
   pub sortable : NoCause (IsSortCause unresolved)
   pub are_sorted : AreSorted unresolved order sorted
-  pub are_pushed : ArePushed features g sorted new ids
+  pub are_pushed : AreAdded features g sorted new ids
   pub name_is : slice_get (names_of sorted) place ≡ Some name
   pub id_is : slice_get ids place ≡ Some id

@@ -8,11 +8,11 @@ use Rattle.wit_data.specs.declared.types.TypeDef.{TypeDef}
 use Rattle.wit_data.specs.declared.world.World.{World}
 use Rattle.wit_elaboration.specs.Entries.{Entry}
 use Rattle.wit_graph_data.specs.declared.graph.Graph.{Graph}
-use Rattle.wit_semver_spec.specs.Rewritten.{Agrees, IsComplete, LacksType, Upgrade, Versioned, both, is_below, is_replaced, kept_imports, newest, newest_type, retargeted, rewritable_types, track_package, upgrade, versioned}
+use Rattle.wit_semver_spec.specs.SemverMerged.{Agrees, IsComplete, LacksType, SemverMerge, Versioned, both, is_below, is_replaced, kept_imports, newest, newest_type, retargeted, rewritable_types, track_package, semver_merge, versioned}
 use Rattle.wit_semver.specs.contracts.tracks.TrackKeyPartialEq.TheImpl.{eq-value}
 use Rattle.wit_semver.specs.declared.tracks.TrackKey.{TrackKey}
 use Rattle.wit_semver.specs.declared.tracks.VersionedInterface.{VersionedInterface}
-use Rattle.wit_semver.specs.declared.upgrade_plan.UpgradePlan.{UpgradePlan}
+use Rattle.wit_semver.specs.declared.semver_merge_plan.SemverMergePlan.{SemverMergePlan}
 
 -- an interface with what is told of it
 abbrev pub told : VersionedInterface → Versioned
@@ -27,11 +27,11 @@ abbrev pub key_at : TrackRule → Graph → ℕ → Option TrackKey
 key_at rule g i = option_map (key_of rule) (versioned g i)
 
 -- what replaces interface i
-abbrev pub replacement : Upgrade → ℕ → Option ℕ
+abbrev pub replacement : SemverMerge → ℕ → Option ℕ
 replacement u i = if is_replaced u i then Some (newest u i) else None
 
 -- a list tells of each interface what replaces it
-abbrev pub AreReplacements : Upgrade → List (Option ℕ) → Type 0
+abbrev pub AreReplacements : SemverMerge → List (Option ℕ) → Type 0
 AreReplacements u found = (length found ≡ length u.graph.interfaces) × ((i : ℕ) → get_or found i None ≡ replacement u i)
 
 -- ---- the greatest version on each track
@@ -63,15 +63,15 @@ IsFilled f ids count found = (length found ≡ count) × ((i : ℕ) → get_or f
 -- ---- a world whose imports are to be merged
 
 -- what is told of it, as an upgrade
-abbrev pub upgrade_of : UpgradePlan → Upgrade
-upgrade_of a = upgrade a.rule a.graph.now a.world.now
+abbrev pub semver_merge_of : SemverMergePlan → SemverMerge
+semver_merge_of a = semver_merge a.rule a.graph.now a.world.now
 
 -- it tells of each interface what replaces it
-abbrev pub IsUpgradeReady : UpgradePlan → Type 0
-IsUpgradeReady a = AreReplacements (upgrade_of a) a.replaced
+abbrev pub IsSemverMergeReady : SemverMergePlan → Type 0
+IsSemverMergeReady a = AreReplacements (semver_merge_of a) a.replaced
 
 -- one of some types uses a replaced interface and lacks its target in the newest
-abbrev pub LackTypes : Upgrade → List ℕ → List ℕ → Type 0
+abbrev pub LackTypes : SemverMerge → List ℕ → List ℕ → Type 0
 LackTypes u ids message = (t : ℕ) × Contains ids t × LacksType u t message
 
 -- ---- the graph that is made
@@ -94,7 +94,7 @@ with_lists g w imports targets = record (with_imports g w imports) { types = wit
 pub record AreNewEntries (rule : TrackRule) (g : Graph) (w : ℕ) (imports : List Entry) (targets : List (Option ℕ)) : Type 0 where
   pub world : World
   pub there : slice_get g.worlds w ≡ Some world
-  pub complete : IsComplete (upgrade rule g world)
-  pub agree : Agrees (upgrade rule g world)
-  pub imports_are : imports ≡ kept_imports (upgrade rule g world)
-  pub targets_are : IsFilled (newest_type (upgrade rule g world)) (rewritable_types (upgrade rule g world)) (length g.types) targets
+  pub complete : IsComplete (semver_merge rule g world)
+  pub agree : Agrees (semver_merge rule g world)
+  pub imports_are : imports ≡ kept_imports (semver_merge rule g world)
+  pub targets_are : IsFilled (newest_type (semver_merge rule g world)) (rewritable_types (semver_merge rule g world)) (length g.types) targets

@@ -38,7 +38,7 @@ use Rattle.wit_graph_theory.specs.facts.NamedUses.{used_is_named}
 use Rattle.wit_transform.specs.facts.UnnamedOnceTransformed.{set_split}
 use Rattle.wit_elaboration.specs.AllElaborated.{DependsOnItself, RefersToItself, UsesItself, all_elaborated, elaborated_world, interface_cycle_text}
 use Rattle.wit_graph_theory.specs.facts.OptionFacts.{some_same, some_there}
-use Rattle.wit_semver_spec.specs.Rewritten.{listed_world, new_target, retargeted, rewritten, rewritten_types, with_new_entries_at, Upgrade, is_replaced, newest, IsComplete, SemverMergeIsAccepted, conflict_4, interface_cycle_22, package_cycle_6, type_cycle_23, type_missing_25}
+use Rattle.wit_semver_spec.specs.SemverMerged.{listed_world, new_target, retargeted, semver_merged, rewritten_types, with_new_entries_at, SemverMerge, is_replaced, newest, IsComplete, SemverMergeIsAccepted, conflict_4, interface_cycle_22, package_cycle_6, type_cycle_23, type_missing_25}
 use Rattle.wit_semver_spec.specs.facts.Greatest.{newest_stays}
 use Rattle.wit_semver_spec.specs.facts.TypesAfter.{retargeted_from, retargeted_name, retargeted_owner, retargeted_type, type_after, type_into}
 
@@ -56,7 +56,7 @@ key_named interfaces types w (key.Interface f) (item.Interface id stability docs
 key_named interfaces types w (key.Interface f) (item.Function fn) i same is = absurd is
 key_named interfaces types w (key.Interface f) (item.Type_ t span) i same is = absurd is
 
-module _ (u : Upgrade) (valid : IsValid u.graph) (w : ℕ) (there : slice_get u.graph.worlds w ≡ Some u.world) where
+module _ (u : SemverMerge) (valid : IsValid u.graph) (w : ℕ) (there : slice_get u.graph.worlds w ≡ Some u.world) where
   abbrev types : List TypeDef
   types = u.graph.types
 
@@ -228,14 +228,14 @@ module _ (u : Upgrade) (valid : IsValid u.graph) (w : ℕ) (there : slice_get u.
 
 -- ---- the rewritten graph
 
-pub rewritten_is : (rule : TrackRule) (g : Graph) (w : ℕ) (old : World) → slice_get g.worlds w ≡ Some old → rewritten rule g w ≡ all_elaborated (with_new_entries_at (record { rule = rule; graph = g; world = old }) w)
+pub rewritten_is : (rule : TrackRule) (g : Graph) (w : ℕ) (old : World) → slice_get g.worlds w ≡ Some old → semver_merged rule g w ≡ all_elaborated (with_new_entries_at (record { rule = rule; graph = g; world = old }) w)
 rewritten_is rule g w old there = ap (λ (o : Option World). all_elaborated (option_map_or (λ (world : World). with_new_entries_at (record { rule = rule; graph = g; world = world }) w) o g)) there
 
 -- what the named world becomes
-pub merged_is : (rule : TrackRule) (g : Graph) (w : ℕ) (old new : World) → (there : slice_get g.worlds w ≡ Some old) → slice_get (rewritten rule g w).worlds w ≡ Some new
-    → (let u : Upgrade = record { rule = rule; graph = g; world = old } in new ≡ elaborated_world (with_new_entries_at u w) (listed_world u))
+pub merged_is : (rule : TrackRule) (g : Graph) (w : ℕ) (old new : World) → (there : slice_get g.worlds w ≡ Some old) → slice_get (semver_merged rule g w).worlds w ≡ Some new
+    → (let u : SemverMerge = record { rule = rule; graph = g; world = old } in new ≡ elaborated_world (with_new_entries_at u w) (listed_world u))
 merged_is rule g w old new there is =
-    let u : Upgrade = record { rule = rule; graph = g; world = old } in
+    let u : SemverMerge = record { rule = rule; graph = g; world = old } in
     let now = subst (λ (x : Graph). slice_get x.worlds w ≡ Some new) (rewritten_is rule g w old there) is in
     let at = at_map (elaborated_world (with_new_entries_at u w)) (slice_set g.worlds w (listed_world u)) w (listed_world u) (slice_get-set g.worlds w old (listed_world u) there) in
     some_same new (elaborated_world (with_new_entries_at u w) (listed_world u)) (sym now ∙ at)

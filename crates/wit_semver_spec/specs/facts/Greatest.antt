@@ -14,7 +14,7 @@ use Rattle.wit_digraph.specs.facts.MemberFacts.{Contains-cons_cases, Contains-he
 use Rattle.wit_names.specs.facts.PackageNameFacts.{same_package-Decides}
 use Rattle.wit_names.specs.PackageName.{same_package}
 use Rattle.wit_names.specs.declared.track.TrackRule.{TrackRule}
-use Rattle.wit_semver_spec.specs.Rewritten.{Upgrade, Versioned, are_on_one_track, both, have_one_track, imported, is_below, is_older_than, is_replaced, newest, track_package, versioned}
+use Rattle.wit_semver_spec.specs.SemverMerged.{SemverMerge, Versioned, are_on_one_track, both, have_one_track, imported, is_below, is_older_than, is_replaced, newest, track_package, versioned}
 use Rattle.wit_semver_spec.specs.laws.TrackLaws.{IsGreatest}
 
 -- ---- tests
@@ -138,7 +138,7 @@ both_into test a b v w first second on = subst (λ (o : Option Versioned). both 
 pub inside : (v w : Versioned) → Some v ≡ Some w → v ≡ w
 inside v w same = cc
 
-module _ (u : Upgrade) where
+module _ (u : SemverMerge) where
   abbrev at : ℕ → Option Versioned
   at i = versioned u.graph i
 

@@ -29,7 +29,7 @@ use Rattle.wit_graph_theory.specs.facts.ListFacts.{Contains-map, from_row, in_ro
 use Rattle.wit_graph_theory.specs.facts.OptionFacts.{some_same}
 use Rattle.wit_graph_theory.specs.laws.PackageCycles.{ListsKey, ListsUses}
 use Rattle.wit_graph_theory.specs.facts.PackagesAcyclic.{is_there}
-use Rattle.wit_semver_spec.specs.Rewritten.{entry_types, is_replaced_entry, kept_imports, listed_world, rewritable_types, rewritten_types, types_of, Upgrade, imported, is_replaced, newest, IsComplete}
+use Rattle.wit_semver_spec.specs.SemverMerged.{entry_types, is_replaced_entry, kept_imports, listed_world, rewritable_types, rewritten_types, types_of, SemverMerge, imported, is_replaced, newest, IsComplete}
 use Rattle.wit_semver_spec.specs.facts.Greatest.{both_true, newest_stays}
 use Rattle.wit_semver_spec.specs.facts.TypesAfter.{needs_after}
 
@@ -82,7 +82,7 @@ key_root interfaces typedefs types uses w (key.Interface f) (item.Interface id s
 key_root interfaces typedefs types uses w (key.Interface f) (item.Function fn) i same is = absurd is
 key_root interfaces typedefs types uses w (key.Interface f) (item.Type_ t span) i same is = absurd is
 
-module _ (least : ImportsAreLeast) (u : Upgrade) (valid : IsValid u.graph) (w : ℕ) (there : slice_get u.graph.worlds w ≡ Some u.world) (complete : IsComplete u) where
+module _ (least : ImportsAreLeast) (u : SemverMerge) (valid : IsValid u.graph) (w : ℕ) (there : slice_get u.graph.worlds w ≡ Some u.world) (complete : IsComplete u) where
   abbrev old : World
   old = u.world
 

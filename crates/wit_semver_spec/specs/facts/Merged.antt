@@ -26,14 +26,14 @@ use Rattle.wit_graph_theory.specs.facts.ListFacts.{found_at, place_of, same_at}
 use Rattle.wit_elaboration.specs.AllElaborated.{elaborated_world}
 use Rattle.wit_graph_theory.specs.facts.LawsOfElaboration.{LawsOfElaboration}
 use Rattle.wit_graph_theory.specs.facts.OptionFacts.{some_parts}
-use Rattle.wit_semver_spec.specs.Rewritten.{listed_world, rewritten, with_new_entries_at, Upgrade, Versioned, are_on_one_track, have_one_track, is_below, is_replaced, versioned, versioned_in, versioned_of}
+use Rattle.wit_semver_spec.specs.SemverMerged.{listed_world, semver_merged, with_new_entries_at, SemverMerge, Versioned, are_on_one_track, have_one_track, is_below, is_replaced, versioned, versioned_in, versioned_of}
 use Rattle.wit_semver_spec.specs.facts.Accepting.{complete, elaborates, in_order, listed_there, merged_is, new_types, new_uses, rewritten_is, uses_acyclic}
 use Rattle.wit_semver_spec.specs.facts.Greatest.{both_from, both_into, both_true, stays_from, track_from, track_into}
 use Rattle.wit_semver_spec.specs.facts.KeptKeys.{IsKept, kept_holds, kept_root, kept_test, passed}
 use Rattle.wit_semver_spec.specs.laws.TrackLaws.{IsSemverMerged}
 
 module _ (laws : LawsOfElaboration) (rule : TrackRule) (g : Graph) (w : ℕ) (old new : World) (merged : IsSemverMerged rule g w old new) where
-  abbrev pub u : Upgrade
+  abbrev pub u : SemverMerge
   u = record { rule = rule; graph = g; world = old }
 
   abbrev done : World
@@ -199,7 +199,7 @@ module _ (laws : LawsOfElaboration) (rule : TrackRule) (g : Graph) (w : ℕ) (ol
   other_way : (v x : Versioned) → have_one_track rule v x ≡ true → have_one_track rule x v ≡ true
   other_way v x on = let same = track_from rule v x on in track_into rule x v (record { home = sym same.home; name = sym same.name })
 
-  pub one_on_each : (i j : ℕ) → Contains (keyed_interfaces new.imports) i → Contains (keyed_interfaces new.imports) j → are_on_one_track rule (rewritten rule g w) i j ≡ true → i ≡ j
+  pub one_on_each : (i j : ℕ) → Contains (keyed_interfaces new.imports) i → Contains (keyed_interfaces new.imports) j → are_on_one_track rule (semver_merged rule g w) i j ≡ true → i ≡ j
   one_on_each i j has_i has_j on =
       let here : are_on_one_track rule g i j ≡ true =
       subst (λ (x : Graph). are_on_one_track rule x i j ≡ true) (rewritten_is rule g w old merged.there) on in

@@ -21,7 +21,7 @@ use Rattle.wit_graph_theory.specs.facts.GoodIsValid.{good_things}
 use Rattle.wit_graph_theory.specs.facts.ListFacts.{at_map, found_at, from_map, place_of, same_at}
 use Rattle.wit_graph_theory.specs.facts.OptionFacts.{option_cases, some_by, some_parts, some_same, some_there}
 use Rattle.wit_graph_theory.specs.facts.PackagesAcyclic.{numbered_from, numbered_into}
-use Rattle.wit_semver_spec.specs.Rewritten.{IsComplete, Upgrade, interface_type, is_replaced, missing_text, name_of, new_target, newest, newest_type, replaced_use, retargeted, rewritable_types, rewritten_types, target_name, upgrade_text}
+use Rattle.wit_semver_spec.specs.SemverMerged.{IsComplete, SemverMerge, interface_type, is_replaced, missing_text, name_of, new_target, newest, newest_type, replaced_use, retargeted, rewritable_types, rewritten_types, target_name, semver_merge_text}
 
 -- ---- parts of options
 
@@ -37,7 +37,7 @@ pub retargeted_owner : (def : TypeDef) (o : Option ℕ) → (retargeted def o).o
 retargeted_owner def None = refl
 retargeted_owner def (Some t) = refl
 
-module _ (u : Upgrade) where
+module _ (u : SemverMerge) where
   abbrev types : List TypeDef
   types = u.graph.types
 
@@ -168,7 +168,7 @@ module _ (u : Upgrade) where
           let named = target_named t f uses in
           elim (option_cases (interface_type u.graph.interfaces (newest u f) named.0)) [
             | inl absent ↦
-                absurd (complete t (upgrade_text u.graph f (newest u f) (missing_text named.0)) (contains_from_any t (rewritable_types u) follows)
+                absurd (complete t (semver_merge_text u.graph f (newest u f) (missing_text named.0)) (contains_from_any t (rewritable_types u) follows)
                 (record { f = f; name = named.0; uses = replaced_use_into t f uses replaced; named = named.1; absent = absent; message_is = refl }))
             | inr found ↦ (named.0, found.0, named.1, found.1)
           ]

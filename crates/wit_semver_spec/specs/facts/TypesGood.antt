@@ -26,7 +26,7 @@ use Rattle.wit_graph_theory.specs.facts.ListFacts.{found_at, from_row, in_row, s
 use Rattle.wit_graph_theory.specs.facts.OptionFacts.{option_cases}
 use Rattle.wit_graph_theory.specs.facts.OwnedFacts.{row, row_from, row_into}
 use Rattle.wit_graph_theory.specs.facts.PackagesAcyclic.{length-numbered}
-use Rattle.wit_semver_spec.specs.Rewritten.{new_target, retargeted, rewritten_types, Upgrade, newest}
+use Rattle.wit_semver_spec.specs.SemverMerged.{new_target, retargeted, rewritten_types, SemverMerge, newest}
 use Rattle.wit_semver_spec.specs.facts.Accepting.{stays_so}
 use Rattle.wit_semver_spec.specs.facts.TypesAfter.{after, needs_as_alias, retargeted_from, retargeted_name, retargeted_owner, retargeted_type, type_after}
 
@@ -35,7 +35,7 @@ alias_not_plain : (k : TypeDefKind) (t : ℕ) → alias_target k ≡ Some t → 
 alias_not_plain (kind.Type_ ty) t is plain = plain
 alias_not_plain other t is plain = cc
 
-module _ (u : Upgrade) (valid : IsValid u.graph) (w : ℕ) (there : slice_get u.graph.worlds w ≡ Some u.world) where
+module _ (u : SemverMerge) (valid : IsValid u.graph) (w : ℕ) (there : slice_get u.graph.worlds w ≡ Some u.world) where
   abbrev types : List TypeDef
   types = u.graph.types
 

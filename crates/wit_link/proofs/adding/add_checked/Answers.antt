@@ -10,7 +10,7 @@ use Rattle.wit_elaboration.specs.Valid.{IsValid}
 use Rattle.wit_graph_data.specs.Error.{NoCause}
 use Rattle.wit_graph_data.specs.declared.error_kind.ResolveErrorKind.{ResolveErrorKind}
 use Rattle.wit_graph_data.specs.declared.error_kind.ResolveErrorKind.TheVariants.{OutOfMemory}
-use Rattle.wit_link_spec.specs.Cause.{IsCause}
+use Rattle.wit_link_spec.specs.Cause.{IsAdditionCause}
 use Rattle.wit_link_include.specs.steps.Included as local
 use Rattle.wit_link_include.specs.facts.RowsFacts.{rows_of_valid}
 use Rattle.wit_remap.specs.facts.GrownFacts.{Begins-same, Begins-then, Grown-then}
@@ -96,7 +96,7 @@ returns-in_err-add_world-clause-cause c =
     residual_error c.from_residual-in_err-add_world.result c.from_residual-in_err-add_world.ensures.1
     (λ e is.
     let same : e ≡ c.in_err-add_world.field-0.0 = is in
-    subst (λ (x : ResolveErrorKind). (x ≡ OutOfMemory) ⊎ IsCause a x) (sym same)
+    subst (λ (x : ResolveErrorKind). (x ≡ OutOfMemory) ⊎ IsAdditionCause a x) (sym same)
     (refused_here a c.loop-updated.yielded (into_iter_items c.next.new.self) c.in-Some.updated c.loop-updated.graph c.loop-updated.invariant.adding are (checked_image a c.requires.checked) c.in_err-add_world.field-0.0
     (subst (λ (home : ℕ). (c.in_err-add_world.field-0.0 ≡ OutOfMemory) ⊎ local.IsWorldCause home c.loop-updated.graph c.in-Some.updated.world c.in-Some.updated.includes c.in_err-add_world.field-0.0) id c.in_err-add_world.ensures.cause)))
 

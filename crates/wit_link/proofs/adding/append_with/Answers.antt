@@ -2,7 +2,7 @@ use Rattle.std.proofs.Common.{◌≡◌, ◌∙◌, ℕ, inr, true, false, ap, s
 use Rattle.std.specs.Result.{is_err}
 use Rattle.wit_graph_data.specs.declared.graph.Graph.{Graph}
 use Rattle.wit_graph_data.specs.declared.error_kind.ResolveErrorKind.{ResolveErrorKind}
-use Rattle.wit_link_spec.specs.Cause.{IsCause}
+use Rattle.wit_link_spec.specs.Cause.{IsAdditionCause}
 use Rattle.wit_link_spec.specs.Addition.{Addition}
 use Rattle.wit_elaboration.specs.Valid.{IsValid}
 use Rattle.wit_remap.specs.Grown.{Grown}
@@ -21,7 +21,7 @@ pub returns-then-not-spans_fit-clause-cause : goal.returns-then-not-spans_fit-cl
 returns-then-not-spans_fit-clause-cause c =
     let a = addition c.args.features.now c.args.graph.now c.args.package c.args.span_offset in
     let not_fitting : PackageFits c.args.span_offset c.args.package → ⊥ = λ fits. let yes : c.spans_fit.result ≡ true = c.spans_fit.ensures.1 fits in let fails : c.spans_fit.result ≡ false = c.if-not-spans_fit.true in cc in
-    inr (subst (IsCause a) (sym c.from.ensures) (too_far a c.ranges.span_offset.fits not_fitting))
+    inr (subst (IsAdditionCause a) (sym c.from.ensures) (too_far a c.ranges.span_offset.fits not_fitting))
 
 pub check-requires-clause-fits : goal.check-requires-clause-fits
 check-requires-clause-fits c =
@@ -32,7 +32,7 @@ add_checked-added-requires-clause-new c =
     is_new (addition c.args.features.now c.args.graph.now c.args.package c.args.span_offset) (sym c.contains_key.ensures ∙ c.if-contains_key.false) (c.spans_fit.ensures.0 c.if-not-spans_fit.false)
 
 -- what is accepted has no reason to be refused
-accepted_not : {E : Type 0} (a : Addition) (new : Graph) (r : Result ℕ E) → IfOk r (λ id. IsAdded a new id) → (kind : ResolveErrorKind) → IsCause a kind → OnOk r ⊥
+accepted_not : {E : Type 0} (a : Addition) (new : Graph) (r : Result ℕ E) → IfOk r (λ id. IsAdded a new id) → (kind : ResolveErrorKind) → IsAdditionCause a kind → OnOk r ⊥
 accepted_not a new (Ok id) added kind cause = added.accepted kind cause
 accepted_not a new (Err e) added kind cause = tt
 

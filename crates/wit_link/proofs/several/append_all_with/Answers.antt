@@ -4,7 +4,7 @@ use Rattle.wit_elaboration.specs.Valid.{IsValid}
 use Rattle.wit_graph_data.specs.declared.graph.Graph.{Graph}
 use Rattle.wit_remap.specs.Grown.{Grown}
 use Rattle.wit_remap.specs.facts.GrownFacts.{Begins-as, Grown-same}
-use Rattle.wit_link.specs.Appending.{ArePushed, KnowsLeads}
+use Rattle.wit_link.specs.Appending.{AreAdded, KnowsLeads}
 use Rattle.wit_link.proofs.OneAfterAnother.{never_refused}
 use Rattle.wit_link.proofs.several.append_all_with.Goals as goal
 
@@ -15,7 +15,7 @@ on_ok P (Err e) is never = tt
 pub returns-else-is_err-clause-refuses : goal.returns-else-is_err-clause-refuses
 returns-else-is_err-clause-refuses c =
     λ kind is.
-    on_ok (ArePushed c.args.features.now c.args.graph.now c.args.packages c.append_each-added.new.graph) c.append_each-added.result c.append_each-added.ensures.ok
+    on_ok (AreAdded c.args.features.now c.args.graph.now c.args.packages c.append_each-added.new.graph) c.append_each-added.result c.append_each-added.ensures.ok
     (λ ids pushed. never_refused c.args.features.now c.args.graph.now c.args.packages c.append_each-added.new.graph ids pushed kind is)
 
 -- after a refusal the graph is cut back to what it was, and so are its rows

@@ -5,7 +5,7 @@ use Rattle.wit_graph_data.specs.facts.ResultFacts.{residual_error}
 use Rattle.wit_graph_data.specs.declared.error_kind.ResolveErrorKind.{ResolveErrorKind}
 use Rattle.wit_graph_data.specs.declared.error_kind.ResolveErrorKind.TheVariants.{OutOfMemory}
 use Rattle.wit_remap.specs.facts.GrownFacts.{Begins-then, Grown-then}
-use Rattle.wit_link.specs.Appending.{ArePushed, IsOneRefused}
+use Rattle.wit_link.specs.Appending.{AreAdded, IsOneRefused}
 use Rattle.wit_link.proofs.OneAfterAnother.{pushed_more, refused_here}
 use Rattle.wit_link.proofs.several.append_each.Goals as goal
 
@@ -14,7 +14,7 @@ loop-package-preserved c =
     let are : c.loop-package.yielded ++ c.in-Some.package ∷ into_iter_items c.next.new.self ≡ c.args.packages = search rules in
     record {
       pushed =
-          subst (λ (ids : List ℕ). ArePushed c.args.features.now c.args.graph.now (c.loop-package.yielded ++ c.in-Some.package ∷ []) c.append_with.new.graph ids) (sym c.in_ok-push.ensures.ok)
+          subst (λ (ids : List ℕ). AreAdded c.args.features.now c.args.graph.now (c.loop-package.yielded ++ c.in-Some.package ∷ []) c.append_with.new.graph ids) (sym c.in_ok-push.ensures.ok)
           (pushed_more c.args.features.now c.args.graph.now c.loop-package.yielded c.loop-package.graph c.loop-package.ids c.in-Some.package c.append_with.new.graph c.in_ok-id.id c.loop-package.invariant.pushed c.in_ok-id.ensures.ok);
       valid = c.append_with.ensures.valid;
       grown = Grown-then c.args.graph.now c.loop-package.graph c.append_with.new.graph c.loop-package.invariant.grown c.append_with.ensures.grown;

@@ -3,14 +3,14 @@ use Rattle.std.specs.List.{AllByRecursion}
 use Rattle.std.specs.Vec.Iter.{into_iter_items}
 use Rattle.wit_elaboration.specs.Elaboration.{graph_uses}
 use Rattle.wit_elaboration.specs.Valid.{IsValid}
-use Rattle.wit_link.specs.Appending.{ArePushed, CanAppend, KnowsLeads}
+use Rattle.wit_link.specs.Appending.{AreAdded, CanAppend, KnowsLeads}
 use Rattle.wit_remap.specs.Grown.{Begins, Grown}
 use Rattle.wit_link.proofs.several.append_each.Given as goal
 
 -- the packages so far are added, and those that are left can be
 abbrev pub invariant-loop-package : goal.invariant-loop-package
 invariant-loop-package l = record {
-  pushed : ArePushed l.fn.features l.initial.graph l.yielded l.graph l.ids;
+  pushed : AreAdded l.fn.features l.initial.graph l.yielded l.graph l.ids;
   valid : IsValid l.graph;
   uses : l.elaborator ≡ graph_uses l.graph;
   grown : Grown l.initial.graph l.graph;

@@ -5,7 +5,7 @@ use Rattle.std.specs.Option.{option_map_or}
 use Rattle.wit_data.specs.declared.function.Function.{Function}
 use Rattle.wit_data.specs.declared.interface.Interface.{Interface}
 use Rattle.wit_merge_spec.specs.Matches.{GraphMerge}
-use Rattle.wit_merge_spec.specs.United.{brought_functions, interface_functions}
+use Rattle.wit_merge_spec.specs.Merged.{brought_functions, interface_functions}
 use Rattle.wit_link_resources.specs.steps.Active.{seen}
 use Rattle.wit_merge_match.specs.steps.Matched.{merge_of_graphs}
 use Rattle.wit_merge.proofs.Left.{left-more}

@@ -1,7 +1,7 @@
 use Rattle.std.proofs.Common.{◌≡◌, ◌++◌, ℕ, drop}
 use Rattle.std.specs.List.{enumerate_from, flat_map}
 use Rattle.wit_data.specs.declared.interface.Interface.{Interface}
-use Rattle.wit_merge_spec.specs.United.{interface_functions}
+use Rattle.wit_merge_spec.specs.Merged.{interface_functions}
 use Rattle.wit_link_resources.specs.steps.Active.{seen}
 use Rattle.wit_merge_match.specs.steps.Matched.{merge_of_graphs}
 use Rattle.wit_merge.proofs.functions.push_interfaces.Given as goal

@@ -2,7 +2,7 @@ use Rattle.std.proofs.Common.{◌∙◌, ℕ, Bool, ap, map}
 use Rattle.std.proofs.lemmas.Result.{IfOk-weaker}
 use Rattle.wit_data.specs.declared.interface.Interface.{Interface}
 use Rattle.wit_remap_spec.specs.Image.{interface_image}
-use Rattle.wit_merge_spec.specs.United.{merge_maps, moves_interface}
+use Rattle.wit_merge_spec.specs.Merged.{merge_maps, moves_interface}
 use Rattle.wit_remap_spec.specs.Selected.{selected_with_index}
 use Rattle.wit_merge_spec.specs.Matches.{counterpart_interface}
 use Rattle.wit_merge.specs.steps.UnionSteps.{merging_of}

@@ -2,7 +2,7 @@ use Rattle.std.proofs.Common.{◌∙◌, ap}
 use Rattle.std.proofs.lemmas.Result.{IfOk-weaker}
 use Rattle.wit_link_spec.specs.declared.addition.Values.{Values}
 use Rattle.wit_merge_spec.specs.Matches.{GraphMerge}
-use Rattle.wit_merge_spec.specs.United.{remap_of_merge}
+use Rattle.wit_merge_spec.specs.Merged.{remap_of_merge}
 use Rattle.wit_merge_match.specs.Differing.{merge_of_graphs_by}
 use Rattle.wit_merge_match.specs.declared.merge_remap.MergeRemap.{MergeRemap}
 use Rattle.wit_merge_match.specs.steps.Matched.{merge_of_graphs}

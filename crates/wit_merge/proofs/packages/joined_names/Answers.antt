@@ -8,7 +8,7 @@ use Rattle.std.proofs.lemmas.Option.{slice_get_within}
 use Rattle.std.specs.Map.{lookup}
 use Rattle.wit_names.specs.PackageName.{same_package}
 use Rattle.wit_merge_match.specs.steps.Matched.{moves}
-use Rattle.wit_merge_spec.specs.United.{merged_package, moves_package}
+use Rattle.wit_merge_spec.specs.Merged.{merged_package, moves_package}
 use Rattle.wit_merge_laws.specs.facts.PackagesStand.{good_names}
 use Rattle.wit_merge.specs.steps.UnionSteps.{merging_of}
 use Rattle.wit_merge.proofs.BroughtNames.{brought_names}

@@ -3,7 +3,7 @@ use Rattle.std.proofs.lemmas.Result.{IfOk-weaker}
 use Rattle.std.specs.List.{enumerate_from}
 use Rattle.wit_graph_data.specs.declared.graph.Package.{Package}
 use Rattle.wit_remap_spec.specs.Selected.{selected_with_index}
-use Rattle.wit_merge_spec.specs.United.{joined_package, package_image, with_package, moves_package}
+use Rattle.wit_merge_spec.specs.Merged.{joined_package, package_image, with_package, moves_package}
 use Rattle.wit_merge_spec.specs.Matches.{counterpart_package}
 use Rattle.wit_merge.specs.steps.UnionSteps.{merging_of}
 use Rattle.wit_merge.proofs.Movable.{packages_join, packages_move}

@@ -1,7 +1,7 @@
 use Rattle.std.proofs.Common.{◌∙◌, ℕ, Bool, ap, map, sym}
 use Rattle.std.proofs.lemmas.Result.{IfOk-weaker}
 use Rattle.wit_graph_data.specs.declared.graph.Package.{Package}
-use Rattle.wit_merge_spec.specs.United.{moves_package, package_image}
+use Rattle.wit_merge_spec.specs.Merged.{moves_package, package_image}
 use Rattle.wit_remap_spec.specs.Selected.{selected_with_index}
 use Rattle.wit_merge_spec.specs.Matches.{counterpart_package}
 use Rattle.wit_merge.specs.steps.UnionSteps.{merging_of}

@@ -4,7 +4,7 @@ use Rattle.std.proofs.lemmas.Option.{slice_get-get_or, slice_get_within}
 use Rattle.wit_data.specs.declared.function.Function.{Function}
 use Rattle.wit_graph_theory.specs.facts.ListFacts.{Contains-map, Contains-map_cases, contained_at, place_of, same_at}
 use Rattle.wit_merge_spec.specs.Matches.{GraphMerge}
-use Rattle.wit_merge_spec.specs.United.{moved_functions}
+use Rattle.wit_merge_spec.specs.Merged.{moved_functions}
 use Rattle.wit_link_resources.specs.steps.Active.{seen}
 use Rattle.wit_merge.specs.steps.UnionSteps.{ReturnsFree, merging_of}
 use Rattle.wit_merge.proofs.results.check_results.Goals as goal

@@ -4,7 +4,7 @@ use Rattle.wit_data.specs.declared.types.TypeDef.{TypeDef}
 use Rattle.wit_remap_spec.specs.Image.{type_image}
 use Rattle.wit_remap_spec.specs.Selected.{selected_with_index}
 use Rattle.wit_remap_spec.specs.ValueRemap.{owns}
-use Rattle.wit_merge_spec.specs.United.{joined_type, with_type, merge_maps, moved_types, moves_type, remap_of_merge}
+use Rattle.wit_merge_spec.specs.Merged.{joined_type, with_type, merge_maps, moved_types, moves_type, remap_of_merge}
 use Rattle.wit_merge_spec.specs.Matches.{counterpart_type}
 use Rattle.wit_merge.specs.steps.UnionSteps.{merging_of}
 use Rattle.wit_merge.proofs.Movable.{types_move}

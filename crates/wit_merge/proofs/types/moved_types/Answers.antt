@@ -2,7 +2,7 @@ use Rattle.std.proofs.Common.{◌∙◌, ◌++◌, ℕ, Bool, ap, map}
 use Rattle.wit_data.specs.declared.types.TypeDef.{TypeDef}
 use Rattle.wit_remap_spec.specs.Image.{type_image}
 use Rattle.wit_remap_spec.specs.Selected.{selected_with_index}
-use Rattle.wit_merge_spec.specs.United.{merge_maps, moves_type}
+use Rattle.wit_merge_spec.specs.Merged.{merge_maps, moves_type}
 use Rattle.wit_merge_spec.specs.Matches.{counterpart_type}
 use Rattle.wit_merge.specs.steps.UnionSteps.{merging_of}
 use Rattle.wit_merge.proofs.Movable.{types_move}

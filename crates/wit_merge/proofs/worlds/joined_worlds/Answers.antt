@@ -2,7 +2,7 @@ use Rattle.std.proofs.Common.{◌∙◌, ℕ}
 use Rattle.std.proofs.lemmas.Result.{IfOk-weaker}
 use Rattle.wit_data.specs.declared.world.World.{World}
 use Rattle.wit_remap_spec.specs.Image.{world_image}
-use Rattle.wit_merge_spec.specs.United.{with_world, merge_maps}
+use Rattle.wit_merge_spec.specs.Merged.{with_world, merge_maps}
 use Rattle.wit_merge_spec.specs.Matches.{counterpart_world}
 use Rattle.wit_merge.specs.steps.UnionSteps.{merging_of}
 use Rattle.wit_merge.proofs.Movable.{worlds_join, worlds_move}

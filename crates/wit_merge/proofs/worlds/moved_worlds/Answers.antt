@@ -3,7 +3,7 @@ use Rattle.std.proofs.lemmas.Result.{IfOk-weaker}
 use Rattle.wit_data.specs.declared.world.World.{World}
 use Rattle.wit_remap_spec.specs.Image.{world_image}
 use Rattle.wit_remap_spec.specs.Selected.{selected_with_index}
-use Rattle.wit_merge_spec.specs.United.{merge_maps}
+use Rattle.wit_merge_spec.specs.Merged.{merge_maps}
 use Rattle.wit_merge_spec.specs.Matches.{counterpart_world}
 use Rattle.wit_merge.specs.steps.UnionSteps.{merging_of}
 use Rattle.wit_merge.proofs.Movable.{worlds_move}

@@ -3,7 +3,7 @@ use Rattle.wit_graph_data.specs.declared.graph.Graph.{Graph}
 use Rattle.wit_link_spec.specs.steps.AdditionRefs.{new_ids_of, values_of}
 use Rattle.wit_link_spec.specs.Addition.{active, addition_maps}
 use Rattle.wit_remap_spec.specs.Selected.{selected_with_index}
-use Rattle.wit_link_spec.specs.Pushed.{with_parts}
+use Rattle.wit_link_spec.specs.Added.{with_parts}
 use Rattle.wit_link_spec.specs.declared.addition.Values.{Values}
 use Rattle.wit_link_spec.specs.steps.NewThings.{is_new}
 use Rattle.wit_remap.specs.steps.Fits.{added_worlds, addition, moved_parts, updated_world}

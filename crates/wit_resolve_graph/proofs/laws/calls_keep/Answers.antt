@@ -1,5 +1,5 @@
 use Rattle.std.proofs.Common.{subst, sym}
-use Rattle.wit_semver_spec.specs.Rewritten.{rewritten}
+use Rattle.wit_semver_spec.specs.SemverMerged.{semver_merged}
 use Rattle.wit_resolve_graph.specs.laws.RunLaws.{Keeps}
 use Rattle.wit_resolve_graph.proofs.RunsKeep.{keeps_pushed, keeps_pushes, keeps_things, keeps_transformed, keeps_united}
 use Rattle.wit_resolve_graph.proofs.laws.calls_keep.Goals as goal
@@ -20,4 +20,4 @@ pub returns-clause-merges : goal.returns-clause-merges
 returns-clause-merges c = keeps_united
 
 pub returns-clause-semver_merges : goal.returns-clause-semver_merges
-returns-clause-semver_merges c = λ rule g w. keeps_things g (rewritten rule g w) (c.rewritten_keep.ensures rule g w)
+returns-clause-semver_merges c = λ rule g w. keeps_things g (semver_merged rule g w) (c.rewritten_keep.ensures rule g w)

@@ -2,7 +2,7 @@ use Rattle.std.proofs.Common.{◌≡◌, ◌∙◌, ◌⊎◌, sym, subst}
 use Rattle.wit_graph_data.specs.facts.ResultFacts.{residual_error}
 use Rattle.wit_graph_data.specs.declared.error_kind.ResolveErrorKind.{ResolveErrorKind}
 use Rattle.wit_graph_data.specs.declared.error_kind.ResolveErrorKind.TheVariants.{OutOfMemory}
-use Rattle.wit_semver_spec.specs.Rewritten.{IsTrackCause}
+use Rattle.wit_semver_spec.specs.SemverMerged.{IsSemverMergeCause}
 use Rattle.wit_semver.proofs.Made.{accepted, can_be_elaborated, elaborated_is, elaborated_valid, kept_accepted, kept_is, kept_valid, refused}
 use Rattle.wit_semver.proofs.merging.find_semver_merge.Goals as goal
 
@@ -31,7 +31,7 @@ returns-in_err-check_and_elaborate-clause-cause c =
     residual_error c.from_residual-in_err-check_and_elaborate.result c.from_residual-in_err-check_and_elaborate.ensures.1
     (λ e is.
     let same : e ≡ c.in_err-check_and_elaborate.field-0.0 = is in
-    subst (λ (x : ResolveErrorKind). (x ≡ OutOfMemory) ⊎ IsTrackCause c.args.rule c.args.graph.now c.args.world x) (sym same)
+    subst (λ (x : ResolveErrorKind). (x ≡ OutOfMemory) ⊎ IsSemverMergeCause c.args.rule c.args.graph.now c.args.world x) (sym same)
     (refused c.args.rule c.args.graph.now c.args.world c.in_ok-entries.entries.imports c.in_ok-entries.entries.targets c.requires.valid c.rewritten_stay_valid.ensures c.in_ok-entries.ensures.ok
     c.in_ok-merged.merged c.in_ok-merged.ensures c.in_err-check_and_elaborate.field-0.0 c.in_err-check_and_elaborate.ensures.cause))
 

@@ -1,7 +1,7 @@
 use Rattle.std.proofs.Common.{◌≡◌, ℕ, None, get_or, map, take}
 use Rattle.std.specs.List.{enumerate_from}
 use Rattle.wit_data.specs.declared.types.TypeDef.{TypeDef}
-use Rattle.wit_semver_spec.specs.Rewritten.{retargeted}
+use Rattle.wit_semver_spec.specs.SemverMerged.{retargeted}
 use Rattle.wit_semver.proofs.new_entries.retargeted_types.Given as goal
 
 abbrev pub invariant-loop-index : goal.invariant-loop-index

@@ -5,14 +5,14 @@ use Rattle.std.specs.List.{list_any}
 use Rattle.std.specs.Map.Iter.{deref_pair}
 use Rattle.wit_data.specs.declared.world.WorldKey.{WorldKey}
 use Rattle.wit_elaboration.specs.Entries.{Entry, key_interface, keyed_interfaces}
-use Rattle.wit_semver_spec.specs.Rewritten.{Upgrade, imported, is_older_than, newest, upgrade}
+use Rattle.wit_semver_spec.specs.SemverMerged.{SemverMerge, imported, is_older_than, newest, semver_merge}
 use Rattle.wit_semver.specs.steps.Replacing.{IsFilled, replacement}
 use Rattle.wit_semver.proofs.Filled.{filled-next}
 use Rattle.wit_semver.proofs.Keyed.{keyed-at, keyed-next}
 use Rattle.wit_semver.proofs.replaced.replacements.Goals as goal
 
 -- what isn't imported isn't replaced
-not_imported : (u : Upgrade) (i : ℕ) (b : Bool) → list_any (nat_eq i) (imported u) ≡ b → (if b then replacement u i else None) ≡ replacement u i
+not_imported : (u : SemverMerge) (i : ℕ) (b : Bool) → list_any (nat_eq i) (imported u) ≡ b → (if b then replacement u i else None) ≡ replacement u i
 not_imported u i true is = refl
 not_imported u i false is = sym (ap (λ (b : Bool). if b && list_any (is_older_than u.rule u.graph i) (imported u) then Some (newest u i) else None) is)
 
@@ -34,7 +34,7 @@ loop-key-preserved-in-Interface c =
     let imports = world.imports in
     let i : ℕ = length c.loop-key.yielded in
     let e : Entry = (c.in-Some.key.now, c.in-Some.field-0-1.now) in
-    let f = replacement (upgrade c.args.rule g world) in
+    let f = replacement (semver_merge c.args.rule g world) in
     let ids = keyed_interfaces (take i imports) in
     let next = keyed-next imports i e turn.1 in
     let id = c.in-Interface.id in
@@ -52,7 +52,7 @@ loop-key-preserved c =
     let imports = c.args.world.now.imports in
     let i : ℕ = length c.loop-key.yielded in
     let e : Entry = (c.in-Some.key.now, c.in-Some.field-0-1.now) in
-    let f = replacement (upgrade c.args.rule g c.args.world.now) in
+    let f = replacement (semver_merge c.args.rule g c.args.world.now) in
     let ids = keyed_interfaces (take i imports) in
     let next = keyed-next imports i e turn.1 in
     rw length_push
@@ -62,7 +62,7 @@ pub returns : goal.returns
 returns c =
     let end = iter_end deref_pair c.args.world.now.imports c.loop-key.yielded _ _ _ _ (c.into_iter-key-iterator.ensures.into_iter_gives ∙ c.iter-key-items.ensures.rest) c.loop-key.yielded_by c.in-None.is c.next.ensures.steps in
     let long = end.1 in
-    let u = upgrade c.args.rule c.args.graph.now c.args.world.now in
+    let u = semver_merge c.args.rule c.args.graph.now c.args.world.now in
     let imports = c.args.world.now.imports in
     let past : length imports ≤ length c.loop-key.yielded = omega arith in
     let all : keyed_interfaces (take (length c.loop-key.yielded) imports) ≡ imported u = ap keyed_interfaces (take_all (length c.loop-key.yielded) imports past) in (

@@ -1,0 +1,51 @@
+#!/bin/sh
+# check/c_example.sh: builds what is written in C on the static library, with gcc or another C compiler and nothing else:
+# the example prints what each worked script is to print and ends with the status of `witgraph`, tells a script that isn't
+# UTF-8, and an allocation that is refused is told. `.ci/run` runs it after `rt ci`, over whose libraries it builds the static one.
+#
+# WITGRAPH_LIBRARY, the folder of a libwitgraph_c.a that is there, spares the build of the library.
+set -eu
+cd "$(dirname "$0")/.."
+kit=$(dirname "$(rt doc)")
+compiler=$(command -v cc || command -v gcc || command -v clang) || { echo "c_example: no cc, gcc or clang is here" >&2; exit 1; }
+work=$(mktemp -d)
+trap 'rm -rf "$work"' EXIT
+
+if [ -z "${WITGRAPH_LIBRARY:-}" ]; then
+    python3 tools/c_library.py
+    WITGRAPH_LIBRARY=crates/witgraph_c/out
+fi
+flags="-std=c99 -Wall -Wextra -Werror -Iinclude"
+libraries="$WITGRAPH_LIBRARY/libwitgraph_c.a $kit/c/liblibc_c.a"
+
+"$compiler" $flags bindings/c/example.c $libraries -o "$work/example"
+python3 - "$work/example" << 'P'
+import re, subprocess, sys
+
+def run(script):
+    ran = subprocess.run([sys.argv[1]], input=script, capture_output=True)
+    return ran.returncode, ran.stdout.decode(), ran.stderr.decode()
+
+cases = {"witgraph": (open("crates/witgraph/stdin").read(), open("crates/witgraph/stdout").read())}
+for case in open("crates/test_cases/stdin").read().split("=== ")[1:]:
+    name, rest = case.split("\n", 1)
+    script, _, answers = rest.partition("---\n")
+    cases[name] = script, answers
+for name, (script, answers) in cases.items():
+    status = 1 if re.fullmatch(r"line \d+: not understood\n", answers) else 0
+    told = run(script.encode())
+    if told != (status, answers, ""):
+        sys.exit(f"{name}: the C example tells {told}")
+told = run(b"push\xff")
+if told != (1, "", "the script isn't UTF-8\n"):
+    sys.exit(f"of a script that isn't UTF-8 the C example tells {told}")
+print(f"c_example: {len(cases)} worked scripts print what they are to print")
+P
+
+"$compiler" $flags bindings/c/json.c $libraries -o "$work/json"
+"$work/json" < crates/witgraph_json/stdin | cmp - crates/witgraph_json/stdout
+echo "c_example: the document of witgraph_json comes out as stored"
+
+# Each allocation is refused in turn.
+"$compiler" $flags -Wl,--wrap=malloc,--wrap=realloc,--wrap=free bindings/c/no_memory.c $libraries -o "$work/no_memory"
+"$work/no_memory" < crates/witgraph/stdin

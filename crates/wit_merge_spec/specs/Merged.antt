@@ -1,0 +1,212 @@
+-- What merging another graph makes of a graph: a function of the two graphs and of the offset. Everything of the
+-- graph stays at its ids: it keeps its data, but for a stability that is joined to its own and for what is appended to
+-- it. Behind it come the images of what moves, in the order of their ids, and the `own`s that values ask for. Then
+-- every world is elaborated.
+-- Source: `merge`, `update_stability` and `update_world_imports_stability` of wit-parser 0.263.0.
+use Rattle.std.specs.Prelude.{ℕ, List, ◌++◌, map, filter, Bool, true, false, ◌+◌, not, length, is_some, Option, Some, unwrap_or, flat_map, option_map, bytes_eq}
+use Rattle.std.specs.List.{enumerate_from, range_with_len}
+use Rattle.std.specs.Option.{option_map_or}
+use Rattle.wit_data.specs.Entries.{Entry}
+use Rattle.wit_data.specs.declared.function.Function.{Function}
+use Rattle.wit_data.specs.declared.interface.Interface.{Interface}
+use Rattle.wit_names.specs.declared.package_name.PackageName.{PackageName}
+use Rattle.wit_data.specs.declared.types.TypeDef.{TypeDef}
+use Rattle.wit_data.specs.declared.world.World.{World}
+use Rattle.wit_data.specs.declared.world.WorldKey.{WorldKey}
+use Rattle.wit_data.specs.declared.world.WorldKey.TheVariants as key
+use Rattle.wit_graph_data.specs.declared.graph.Graph.{Graph}
+use Rattle.wit_graph_data.specs.declared.graph.Package.{Package}
+use Rattle.wit_elaboration.specs.AllElaborated.{all_elaborated}
+use Rattle.wit_remap_spec.specs.Image.{entry_image, function_image, interface_image, world_image, Maps}
+use Rattle.wit_remap_spec.specs.Joined.{joined_entry, joined_stability}
+use Rattle.wit_remap_spec.specs.Selected.{selected, rank, selected_with_index}
+use Rattle.wit_remap_spec.specs.ValueRemap.{types_behind, ValueRemap, maps_with_owns, world_functions}
+use Rattle.wit_merge_spec.specs.Matches.{GraphMerge, counterpart_interface, counterpart_of, counterpart_package, counterpart_type, counterpart_world, matched_interface}
+use Rattle.std.specs.Map.{lookup}
+
+-- Where the things of the incoming graph go: what is matched to its counterpart, all else to the next ids, in
+-- its order; values become an `own` as in an addition.
+-- Source: `merge` of wit-parser 0.263.0.
+
+-- ---- what moves
+
+-- what isn't matched moves
+abbrev pub moves_type : GraphMerge → ℕ → Bool
+moves_type m t = not (is_some (counterpart_type m t))
+
+abbrev pub moves_interface : GraphMerge → ℕ → Bool
+moves_interface m i = not (is_some (counterpart_interface m i))
+
+abbrev pub moves_world : GraphMerge → ℕ → Bool
+moves_world m w = not (is_some (counterpart_world m w))
+
+abbrev pub moves_package : GraphMerge → ℕ → Bool
+moves_package m p = not (is_some (counterpart_package m p))
+
+-- the things that move, in their order; worlds with their places
+abbrev pub moved_types : GraphMerge → List TypeDef
+moved_types m = selected (moves_type m) m.other.types
+
+abbrev pub moved_interfaces : GraphMerge → List Interface
+moved_interfaces m = selected (moves_interface m) m.other.interfaces
+
+abbrev pub moved_worlds : GraphMerge → List (ℕ × World)
+moved_worlds m = selected_with_index (moves_world m) m.other.worlds
+
+-- of a matched interface, the types that move, and the functions whose names its counterpart doesn't have
+abbrev pub brought_types : GraphMerge → Interface → List (List ℕ × ℕ)
+brought_types m from = filter (λ (e : List ℕ × ℕ). moves_type m e.1) from.types
+
+abbrev pub brought_functions : Interface → Interface → List (List ℕ × Function)
+brought_functions from into = filter (λ (e : List ℕ × Function). not (is_some (lookup (bytes_eq e.0) into.functions))) from.functions
+
+-- ---- where it goes
+
+-- a matched thing to its counterpart, another to the next id
+abbrev pub merged_type : GraphMerge → ℕ → ℕ
+merged_type m t = unwrap_or (counterpart_type m t) (length m.graph.types + rank (moves_type m) t)
+
+abbrev pub merged_interface : GraphMerge → ℕ → ℕ
+merged_interface m i = unwrap_or (counterpart_interface m i) (length m.graph.interfaces + rank (moves_interface m) i)
+
+abbrev pub merged_world : GraphMerge → ℕ → ℕ
+merged_world m w = unwrap_or (counterpart_world m w) (length m.graph.worlds + rank (moves_world m) w)
+
+abbrev pub merged_package : GraphMerge → ℕ → ℕ
+merged_package m p = unwrap_or (counterpart_package m p) (length m.graph.packages + rank (moves_package m) p)
+
+-- what ids are remapped to before values ask for `own`s
+abbrev pub merge_maps_without_owns : GraphMerge → Maps
+merge_maps_without_owns m = record {
+  types = merged_type m;
+  values = merged_type m;
+  interfaces = merged_interface m;
+  worlds = merged_world m;
+  home = option_map (merged_package m);
+  labels = λ w name. name;
+  offset = m.offset;
+}
+
+-- ---- the functions that move
+
+-- those that an interface brings: all of one that moves, of a matched one those that its counterpart doesn't have
+abbrev pub interface_functions : GraphMerge → ℕ → Interface → List Function
+interface_functions m i from = map (λ (e : List ℕ × Function). e.1) (option_map_or (brought_functions from) (matched_interface m i) from.functions)
+
+-- the functions that move: what interfaces bring, and those of the worlds that move
+abbrev pub moved_functions : GraphMerge → List Function
+moved_functions m =
+    flat_map (λ (e : ℕ × Interface). interface_functions m e.0 e.1) (enumerate_from 0 m.other.interfaces) ++ flat_map (λ (e : ℕ × World). world_functions e.1) (moved_worlds m)
+
+-- ---- where values become an `own`
+
+-- what comes into the graph, as values ask for `own`s. A matched type is what it is in the graph
+abbrev pub remap_of_merge : GraphMerge → ValueRemap
+remap_of_merge m = record { graph_types = m.graph.types; new_types = moved_types m; new_functions = moved_functions m; count = length m.other.types; ids = merge_maps_without_owns m }
+
+-- what ids are remapped to, with values at their `own`s
+abbrev pub merge_maps : GraphMerge → Maps
+merge_maps m = maps_with_owns (remap_of_merge m)
+
+-- ---- as it is answered
+
+-- the remap as lists, as a merge answers it: for each type, interface, world and package of the incoming graph, by
+-- its id, its id in the union. Each is there; `Remap` also has room for things that have none
+pub record MergeRemap : Type 0 where
+  pub types : List (Option ℕ)
+  pub interfaces : List (Option ℕ)
+  pub worlds : List (Option ℕ)
+  pub packages : List ℕ
+
+-- the places of all things
+abbrev pub merge_remap : GraphMerge → MergeRemap
+merge_remap m = record {
+  types = map (λ t. Some (merged_type m t)) (range_with_len 0 (length m.other.types));
+  interfaces = map (λ i. Some (merged_interface m i)) (range_with_len 0 (length m.other.interfaces));
+  worlds = map (λ w. Some (merged_world m w)) (range_with_len 0 (length m.other.worlds));
+  packages = map (merged_package m) (range_with_len 0 (length m.other.packages));
+}
+
+-- ---- types
+
+-- a type, with the stability of another joined to it
+abbrev pub with_type : TypeDef → TypeDef → TypeDef
+with_type from into = record into { stability = joined_stability from.stability into.stability }
+
+-- a type of the graph, by its place and what it is: with what is matched with it, if something is
+abbrev pub joined_type : GraphMerge → ℕ × TypeDef → TypeDef
+joined_type m e = option_map_or (λ (p : ℕ × TypeDef). with_type p.1 e.1) (counterpart_of (counterpart_type m) m.other.types e.0) e.1
+
+-- ---- interfaces
+
+-- an interface, with what another brings behind what it has
+abbrev pub with_interface : GraphMerge → Interface → Interface → Interface
+with_interface m from into = record into {
+  types = into.types ++ map (λ (e : List ℕ × ℕ). (e.0, merged_type m e.1)) (brought_types m from);
+  functions = into.functions ++ map (λ (e : List ℕ × Function). (e.0, function_image (merge_maps m) e.1)) (brought_functions from into);
+  stability = joined_stability from.stability into.stability;
+}
+
+-- an interface of the graph, by its id and what it is: with what its counterpart brings, if it has one
+abbrev pub joined_interface : GraphMerge → ℕ × Interface → Interface
+joined_interface m e = option_map_or (λ (p : ℕ × Interface). with_interface m p.1 e.1) (counterpart_of (counterpart_interface m) m.other.interfaces e.0) e.1
+
+-- ---- worlds
+
+-- the entry stands under the key of an interface
+abbrev pub is_under_id : WorldKey → Bool
+is_under_id (key.Name label) = false
+is_under_id (key.Interface i) = true
+
+-- entries of a world, each with the stability joined to it of the entry under its key among those of world w of the
+-- graph that comes in; so under keys of interfaces alone
+abbrev pub with_entries : GraphMerge → ℕ → List Entry → List Entry → List Entry
+with_entries m w from into = map (joined_entry false (map (entry_image (merge_maps m) w) (filter (λ (e : Entry). is_under_id e.0) from))) into
+
+-- a world, with the stabilities of another, which comes with its place, joined to its own
+abbrev pub with_world : GraphMerge → ℕ × World → World → World
+with_world m p into = record into {
+  imports = with_entries m p.0 p.1.imports into.imports;
+  exports = with_entries m p.0 p.1.exports into.exports;
+  stability = joined_stability p.1.stability into.stability;
+}
+
+-- a world of the graph, by its id and what it is: with the stabilities of its counterpart joined to its own, if it
+-- has one
+abbrev pub joined_world : GraphMerge → ℕ × World → World
+joined_world m e = option_map_or (λ (p : ℕ × World). with_world m p e.1) (counterpart_of (counterpart_world m) m.other.worlds e.0) e.1
+
+-- ---- packages
+
+-- a package, with the interfaces and worlds of another that move behind its own
+abbrev pub with_package : GraphMerge → Package → Package → Package
+with_package m from into = record into {
+  interfaces = into.interfaces ++ map (λ (e : List ℕ × ℕ). (e.0, merged_interface m e.1)) (filter (λ (e : List ℕ × ℕ). moves_interface m e.1) from.interfaces);
+  worlds = into.worlds ++ map (λ (e : List ℕ × ℕ). (e.0, merged_world m e.1)) (filter (λ (e : List ℕ × ℕ). moves_world m e.1) from.worlds);
+}
+
+-- a package of the graph, by its id and what it is: with the interfaces and worlds that its counterpart brings, if it
+-- has one
+abbrev pub joined_package : GraphMerge → ℕ × Package → Package
+joined_package m e = option_map_or (λ (p : ℕ × Package). with_package m p.1 e.1) (counterpart_of (counterpart_package m) m.other.packages e.0) e.1
+
+-- a package that moves, with what its tables list at the new ids
+abbrev pub package_image : GraphMerge → Package → Package
+package_image m home = record home {
+  interfaces = map (λ (e : List ℕ × ℕ). (e.0, merged_interface m e.1)) home.interfaces;
+  worlds = map (λ (e : List ℕ × ℕ). (e.0, merged_world m e.1)) home.worlds;
+}
+
+-- the two graphs as one, with the lists of worlds as they were listed
+abbrev pub joined_graph : GraphMerge → Graph
+joined_graph m = record {
+  types = map (joined_type m) (enumerate_from 0 m.graph.types) ++ types_behind (remap_of_merge m);
+  interfaces = map (joined_interface m) (enumerate_from 0 m.graph.interfaces) ++ map (interface_image (merge_maps m)) (moved_interfaces m);
+  worlds = map (joined_world m) (enumerate_from 0 m.graph.worlds) ++ map (λ (e : ℕ × World). world_image (merge_maps m) e.0 e.1) (moved_worlds m);
+  packages = map (joined_package m) (enumerate_from 0 m.graph.packages) ++ map (package_image m) (selected (moves_package m) m.other.packages);
+  package_names = m.graph.package_names ++ map (λ (e : PackageName × ℕ). (e.0, merged_package m e.1)) (filter (λ (e : PackageName × ℕ). moves_package m e.1) m.other.package_names);
+}
+
+-- the two graphs as one, with every world elaborated
+abbrev pub merged : GraphMerge → Graph
+merged m = all_elaborated (joined_graph m)

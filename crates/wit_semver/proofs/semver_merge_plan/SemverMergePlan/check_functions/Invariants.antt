@@ -1,0 +1,8 @@
+use Rattle.std.proofs.Common.{◌<◌, ℕ, List}
+use Rattle.wit_semver_spec.specs.SemverMerged.{Disagrees}
+use Rattle.wit_semver.specs.steps.Replacing.{semver_merge_of}
+use Rattle.wit_semver.proofs.semver_merge_plan.SemverMergePlan.check_functions.Given as goal
+
+-- the first ones agree
+abbrev pub invariant-loop-index : goal.invariant-loop-index
+invariant-loop-index l = (f : ℕ) → f < l.index → (message : List ℕ) → Disagrees (semver_merge_of l.self) f message → ⊥

@@ -1,0 +1,11 @@
+use Rattle.std.proofs.Common.{ℕ, List, length, take}
+use Rattle.wit_semver_spec.specs.SemverMerged.{newest_type}
+use Rattle.wit_semver.specs.steps.Replacing.{IsFilled, LackTypes, semver_merge_of}
+use Rattle.wit_semver.proofs.semver_merge_plan.SemverMergePlan.new_targets.Given as goal
+
+-- what the first ones name is in its place, and none of them lacks a type
+abbrev pub invariant-loop-id : goal.invariant-loop-id
+invariant-loop-id l = record {
+  filled : IsFilled (newest_type (semver_merge_of l.self)) (take l.id-index l.rewritable_types) (length l.self.graph.now.types) l.targets;
+  complete : (message : List ℕ) → LackTypes (semver_merge_of l.self) (take l.id-index l.rewritable_types) message → ⊥;
+}
