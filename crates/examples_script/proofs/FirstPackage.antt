@@ -143,6 +143,15 @@ module _ (features : Features) (g : Graph) (offset : ℕ) where
   pushed_alone new (id ∷ []) (mid, added, same) = (ap (λ (i : ℕ). i ∷ []) added.id_is, same ∙ added.graph_is)
   pushed_alone new (id ∷ id' ∷ ids) (mid, added, more) = absurd more
 
+  -- where it is added it wasn't there
+  pub absent_before : (new : Graph) (ids : List ℕ) → AreAdded features g alone new ids → lookup (same_package foo_bar) g.package_names ≡ None
+  absent_before new [] none = absurd none
+  absent_before new (id ∷ ids) (mid, first, rest) = by (lookup (same_package foo_bar) g.package_names) refl
+    where
+      by : (o : Option ℕ) → lookup (same_package foo_bar) g.package_names ≡ o → o ≡ None
+      by None is = refl
+      by (Some i) is = absurd (first.accepted (DuplicatePackage foo_bar None None) (duplicate (ap is_some is)))
+
   module _ (absent : is_some (lookup (same_package foo_bar) g.package_names) ≡ false) where
     pub accepted : AdditionIsAccepted of_first
     accepted _ (reason.package_not_found_1 span requested known c) = has_image.packages span requested known c
