@@ -3,7 +3,7 @@ use Rattle.std.proofs.Common.{◌≡◌, ◌∙◌, ◌<◌, ◌≤◌, ◌^◌,
 use Rattle.std.proofs.lemmas.List.Sorted.{Contains-permutation, length_permutation}
 use Rattle.std.specs.List.{AllZip}
 use Rattle.std.specs.Map.{lookup}
-use Rattle.std.specs.Prelude.{is_some}
+use Rattle.std.specs.Prelude.{Option, is_some}
 use Rattle.wit_digraph.specs.facts.MemberFacts.{Contains-nil}
 use Rattle.wit_digraph.specs.Relation.{direct}
 use Rattle.wit_digraph.specs.PostOrder.{first_of_each, post_order, post_order_within}
@@ -142,6 +142,15 @@ module _ (features : Features) (g : Graph) (offset : ℕ) where
   pushed_alone new [] none = absurd none
   pushed_alone new (id ∷ []) (mid, added, same) = (ap (λ (i : ℕ). i ∷ []) added.id_is, same ∙ added.graph_is)
   pushed_alone new (id ∷ id' ∷ ids) (mid, added, more) = absurd more
+
+  -- where it is added it wasn't there
+  pub absent_before : (new : Graph) (ids : List ℕ) → AreAdded features g alone new ids → lookup (same_package foo_bar) g.package_names ≡ None
+  absent_before new [] none = absurd none
+  absent_before new (id ∷ ids) (mid, first, rest) = by (lookup (same_package foo_bar) g.package_names) refl
+    where
+      by : (o : Option ℕ) → lookup (same_package foo_bar) g.package_names ≡ o → o ≡ None
+      by None is = refl
+      by (Some i) is = absurd (first.accepted (DuplicatePackage foo_bar None None) (duplicate (ap is_some is)))
 
   module _ (absent : is_some (lookup (same_package foo_bar) g.package_names) ≡ false) where
     pub accepted : AdditionIsAccepted of_first

@@ -1,10 +1,12 @@
 -- What comes of sources.
-use Rattle.std.proofs.Common.{◌≡◌, ◌∙◌, ◌⊎◌, ◌≤◌, ◌<◌, ◌+◌, ◌^◌, ℕ, false, List, [], ◌∷◌, None, Some, length, slice_get, refl, sym, ap, subst, inl, inr, lit<, lit≤, arith}
+use Rattle.std.proofs.Common.{◌≡◌, ◌∙◌, ◌⊎◌, ◌≤◌, ◌<◌, ◌+◌, ◌++◌, ◌^◌, ℕ, false, List, [], ◌∷◌, None, Some, length, refl, sym, ap, subst, inl, inr, lit<, lit≤, arith}
 use Rattle.std.specs.Map.{lookup}
 use Rattle.std.specs.Prelude.{Result, Ok, Err, is_some}
 use Rattle.wit_sources.specs.SourceMap.{Sources}
 use Rattle.wit_sources.specs.Span.{OptionalSpan, start_of}
+use Rattle.wit_values.specs.facts.Lists.{lookup-push}
 use Rattle.wit_names.specs.PackageName.{same_package}
+use Rattle.wit_names.specs.facts.PackageNameFacts.{own_name}
 use Rattle.wit_data.specs.declared.unresolved.UnresolvedPackageGroup.{UnresolvedPackageGroup}
 use Rattle.wit_graph_data.specs.examples.Samples.{foo_bar}
 use Rattle.wit_graph_data.specs.declared.graph.Graph.{Graph}
@@ -24,8 +26,7 @@ use Rattle.wit_resolve_graph.specs.declared.sources.ParseFault.{ParseFault}
 use Rattle.wit_resolve_graph.specs.declared.sources.ParseFault.TheVariants as parse
 use Rattle.wit_resolve_graph.specs.declared.sources.SourceFault.{SourceFault}
 use Rattle.wit_resolve_graph.specs.declared.sources.SourceFault.TheVariants as fault
-use Rattle.examples_script.proofs.FirstPackage.{accepted, alone, duplicate, no_cause, of_first, pushed_alone, sortable, sorted, sorted_alone}
-use Rattle.examples_script.proofs.Mergeable.{the_one}
+use Rattle.examples_script.proofs.FirstPackage.{absent_before, accepted, alone, duplicate, no_cause, of_first, pushed_alone, sortable, sorted, sorted_alone}
 use Rattle.examples_script.specs.SmallGraphs.{nothing, one}
 use Rattle.examples_script.specs.SourceExamples.{ExamplesOfNoSources, ExamplesOfParsed, ExamplesOfPushedSources, ExamplesOfRefusedSources, Parse, Pushes, Refuses, bad, before, behind, failing, file, is_there, made_of, making, text, wanting}
 
@@ -134,12 +135,10 @@ pushed_first = record {
     order = 0 ∷ [];
     sorted = alone once.features nothing 25;
     ids = 0 ∷ [];
-    place = 0;
     sortable = sortable once.features nothing 25;
     fits = lit< tt;
     are_sorted = sorted once.features nothing 25;
     are_pushed = (one foo_bar, record { accepted = accepted once.features nothing 25 refl; graph_is = refl; id_is = refl }, refl);
-    main_is = refl;
     id_is = refl;
     features = refl;
     rule = refl;
@@ -150,10 +149,16 @@ pushed_first = record {
 
 pushes_are : (old : State) (id : ℕ) (new : State) → PushesGroups old (made_of file) [] id new → (id ≡ length old.graph.packages) × (new.graph ≡ added (of_first old.features old.graph old.source_map.end))
 pushes_are old id new p =
-    let same = sorted_alone old.features old.graph old.source_map.end p.order p.sorted p.are_sorted in
-    let are =
-    pushed_alone old.features old.graph old.source_map.end new.graph p.ids (subst (λ (s : List Unresolved). AreAdded old.features old.graph s new.graph p.ids) (sym same) p.are_pushed) in
-    (sym (the_one (length old.graph.packages) id p.place (subst (λ (ids : List ℕ). slice_get ids p.place ≡ Some id) are.0 p.id_is)), are.1)
+    let g = old.graph in
+    let same = sorted_alone old.features g old.source_map.end p.order p.sorted p.are_sorted in
+    let alone_added = subst (λ (s : List Unresolved). AreAdded old.features g s new.graph p.ids) (sym same) p.are_pushed in
+    let are = pushed_alone old.features g old.source_map.end new.graph p.ids alone_added in
+    let listed : lookup (same_package foo_bar) (g.package_names ++ (foo_bar, length g.packages) ∷ []) ≡ Some id =
+    sym (ap (λ (x : Graph). lookup (same_package foo_bar) x.package_names) are.1) ∙ p.id_is in
+    let own : Some (length g.packages) ≡ Some id =
+    sym (lookup-push (same_package foo_bar) g.package_names foo_bar (length g.packages) (absent_before old.features g old.source_map.end new.graph p.ids alone_added) (own_name foo_bar)) ∙ listed in
+    let is : length g.packages ≡ id = cc in
+    (sym is, are.1)
 
 pub parsed : ExamplesOfParsed
 parsed = record {

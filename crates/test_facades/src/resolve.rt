@@ -4,8 +4,8 @@ use std::alloc::Global;
 use std::fmt::Write;
 use std::process::Abort;
 use wit_resolve_graph::{
-    Features, Graph, Items, PackageId, Resolve, Shape, Span, TrackRule, TryClone,
-    UnresolvedPackageGroup, WorldItem, WorldKey,
+    Features, Graph, InterfaceId, Items, PackageId, Resolve, Shape, Span, TrackRule, TryClone,
+    TypeId, UnresolvedPackageGroup, WorldId, WorldItem, WorldKey,
 };
 use wit_script::print_world;
 
@@ -201,4 +201,24 @@ fn a_resolve_is_made_of_a_valid_graph_alone(rt: HostRuntime) {
         made_of_graphs(&rt, rt.alloc()),
         "3 3 3 2 true 25 WithPrereleases true",
     );
+}
+
+/// The names of the last type, interface, world and package of a graph, by their ids.
+fn last_names(rt: &impl Abort, alloc: Global) -> String {
+    let resolve = resolve(rt, alloc, SCRIPT);
+    assert!(rt; resolve.types().len() == 3 && resolve.interfaces().len() == 3);
+    assert!(rt; resolve.worlds().len() == 2 && resolve.packages().len() == 3);
+    let ty = resolve.ty(TypeId::from_index(2));
+    let interface = resolve.interface(InterfaceId::from_index(2));
+    let world = resolve.world(WorldId::from_index(1));
+    let package = resolve.package(PackageId::from_index(2));
+    let (ty, interface) = (ty.name.as_ref(), interface.name.as_ref());
+    let (ty, interface) = (ty.expect(rt, "a name"), interface.expect(rt, "a name"));
+    let (world, package) = (&world.name, &package.name);
+    format!(in alloc; "{ty} {interface} {world} {package}").expect(rt, "memory")
+}
+
+#[test]
+fn things_are_found_by_their_ids(rt: HostRuntime) {
+    assert_text(&rt, last_names(&rt, rt.alloc()), "t y v foo:main");
 }

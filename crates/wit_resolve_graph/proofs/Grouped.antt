@@ -32,7 +32,7 @@ use Rattle.wit_link_spec.specs.Added.{added, with_parts}
 use Rattle.wit_link.specs.Appending.{AreAdded, CanAppend, FilesPassTheEnd, IsAdded, IsGroupsCause, IsOneRefused, IsAdditionsCause, addition, files_end, packages_of}
 use Rattle.wit_remap.specs.Grown.{Begins}
 use Rattle.wit_remap.specs.facts.GrownFacts.{Begins-then}
-use Rattle.wit_resolve_graph.specs.steps.Grouping.{AreAdded}
+use Rattle.wit_resolve_graph.specs.steps.Grouping.{AreAddedTogether}
 use Rattle.wit_resolve_graph.specs.State.{State}
 use Rattle.wit_resolve_graph.specs.Step.{PushesGroups, RefusesGroups, with_files}
 use Rattle.wit_resolve_graph.proofs.OneOrder.{Differ, one_place, one_sorted}
@@ -194,15 +194,6 @@ sorted_at unresolved (j ∷ order) (q ∷ sorted) zero i p are at there =
     sym are.0 ∙ ap (slice_get unresolved) same ∙ there
 sorted_at unresolved (j ∷ order) (q ∷ sorted) (suc place) i p are at there = sorted_at unresolved order sorted place i p are.1 at there
 
-order_at : (unresolved : List Unresolved) (order : List ℕ) (sorted : List Unresolved) (place : ℕ) (p : Unresolved) → AllZip (λ i (p : Unresolved). slice_get unresolved i ≡ Some p) order sorted → slice_get sorted place ≡ Some p
-    → (i : ℕ) × (slice_get order place ≡ Some i) × (slice_get unresolved i ≡ Some p)
-order_at unresolved [] [] place p are at = cc
-order_at unresolved [] (q ∷ sorted) place p are at = absurd are
-order_at unresolved (j ∷ order) [] place p are at = absurd are
-order_at unresolved (j ∷ order) (q ∷ sorted) zero p are at =
-    let same : q ≡ p = cc in (j, refl, are.0 ∙ ap (λ (x : Unresolved). Some x) same)
-order_at unresolved (j ∷ order) (q ∷ sorted) (suc place) p are at = order_at unresolved order sorted place p are.1 at
-
 below_length : {X : Type 0} (xs : List X) (i : ℕ) (x : X) → slice_get xs i ≡ Some x → i < length xs
 below_length [] i x at = cc
 below_length (y ∷ ys) zero x at = omega arith
@@ -219,13 +210,9 @@ named_sorted unresolved order sorted name is has =
 
 -- ---- packages that are added
 
--- where a package of a name went
-record IsFound (ps : List Unresolved) (ids : List ℕ) (new : Graph) (name : PackageName) : Type 0 where
-  place : ℕ
-  id : ℕ
-  name_is : slice_get (names_of ps) place ≡ Some name
-  id_is : slice_get ids place ≡ Some id
-  listed : lookup (same_package name) new.package_names ≡ Some id
+-- the graph has a package of this name
+IsListed : Graph → PackageName → Type 0
+IsListed g name = (id : ℕ) × (lookup (same_package name) g.package_names ≡ Some id)
 
 absent : (features : Features) (g : Graph) (p : Unresolved) → AdditionIsAccepted (addition features g p.0 p.1) → lookup (same_package p.0.name) g.package_names ≡ None
 absent features g p accepted = by (lookup (same_package p.0.name) g.package_names) refl
@@ -248,41 +235,31 @@ listed_here features g mid new p ps id ids comes later =
     let third : lookup same mid.package_names ≡ Some (length g.packages) = ap (λ (x : Graph). lookup same x.package_names) comes.graph_is ∙ second in
     ap (lookup same) others.names.1 ∙ lookup-append same mid.package_names others.names.0 (length g.packages) third ∙ ap (λ (i : ℕ). Some i) (sym comes.id_is)
 
-found : (features : Features) (g : Graph) (ps : List Unresolved) (new : Graph) (ids : List ℕ) (name : PackageName) → AreAdded features g ps new ids → Contains (names_of ps) name → IsFound ps ids new name
+found : (features : Features) (g : Graph) (ps : List Unresolved) (new : Graph) (ids : List ℕ) (name : PackageName) → AreAdded features g ps new ids → Contains (names_of ps) name → IsListed new name
 found features g [] new ids name pushed has = absurd (Contains-nil has)
 found features g (p ∷ ps) new [] name pushed has = absurd pushed
 found features g (p ∷ ps) new (id ∷ ids) name pushed has = elim (Contains-cons_cases p.0.name name (names_of ps) has) [
-  | inl same ↦ record {
-    place = 0;
-    id = id;
-    name_is = ap (λ (x : PackageName). Some x) same;
-    id_is = refl;
-    listed = subst (λ (x : PackageName). lookup (same_package x) new.package_names ≡ Some id) same (listed_here features g pushed.0 new p ps id ids pushed.1 pushed.2);
-  }
-  | inr there ↦
-      let rest = found features pushed.0 ps new ids name pushed.2 there in
-      record { place = suc rest.place; id = rest.id; name_is = rest.name_is; id_is = rest.id_is; listed = rest.listed }
+  | inl same ↦ (id, subst (λ (x : PackageName). lookup (same_package x) new.package_names ≡ Some id) same (listed_here features g pushed.0 new p ps id ids pushed.1 pushed.2))
+  | inr there ↦ found features pushed.0 ps new ids name pushed.2 there
 ]
 
 module _ (features : Features) (g : Graph) (unresolved sorted : List Unresolved) (name : PackageName) (named : Contains (names_of unresolved) name) (is : (order : List ℕ) × AreSorted unresolved order sorted) (new : Graph) (ids : List ℕ) (pushed : AreAdded features g sorted new ids) where
-  in_table : IsFound sorted ids new name
+  in_table : IsListed new name
   in_table = found features g sorted new ids name pushed (named_sorted unresolved is.0 sorted name is.1 named)
 
   -- the one of the name is in the table
   pub never_none : lookup (same_package name) new.package_names ≡ None → ⊥
-  never_none none = let both : Some in_table.id ≡ None = sym in_table.listed ∙ none in cc
+  never_none none = let both : Some in_table.0 ≡ None = sym in_table.1 ∙ none in cc
 
-  pub are_added : ((error : ResolveErrorKind) → IsSortCause unresolved error → ⊥) → (id : ℕ) → lookup (same_package name) new.package_names ≡ Some id → AreAdded features g unresolved name id new
+  pub are_added : ((error : ResolveErrorKind) → IsSortCause unresolved error → ⊥) → (id : ℕ) → lookup (same_package name) new.package_names ≡ Some id → AreAddedTogether features g unresolved name id new
   are_added sortable id listed = record {
     order = is.0;
     sorted = sorted;
     ids = ids;
-    place = in_table.place;
     sortable = sortable;
     are_sorted = is.1;
     are_pushed = pushed;
-    name_is = in_table.name_is;
-    id_is = in_table.id_is ∙ sym in_table.listed ∙ listed;
+    id_is = listed;
   }
 
 -- what holds against adding packages holds against adding the sorted ones one after another
@@ -312,8 +289,8 @@ module _ (old now : Sources) (groups : List Group) (placed : now ≡ with_files 
 -- ---- the steps of adding groups
 
 -- what is told of a graph is told of the same graph elsewhere
-pub added_to : {new now : Graph} (r : Result ℕ ResolveErrorKind) (features : Features) (g : Graph) (packages : List Unresolved) (name : PackageName) → new ≡ now → IfOk r (λ id. AreAdded features g packages name id new) → IfOk r (λ id. AreAdded features g packages name id now)
-added_to (Ok id) features g packages name same comes = subst (λ (x : Graph). AreAdded features g packages name id x) same comes
+pub added_to : {new now : Graph} (r : Result ℕ ResolveErrorKind) (features : Features) (g : Graph) (packages : List Unresolved) (name : PackageName) → new ≡ now → IfOk r (λ id. AreAddedTogether features g packages name id new) → IfOk r (λ id. AreAddedTogether features g packages name id now)
+added_to (Ok id) features g packages name same comes = subst (λ (x : Graph). AreAddedTogether features g packages name id x) same comes
 added_to (Err kind) features g packages name same comes = tt
 
 pub same_after : {T : Type 0} (old new now : Graph) (r : Result T ResolveErrorKind) → now ≡ new → OnErr r (new ≡ old) → OnErr r (now ≡ old)
@@ -335,31 +312,21 @@ module _ (old : State) (main : Group) (deps : List Group) (packages : List Unres
     | inr pushing ↦ inr (inl pushing)
   ])
 
-  main_first : (order : List ℕ) (sorted : List Unresolved) (place : ℕ) → ((error : ResolveErrorKind) → IsSortCause unresolved error → ⊥) → AreSorted unresolved order sorted → slice_get (names_of sorted) place ≡ Some main.main.name
-      → slice_get order place ≡ Some (length main.nested)
-  main_first order sorted place sortable is there =
-      let p = from_map name_in sorted place main.main.name there in
-      let from = order_at unresolved order sorted place p.0 is.are p.1 in
-      let own : slice_get (names_of unresolved) from.0 ≡ Some main.main.name = at_map name_in unresolved from.0 p.0 from.2 ∙ ap (λ (x : PackageName). Some x) p.2 in
-      from.1 ∙ ap (λ (i : ℕ). Some i) (one_place unresolved (differ unresolved sortable) from.0 (length main.nested) main.main.name own (main_name old.source_map.end main deps))
-
   -- the packages are added
   pub pushes : (new : State) (r : Result ℕ ResolveErrorKind) → files_end old.source_map.end (main ∷ deps) < 2 ^ 32 → new.features ≡ old.features → new.track_rule ≡ old.track_rule → new.source_map ≡ with_files old.source_map (main ∷ deps)
-      → IfOk r (λ id. AreAdded old.features old.graph packages name id new.graph) → IfOk r (λ id. PushesGroups old main deps id new)
+      → IfOk r (λ id. AreAddedTogether old.features old.graph packages name id new.graph) → IfOk r (λ id. PushesGroups old main deps id new)
   pushes new (Err kind) fits features rule files are = tt
   pushes new (Ok id) fits features rule files are =
-      let comes : AreAdded old.features old.graph unresolved main.main.name id new.graph =
-      subst (λ (l : List Unresolved). AreAdded old.features old.graph l main.main.name id new.graph) taken (subst (λ (n : PackageName). AreAdded old.features old.graph packages n id new.graph) named are) in
+      let comes : AreAddedTogether old.features old.graph unresolved main.main.name id new.graph =
+      subst (λ (l : List Unresolved). AreAddedTogether old.features old.graph l main.main.name id new.graph) taken (subst (λ (n : PackageName). AreAddedTogether old.features old.graph packages n id new.graph) named are) in
       record {
         order = comes.order;
         sorted = comes.sorted;
         ids = comes.ids;
-        place = comes.place;
         sortable = comes.sortable;
         fits = fits;
         are_sorted = comes.are_sorted;
         are_pushed = comes.are_pushed;
-        main_is = main_first comes.order comes.sorted comes.place comes.sortable comes.are_sorted comes.name_is;
         id_is = comes.id_is;
         features = features;
         rule = rule;

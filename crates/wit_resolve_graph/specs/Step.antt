@@ -1,10 +1,12 @@
 -- What a command does, and runs of commands. A command changes the state and answers, or refuses with an
 -- error that has a reason and then leaves all but the sources as it was. Want of memory is no reason, but
 -- may always be answered where memory is taken. Only their own commands change features and the rule of tracks.
-use Rattle.std.specs.Prelude.{◌≡◌, ◌⊎◌, ◌≤◌, ◌<◌, ◌^◌, ℕ, Bool, true, List, [], ◌∷◌, ◌++◌, length, map, slice_get, Option, None, Some, if◌then◌else◌, bytes_eq}
+use Rattle.std.specs.Prelude.{◌≡◌, ◌⊎◌, ◌≤◌, ◌<◌, ◌^◌, ℕ, Bool, true, List, [], ◌∷◌, ◌++◌, map, Option, None, Some, if◌then◌else◌, bytes_eq}
 use Rattle.std.specs.List.{AllByRecursion, list_any}
+use Rattle.std.specs.Map.{lookup}
 use Rattle.wit_sources.specs.SourceMap.{Sources, with_sources}
 use Rattle.wit_data.specs.Shape.{IsGroupShaped}
+use Rattle.wit_names.specs.PackageName.{same_package}
 use Rattle.wit_names.specs.declared.package_name.PackageName.{PackageName}
 use Rattle.wit_data.specs.declared.unresolved.UnresolvedPackageGroup.{UnresolvedPackageGroup}
 use Rattle.wit_data.specs.declared.world.WorldKey.{WorldKey}
@@ -47,13 +49,11 @@ pub record PushesGroups (old : State) (main : UnresolvedPackageGroup) (deps : Li
   pub order : List ℕ
   pub sorted : List Unresolved
   pub ids : List ℕ
-  pub place : ℕ
   pub sortable : NoCause (IsSortCause (packages_of old.source_map.end (main ∷ deps)))
   pub fits : files_end old.source_map.end (main ∷ deps) < 2 ^ 32
   pub are_sorted : AreSorted (packages_of old.source_map.end (main ∷ deps)) order sorted
   pub are_pushed : AreAdded old.features old.graph sorted new.graph ids
-  pub main_is : slice_get order place ≡ Some (length main.nested)
-  pub id_is : slice_get ids place ≡ Some id
+  pub id_is : lookup (same_package main.main.name) new.graph.package_names ≡ Some id
   pub features : new.features ≡ old.features
   pub rule : new.track_rule ≡ old.track_rule
   pub files : new.source_map ≡ with_files old.source_map (main ∷ deps)

@@ -6,7 +6,7 @@ ghost use Rattle.wit_graph_data.specs.declared.error_kind.ResolveErrorKind.TheVa
 ghost use Rattle.wit_data.specs.declared.unresolved.UnresolvedPackage.{UnresolvedPackage};
 ghost use Rattle.wit_link.specs.Appending.{CanAppend, FilesPassTheEnd, IsAdditionsCause, files_end, packages_of};
 ghost use Rattle.wit_remap.specs.Grown.{Begins};
-ghost use Rattle.wit_resolve_graph.specs.steps.Grouping.{AreAdded};
+ghost use Rattle.wit_resolve_graph.specs.steps.Grouping.{AreAddedTogether};
 ghost use Rattle.wit_resolve_graph.specs.State.{AreKept};
 ghost use Rattle.wit_resolve_graph.specs.Step.{with_files};
 ghost use Rattle.wit_link.specs.GroupOrder.{IsSortCause, names_of};
@@ -121,7 +121,7 @@ pub(crate) fn add_packages(
     requires packages { AllByRecursion CanAppend packages }
     requires named { Contains (names_of packages) name.now }
     requires kept { AreKept graph.old kept.old }
-    ensures ok { IfOk result (λ id. AreAdded features.now graph.old packages name.now id graph.new) }
+    ensures ok { IfOk result (λ id. AreAddedTogether features.now graph.old packages name.now id graph.new) }
     ensures kept { AreKept graph.new kept.new }
     ensures err { OnErr result (graph.new ≡ graph.old) }
     ensures cause { IfErr result (λ kind. (kind ≡ OutOfMemory) ⊎ (IsSortCause packages kind ⊎ IsAdditionsCause features.now graph.old packages kind)) }

@@ -22,6 +22,7 @@ mod core_names;
 mod groups;
 mod kept;
 pub mod laws;
+mod lookup;
 mod merged_imports;
 mod package_sources;
 mod push_source;

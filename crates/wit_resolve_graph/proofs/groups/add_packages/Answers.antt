@@ -3,7 +3,7 @@ use Rattle.std.specs.Map.{lookup}
 use Rattle.wit_names.specs.PackageName.{same_package}
 use Rattle.wit_graph_data.specs.declared.graph.Graph.{Graph}
 use Rattle.wit_queries.specs.ValidBits.{AreValidBitsOf}
-use Rattle.wit_resolve_graph.specs.steps.Grouping.{AreAdded}
+use Rattle.wit_resolve_graph.specs.steps.Grouping.{AreAddedTogether}
 use Rattle.wit_resolve_graph.proofs.KeptRows.{flags_known, kept_cut, kept_followed}
 use Rattle.std.specs.Option.{option_copied}
 use Rattle.wit_resolve_graph.proofs.Grouped.{are_added, never_none, one_refused, sorted_can}
@@ -19,7 +19,7 @@ unreachable-requires c =
 
 pub returns-clause-ok : goal.returns-clause-ok
 returns-clause-ok c =
-    subst (λ (g : Graph). AreAdded c.args.features.now c.args.graph.now c.args.packages c.args.name.now c.in-Some.id.now g) (sym c.in_ok-follow.ensures.ok.0)
+    subst (λ (g : Graph). AreAddedTogether c.args.features.now c.args.graph.now c.args.packages c.args.name.now c.in-Some.id.now g) (sym c.in_ok-follow.ensures.ok.0)
     (are_added c.args.features.now c.args.graph.now c.args.packages c.in_ok-sorted.sorted c.args.name.now c.requires.named c.in_ok-sorted.ensures.ok c.append_all_with.new.graph c.in_ok-append_all_with.field-0 c.in_ok-append_all_with.ensures.ok
     c.in_ok-sorted.ensures.refuses c.in-Some.id.now (ap (λ (g : Graph). lookup (same_package c.args.name.now) g.package_names) (sym c.in_ok-follow.ensures.ok.0) ∙ sym c.get.ensures ∙ ap option_copied c.in-Some.is))
 
