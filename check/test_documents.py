@@ -51,6 +51,12 @@ class Stale(unittest.TestCase):
         self.assertEqual(0, self.told(documents.stale_numbers, there))
         self.assertEqual(2, self.told(documents.stale_numbers, "1 crates, 27 listed reasons"))
 
+    def test_reading(self):
+        text = documents.read("README.md")
+        self.assertEqual(0, self.told(documents.stale_reading, text))
+        self.assertEqual(5, self.told(documents.stale_reading, "word " * 800 + text))
+        self.assertEqual(1, self.told(documents.stale_reading, text.replace("## License", "## Licence")))
+
     def test_rows_and_clauses(self):
         rows, clauses = documents.stale_rows, documents.stale_clauses
         for path, check in (documents.DIFFERENCES, rows), (documents.ARCHITECTURE, rows), (documents.GUARANTEES, clauses):
