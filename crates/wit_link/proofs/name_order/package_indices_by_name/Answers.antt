@@ -11,4 +11,4 @@ returns c =
     let all = subst (λ (es : List (PackageName × ℕ)). IsPermutation es c.in_ok-from_map.field-0) c.in_ok-map.ensures
     (subst (λ (es : List (PackageName × ℕ)). IsPermutation c.in_ok-map.map.entries es) (sym c.in_ok-from_map.ensures) c.in_ok-sort_keys.ensures.reordered.0) in
     let sorted = subst (λ (es : List (PackageName × ℕ)). IsSorted package_cmp (keys_of es)) (sym c.in_ok-from_map.ensures) c.in_ok-sort_keys.ensures.sorted in
-    by_name c.values_of-2.result c.in_ok-from_map.field-0 c.args.places all sorted c.values_of-2.ensures
+    by_name c.values_of.result c.in_ok-from_map.field-0 c.args.places all sorted c.values_of.ensures
