@@ -211,7 +211,7 @@ named_sorted unresolved order sorted name is has =
 -- ---- packages that are added
 
 -- the graph has a package of this name
-IsListed : Graph → PackageName → Type 0
+abbrev IsListed : Graph → PackageName → Type 0
 IsListed g name = (id : ℕ) × (lookup (same_package name) g.package_names ≡ Some id)
 
 absent : (features : Features) (g : Graph) (p : Unresolved) → AdditionIsAccepted (addition features g p.0 p.1) → lookup (same_package p.0.name) g.package_names ≡ None
