@@ -4,11 +4,11 @@
     check/mutated_documents.py LIBRARY [--many N] [--first SEED] [--jobs N]
 
 LIBRARY is a shared library with `witgraph_json`, made as bindings/python/README.md says; one of `tools/trial-build` stops
-where a sum passes its type or an index its list. The documents are those of the stored scripts, random ones of
-check/whole/random_documents.py, and examples/kinds. Of each some values or bytes are changed, left out, repeated or
-exchanged. It is to be answered by status 0 with a reply to each command, or by status 1 with a fault whose place is in the
-text, or by status 3 where it isn't UTF-8; what comes out is compact JSON. A call that ends the process is told by its number,
-and the others go on. Ends with status 1 where something else was answered.
+where a sum passes its type or an index its list. The documents are those of the stored scripts, some that begin with the
+graph which came out of one of these, random ones of check/whole/random_documents.py, and examples/kinds. Of each some values
+or bytes are changed, left out, repeated or exchanged. It is to be answered by status 0 with a reply to each command, or by
+status 1 with a fault whose place is in the text, or by status 3 where it isn't UTF-8; what comes out is compact JSON. A call
+that ends the process is told by its number, and the others go on. Ends with status 1 where something else was answered.
 """
 import argparse
 import collections
@@ -67,10 +67,16 @@ def stored_documents():
     return [it for it in made if it]
 
 
-def first_documents():
+def going_on(library, document):
+    """The commands of a document once more, on the graph that it leaves."""
+    _, out = library.answer(compact(document).encode())
+    return {"resolve": json.loads(out)["resolve"], "commands": document["commands"]}
+
+
+def first_documents(library):
     with open(f"{TOP}/examples/kinds/kinds.json", encoding="utf-8") as file:
         begun = [json.load(file), *stored_documents()]
-    return [*begun, *map(random_documents.document, range(1, 201))]
+    return [*begun, *(going_on(library, it) for it in begun), *map(random_documents.document, range(1, 201))]
 
 
 # ---- changes
@@ -254,7 +260,7 @@ def main():
     parser.add_argument("--jobs", type=int, default=1)
     asked = parser.parse_args()
     library = Library(asked.library)
-    texts = [compact(it) for it in first_documents()]
+    texts = [compact(it) for it in first_documents(library)]
     print(f"{len(texts)} documents to begin with", flush=True)
     last, counts = asked.first + asked.many, collections.Counter()
     ranges = [(asked.first + job, asked.jobs) for job in range(asked.jobs)]

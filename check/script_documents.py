@@ -4,9 +4,11 @@
     python3 check/script_documents.py SCRIPT
     python3 check/script_documents.py --program WITGRAPH_JSON --stored crates/test_cases/stdin
     python3 check/script_documents.py --program WITGRAPH_JSON [--first N] [--many N]
+    python3 check/script_documents.py --in-two crates/test_cases/stdin > crates/test_json_cases/stdin
 
-The first form writes the document of a script. The others compare what the program answers, for the stored cases or for
-random scripts, with the model of the rules (`check/model`): the replies, and all worlds of the last graph. What a script
+The first form writes the document of a script, the last one the commands of short stored cases in two parts, as the program
+`test_json_cases` reads them. The others compare what the program answers, for the stored cases or for random scripts, with
+the model of the rules (`check/model`): the replies, and all worlds of the last graph. What a script
 prints on its way is left out, and what it selects in another graph. A script that isn't understood has no document. Ends
 with status 1 where they differ.
 """
@@ -348,14 +350,30 @@ def differs(program, name, script):
     return f"{name} differs\n{asked}\n--- may print\n{model.answers(asked)}\n--- witgraph_json\n{told}"
 
 
+def in_two(scripts):
+    """The commands of scripts in two parts, where there are two and they are short."""
+    lines = []
+    for name, script in scripts.items():
+        document = document_of("\n".join(compared_lines(script)))
+        commands = [json.dumps(it, separators=(",", ":"), ensure_ascii=False) for it in document["commands"]] if document else []
+        if len(commands) > 1 and sum(map(len, commands)) < 2500:
+            at = len(commands) // 2
+            lines += [f"=== {name}", ",".join(commands[:at]), ",".join(commands[at:])]
+    return "\n".join(["Commands of worked scripts, written by check/script_documents.py --in-two.", *lines, ""])
+
+
 def main():
     parser = argparse.ArgumentParser()
     parser.add_argument("script", nargs="?")
     parser.add_argument("--program")
     parser.add_argument("--stored")
+    parser.add_argument("--in-two")
     parser.add_argument("--first", type=int, default=1)
     parser.add_argument("--many", type=int, default=500)
     asked = parser.parse_args()
+    if asked.in_two:
+        print(in_two(compare.stored(compare.read(asked.in_two))[0]), end="")
+        return 0
     if asked.script:
         made = document_of(compare.read(asked.script))
         print(json.dumps(made, separators=(",", ":"), ensure_ascii=False))

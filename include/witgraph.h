@@ -66,9 +66,10 @@ uint32_t witgraph_execute(const uint8_t *input, size_t length, uint8_t *output, 
  * The arguments and the status are as there. */
 uint32_t witgraph_explain(const uint8_t *input, size_t length, uint8_t *output, size_t capacity, size_t *needed);
 
-/* Carries out the commands of a JSON document on an empty graph, and writes the document that comes out: the one that
- * the program witgraph_json writes. It has the replies and the graph, and where the input isn't such a document
- * (WITGRAPH_NOT_UNDERSTOOD) the first fault in it.
+/* Carries out the commands of a JSON document, on an empty graph or on the one that the document begins with, and writes
+ * the document that comes out: the one that the program witgraph_json writes. It has the replies and the graph, with
+ * which a later document may begin; and where the input isn't such a document (WITGRAPH_NOT_UNDERSTOOD) the first fault
+ * in it.
  *
  * The arguments and the status are as of witgraph_execute, with the document in place of the script. */
 uint32_t witgraph_json(const uint8_t *input, size_t length, uint8_t *output, size_t capacity, size_t *needed);

@@ -14,9 +14,10 @@ use Rattle.wit_data.specs.declared.world.World.{World}
 use Rattle.wit_data.specs.declared.world.WorldItem.TheVariants as item
 use Rattle.wit_data.specs.declared.world.WorldKey.TheVariants as key
 use Rattle.wit_graph_data.specs.declared.features.Features.{Features}
+use Rattle.wit_names.specs.declared.track.TrackRule.TheVariants.{Published, WithPrereleases}
 use Rattle.wit_json.specs.Details.{function_details, graph_details, interface_details, item_details, type_details, world_details}
 use Rattle.wit_json.specs.Graph.{compact}
-use Rattle.wit_json.specs.Whole.{json_of_features, json_of_files, json_of_whole}
+use Rattle.wit_json.specs.Whole.{json_of_features, json_of_rule, json_of_sources, json_of_whole}
 use Rattle.examples_json.specs.Gates.{docs_of}
 use Rattle.examples_json.specs.Graphs.{no_graph, small_graph}
 
@@ -75,10 +76,14 @@ pub record ExamplesOfWholes : Type 0 where
   pub not_all : compact (json_of_features two_features) ≢ codes "{\"all\":true,\"names\":[\"fast\",\"new\"]}"
   pub not_one : compact (json_of_features two_features) ≢ codes "{\"all\":false,\"names\":[\"fast\"]}"
   pub all : compact (json_of_features all_features) ≡ codes "{\"all\":true,\"names\":[]}"
-  pub files : compact (json_of_files two_files) ≡ codes "[\"a.wit\",\"b.wit\"]"
-  pub in_order : compact (json_of_files two_files) ≢ codes "[\"b.wit\",\"a.wit\"]"
-  pub whole : compact (json_of_whole no_graph all_features two_files)
-      ≡ codes "{\"graph\":{\"worlds\":[],\"interfaces\":[],\"types\":[],\"packages\":[]},\"details\":{\"worlds\":[],\"interfaces\":[],\"types\":[]},\"features\":{\"all\":true,\"names\":[]},\"files\":[\"a.wit\",\"b.wit\"]}"
+  pub rule : compact (json_of_rule Published) ≡ codes "\"published\""
+  pub other_rule : compact (json_of_rule WithPrereleases) ≡ codes "\"with-prereleases\""
+  pub files : compact (json_of_sources two_files) ≡ codes "[{\"path\":\"a.wit\",\"text\":\"A\"},{\"path\":\"b.wit\",\"text\":\"\"}]"
+  pub in_order : compact (json_of_sources two_files) ≢ codes "[{\"path\":\"b.wit\",\"text\":\"\"},{\"path\":\"a.wit\",\"text\":\"A\"}]"
+  -- paths alone aren't all
+  pub with_texts : compact (json_of_sources two_files) ≢ codes "[\"a.wit\",\"b.wit\"]"
+  pub whole : compact (json_of_whole no_graph all_features Published two_files)
+      ≡ codes "{\"graph\":{\"worlds\":[],\"interfaces\":[],\"types\":[],\"packages\":[]},\"details\":{\"worlds\":[],\"interfaces\":[],\"types\":[]},\"features\":{\"all\":true,\"names\":[]},\"track-rule\":\"published\",\"sources\":[{\"path\":\"a.wit\",\"text\":\"A\"},{\"path\":\"b.wit\",\"text\":\"\"}]}"
   -- the layout stands apart
-  pub not_inside : compact (json_of_whole no_graph all_features two_files)
-      ≢ codes "{\"worlds\":[],\"interfaces\":[],\"types\":[],\"packages\":[],\"details\":{\"worlds\":[],\"interfaces\":[],\"types\":[]},\"features\":{\"all\":true,\"names\":[]},\"files\":[\"a.wit\",\"b.wit\"]}"
+  pub not_inside : compact (json_of_whole no_graph all_features Published two_files)
+      ≢ codes "{\"worlds\":[],\"interfaces\":[],\"types\":[],\"packages\":[],\"details\":{\"worlds\":[],\"interfaces\":[],\"types\":[]},\"features\":{\"all\":true,\"names\":[]},\"track-rule\":\"published\",\"sources\":[{\"path\":\"a.wit\",\"text\":\"A\"},{\"path\":\"b.wit\",\"text\":\"\"}]}"

@@ -8,3 +8,5 @@ pub mod Refusals
 pub mod ReadValues
 pub mod ReadTypes
 pub mod ReadWorlds
+pub mod ReadGraphs
+pub mod ReadCommands

@@ -37,8 +37,10 @@ pub record ExamplesOfReadWorlds : Type 0 where
   pub held : interface (codes "{\"name\":\"i\",\"types\":{\"t\":7},\"functions\":{}}") ≡ Ok (record (new_interface (Some (codes "i"))) { types = (codes "t", 7) ∷ [] })
   pub unnamed : interface (codes "{\"name\":null,\"types\":{},\"functions\":{}}") ≡ Ok (new_interface None)
   pub same_name : interface (codes "{\"name\":null,\"types\":{\"t\":7,\"t\":8},\"functions\":{}}") ≡ fault_at (to (codes "t") ∷ to (codes "types") ∷ []) expected.NoSecondMember
-  -- it belongs to no package yet, so none is named
-  pub no_package : interface (codes "{\"name\":null,\"types\":{},\"functions\":{},\"package\":0}") ≡ fault_at (to (codes "package") ∷ []) expected.NoMember
+  -- the package that it belongs to
+  pub placed : interface (codes "{\"name\":null,\"types\":{},\"functions\":{},\"package\":3}") ≡ Ok (record (new_interface None) { «package» = Some 3 })
+  pub unplaced : interface (codes "{\"name\":null,\"types\":{},\"functions\":{},\"package\":null}") ≡ Ok (new_interface None)
+  pub no_package : interface (codes "{\"name\":null,\"types\":{},\"functions\":{},\"package\":\"foo:bar\"}") ≡ fault_at (to (codes "package") ∷ []) expected.Number
   -- an interface under its own key, and under a label
   pub own_key : entries (codes "{\"interface-3\":{\"interface\":{\"id\":3}}}") ≡ Ok ((key.Interface 3, item.Interface 3 Unknown (docs_of None) None None) ∷ [])
   pub label : entries (codes "{\"l\":{\"interface\":{\"id\":3}}}") ≡ Ok ((key.Name (codes "l"), item.Interface 3 Unknown (docs_of None) None None) ∷ [])
@@ -51,7 +53,8 @@ pub record ExamplesOfReadWorlds : Type 0 where
   pub whole : world (codes "{\"name\":\"w\",\"imports\":{},\"exports\":{\"t\":{\"type\":7}},\"includes\":[]}") ≡ Ok (record (new_world (codes "w")) { exports = (key.Name (codes "t"), item.Type_ 7 None) ∷ [] })
   pub with_include : world (codes "{\"name\":\"w\",\"imports\":{},\"exports\":{},\"includes\":[{\"id\":1,\"names\":[{\"name\":\"a\",\"as\":\"b\"}]}]}")
       ≡ Ok (record (new_world (codes "w")) { includes = record { stability = Unknown; id = 1; names = record { name = codes "a"; as_ = codes "b" } ∷ []; span = None } ∷ [] })
-  pub no_includes : world (codes "{\"name\":\"w\",\"imports\":{},\"exports\":{}}") ≡ fault_at (to (codes "includes") ∷ []) expected.Member
+  pub no_includes : world (codes "{\"name\":\"w\",\"imports\":{},\"exports\":{}}") ≡ Ok (new_world (codes "w"))
+  pub no_exports : world (codes "{\"name\":\"w\",\"imports\":{}}") ≡ fault_at (to (codes "exports") ∷ []) expected.Member
 
 abbrev pub package_name : List ℕ → Reading PackageName
 package_name text = reading_of package_name_of text

@@ -8,6 +8,8 @@ ghost use Rattle.examples_json.specs.Functions.{ExamplesOfFunctions};
 ghost use Rattle.examples_json.specs.Graphs.{ExamplesOfGraphs};
 ghost use Rattle.examples_json.specs.ReadTypes.{ExamplesOfReadFunctions, ExamplesOfReadKinds, ExamplesOfReadTypes};
 ghost use Rattle.examples_json.specs.ReadValues.{ExamplesOfReadGates, ExamplesOfReadValues};
+ghost use Rattle.examples_json.specs.ReadCommands.{ExamplesOfReadChanges, ExamplesOfReadQuestions};
+ghost use Rattle.examples_json.specs.ReadGraphs.{ExamplesOfReadDetails, ExamplesOfReadGraphs, ExamplesOfReadResolves};
 ghost use Rattle.examples_json.specs.ReadWorlds.{ExamplesOfReadPackages, ExamplesOfReadWorlds};
 ghost use Rattle.examples_json.specs.Refusals.{ExamplesOfRefusals};
 ghost use Rattle.examples_json.specs.Types.{ExamplesOfKinds, ExamplesOfTypes};
@@ -96,4 +98,29 @@ pub fn examples_of_read_worlds()
 /// What names of packages, foreign names, packages and files are read from.
 pub fn examples_of_read_packages()
     ensures { ExamplesOfReadPackages }
+{}
+
+/// What graphs, features and rules of tracks are read from.
+pub fn examples_of_read_graphs()
+    ensures { ExamplesOfReadGraphs }
+{}
+
+/// What the details of a graph are read from.
+pub fn examples_of_read_details()
+    ensures { ExamplesOfReadDetails }
+{}
+
+/// What the parts of a `Resolve` are read from.
+pub fn examples_of_read_resolves()
+    ensures { ExamplesOfReadResolves }
+{}
+
+/// What changes of a graph are read from.
+pub fn examples_of_read_changes()
+    ensures { ExamplesOfReadChanges }
+{}
+
+/// What questions and documents are read from.
+pub fn examples_of_read_questions()
+    ensures { ExamplesOfReadQuestions }
 {}

@@ -5,11 +5,11 @@ use std::fmt::Write;
 use std::process::Abort;
 use wit_data::{Id, Items, TryClone};
 use wit_graph_data::Graph;
-use wit_merge_match::{Matches, MergeRemap, find_matches, find_remap};
+use wit_merge_match::{Matches, MergeRemap, find_matches, find_remap, leaves_graph};
 use wit_validity::is_valid;
 
 /// Of each package, world, interface and type of the graph with this change the id of that of the valid graph with
-/// which it is matched, `-` where there is none; and then where each goes.
+/// which it is matched, `-` where there is none; then where each goes, and whether a merge leaves what was there.
 fn matches_of(rt: &impl Abort, alloc: Global, breach: Breach) -> String {
     let ours = graph(rt, alloc, Breach::Nothing);
     let other = graph(rt, alloc, breach);
@@ -23,6 +23,9 @@ fn told(rt: &impl Abort, alloc: Global, ours: &Graph, other: &Graph) -> String {
         show_matches(rt, &found, &mut text);
         let going = find_remap(alloc, ours, other, &found).expect(rt, "memory");
         show_places(rt, &going, &mut text);
+        let left = leaves_graph(ours, other, &found);
+        text.push_str(if left { " left" } else { " changed" })
+            .expect(rt, "memory");
     }
     text
 }
@@ -65,17 +68,17 @@ fn things_are_matched_by_names_and_places(rt: HostRuntime) {
         // itself: a type without a name is matched with none, and goes behind all
         (
             Breach::Nothing,
-            " 0 1; 0; 0 1 2 3; 0 - 2 3 4 5; to 0 1; 0; 0 1 2 3; 0 6 2 3 4 5;",
+            " 0 1; 0; 0 1 2 3; 0 - 2 3 4 5; to 0 1; 0; 0 1 2 3; 0 6 2 3 4 5; left",
         ),
-        // another name of an interface, and so other types of it
+        // another name of an interface, and so other types of it: its package has one more
         (
             Breach::InterfaceNotKebab,
-            " 0 1; 0; 0 1 2 -; 0 - 2 3 4 -; to 0 1; 0; 0 1 2 4; 0 6 2 3 4 7;",
+            " 0 1; 0; 0 1 2 -; 0 - 2 3 4 -; to 0 1; 0; 0 1 2 4; 0 6 2 3 4 7; changed",
         ),
         // another name of a package, and so no world under whose label an interface without a name is found
         (
             Breach::PackageNotKebab,
-            " - 1; -; - - - 3; - - - - - 5; to 2 1; 1; 4 5 6 3; 6 7 8 9 10 5;",
+            " - 1; -; - - - 3; - - - - - 5; to 2 1; 1; 4 5 6 3; 6 7 8 9 10 5; left",
         ),
     ];
     for &(breach, text) in &told {

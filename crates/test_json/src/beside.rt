@@ -4,7 +4,8 @@ use std::alloc::Global;
 use std::process::Abort;
 use wit_data::{
     Field, Function, FunctionKind, Interface, InterfaceId, Names, PackageName, Param, SourceMap,
-    Span, Stability, Type_, TypeDef, TypeDefKind, TypeId, TypeOwner, World, WorldItem, WorldKey,
+    Span, Stability, TrackRule, Type_, TypeDef, TypeDefKind, TypeId, TypeOwner, World, WorldItem,
+    WorldKey,
 };
 use wit_graph_data::{Cause, Features, Graph, ResolveError, ResolveErrorKind};
 use wit_json::{refusal_to_json, whole_to_json};
@@ -97,7 +98,13 @@ fn written_beside(rt: &impl Abort, alloc: Global) -> String {
     files
         .push_str(alloc, "b.wit", String::new(alloc))
         .expect(rt, "room");
-    let written = whole_to_json(alloc, &placed_graph(rt, alloc), &features, &files);
+    let written = whole_to_json(
+        alloc,
+        &placed_graph(rt, alloc),
+        &features,
+        TrackRule::WithPrereleases,
+        &files,
+    );
     let written = written.expect(rt, "memory");
     let (_, beside) = written
         .as_str()
@@ -115,7 +122,8 @@ fn what_is_beside_the_layout_is_written(rt: HostRuntime) {
         \"interface-0\":{\"docs\":{\"contents\":\"E.\"},\"span\":[31,32],\"external-id\":\"e\"},\"t\":{}},\"exports\":{}}],\
         \"interfaces\":[{\"span\":[10,21],\"functions\":{\"f\":{\"span\":[11,20],\"params\":[[12,13]]}}}],\
         \"types\":[{\"span\":[3,9],\"external-id\":\"rec\",\"parts\":[[5,6],null]}]},\
-        \"features\":{\"all\":false,\"names\":[\"fast\",\"new\"]},\"files\":[\"a.wit\",\"b.wit\"]}"
+        \"features\":{\"all\":false,\"names\":[\"fast\",\"new\"]},\"track-rule\":\"with-prereleases\",\
+        \"sources\":[{\"path\":\"a.wit\",\"text\":\"A\"},{\"path\":\"b.wit\",\"text\":\"\"}]}"
     );
 }
 

@@ -8,5 +8,6 @@ pub mod Details
 pub mod Refusals
 pub mod Unresolved
 pub mod Whole
+pub mod Groups
 pub mod steps
 pub mod facts

@@ -6,6 +6,7 @@ mod details;
 mod functions;
 mod gates;
 mod graph;
+mod groups;
 mod refusals;
 mod types;
 mod unresolved;
@@ -15,6 +16,7 @@ mod worlds;
 mod writer;
 
 pub use crate::graph::graph_to_json;
+pub use crate::groups::group_to_json;
 pub use crate::refusals::refusal_to_json;
 pub use crate::unresolved::package_to_json;
 pub use crate::whole::whole_to_json;

@@ -1,8 +1,7 @@
 -- What changes of a graph are read from.
 use Rattle.std.specs.Prelude.{ℕ, List, [], ◌∷◌, Result, Ok, Err, codes, if◌then◌else◌, bytes_eq}
 use Rattle.json.specs.Json.{Json}
-use Rattle.wit_names.specs.declared.track.TrackRule.{TrackRule}
-use Rattle.wit_names.specs.declared.track.TrackRule.TheVariants.{Published, WithPrereleases}
+use Rattle.wit_json_reading.specs.Features.{rule_of}
 use Rattle.wit_json_reading.specs.Groups.{group_of}
 use Rattle.wit_json_reading.specs.Packages.{package_name_of}
 use Rattle.wit_json_reading.specs.Reading.{Reading, ◌>>=◌, instead_of, list_of, only, optional, required}
@@ -10,16 +9,6 @@ use Rattle.wit_json_reading.specs.Values.{boolean_of, text_of}
 use Rattle.wit_json_reading.specs.declared.fault.Expected.TheVariants as expected
 use Rattle.wit_json_commands.specs.declared.changes.Change.{Change}
 use Rattle.wit_json_commands.specs.declared.changes.Change.TheVariants as change
-
-abbrev pub rule_in : List ℕ → Reading TrackRule
-rule_in word =
-    if bytes_eq word (codes "published") then Ok Published
-    else if bytes_eq word (codes "with-prereleases") then Ok WithPrereleases
-    else instead_of expected.TrackRule
-
--- a rule of tracks by its name
-unfoldable pub rule_of : Json → Reading TrackRule
-rule_of j = text_of j >>= λ word. rule_in word
 
 -- the group whose main package is answered, and those that come with it
 unfoldable pub push_of : Json → Reading Change

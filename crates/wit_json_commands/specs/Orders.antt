@@ -3,8 +3,9 @@ use Rattle.std.specs.Prelude.{ℕ, Bool, List, [], ◌∷◌, Result, Ok, Err, c
 use Rattle.std.specs.List.{list_any}
 use Rattle.json.specs.Json.{Json}
 use Rattle.json.specs.Json as json
-use Rattle.wit_json_reading.specs.Objects.{alone, variant_of}
-use Rattle.wit_json_reading.specs.Reading.{Reading, ◌>>=◌, instead_of, list_of}
+use Rattle.wit_json_graphs.specs.Resolves.{resolve_of}
+use Rattle.wit_json_reading.specs.Objects.{variant_of}
+use Rattle.wit_json_reading.specs.Reading.{Reading, ◌>>=◌, instead_of, list_of, only, optional, required}
 use Rattle.wit_json_reading.specs.declared.fault.Expected.TheVariants as expected
 use Rattle.wit_json_commands.specs.Changes.{change_by}
 use Rattle.wit_json_commands.specs.Questions.{question_by}
@@ -45,8 +46,10 @@ unfoldable pub order_of : Json → Reading Order
 order_of (json.string word) = plain_request_of word >>= λ it. Ok (order.Request it)
 order_of j = variant_of order_by expected.Command j
 
--- `{"commands": [..]}`
+-- `{"resolve": .., "commands": [..]}`; the graph with which a document begins may be left out
 unfoldable pub document_of : Json → Reading Document
 document_of j = do
-  commands ← alone (list_of order_of) (codes "commands") j
-  Ok (record { commands = commands })
+  _ ← only (codes "resolve" ∷ codes "commands" ∷ []) j
+  resolve ← optional resolve_of (codes "resolve") j
+  commands ← required (list_of order_of) (codes "commands") j
+  Ok (record { resolve = resolve; commands = commands })

@@ -1,6 +1,6 @@
 //! Changes of a graph, other than merges.
 ghost use Rattle.json.specs.Value.{value_view};
-ghost use Rattle.wit_json_commands.specs.Changes.{change_by, exportize_of, importize_of, push_of, rule_in, rule_of, semver_of};
+ghost use Rattle.wit_json_commands.specs.Changes.{change_by, exportize_of, importize_of, push_of, semver_of};
 ghost use Rattle.wit_json_reading.specs.Reading.{Reads};
 
 use json::Value;
@@ -40,28 +40,6 @@ pub enum Change {
         package: PackageName,
         world: Text,
     },
-}
-
-/// The rule of tracks that a value is.
-#[tactic(auto, unfolding(crate::specs::Changes::rule_of))]
-fn rule(alloc: Global, value: &Value<'_>) -> Result<TrackRule, ReadError>
-    ensures { Reads result (rule_of (value_view value.now)) }
-{
-    match value.as_str() {
-        Some(word) => rule_in(alloc, word),
-        None => instead_of(alloc, Expected::Text),
-    }
-}
-
-/// The rule of tracks of a word.
-fn rule_in(alloc: Global, word: &str) -> Result<TrackRule, ReadError>
-    ensures { Reads result (rule_in word.now) }
-{
-    match word {
-        "published" => Ok(TrackRule::Published),
-        "with-prereleases" => Ok(TrackRule::WithPrereleases),
-        _ => instead_of(alloc, Expected::TrackRule),
-    }
 }
 
 #[tactic(auto, unfolding(crate::specs::Changes::push_of))]
@@ -124,7 +102,7 @@ pub fn change_by(alloc: Global, name: &str, value: &Value<'_>) -> Result<Change,
     match name {
         "add-feature" => Ok(Change::AddFeature(ReadJson::read_json(alloc, value)?)),
         "set-all-features" => Ok(Change::SetAllFeatures(ReadJson::read_json(alloc, value)?)),
-        "set-track-rule" => Ok(Change::SetTrackRule(rule(alloc, value)?)),
+        "set-track-rule" => Ok(Change::SetTrackRule(ReadJson::read_json(alloc, value)?)),
         "push-groups" => push(alloc, value),
         "importize" => importize(alloc, value),
         "exportize" => exportize(alloc, value),

@@ -9,7 +9,10 @@ use crate::questions::{Question, question_by};
 use json::Value;
 use std::alloc::Global;
 use wit_data::Items;
-use wit_json_reading::{Expected, ReadError, ReadJson, alone, in_member, instead_of, one_member};
+use wit_json_graphs::ResolveParts;
+use wit_json_reading::{
+    Expected, ReadError, ReadJson, in_member, instead_of, one_member, only, optional, required,
+};
 
 /// A change of a graph, or a question about it.
 #[derive(Drop)]
@@ -27,9 +30,10 @@ pub enum Order {
     Merge(Items<Request>),
 }
 
-/// What a document asks, in order.
+/// What a document asks, in order, of the graph with which it begins, or of an empty one.
 #[derive(Drop)]
 pub struct Document {
+    pub resolve: Option<ResolveParts>,
     pub commands: Items<Order>,
 }
 
@@ -116,7 +120,9 @@ impl ReadJson for Document {
 
     #[tactic(auto, unfolding(crate::specs::Orders::document_of))]
     fn read_json(alloc: Global, value: &Value<'_>) -> Result<Document, ReadError> {
-        let commands = alone(alloc, value, "commands")?;
-        Ok(Document { commands })
+        only(alloc, value, &["resolve", "commands"])?;
+        let resolve = optional(alloc, value, "resolve")?;
+        let commands = required(alloc, value, "commands")?;
+        Ok(Document { resolve, commands })
     }
 }

@@ -5,4 +5,9 @@ mod Types
 mod Functions
 mod Worlds
 mod Packages
+mod Sources
+mod Bare
+mod BareThings
+mod Details
+mod Graphs
 mod Plain

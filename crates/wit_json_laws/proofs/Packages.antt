@@ -135,7 +135,7 @@ reads_package_name name fits =
     ∙ ap (λ (it : List ℕ). name_in it (after_first (λ b. b == 58) text)) (front 58 name.namespace rest fits.namespace refl)
     ∙ ap (name_in name.namespace) (back 58 name.namespace rest fits.namespace refl) ∙ reads_name_in name.namespace name.name name.version fits.own fits.version
 
-reads_name_value : (name : PackageName) → IsWritableName name → package_name_of (json_of_package_name name) ≡ Ok name
+pub reads_name_value : (name : PackageName) → IsWritableName name → package_name_of (json_of_package_name name) ≡ Ok name
 unfolding package_name_of
 reads_name_value name fits = reads_package_name name fits
 
@@ -220,9 +220,9 @@ packages_read_back p fits =
     (reads_span_member p.package_name_span j fits.span (get_slot (codes "span") ss))
     (reads_docs p.docs j (get_slot (codes "docs") ss))
     (reads_required (list_of world_of) (codes "worlds") j (written.list_of whole_world p.worlds) p.worlds (get_slot (codes "worlds") ss)
-    (reads_list world_of whole_world p.worlds (λ i w at. reads_world w (fits.worlds i w at))))
+    (reads_list world_of whole_world p.worlds (λ i w at. reads_world w (fits.worlds i w at) (fits.worlds_alone i w at))))
     (reads_required (list_of interface_of) (codes "interfaces") j (written.list_of whole_interface p.interfaces) p.interfaces (get_slot (codes "interfaces") ss)
-    (reads_list interface_of whole_interface p.interfaces (λ n i at. reads_interface i (fits.interfaces n i at))))
+    (reads_list interface_of whole_interface p.interfaces (λ n i at. reads_interface i (fits.interfaces n i at) (fits.interfaces_alone n i at))))
     (reads_required (list_of type_def_of) (codes "types") j (written.list_of whole_type p.types) p.types (get_slot (codes "types") ss)
     (reads_list type_def_of whole_type p.types (λ i def at. reads_type_def def (fits.types i def at))))
     (reads_required deps_of (codes "foreign-deps") j (json_of_deps p.foreign_deps) p.foreign_deps (get_slot (codes "foreign-deps") ss)

@@ -35,6 +35,8 @@ use Rattle.wit_data.specs.declared.types.Type_.TheVariants as type
 use Rattle.wit_data.specs.declared.unresolved.AstItem.{AstItem}
 use Rattle.wit_data.specs.declared.unresolved.AstItem.TheVariants as ast
 use Rattle.wit_data.specs.declared.unresolved.UnresolvedPackage.{UnresolvedPackage}
+use Rattle.wit_data.specs.declared.unresolved.UnresolvedPackageGroup.{UnresolvedPackageGroup}
+use Rattle.wit_sources.specs.SourceMap.{files_of}
 use Rattle.wit_data.specs.declared.world.IncludeName.{IncludeName}
 use Rattle.wit_data.specs.declared.world.World.{World}
 use Rattle.wit_data.specs.declared.world.WorldInclude.{WorldInclude}
@@ -45,15 +47,19 @@ use Rattle.wit_json.specs.Details.{json_of_range, json_of_span}
 use Rattle.wit_json.specs.Functions.{json_of_function_kind}
 use Rattle.wit_json.specs.Gates.{json_of_docs, json_of_stability}
 use Rattle.wit_json.specs.Graph.{json_of_package_name}
+use Rattle.wit_json.specs.Groups.{json_of_group}
 use Rattle.wit_json.specs.Types.{json_of_handle, json_of_owner, json_of_result, json_of_type}
 use Rattle.wit_json.specs.Unresolved.{json_of_ast_item, json_of_deps, json_of_foreign_item, json_of_gate, json_of_include, json_of_include_name, json_of_unresolved, whole_case, whole_entries, whole_enum_case, whole_field, whole_flag, whole_function, whole_interface, whole_item, whole_kind, whole_param, whole_type, whole_world}
 use Rattle.wit_json.specs.Values as written
 use Rattle.wit_json.specs.Values.{Member, json_of_number, json_of_text, json_of_version, members_of, null_or, object, object_under_names, optional, pair, tagged}
-use Rattle.wit_json_laws.specs.Writable.{AreWritableEntries, AreWritableItems, IsWritableAstItem, IsWritableCase, IsWritableField, IsWritableFunction, IsWritableFunctionKind, IsWritableHandle, IsWritableInclude, IsWritableInterface, IsWritableItem, IsWritableKind, IsWritableOwner, IsWritablePackage, IsWritableParam, IsWritableSpan, IsWritableType, IsWritableTypeDef, IsWritableWorld}
-use Rattle.wit_json_laws.specs.laws.ReadBack.{TextsReadBack}
+use Rattle.wit_json_laws.specs.Writable.{AreWritableEntries, AreWritableItems, IsWritableAstItem, IsWritableCase, IsWritableField, IsWritableFunction, IsWritableFunctionKind, IsWritableGroup, IsWritableHandle, IsWritableInclude, IsWritableInterface, IsWritableItem, IsWritableKind, IsWritableOwner, IsWritablePackage, IsWritableParam, IsWritableSpan, IsWritableType, IsWritableTypeDef, IsWritableWorld}
+use Rattle.wit_json.specs.Whole.{json_of_file, json_of_sources}
+use Rattle.wit_json_laws.specs.laws.ReadBack.{GroupTextsReadBack, TextsReadBack}
 use Rattle.wit_json_reading.specs.Documents.{if_document}
+use Rattle.wit_json_reading.specs.Groups.{group_of}
 use Rattle.wit_json_reading.specs.Packages.{package_of}
 use Rattle.wit_json_laws.proofs.Packages.{packages_read_back}
+use Rattle.wit_json_laws.proofs.Sources.{groups_read_back}
 use Rattle.wit_json_laws.proofs.Slots.{Slot, joined, members_are, slots}
 
 -- numbers are numbers, and arrays and objects nest no deeper than d
@@ -456,3 +462,26 @@ pub texts_read_back : TextsReadBack
 texts_read_back p fits =
     let plain = plain_unresolved p fits in
     ap (if_document package_of) (document-print (json_of_unresolved p) plain.numbers (omega (arith, plain.shallow))) ∙ packages_read_back p fits
+
+-- ---- groups
+
+plain_files : (files : List (List ℕ × List ℕ)) → IsPlain 11 (written.list_of json_of_file files)
+plain_files files =
+    up 11 (omega arith) (plain_list 1 json_of_file files
+    (λ i file at. plain_slots 0 ((codes "path", Some (json_of_text file.0)) ∷ (codes "text", Some (json_of_text file.1)) ∷ []) (plain_text 0 file.0, (plain_text 0 file.1, tt))))
+
+plain_group : (g : UnresolvedPackageGroup) → IsWritableGroup g → IsPlain 13 (json_of_group g)
+plain_group g fits =
+    plain_slots 12
+    ((codes "main", Some (json_of_unresolved g.main)) ∷ (codes "nested", Some (written.list_of json_of_unresolved g.nested)) ∷ (codes "sources", Some (json_of_sources g.source_map)) ∷ []) (
+      up 12 (omega arith) (plain_unresolved g.main fits.main),
+      (
+        plain_list 11 json_of_unresolved g.nested (λ i p at. plain_unresolved p (fits.nested i p at)),
+        (up 12 (omega arith) (plain_files (files_of g.source_map.files)), tt),
+      ),
+    )
+
+pub group_texts_read_back : GroupTextsReadBack
+group_texts_read_back g fits =
+    let plain = plain_group g fits in
+    ap (if_document group_of) (document-print (json_of_group g) plain.numbers (omega (arith, plain.shallow))) ∙ groups_read_back g fits

@@ -112,6 +112,17 @@ module _ {A : Type 0} (f : Json → Reading A) (w : A → Json) where
   pub reads_list : (xs : List A) → Each (λ x. f (w x) ≡ Ok x) xs → list_of f (written.list_of w xs) ≡ Ok xs
   reads_list xs each = reads_items 0 xs each
 
+module _ {A : Type 0} (f : Json → Reading A) (b : A → A) (w : A → Json) where
+  reads_items_as : (n : ℕ) (xs : List A) → Each (λ x. f (w x) ≡ Ok (b x)) xs → items_from f n (items_of (map w xs)) ≡ Ok (map b xs)
+  reads_items_as n [] each = refl
+  reads_items_as n (x ∷ xs) each =
+      followed (under (step.Item n) (f (w x))) _ (b x) (Ok (b x ∷ map b xs)) (ap (under (step.Item n)) (each 0 x refl))
+      (followed (items_from f (suc n) (items_of (map w xs))) _ (map b xs) (Ok (b x ∷ map b xs)) (reads_items_as (suc n) xs (λ i y at. each (suc i) y at)) refl)
+
+  -- what is written of each reads as something that is made of it
+  pub reads_list_as : (xs : List A) → Each (λ x. f (w x) ≡ Ok (b x)) xs → list_of f (written.list_of w xs) ≡ Ok (map b xs)
+  reads_list_as xs each = reads_items_as 0 xs each
+
 module _ {A B : Type 0} where
   pub reads_pair : (f : Json → Reading A) (g : Json → Reading B) (a b : Json) (x : A) (y : B) → f a ≡ Ok x → g b ≡ Ok y → pair_of f g (pair a b) ≡ Ok (x, y)
   reads_pair f g a b x y first second =

@@ -2,8 +2,9 @@
 use Rattle.std.proofs.Common.{◌≡◌, ◌∙◌, ℕ, suc, Bool, true, false, List, [], ◌∷◌, ◌++◌, map, Option, Some, None, Ok, refl, sym, ap, subst, codes, decimal, bytes_eq, if◌then◌else◌, append-nil, append_assoc}
 use Rattle.std.specs.Map.{lookup}
 use Rattle.std.specs.Option.{option_map}
-use Rattle.std.specs.Prelude.{is_some}
+use Rattle.std.specs.Prelude.{IfSome, is_some}
 use Rattle.std.proofs.lemmas.Slice.Eq.{bytes_eq-Decides}
+use Rattle.json.specs.Find.{get}
 use Rattle.json.specs.Json.{Json}
 use Rattle.wit_values.specs.Table.{HasDistinctKeys}
 use Rattle.wit_data.specs.Each.{Each}
@@ -27,17 +28,34 @@ use Rattle.wit_json.specs.Values.{json_of_number, json_of_text, members_of, null
 use Rattle.wit_json.specs.Worlds.{entry_name}
 use Rattle.wit_json_laws.specs.Writable.{AreWritableEntries, FitsKey, IsWritableGate, IsWritableId, IsWritableInclude, IsWritableInterface, IsWritableItem, IsWritableSpan, IsWritableWorld}
 use Rattle.wit_json_reading.specs.Functions.{function_of}
-use Rattle.wit_json_reading.specs.Reading.{instead_of, list_of, under}
+use Rattle.wit_json_reading.specs.Reading.{instead_of, list_of, optional, under}
 use Rattle.wit_json_reading.specs.Tables.{named_of}
 use Rattle.wit_json_reading.specs.Values.{nullable, number_of, text_of}
-use Rattle.wit_json_reading.specs.Worlds.{entries_from, entries_of, include_name_of, include_of, interface_entry_of, interface_names, interface_of, item_by, item_of, key_of, placed_type_of, with_entry, with_member, world_names, world_of}
+use Rattle.wit_json_reading.specs.Worlds.{entries_from, entries_of, home_of, include_name_of, include_of, includes_of, interface_entry_of, interface_names, interface_of, item_by, item_of, key_of, placed_type_of, with_entry, with_member, world_names, world_of}
 use Rattle.wit_json_reading.specs.declared.fault.Expected.TheVariants as expected
 use Rattle.wit_json_reading.specs.declared.fault.Step.TheVariants as step
 use Rattle.wit_json_laws.proofs.Functions.{reads_function}
 use Rattle.wit_json_laws.proofs.Slots.{Slot, get_slot, only_slots, slots}
 use Rattle.wit_json_laws.proofs.Small.{reads_docs, reads_number, reads_span_member, reads_stability, reads_texts}
-use Rattle.wit_json_laws.proofs.Steps.{all_3, all_5, all_6, all_7, all_8, is_new, reads_list, reads_named, reads_optional, reads_required, reads_variant, followed}
+use Rattle.wit_json_laws.proofs.Steps.{all_3, all_5, all_6, all_8, all_9, is_new, reads_list, reads_named, reads_optional, reads_required, reads_variant, followed}
 use Rattle.wit_json_laws.proofs.Types.{reads_name}
+
+-- ---- the package that something belongs to
+
+reads_no_home : (j : Json) → get (codes "package") j ≡ None → home_of j ≡ Ok None
+unfolding home_of
+reads_no_home j there =
+    followed (optional (nullable number_of) (codes "package") j) _ None (Ok None) (reads_optional (nullable number_of) (null_or json_of_number) (codes "package") j None there tt) refl
+
+reads_home_or_null : (home : Option ℕ) → IfSome home IsWritableId → nullable number_of (null_or json_of_number home) ≡ Ok home
+reads_home_or_null None fits = refl
+reads_home_or_null (Some id) fits = followed (number_of (json_of_number id)) _ id (Ok (Some id)) (reads_number id fits) refl
+
+pub reads_home : (home : Option ℕ) (j : Json) → IfSome home IsWritableId → get (codes "package") j ≡ Some (null_or json_of_number home) → home_of j ≡ Ok home
+unfolding home_of
+reads_home home j fits there =
+    followed (optional (nullable number_of) (codes "package") j) _ (Some home) (Ok home)
+    (reads_optional (nullable number_of) (null_or json_of_number) (codes "package") j (Some home) there (reads_home_or_null home fits)) refl
 
 -- ---- interfaces
 
@@ -56,8 +74,9 @@ reads_alone_interface i fits =
     ∷ (codes "functions", Some (object_under_names whole_function i.functions)) ∷ (codes "docs", json_of_docs i.docs) ∷ (codes "stability", json_of_stability i.stability)
     ∷ (codes "span", option_map json_of_range i.span) ∷ [] in
     let j = slots ss in
-    all_7 (λ (_ : Unit {0}) (name : Option (List ℕ)) (types : List (List ℕ × ℕ)) (functions : List (List ℕ × Function)) (docs : Docs) (stability : Stability) (span : Option (ℕ × ℕ)).
-    let it : Interface = record { name = name; types = types; functions = functions; docs = docs; stability = stability; «package» = None; span = span } in it)
+    all_8 (λ (_ : Unit {0}) (name : Option (List ℕ)) (types : List (List ℕ × ℕ)) (functions : List (List ℕ × Function)) (docs : Docs) (stability : Stability) (home : Option ℕ)
+    (span : Option (ℕ × ℕ)).
+    let it : Interface = record { name = name; types = types; functions = functions; docs = docs; stability = stability; «package» = home; span = span } in it)
     (only_slots interface_names ss refl)
     (reads_required (nullable text_of) (codes "name") j (null_or json_of_text i.name) i.name (get_slot (codes "name") ss) (reads_name i.name))
     (reads_required (named_of number_of) (codes "types") j (object_under_names json_of_number i.types) i.types (get_slot (codes "types") ss)
@@ -66,10 +85,11 @@ reads_alone_interface i fits =
     (reads_named function_of whole_function i.functions fits.functions_differ (λ n e at. reads_function e.1 (fits.functions n e at))))
     (reads_docs i.docs j (get_slot (codes "docs") ss))
     (reads_stability i.stability j fits.gate (get_slot (codes "stability") ss))
+    (reads_no_home j (get_slot (codes "package") ss))
     (reads_span_member i.span j fits.span (get_slot (codes "span") ss))
 
-pub reads_interface : (interface : Interface) → IsWritableInterface interface → interface_of (whole_interface interface) ≡ Ok interface
-reads_interface interface fits = reads_alone_interface interface fits ∙ ap Ok (is_alone interface fits.unplaced)
+pub reads_interface : (interface : Interface) → IsWritableInterface interface → interface.«package» ≡ None → interface_of (whole_interface interface) ≡ Ok interface
+reads_interface interface fits unplaced = reads_alone_interface interface fits ∙ ap Ok (is_alone interface unplaced)
 
 -- ---- entries
 
@@ -153,7 +173,7 @@ reads_entries before (e ∷ es) distinct fit items =
     (reads_entries (before ++ e ∷ []) es (subst (λ (all : List (WorldKey × WorldItem)). HasDistinctKeys all) (sym longer) distinct) (λ i y at. fit (suc i) y at) (λ i y at. items (suc i) y at)
     ∙ ap Ok longer)
 
-reads_world_entries : (es : List (WorldKey × WorldItem)) → AreWritableEntries es → entries_of (whole_entries es) ≡ Ok es
+pub reads_world_entries : (es : List (WorldKey × WorldItem)) → AreWritableEntries es → entries_of (whole_entries es) ≡ Ok es
 reads_world_entries es fits = reads_entries [] es fits.differ fits.fit fits.items
 
 -- ---- worlds
@@ -183,6 +203,14 @@ reads_include i fits =
     (reads_stability i.stability j fits.gate (get_slot (codes "stability") ss))
     (reads_span_member i.span j fits.span (get_slot (codes "span") ss))
 
+reads_includes : (includes : List WorldInclude) (j : Json) → Each IsWritableInclude includes → get (codes "includes") j ≡ Some (written.list_of json_of_include includes)
+    → includes_of j ≡ Ok includes
+unfolding includes_of
+reads_includes includes j fits there =
+    followed (optional (list_of include_of) (codes "includes") j) _ (Some includes) (Ok includes)
+    (reads_optional (list_of include_of) (written.list_of json_of_include) (codes "includes") j (Some includes) there
+    (reads_list include_of json_of_include includes (λ n i at. reads_include i (fits n i at)))) refl
+
 -- a world without its package
 abbrev alone_world : World → World
 alone_world world = record world { «package» = None }
@@ -198,17 +226,18 @@ reads_alone_world w fits =
     ∷ (codes "includes", Some (written.list_of json_of_include w.includes)) ∷ (codes "docs", json_of_docs w.docs) ∷ (codes "stability", json_of_stability w.stability)
     ∷ (codes "span", option_map json_of_range w.span) ∷ [] in
     let j = slots ss in
-    all_8 (λ (_ : Unit {0}) (name : List ℕ) (imports exports : List (WorldKey × WorldItem)) (includes : List WorldInclude) (docs : Docs) (stability : Stability) (span : Option (ℕ × ℕ)).
-    let it : World = record { name = name; imports = imports; exports = exports; docs = docs; stability = stability; «package» = None; includes = includes; span = span } in it)
+    all_9 (λ (_ : Unit {0}) (name : List ℕ) (imports exports : List (WorldKey × WorldItem)) (includes : List WorldInclude) (docs : Docs) (stability : Stability) (home : Option ℕ)
+    (span : Option (ℕ × ℕ)).
+    let it : World = record { name = name; imports = imports; exports = exports; docs = docs; stability = stability; «package» = home; includes = includes; span = span } in it)
     (only_slots world_names ss refl)
     (reads_required text_of (codes "name") j (json_of_text w.name) w.name (get_slot (codes "name") ss) refl)
     (reads_required entries_of (codes "imports") j (whole_entries w.imports) w.imports (get_slot (codes "imports") ss) (reads_world_entries w.imports fits.imports))
     (reads_required entries_of (codes "exports") j (whole_entries w.exports) w.exports (get_slot (codes "exports") ss) (reads_world_entries w.exports fits.exports))
-    (reads_required (list_of include_of) (codes "includes") j (written.list_of json_of_include w.includes) w.includes (get_slot (codes "includes") ss)
-    (reads_list include_of json_of_include w.includes (λ n i at. reads_include i (fits.includes n i at))))
+    (reads_includes w.includes j fits.includes (get_slot (codes "includes") ss))
     (reads_docs w.docs j (get_slot (codes "docs") ss))
     (reads_stability w.stability j fits.gate (get_slot (codes "stability") ss))
+    (reads_no_home j (get_slot (codes "package") ss))
     (reads_span_member w.span j fits.span (get_slot (codes "span") ss))
 
-pub reads_world : (world : World) → IsWritableWorld world → world_of (whole_world world) ≡ Ok world
-reads_world world fits = reads_alone_world world fits ∙ ap Ok (is_alone_world world fits.unplaced)
+pub reads_world : (world : World) → IsWritableWorld world → world.«package» ≡ None → world_of (whole_world world) ≡ Ok world
+reads_world world fits unplaced = reads_alone_world world fits ∙ ap Ok (is_alone_world world unplaced)

@@ -1,7 +1,7 @@
 -- Of what JSON says all, so that it reads back: numbers have the bits of their types, versions are of SemVer 2.0.0, keys
 -- differ, and no name of a package holds the mark that ends it. An interface under a label that is the name of its own key
 -- reads as one under that key.
-use Rattle.std.specs.Prelude.{◌≡◌, ℕ, ◌<◌, ◌≤◌, ◌^◌, ◌==◌, List, Option, None, IfSome, false, ⊤}
+use Rattle.std.specs.Prelude.{◌≡◌, ℕ, suc, ◌<◌, ◌≤◌, ◌^◌, ◌==◌, List, [], ◌∷◌, Option, None, Some, IfSome, false, ⊤, slice_get}
 use Rattle.std.specs.List.{list_any}
 use Rattle.semver.specs.Grammar.{IsValid}
 use Rattle.wit_values.specs.Table.{HasDistinctKeys}
@@ -32,13 +32,19 @@ use Rattle.wit_data.specs.declared.types.Type_.TheVariants as type
 use Rattle.wit_data.specs.declared.unresolved.AstItem.{AstItem}
 use Rattle.wit_data.specs.declared.unresolved.AstItem.TheVariants as ast
 use Rattle.wit_data.specs.declared.unresolved.UnresolvedPackage.{UnresolvedPackage}
+use Rattle.wit_data.specs.declared.unresolved.UnresolvedPackageGroup.{UnresolvedPackageGroup}
 use Rattle.wit_data.specs.declared.world.World.{World}
 use Rattle.wit_data.specs.declared.world.WorldInclude.{WorldInclude}
 use Rattle.wit_data.specs.declared.world.WorldItem.{WorldItem}
 use Rattle.wit_data.specs.declared.world.WorldItem.TheVariants as item
 use Rattle.wit_data.specs.declared.world.WorldKey.{WorldKey}
 use Rattle.wit_data.specs.declared.world.WorldKey.TheVariants as key
+use Rattle.wit_graph_data.specs.declared.graph.Graph.{Graph}
+use Rattle.wit_graph_data.specs.declared.graph.Package.{Package}
+use Rattle.wit_sources.specs.SourceMap.{Sources, end_after}
+use Rattle.wit_sources.specs.declared.source_map.SourceFile.{SourceFile}
 use Rattle.wit_json.specs.Worlds.{entry_name}
+use Rattle.wit_json_graphs.specs.declared.resolves.ResolveParts.{ResolveParts}
 
 -- an id has 64 bits
 abbrev pub IsWritableId : ℕ → Type 0
@@ -134,8 +140,6 @@ pub record IsWritableInterface (interface : Interface) : Type 0 where
   pub functions : Each (λ (e : List ℕ × Function). IsWritableFunction e.1) interface.functions
   pub gate : IsWritableGate interface.stability
   pub span : IsWritableSpan interface.span
-  -- it belongs to no package yet
-  pub unplaced : interface.«package» ≡ None
 
 -- an interface stands under its own key, or under a label that isn't the name of that key; all else under a label
 abbrev pub FitsKey : WorldKey → WorldItem → Type 0
@@ -167,8 +171,6 @@ pub record IsWritableWorld (world : World) : Type 0 where
   pub includes : Each IsWritableInclude world.includes
   pub gate : IsWritableGate world.stability
   pub span : IsWritableSpan world.span
-  -- it belongs to no package yet
-  pub unplaced : world.«package» ≡ None
 
 -- ---- packages
 
@@ -194,9 +196,64 @@ pub record IsWritablePackage (p : UnresolvedPackage) : Type 0 where
   pub worlds : Each IsWritableWorld p.worlds
   pub interfaces : Each IsWritableInterface p.interfaces
   pub types : Each IsWritableTypeDef p.types
+  -- its worlds and interfaces belong to no package yet
+  pub worlds_alone : Each (λ (world : World). world.«package» ≡ None) p.worlds
+  pub interfaces_alone : Each (λ (interface : Interface). interface.«package» ≡ None) p.interfaces
   pub packages_differ : HasDistinctKeys p.foreign_deps
   pub packages : Each (λ (e : PackageName × List ForeignItem). IsWritableName e.0) p.foreign_deps
   pub items : Each (λ (e : PackageName × List ForeignItem). AreWritableItems e.1) p.foreign_deps
   pub dep_spans : Each IsWritableSpan p.foreign_dep_spans
   pub unknown_spans : Each IsWritableSpan p.unknown_type_spans
   pub resources : Each (λ (r : ℕ × Option (ℕ × ℕ)). IsWritableId r.0 × IsWritableSpan r.1) p.required_resource_types
+
+-- ---- files and groups
+
+-- files that stand one after another from a position on, with nothing between them
+abbrev pub AreInRow : ℕ → List SourceFile → ℕ → Type 0
+AreInRow from [] end = end ≡ from
+AreInRow from (file ∷ files) end = (file.start ≡ from) × AreInRow (end_after from file.contents) files end
+
+pub record AreWritableSources (sources : Sources) : Type 0 where
+  pub in_row : AreInRow 0 sources.files sources.end
+  pub end : sources.end < 2 ^ 32
+
+pub record IsWritableGroup (group : UnresolvedPackageGroup) : Type 0 where
+  pub main : IsWritablePackage group.main
+  pub nested : Each IsWritablePackage group.nested
+  pub sources : AreWritableSources group.source_map
+
+-- ---- graphs
+
+pub record IsWritableHome (home : Package) : Type 0 where
+  pub name : IsWritableName home.name
+  pub interfaces_differ : HasDistinctKeys home.interfaces
+  pub interfaces : Each (λ (e : List ℕ × ℕ). IsWritableId e.1) home.interfaces
+  pub worlds_differ : HasDistinctKeys home.worlds
+  pub worlds : Each (λ (e : List ℕ × ℕ). IsWritableId e.1) home.worlds
+
+-- the packages under their names, with the ids from n on
+abbrev pub in_order : ℕ → List Package → List (PackageName × ℕ)
+in_order n [] = []
+in_order n (home ∷ homes) = (home.name, n) ∷ in_order (suc n) homes
+
+-- a graph whose worlds include nothing and whose names stand in the order of its packages, as pushing, merging and
+-- transforming leave it
+pub record IsWritableGraph (graph : Graph) : Type 0 where
+  pub worlds : Each IsWritableWorld graph.worlds
+  pub interfaces : Each IsWritableInterface graph.interfaces
+  pub types : Each IsWritableTypeDef graph.types
+  pub packages : Each IsWritableHome graph.packages
+  pub world_homes : Each (λ (world : World). IfSome world.«package» IsWritableId) graph.worlds
+  pub interface_homes : Each (λ (interface : Interface). IfSome interface.«package» IsWritableId) graph.interfaces
+  pub no_includes : Each (λ (world : World). world.includes ≡ []) graph.worlds
+  pub named : graph.package_names ≡ in_order 0 graph.packages
+  pub names_differ : HasDistinctKeys graph.package_names
+
+-- no name stands twice
+abbrev pub AreApart : List (List ℕ) → Type 0
+AreApart names = (i j : ℕ) (name : List ℕ) → slice_get names i ≡ Some name → slice_get names j ≡ Some name → i ≡ j
+
+pub record AreWritableParts (parts : ResolveParts) : Type 0 where
+  pub graph : IsWritableGraph parts.graph
+  pub features : AreApart parts.features.names
+  pub sources : AreWritableSources parts.source_map

@@ -1,5 +1,5 @@
 //! What is written reads back: the contract of each function is what is proved.
-ghost use Rattle.wit_json_laws.specs.laws.ReadBack.{PackagesReadBack, TextsReadBack};
+ghost use Rattle.wit_json_laws.specs.laws.ReadBack.{GroupTextsReadBack, GroupsReadBack, PackagesReadBack, ResolvesReadBack, TextsReadBack};
 
 /// The value that is written of an unresolved package reads as that package: each of its ids, spans, gates and foreign
 /// names.
@@ -10,4 +10,19 @@ pub fn packages_read_back()
 /// So does the text that `wit_json::package_to_json` writes of it.
 pub fn texts_read_back()
     ensures { TextsReadBack }
+{}
+
+/// The value that is written of a group of packages with its files reads as that group.
+pub fn groups_read_back()
+    ensures { GroupsReadBack }
+{}
+
+/// So does the text that `wit_json::group_to_json` writes of it.
+pub fn group_texts_read_back()
+    ensures { GroupTextsReadBack }
+{}
+
+/// The value that is written of a graph with what stands beside it reads as the parts of that `Resolve`.
+pub fn resolves_read_back()
+    ensures { ResolvesReadBack }
 {}

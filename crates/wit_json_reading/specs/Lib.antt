@@ -7,6 +7,8 @@ pub mod Types
 pub mod Functions
 pub mod Worlds
 pub mod Packages
+pub mod Features
+pub mod Graphs
 pub mod Groups
 pub mod Documents
 pub mod Messages

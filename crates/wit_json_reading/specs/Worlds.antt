@@ -1,4 +1,4 @@
--- What interfaces and worlds of unresolved packages are read from.
+-- What interfaces and worlds are read from, of graphs and of unresolved packages.
 use Rattle.std.specs.Prelude.{ℕ, List, [], ◌∷◌, ◌++◌, Option, Some, None, Result, Ok, Err, codes, decimal, if◌then◌else◌, bytes_eq, is_some, unwrap_or}
 use Rattle.std.specs.Map.{lookup}
 use Rattle.json.specs.Find.{get}
@@ -22,10 +22,15 @@ use Rattle.wit_json_reading.specs.Values.{nullable, number_of, text_of}
 use Rattle.wit_json_reading.specs.declared.fault.Expected.TheVariants as expected
 use Rattle.wit_json_reading.specs.declared.fault.Step.TheVariants as step
 
-abbrev pub interface_names : List (List ℕ)
-interface_names = codes "name" ∷ codes "types" ∷ codes "functions" ∷ codes "docs" ∷ codes "stability" ∷ codes "span" ∷ []
+-- the package that something belongs to, none where it is left out or `null`
+unfoldable pub home_of : Json → Reading (Option ℕ)
+home_of j = do
+  home ← optional (nullable number_of) (codes "package") j
+  Ok (unwrap_or home None)
 
--- an interface, which belongs to no package yet
+abbrev pub interface_names : List (List ℕ)
+interface_names = codes "name" ∷ codes "types" ∷ codes "functions" ∷ codes "docs" ∷ codes "stability" ∷ codes "package" ∷ codes "span" ∷ []
+
 unfoldable pub interface_of : Json → Reading Interface
 interface_of j = do
   _ ← only interface_names j
@@ -34,8 +39,9 @@ interface_of j = do
   functions ← required (named_of function_of) (codes "functions") j
   docs ← docs_of j
   stability ← stability_of j
+  home ← home_of j
   span ← span_of j
-  Ok (record { name = name; types = types; functions = functions; docs = docs; stability = stability; «package» = None; span = span })
+  Ok (record { name = name; types = types; functions = functions; docs = docs; stability = stability; «package» = home; span = span })
 
 -- ---- entries of worlds
 
@@ -117,18 +123,24 @@ include_of j = do
   span ← span_of j
   Ok (record { stability = stability; id = id; names = names; span = span })
 
-abbrev pub world_names : List (List ℕ)
-world_names = codes "name" ∷ codes "imports" ∷ codes "exports" ∷ codes "includes" ∷ codes "docs" ∷ codes "stability" ∷ codes "span" ∷ []
+-- what a world includes, nothing where it is left out
+unfoldable pub includes_of : Json → Reading (List WorldInclude)
+includes_of j = do
+  includes ← optional (list_of include_of) (codes "includes") j
+  Ok (unwrap_or includes [])
 
--- a world, which belongs to no package yet
+abbrev pub world_names : List (List ℕ)
+world_names = codes "name" ∷ codes "imports" ∷ codes "exports" ∷ codes "includes" ∷ codes "docs" ∷ codes "stability" ∷ codes "package" ∷ codes "span" ∷ []
+
 unfoldable pub world_of : Json → Reading World
 world_of j = do
   _ ← only world_names j
   name ← required text_of (codes "name") j
   imports ← required entries_of (codes "imports") j
   exports ← required entries_of (codes "exports") j
-  includes ← required (list_of include_of) (codes "includes") j
+  includes ← includes_of j
   docs ← docs_of j
   stability ← stability_of j
+  home ← home_of j
   span ← span_of j
-  Ok (record { name = name; imports = imports; exports = exports; docs = docs; stability = stability; «package» = None; includes = includes; span = span })
+  Ok (record { name = name; imports = imports; exports = exports; docs = docs; stability = stability; «package» = home; includes = includes; span = span })

@@ -72,6 +72,12 @@ pub enum Expected {
     Mangling,
     /// Where a function stands.
     FunctionPlace,
+    /// A name that no package before it has.
+    NewName,
+    /// As many details as there are things, under the same names and in the same order.
+    Details,
+    /// A valid graph.
+    ValidGraph,
 }
 
 /// Where a JSON value isn't as it is read, and what was to stand there.

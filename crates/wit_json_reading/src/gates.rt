@@ -40,7 +40,7 @@ fn range(alloc: Global, value: &Value<'_>) -> Result<Span, ReadError>
 
 /// The span of an item, unknown where it is left out.
 #[tactic(auto, unfolding(crate::specs::Gates::span_of))]
-pub(crate) fn span(alloc: Global, value: &Value<'_>) -> Result<Span, ReadError>
+pub fn span(alloc: Global, value: &Value<'_>) -> Result<Span, ReadError>
     ensures { Reads result (span_of (value_view value.now)) }
 {
     match optional::<Span>(alloc, value, "span")? {
@@ -63,7 +63,7 @@ impl ReadJson for Docs {
 
 /// The docs of an item.
 #[tactic(auto, unfolding(crate::specs::Gates::docs_of))]
-pub(crate) fn docs(alloc: Global, value: &Value<'_>) -> Result<Docs, ReadError>
+pub fn docs(alloc: Global, value: &Value<'_>) -> Result<Docs, ReadError>
     ensures { Reads result (docs_of (value_view value.now)) }
 {
     match optional(alloc, value, "docs")? {

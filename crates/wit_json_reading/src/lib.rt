@@ -3,8 +3,10 @@
 
 mod documents;
 mod fault;
+mod features;
 mod functions;
 mod gates;
+mod graphs;
 mod groups;
 mod messages;
 mod objects;
@@ -17,5 +19,6 @@ mod worlds;
 
 pub use crate::documents::{offset_of, read_text};
 pub use crate::fault::{Expected, Fault, ReadError, Step, in_item, in_member, instead_of};
+pub use crate::gates::{docs, span};
 pub use crate::objects::{alone, one_member, pair};
 pub use crate::reader::{ReadJson, list, only, optional, required};

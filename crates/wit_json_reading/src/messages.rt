@@ -38,6 +38,9 @@ impl fmt::Display for Expected {
             Expected::TrackRule => "a rule of tracks",
             Expected::Mangling => "a mangling",
             Expected::FunctionPlace => "where a function stands",
+            Expected::NewName => "a name that no package before it has",
+            Expected::Details => "details of the same things in the same order",
+            Expected::ValidGraph => "a valid graph",
         };
         f.write_str(text)
     }

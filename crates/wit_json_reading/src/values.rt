@@ -10,7 +10,7 @@ use crate::fault::{Expected, ReadError, instead_of};
 use crate::reader::{ReadJson, list};
 use json::Value;
 use std::alloc::{AllocError, Global};
-use wit_data::{InterfaceId, TypeId, WorldId};
+use wit_data::{InterfaceId, PackageId, TypeId, WorldId};
 use wit_values::{Items, Text, Version};
 
 impl ReadJson for Text {
@@ -138,6 +138,14 @@ impl ReadJson for WorldId {
 
     fn read_json(alloc: Global, value: &Value<'_>) -> Result<WorldId, ReadError> {
         Ok(WorldId::from_index(index(alloc, value)?))
+    }
+}
+
+impl ReadJson for PackageId {
+    ghost reading = { number_of };
+
+    fn read_json(alloc: Global, value: &Value<'_>) -> Result<PackageId, ReadError> {
+        Ok(PackageId::from_index(index(alloc, value)?))
     }
 }
 

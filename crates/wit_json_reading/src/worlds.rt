@@ -2,7 +2,7 @@
 ghost use Rattle.std.specs.Prelude.{◌≡◌, ◌++◌, IfOk, codes, decimal, bytes_eq};
 ghost use Rattle.json.specs.Value.{value_view};
 ghost use Rattle.wit_json_reading.specs.Reading.{Reads};
-ghost use Rattle.wit_json_reading.specs.Worlds.{entries_of, include_name_of, include_of, interface_entry_of, interface_of, item_by, item_of, key_of, placed_type_of, type_entry_of, with_entry, with_member, world_of};
+ghost use Rattle.wit_json_reading.specs.Worlds.{entries_of, home_of, include_name_of, include_of, includes_of, interface_entry_of, interface_of, item_by, item_of, key_of, placed_type_of, type_entry_of, with_entry, with_member, world_of};
 
 use crate::fault::{Expected, ReadError, in_member, instead_of};
 use crate::gates::{docs, span, stability};
@@ -11,9 +11,20 @@ use crate::reader::{ReadJson, only, optional, required};
 use json::Value;
 use std::alloc::{AllocError, Global};
 use wit_data::{
-    IncludeName, Interface, InterfaceId, Span, World, WorldInclude, WorldItem, WorldKey,
+    IncludeName, Interface, InterfaceId, PackageId, Span, World, WorldInclude, WorldItem, WorldKey,
 };
-use wit_values::{Table, Text};
+use wit_values::{Items, Table, Text};
+
+/// The package that something belongs to, none where it is left out.
+#[tactic(auto, unfolding(crate::specs::Worlds::home_of))]
+fn home(alloc: Global, value: &Value<'_>) -> Result<Option<PackageId>, ReadError>
+    ensures { Reads result (home_of (value_view value.now)) }
+{
+    match optional::<Option<PackageId>>(alloc, value, "package")? {
+        Some(home) => Ok(home),
+        None => Ok(None),
+    }
+}
 
 impl ReadJson for Interface {
     ghost reading = { interface_of };
@@ -23,13 +34,22 @@ impl ReadJson for Interface {
         only(
             alloc,
             value,
-            &["name", "types", "functions", "docs", "stability", "span"],
+            &[
+                "name",
+                "types",
+                "functions",
+                "docs",
+                "stability",
+                "package",
+                "span",
+            ],
         )?;
         let name = required(alloc, value, "name")?;
         let types = required(alloc, value, "types")?;
         let functions = required(alloc, value, "functions")?;
         let docs = docs(alloc, value)?;
         let stability = stability(alloc, value)?;
+        let package = home(alloc, value)?;
         let span = span(alloc, value)?;
         Ok(Interface {
             name,
@@ -37,7 +57,7 @@ impl ReadJson for Interface {
             functions,
             docs,
             stability,
-            package: None,
+            package,
             span,
         })
     }
@@ -212,6 +232,17 @@ impl ReadJson for WorldInclude {
     }
 }
 
+/// What a world includes, nothing where it is left out.
+#[tactic(auto, unfolding(crate::specs::Worlds::includes_of))]
+fn includes(alloc: Global, value: &Value<'_>) -> Result<Items<WorldInclude>, ReadError>
+    ensures { Reads result (includes_of (value_view value.now)) }
+{
+    match optional(alloc, value, "includes")? {
+        Some(includes) => Ok(includes),
+        None => Ok(Items::new(alloc)),
+    }
+}
+
 impl ReadJson for World {
     ghost reading = { world_of };
 
@@ -227,15 +258,17 @@ impl ReadJson for World {
                 "includes",
                 "docs",
                 "stability",
+                "package",
                 "span",
             ],
         )?;
         let name = required(alloc, value, "name")?;
         let imports = required(alloc, value, "imports")?;
         let exports = required(alloc, value, "exports")?;
-        let includes = required(alloc, value, "includes")?;
+        let includes = includes(alloc, value)?;
         let docs = docs(alloc, value)?;
         let stability = stability(alloc, value)?;
+        let package = home(alloc, value)?;
         let span = span(alloc, value)?;
         Ok(World {
             name,
@@ -243,7 +276,7 @@ impl ReadJson for World {
             exports,
             docs,
             stability,
-            package: None,
+            package,
             includes,
             span,
         })

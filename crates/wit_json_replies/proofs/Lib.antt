@@ -1,1 +1,2 @@
+mod PackagePaths
 mod Paths

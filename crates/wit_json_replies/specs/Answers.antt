@@ -5,6 +5,7 @@ use Rattle.wit_json.specs.Refusals.{json_of_refusal}
 use Rattle.wit_json.specs.Values.{json_of_number, json_of_text, list_of, member, object, tagged}
 use Rattle.wit_json_replies.specs.CoreNames.{json_of_core_names}
 use Rattle.wit_json_replies.specs.Remaps.{json_of_remap}
+use Rattle.wit_json_replies.specs.Unshaped.{json_of_unshaped}
 use Rattle.wit_json_replies.specs.declared.answers.Answer.{Answer}
 use Rattle.wit_json_replies.specs.declared.answers.Answer.TheVariants as answer
 use Rattle.wit_json_replies.specs.declared.answers.Refusal.{Refusal}
@@ -20,7 +21,7 @@ json_of_answer answer.Done = json_of_text (codes "done")
 json_of_answer (answer.Pushed id) = tagged (codes "pushed") (json_of_number id)
 json_of_answer (answer.Merged remap) = tagged (codes "merged") (json_of_remap remap)
 json_of_answer answer.NoWorld = json_of_text (codes "no-world")
-json_of_answer answer.NotShaped = json_of_text (codes "not-shaped")
+json_of_answer (answer.NotShaped it) = tagged (codes "not-shaped") (json_of_unshaped it)
 json_of_answer answer.NotFound = json_of_text (codes "not-found")
 json_of_answer (answer.Refused refusal) = tagged (codes "refused") (json_of_refused refusal)
 json_of_answer (answer.World id) = tagged (codes "world") (json_of_number id)

@@ -3,6 +3,7 @@ use Rattle.std.specs.Prelude.{ℕ, List, ◌++◌, codes, reverse}
 use Rattle.json.specs.Json.{Json}
 use Rattle.wit_graph_data.specs.declared.features.Features.{Features}
 use Rattle.wit_graph_data.specs.declared.graph.Graph.{Graph}
+use Rattle.wit_names.specs.declared.track.TrackRule.{TrackRule}
 use Rattle.wit_sources.specs.SourceMap.{Sources}
 use Rattle.wit_json.specs.Values.{json_of_number, json_of_text, list_of, member, object, tagged}
 use Rattle.wit_json.specs.Whole.{json_of_whole}
@@ -14,9 +15,9 @@ use Rattle.wit_json_replies.specs.Answers.{json_of_response}
 use Rattle.wit_json_replies.specs.declared.answers.Response.{Response}
 
 -- the answers in order, and the graph with what stands beside it
-abbrev pub json_of_output : List Response → Graph → Features → Sources → Json
-json_of_output replies graph features sources =
-    object (member (codes "replies") (list_of json_of_response replies) ++ member (codes "resolve") (json_of_whole graph features sources))
+abbrev pub json_of_output : List Response → Graph → Features → TrackRule → Sources → Json
+json_of_output replies graph features rule sources =
+    object (member (codes "replies") (list_of json_of_response replies) ++ member (codes "resolve") (json_of_whole graph features rule sources))
 
 -- a member by its name, an item by its index
 abbrev pub json_of_step : Step → Json

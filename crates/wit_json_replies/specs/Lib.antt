@@ -1,4 +1,6 @@
 pub mod CoreNames
 pub mod Remaps
+pub mod Unshaped
 pub mod Answers
 pub mod Documents
+pub mod steps

@@ -5,6 +5,7 @@ ghost use Rattle.wit_json_replies.specs.Answers.{json_of_answer, json_of_merge, 
 
 use crate::core_names::CoreNames;
 use crate::remaps::write_remap;
+use crate::unshaped::Unshaped;
 use std::alloc::AllocError;
 use wit_data::{InterfaceId, Items, PackageId, Text, TypeId, WorldId};
 use wit_graph_data::ResolveError;
@@ -29,8 +30,8 @@ pub enum Answer {
     Merged(Remap),
     /// There is no world of that name in a package of that name.
     NoWorld,
-    /// A package that was to be added hasn't its shape.
-    NotShaped,
+    /// A package that was to be added hasn't its shape, and nothing is added.
+    NotShaped(Unshaped),
     /// What a question names isn't there.
     NotFound,
     /// It is refused.
@@ -79,7 +80,7 @@ impl WriteJson for Answer {
                 out.end_object()
             }
             Answer::NoWorld => out.string("no-world"),
-            Answer::NotShaped => out.string("not-shaped"),
+            Answer::NotShaped(unshaped) => out.tagged("not-shaped", unshaped),
             Answer::NotFound => out.string("not-found"),
             Answer::Refused(refusal) => out.tagged("refused", refusal),
             Answer::World(id) => out.tagged("world", id),

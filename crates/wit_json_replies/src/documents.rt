@@ -9,7 +9,7 @@ ghost use Rattle.wit_json_replies.specs.Documents.{json_of_fault, json_of_output
 
 use crate::answers::Response;
 use std::alloc::{AllocError, Global};
-use wit_data::{Items, SourceMap};
+use wit_data::{Items, SourceMap, TrackRule};
 use wit_graph_data::{Features, Graph};
 use wit_json::JsonText;
 use wit_json_reading::{Expected, Fault, Step};
@@ -21,15 +21,16 @@ pub fn output_to_json(
     replies: &Items<Response>,
     graph: &Graph,
     features: &Features,
+    rule: TrackRule,
     files: &SourceMap,
 ) -> Result<String, AllocError>
-    ensures { IfOk result (λ text. string_bytes text ≡ compact (json_of_output replies.now graph.now features.now files.now)) }
+    ensures { IfOk result (λ text. string_bytes text ≡ compact (json_of_output replies.now graph.now features.now rule files.now)) }
 {
     let mut out = JsonText::new(alloc);
     out.begin_object()?;
     out.member("replies", replies)?;
     out.key("resolve")?;
-    out.whole(graph, features, files)?;
+    out.whole(graph, features, rule, files)?;
     out.end_object()?;
     Ok(out.into_string())
 }

@@ -1,1 +1,4 @@
+mod GoesOn
+mod Outcomes
 mod Replies
+mod Unshaped

@@ -13,7 +13,8 @@ use Rattle.wit_json_commands.specs.declared.orders.Order.{Order}
 use Rattle.wit_json_commands.specs.declared.orders.Request.{Request}
 use Rattle.wit_json_replies.specs.declared.answers.Answer.{Answer}
 use Rattle.wit_json_replies.specs.declared.answers.Response.{Response}
-use Rattle.wit_json_runs.specs.Runs.{Answers, AnswersCommand, AnswersEach, Responds, RespondsEach, IsChangeShaped, answer_of, command_of}
+use Rattle.wit_json_runs.specs.Runs.{Answers, AnswersCommand, AnswersEach, Responds, RespondsEach, answer_of, command_of}
+use Rattle.wit_json_runs.specs.Unshaped.{IsChangeShaped}
 
 -- one more request
 pub AnswersEach-more : (old mid new : State) (its : List Request) (answers : List Answer) (it : Request) (told : Answer)

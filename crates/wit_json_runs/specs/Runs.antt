@@ -1,8 +1,6 @@
 -- What a document's commands do, and what is answered to each.
 use Rattle.std.specs.Prelude.{◌≡◌, ◌⊎◌, ℕ, List, [], ◌∷◌}
 use Rattle.wit_sources.specs.SourceMap.{Sources}
-use Rattle.wit_data.specs.Each.{Each}
-use Rattle.wit_data.specs.Shape.{IsGroupShaped}
 use Rattle.wit_resolve_graph.specs.State.{State, new_state}
 use Rattle.wit_resolve_graph.specs.Step.{Step}
 use Rattle.wit_resolve_graph.specs.declared.command.Command.{Command}
@@ -20,6 +18,8 @@ use Rattle.wit_json_replies.specs.declared.answers.Answer.{Answer}
 use Rattle.wit_json_replies.specs.declared.answers.Answer.TheVariants as answer
 use Rattle.wit_json_replies.specs.declared.answers.Response.{Response}
 use Rattle.wit_json_replies.specs.declared.answers.Response.TheVariants as response
+use Rattle.wit_json_replies.specs.declared.unshaped.Unshaped.{Unshaped}
+use Rattle.wit_json_runs.specs.Unshaped.{IsChangeShaped, IsUnshaped}
 
 -- ---- commands
 
@@ -49,20 +49,17 @@ command_of (change.Importize home world out) = command.Importize home world out
 command_of (change.Exportize home world out keys) = command.Exportize home world out keys
 command_of (change.Semver home world) = command.Semver home world
 
--- the groups that a change adds have their shape
-abbrev pub IsChangeShaped : Change → Type 0
-IsChangeShaped (change.PushGroups main deps) = IsGroupShaped main × Each IsGroupShaped deps
-IsChangeShaped _ = Unit {0}
-
 -- a change whose groups have their shape is carried out
 pub record AnswersShaped (old : State) (it : Change) (told : Answer) (new : State) : Type 0 where
   pub shaped : IsChangeShaped it
   pub answered : AnswersCommand old (command_of it) told new
 
--- of another one that is said, and nothing has changed
+-- of another one the first package is told that lacks its shape, with what it lacks, and nothing has changed
 pub record TellsShape (old : State) (it : Change) (told : Answer) (new : State) : Type 0 where
-  pub unshaped : IsChangeShaped it → ⊥
-  pub told_is : told ≡ answer.NotShaped
+  pub lacks : IsChangeShaped it → ⊥
+  pub unshaped : Unshaped
+  pub is_first : IsUnshaped it unshaped
+  pub told_is : told ≡ answer.NotShaped unshaped
   pub same : new ≡ old
 
 abbrev pub AnswersChange : State → Change → Answer → State → Type 0

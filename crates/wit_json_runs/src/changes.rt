@@ -1,63 +1,23 @@
 //! Changes carried out.
-ghost use Rattle.std.specs.Prelude.{◌≡◌, ◌↔◌, IfOk, IsTrue};
-ghost use Rattle.wit_data.specs.Each.{Each};
-ghost use Rattle.wit_data.specs.Shape.{IsGroupShaped};
+ghost use Rattle.std.specs.Prelude.{◌≡◌, IfOk};
 ghost use Rattle.wit_json_questions.specs.Tells.{refused};
-ghost use Rattle.wit_json_runs.specs.Runs.{AnswersChange, AnswersCommand, IsChangeShaped, answer_of, command_of};
+ghost use Rattle.wit_json_runs.specs.Runs.{AnswersChange, AnswersCommand, answer_of, command_of};
 ghost use Rattle.wit_resolve_graph.specs.Step.{IsCommandShaped};
 
-use std::alloc::{AllocError, Global};
+use crate::shapes::find_unshaped;
+use std::alloc::Global;
 use wit_json_commands::Change;
 use wit_json_replies::{Answer, Refusal};
-use wit_resolve_graph::{
-    Command, Items, Reply, Resolve, ResolveError, ResolveResult, Shape, Text,
-    UnresolvedPackageGroup, run,
-};
+use wit_resolve_graph::{Command, Items, Reply, Resolve, ResolveError, ResolveResult, Text, run};
 
 /// Carries out a change, and answers it. The only refusal is want of memory outside the command (28).
 pub fn answer_change(alloc: Global, resolve: &mut Resolve, change: Change) -> ResolveResult<Answer>
     ensures { IfOk result (λ answer. AnswersChange resolve.old change answer resolve.new) }
 {
-    if !is_change_shaped(alloc, &change)? {
-        return Ok(Answer::NotShaped);
+    match find_unshaped(alloc, &change)? {
+        Some(unshaped) => Ok(Answer::NotShaped(unshaped)),
+        None => carry_out(alloc, resolve, command_of(change)),
     }
-    carry_out(alloc, resolve, command_of(change))
-}
-
-/// Whether the groups that a change adds have their shape.
-fn is_change_shaped(alloc: Global, change: &Change) -> Result<bool, AllocError>
-    ensures { IfOk result (λ shaped. IsTrue shaped ↔ IsChangeShaped change.now) }
-{
-    match change {
-        Change::PushGroups { main, deps } => are_groups_shaped(alloc, main, deps),
-        _ => Ok(true),
-    }
-}
-
-/// Whether a main group and those that come with it have their shape.
-fn are_groups_shaped(
-    alloc: Global,
-    main: &UnresolvedPackageGroup,
-    deps: &Items<UnresolvedPackageGroup>,
-) -> Result<bool, AllocError>
-    ensures { IfOk result (λ shaped. IsTrue shaped ↔ (IsGroupShaped main.now × Each IsGroupShaped deps.now)) }
-{
-    if !main.is_shaped(alloc)? {
-        return Ok(false);
-    }
-    are_shaped(alloc, deps.as_slice())
-}
-
-/// Whether groups have their shape.
-fn are_shaped(alloc: Global, groups: &[UnresolvedPackageGroup]) -> Result<bool, AllocError>
-    ensures { IfOk result (λ shaped. IsTrue shaped ↔ Each IsGroupShaped groups.now) }
-{
-    for group in groups {
-        if !group.is_shaped(alloc)? {
-            return Ok(false);
-        }
-    }
-    Ok(true)
 }
 
 /// The command that a change is.

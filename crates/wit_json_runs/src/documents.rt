@@ -1,34 +1,82 @@
 //! From the bytes of a document to those of the one that comes out.
-ghost use Rattle.std.specs.Prelude.{◌≡◌, ◌⊎◌, [], Bool, List, ℕ, true, IfErr, IfOk, IfSome, OnOk, IsErrOf, string_bytes};
+ghost use Rattle.std.specs.Prelude.{◌≡◌, ◌⊎◌, [], Bool, Err, List, Some, ℕ, true, IfErr, IfOk, IfSome, OnOk, IsErrOf, string_bytes};
 ghost use Rattle.std.specs.Str.{IsUtf8};
 ghost use Rattle.std.specs.Io.KnownBytes.{Appends};
 ghost use Rattle.wit_script.specs.Watched.{AppendsBeginning};
 ghost use Rattle.wit_json.specs.Graph.{compact};
 ghost use Rattle.wit_json_replies.specs.Documents.{json_of_fault};
-ghost use Rattle.wit_json_runs.specs.Documents.{ComesOut, ComesOutOfBytes, Outputs};
+ghost use Rattle.wit_json_reading.specs.Reading.{Reads};
+ghost use Rattle.wit_json_runs.specs.Documents.{ComesOut, ComesOutOfBytes, Understands, invalid_fault};
+ghost use Rattle.wit_json_runs.specs.steps.Outcomes.{Begins, TellsFaultOf, WritesOutput};
 
 use crate::orders::responses_to;
 use std::alloc::{AllocError, Global};
 use std::io::{Read, Write};
-use wit_json_commands::Document;
-use wit_json_reading::{Fault, ReadError, offset_of, read_text};
+use wit_json_commands::{Document, Order};
+use wit_json_graphs::ResolveParts;
+use wit_json_reading::{Expected, Fault, ReadError, in_member, instead_of, offset_of, read_text};
 use wit_json_replies::{fault_to_json, output_to_json};
-use wit_resolve_graph::Resolve;
+use wit_resolve_graph::{Items, Resolve};
 use wit_script::{ScriptFault, Watched, read_all, write_all};
 
-/// Carries out the commands of a document on an empty graph: whether it is understood, and the document that comes out.
-/// The only error is want of memory outside a command.
+/// Carries out the commands of a document on the graph with which it begins, or an empty one: whether it is understood,
+/// and the document that comes out. The only error is want of memory outside a command.
 pub fn respond(alloc: Global, text: &str) -> Result<(bool, String), AllocError>
     ensures { IfOk result (λ answer. ComesOut text.now answer.0 (string_bytes answer.1)) }
 {
-    match read_text::<Document>(alloc, text) {
-        Ok(document) => Ok((true, output(alloc, document)?)),
+    match outcome(alloc, text) {
+        Ok(out) => Ok((true, out)),
         Err(ReadError::Fault(fault)) => Ok((false, fault_text(alloc, text, &fault)?)),
         Err(ReadError::OutOfMemory) => Err(AllocError),
     }
 }
 
-/// What comes out of a document that can't be read.
+/// What comes out of a document that is understood, or the fault of another one.
+fn outcome(alloc: Global, text: &str) -> Result<String, ReadError>
+    ensures ok { IfOk result (λ out. Understands text.now (string_bytes out)) }
+    ensures err { IfErr result (TellsFaultOf text.now) }
+{
+    let document: Document = read_text(alloc, text)?;
+    let resolve = begin(alloc, document.resolve)?;
+    Ok(output(alloc, resolve, document.commands)?)
+}
+
+/// The graph that a document begins with: an empty one, or the one that it has, which is to be valid.
+fn begin(alloc: Global, parts: Option<ResolveParts>) -> Result<Resolve, ReadError>
+    ensures { Begins parts result }
+{
+    match parts {
+        Some(parts) => given(alloc, parts),
+        None => Ok(Resolve::new(alloc)),
+    }
+}
+
+/// The graph that a document has, which is to be valid.
+fn given(alloc: Global, parts: ResolveParts) -> Result<Resolve, ReadError>
+    ensures { Begins (Some parts) result }
+{
+    let ResolveParts {
+        graph,
+        features,
+        source_map,
+        track_rule,
+    } = parts;
+    match Resolve::of_graph(alloc, graph, features, source_map, track_rule) {
+        Ok(Some(resolve)) => Ok(resolve),
+        Ok(None) => no_valid_graph(alloc),
+        Err(_) => Err(ReadError::OutOfMemory),
+    }
+}
+
+/// The fault of a document whose graph isn't valid.
+fn no_valid_graph(alloc: Global) -> Result<Resolve, ReadError>
+    ensures { Reads result (Err invalid_fault) }
+{
+    let fault = in_member(alloc, instead_of(alloc, Expected::ValidGraph), "graph");
+    in_member(alloc, fault, "resolve")
+}
+
+/// What comes out of a document that can't be read, or whose graph isn't valid.
 fn fault_text(alloc: Global, text: &str, fault: &Fault) -> Result<String, AllocError>
     ensures { IfOk result (λ out. (offset : ℕ) × (string_bytes out ≡ compact (json_of_fault fault.now offset))) }
 {
@@ -36,20 +84,20 @@ fn fault_text(alloc: Global, text: &str, fault: &Fault) -> Result<String, AllocE
     fault_to_json(alloc, fault, offset)
 }
 
-/// What comes out of a document.
-fn output(alloc: Global, document: Document) -> Result<String, AllocError>
-    ensures { IfOk result (λ out. Outputs document (string_bytes out)) }
+/// What comes out of commands that begin with a graph.
+fn output(alloc: Global, mut resolve: Resolve, commands: Items<Order>) -> Result<String, AllocError>
+    ensures { IfOk result (λ out. WritesOutput resolve commands (string_bytes out)) }
 {
-    let mut resolve = Resolve::new(alloc);
-    let Ok(replies) = responses_to(alloc, &mut resolve, document.commands) else {
+    let Ok(replies) = responses_to(alloc, &mut resolve, commands) else {
         return Err(AllocError);
     };
-    let (graph, features, files) = (resolve.graph(), resolve.features(), resolve.source_map());
-    output_to_json(alloc, &replies, graph, features, files)
+    let (graph, features) = (resolve.graph(), resolve.features());
+    let (rule, files) = (resolve.track_rule(), resolve.source_map());
+    output_to_json(alloc, &replies, graph, features, rule, files)
 }
 
-/// Reads a document to the end of the reader, carries it out on an empty graph, and writes the one that comes out: of one
-/// that can't be read its first fault, and the answer is then false.
+/// Reads a document to the end of the reader, carries it out as `respond` does, and writes the one that comes out: of one
+/// that isn't understood its first fault, and the answer is then false.
 ///
 /// The faults are a failed call of the reader or the writer, an input that isn't UTF-8, and want of memory outside a
 /// command. The clauses speak of readers and writers that tell their bytes. Where the writer fails, a beginning of what was

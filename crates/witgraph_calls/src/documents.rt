@@ -9,9 +9,9 @@ use crate::status::{INPUT_NOT_UTF8, NO_MEMORY, NOT_UNDERSTOOD, OUTPUT_TOO_SMALL,
 use std::alloc::Global;
 use wit_json_runs::respond;
 
-/// Carries out the commands of a JSON document on an empty graph, and writes the document that comes out to the front of
-/// the output: the one that `wit_json_runs::execute` writes, and so the program `witgraph_json`. Of a document that isn't
-/// understood it has the first fault.
+/// Carries out the commands of a JSON document, on an empty graph or on the one that it begins with, and writes the
+/// document that comes out to the front of the output: the one that `wit_json_runs::execute` writes, and so the program
+/// `witgraph_json`. Of a document that isn't understood it has the first fault.
 ///
 /// All else is as of `execute`.
 pub fn carry_out(alloc: Global, input: &[u8], output: &mut [u8], needed: &mut usize) -> u32

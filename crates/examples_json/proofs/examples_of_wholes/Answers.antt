@@ -11,8 +11,11 @@ returns c = record {
   not_all = differ _ _ refl;
   not_one = differ _ _ refl;
   all = refl;
+  rule = refl;
+  other_rule = refl;
   files = refl;
   in_order = differ _ _ refl;
+  with_texts = differ _ _ refl;
   whole = refl;
   not_inside = differ _ _ refl;
 }

@@ -1,11 +1,14 @@
 use Rattle.std.proofs.Common.{subst, sym}
 use Rattle.wit_resolve_graph.specs.Step.{IsCommandShaped}
 use Rattle.wit_resolve_graph.specs.declared.command.Command.{Command}
-use Rattle.wit_json_runs.specs.Runs.{IsChangeShaped}
 use Rattle.wit_json_runs.proofs.Replies.{shaped_command}
+use Rattle.wit_json_runs.proofs.Unshaped.{change_shaped, lack_answered}
 use Rattle.wit_json_runs.proofs.changes.answer_change.Goals as goal
 
 pub carry_out-requires : goal.carry_out-requires
 carry_out-requires c =
-    let shaped : IsChangeShaped c.args.change = c.in_ok-is_change_shaped.ensures.0 c.if-not-branch.false in
+    let shaped = change_shaped c.args.change _ c.in_ok-find_unshaped.ensures c.in-None.is in
     subst (λ (it : Command). IsCommandShaped it) (sym c.command_of.ensures) (shaped_command c.args.change shaped)
+
+pub returns-in-Some : goal.returns-in-Some
+returns-in-Some c = lack_answered c.args.resolve.now c.args.change _ c.in-Some.unshaped c.in_ok-find_unshaped.ensures c.in-Some.is

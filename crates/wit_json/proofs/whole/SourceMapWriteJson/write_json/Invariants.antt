@@ -2,11 +2,11 @@ use Rattle.std.proofs.Common.{◌≡◌, ◌++◌, ◌∷◌, map}
 use Rattle.json.specs.Token.{begin_array}
 use Rattle.json.specs.Tree.{items_tokens}
 use Rattle.json.specs.Value.{items_of}
-use Rattle.wit_sources.specs.SourceMap.{paths_of}
-use Rattle.wit_json.specs.Values.{json_of_text}
+use Rattle.wit_sources.specs.SourceMap.{files_of}
+use Rattle.wit_json.specs.Whole.{json_of_file}
 use Rattle.wit_json.proofs.whole.SourceMapWriteJson.write_json.Given as goal
 
--- what is written, and the paths that are left
+-- what is written, and the files that are left
 abbrev pub invariant-loop-path : goal.invariant-loop-path
 invariant-loop-path l =
-    l.out ++ items_tokens (items_of (map json_of_text l.path-iterator)) ≡ l.fn.out ++ begin_array ∷ items_tokens (items_of (map json_of_text (paths_of l.self.files)))
+    l.out ++ items_tokens (items_of (map json_of_file l.path-iterator)) ≡ l.fn.out ++ begin_array ∷ items_tokens (items_of (map json_of_file (files_of l.self.files)))

@@ -2,4 +2,4 @@ use Rattle.wit_json.specs.facts.MemberFacts.{object_closed, then_more}
 use Rattle.wit_json.proofs.writer.JsonText.whole.Goals as goal
 
 pub returns : goal.returns
-returns c = object_closed c.end_object.result c.args.self.now c.end_object.new.self c.in_ok-begin_object.ensures (then_more (then_more (then_more c.in_ok-member.ensures c.in_ok-details.ensures) c.in_ok-member-2.ensures) c.in_ok-member-3.ensures) c.end_object.ensures
+returns c = object_closed c.end_object.result c.args.self.now c.end_object.new.self c.in_ok-begin_object.ensures (then_more (then_more (then_more (then_more c.in_ok-member.ensures c.in_ok-details.ensures) c.in_ok-member-2.ensures) c.in_ok-member-3.ensures) c.in_ok-member-4.ensures) c.end_object.ensures

@@ -1,0 +1,26 @@
+use Rattle.std.proofs.Common.{refl}
+use Rattle.std.specs.Fmt.{digits}
+use Rattle.json.proofs.OnLiterals.{json_on_literals}
+use Rattle.semver.proofs.OnLiterals.{semver_on_literals}
+use Rattle.wit_json_reading.specs.Features.{features_of, names_of, rule_of}
+use Rattle.wit_json_reading.specs.Functions.{function_kind_by, function_kind_of, function_of, param_of}
+use Rattle.wit_json_reading.specs.Gates.{contents_of, docs_of, gate_of, place_of, range_of, span_of, stability_of, stable_of, unstable_of}
+use Rattle.wit_json_reading.specs.Graphs.{graph_of, graph_package_of}
+use Rattle.wit_json_reading.specs.Groups.{group_of, source_of}
+use Rattle.wit_json_reading.specs.Packages.{ast_item_of, package_name_in, package_name_of, package_of}
+use Rattle.wit_json_reading.specs.Types.{case_of, enum_case_of, field_of, fixed_length_list_of, flag_of, handle_of, kind_by, kind_of, map_of, owner_of, result_of, type_def_of, type_of}
+use Rattle.wit_json_reading.specs.Values.{decimal_of, small_number_of, version_of}
+use Rattle.wit_json_reading.specs.Worlds.{home_of, include_name_of, include_of, includes_of, interface_entry_of, interface_of, item_of, placed_type_of, world_of}
+use Rattle.wit_json_graphs.specs.Details.{case_with, entry_with, enum_case_with, field_with, flag_with, function_with, graph_with, interface_with, item_with, kind_with, param_with, span_alone, type_with, world_with}
+use Rattle.wit_json_graphs.specs.Resolves.{features_beside, resolve_of, rule_beside, sources_beside}
+use Rattle.examples_json.proofs.examples_of_read_resolves.Goals as goal
+
+pub returns : goal.returns
+unfolding json_on_literals semver_on_literals digits features_of names_of rule_of function_kind_by function_kind_of function_of param_of contents_of docs_of gate_of place_of range_of span_of stability_of stable_of unstable_of graph_of graph_package_of group_of source_of ast_item_of package_name_in package_name_of package_of case_of enum_case_of field_of fixed_length_list_of flag_of handle_of kind_by kind_of map_of owner_of result_of type_def_of type_of decimal_of small_number_of version_of home_of include_name_of include_of includes_of interface_entry_of interface_of item_of placed_type_of world_of case_with entry_with enum_case_with field_with flag_with function_with graph_with interface_with item_with kind_with param_with span_alone type_with world_with features_beside resolve_of rule_beside sources_beside
+returns c = record {
+  alone = refl;
+  whole = refl;
+  no_graph_there = refl;
+  in_details = refl;
+  paths_alone = refl;
+}

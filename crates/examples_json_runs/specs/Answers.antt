@@ -1,0 +1,97 @@
+-- Answers, and the documents that come out.
+use Rattle.std.specs.Prelude.{◌≡◌, ◌≢◌, ℕ, List, [], ◌∷◌, Option, Some, None, codes}
+use Rattle.wit_data.specs.declared.world.WorldKey.TheVariants as key
+use Rattle.wit_graph_data.specs.declared.error_kind.ResolveErrorKind.TheVariants as kind
+use Rattle.wit_names.specs.declared.track.TrackRule.TheVariants.{Published, WithPrereleases}
+use Rattle.wit_remap.specs.declared.remap.Remap.{Remap}
+use Rattle.wit_resolve_graph.specs.State.{new_state}
+use Rattle.wit_shape_faults.specs.declared.clause.ShapeClause.TheVariants as clause
+use Rattle.wit_shape_faults.specs.declared.fault.ShapeFault.{ShapeFault}
+use Rattle.wit_shape_faults.specs.declared.place.ShapePlace.TheVariants as place
+use Rattle.wit_json.specs.Graph.{compact}
+use Rattle.wit_json_reading.specs.declared.fault.Expected.TheVariants as expected
+use Rattle.wit_json_reading.specs.declared.fault.Fault.{Fault}
+use Rattle.wit_json_reading.specs.declared.fault.Step.TheVariants as step
+use Rattle.wit_json_replies.specs.Answers.{json_of_answer, json_of_response}
+use Rattle.wit_json_replies.specs.Documents.{json_of_fault, json_of_output}
+use Rattle.wit_json_replies.specs.declared.answers.Answer.{Answer}
+use Rattle.wit_json_replies.specs.declared.answers.Answer.TheVariants as answer
+use Rattle.wit_json_replies.specs.declared.answers.Response.{Response}
+use Rattle.wit_json_replies.specs.declared.answers.Response.TheVariants as response
+
+abbrev pub answer_text : Answer → List ℕ
+answer_text it = compact (json_of_answer it)
+
+-- the second function of interface 1 stands under another name
+abbrev pub misplaced_function : ShapeFault
+misplaced_function = record { clause = clause.OwnersFunctions; place = place.Function 1 1 }
+
+abbrev pub unshaped_text : Option ℕ → Option ℕ → List ℕ
+unshaped_text group nested = answer_text (answer.NotShaped (record { group = group; «package» = nested; fault = misplaced_function }))
+
+abbrev pub a_remap : Remap
+a_remap = record { types = Some 4 ∷ None ∷ []; interfaces = Some 2 ∷ []; worlds = []; packages = 1 ∷ 0 ∷ [] }
+
+pub record ExamplesOfAnswers : Type 0 where
+  -- words
+  pub done : answer_text answer.Done ≡ codes "\"done\""
+  pub not_null : answer_text answer.Done ≢ codes "null"
+  pub no_world : answer_text answer.NoWorld ≡ codes "\"no-world\""
+  pub not_done : answer_text answer.NoWorld ≢ codes "\"done\""
+  pub not_found : answer_text answer.NotFound ≡ codes "\"not-found\""
+  -- ids under words
+  pub pushed : answer_text (answer.Pushed 3) ≡ codes "{\"pushed\":3}"
+  pub not_world : answer_text (answer.Pushed 3) ≢ codes "{\"world\":3}"
+  pub chosen : answer_text (answer.World 0) ≡ codes "{\"world\":0}"
+  pub packages : answer_text (answer.Packages (1 ∷ 0 ∷ 1 ∷ [])) ≡ codes "{\"packages\":[1,0,1]}"
+  pub not_sorted : answer_text (answer.Packages (1 ∷ 0 ∷ 1 ∷ [])) ≢ codes "{\"packages\":[0,1,1]}"
+  pub not_once : answer_text (answer.Packages (1 ∷ 0 ∷ 1 ∷ [])) ≢ codes "{\"packages\":[1,0]}"
+  pub interfaces : answer_text (answer.Interfaces (2 ∷ [])) ≡ codes "{\"interfaces\":[2]}"
+  pub types : answer_text (answer.Types []) ≡ codes "{\"types\":[]}"
+  pub text : answer_text (answer.Text (codes "a:b/c@1")) ≡ codes "{\"text\":\"a:b/c@1\"}"
+  -- where the things of a merged graph stand
+  pub merged : answer_text (answer.Merged a_remap) ≡ codes "{\"merged\":{\"types\":[4,null],\"interfaces\":[2],\"worlds\":[],\"packages\":[1,0]}}"
+  pub not_left_out : answer_text (answer.Merged a_remap) ≢ codes "{\"merged\":{\"types\":[4],\"interfaces\":[2],\"worlds\":[],\"packages\":[1,0]}}"
+  -- a refusal, with its line
+  pub refused : answer_text (answer.Refused (record { error = kind.OutOfMemory; rendered = codes "out of memory" }))
+      ≡ codes "{\"refused\":{\"error\":{\"number\":28,\"cause\":\"out-of-memory\",\"text\":\"out of memory\"},\"rendered\":\"out of memory\"}}"
+  -- a package without its shape: the path to it, and what it lacks
+  pub main : unshaped_text None None
+      ≡ codes "{\"not-shaped\":{\"path\":[\"main\",\"main\"],\"clause\":\"owners.functions\",\"place\":\"interfaces[1].functions[1]\",\"text\":\"a function stands under its name\"}}"
+  pub nested : unshaped_text None (Some 2)
+      ≡ codes "{\"not-shaped\":{\"path\":[\"main\",\"nested\",2],\"clause\":\"owners.functions\",\"place\":\"interfaces[1].functions[1]\",\"text\":\"a function stands under its name\"}}"
+  pub among_deps : unshaped_text (Some 0) None
+      ≡ codes "{\"not-shaped\":{\"path\":[\"deps\",0,\"main\"],\"clause\":\"owners.functions\",\"place\":\"interfaces[1].functions[1]\",\"text\":\"a function stands under its name\"}}"
+  pub nested_in_dep : unshaped_text (Some 0) (Some 2)
+      ≡ codes "{\"not-shaped\":{\"path\":[\"deps\",0,\"nested\",2],\"clause\":\"owners.functions\",\"place\":\"interfaces[1].functions[1]\",\"text\":\"a function stands under its name\"}}"
+  pub not_turned : unshaped_text (Some 0) (Some 2)
+      ≢ codes "{\"not-shaped\":{\"path\":[\"deps\",2,\"nested\",0],\"clause\":\"owners.functions\",\"place\":\"interfaces[1].functions[1]\",\"text\":\"a function stands under its name\"}}"
+  pub not_a_word : unshaped_text None None ≢ codes "\"not-shaped\""
+  -- names of core wasm: the key of the interface as it names an entry, null in the world itself
+  pub core_names : answer_text (answer.CoreNames (record {
+    imports = record { interface = Some (key.Interface 3); function = codes "f"; «module» = codes "m"; field = codes "n" } ∷ [];
+    exports = record { interface = None; function = codes "run"; name = codes "run" } ∷ [];
+  }))
+      ≡ codes "{\"core-names\":{\"imports\":[{\"interface\":\"interface-3\",\"function\":\"f\",\"module\":\"m\",\"field\":\"n\"}],\"exports\":[{\"interface\":null,\"function\":\"run\",\"name\":\"run\"}]}}"
+
+abbrev pub response_text : Response → List ℕ
+response_text it = compact (json_of_response it)
+
+-- of a value in the first command
+abbrev pub a_fault : Fault
+a_fault = record { path = step.Member (codes "add-feature") ∷ step.Item 0 ∷ step.Member (codes "commands") ∷ []; expected = expected.Text }
+
+pub record ExamplesOfDocuments : Type 0 where
+  -- the replies to what made another graph stand within that to its merge
+  pub «merge» : response_text (response.Merge (answer.Done ∷ answer.NoWorld ∷ []) answer.Done) ≡ codes "{\"merge\":{\"replies\":[\"done\",\"no-world\"],\"reply\":\"done\"}}"
+  pub not_beside : response_text (response.Merge (answer.Done ∷ answer.NoWorld ∷ []) answer.Done) ≢ codes "[\"done\",\"no-world\",\"done\"]"
+  pub plain : response_text (response.Answer answer.Done) ≡ codes "\"done\""
+  -- the path of a fault from the whole down
+  pub fault : compact (json_of_fault a_fault 29) ≡ codes "{\"fault\":{\"path\":[\"commands\",0,\"add-feature\"],\"offset\":29,\"expected\":\"a text\"}}"
+  pub not_upwards : compact (json_of_fault a_fault 29) ≢ codes "{\"fault\":{\"path\":[\"add-feature\",0,\"commands\"],\"offset\":29,\"expected\":\"a text\"}}"
+  pub not_next : compact (json_of_fault a_fault 29) ≢ codes "{\"fault\":{\"path\":[\"commands\",0,\"add-feature\"],\"offset\":30,\"expected\":\"a text\"}}"
+  -- nothing was asked of an empty graph
+  pub nothing : compact (json_of_output [] new_state.graph new_state.features Published new_state.source_map)
+      ≡ codes "{\"replies\":[],\"resolve\":{\"graph\":{\"worlds\":[],\"interfaces\":[],\"types\":[],\"packages\":[]},\"details\":{\"worlds\":[],\"interfaces\":[],\"types\":[]},\"features\":{\"all\":false,\"names\":[]},\"track-rule\":\"published\",\"sources\":[]}}"
+  pub not_published : compact (json_of_output [] new_state.graph new_state.features WithPrereleases new_state.source_map)
+      ≢ codes "{\"replies\":[],\"resolve\":{\"graph\":{\"worlds\":[],\"interfaces\":[],\"types\":[],\"packages\":[]},\"details\":{\"worlds\":[],\"interfaces\":[],\"types\":[]},\"features\":{\"all\":false,\"names\":[]},\"track-rule\":\"published\",\"sources\":[]}}"

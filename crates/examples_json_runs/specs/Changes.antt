@@ -1,0 +1,44 @@
+-- What is done with changes, and what a document begins with.
+use Rattle.std.specs.Prelude.{◌≡◌, ◌≢◌, [], ◌∷◌, true, Some, None, codes}
+use Rattle.wit_names.specs.declared.track.TrackRule.TheVariants.{Published, WithPrereleases}
+use Rattle.wit_resolve_graph.specs.State.{State, new_state}
+use Rattle.wit_resolve_graph.specs.declared.command.Command.TheVariants as command
+use Rattle.wit_resolve_graph.specs.declared.command.Reply.TheVariants as reply
+use Rattle.wit_json_commands.specs.declared.changes.Change.TheVariants as change
+use Rattle.wit_json_commands.specs.declared.orders.Order.TheVariants as order
+use Rattle.wit_json_commands.specs.declared.orders.Request.TheVariants as request
+use Rattle.wit_json_graphs.specs.declared.resolves.ResolveParts.{ResolveParts}
+use Rattle.wit_json_replies.specs.declared.answers.Answer.TheVariants as answer
+use Rattle.wit_json_replies.specs.declared.answers.Response.TheVariants as response
+use Rattle.wit_json_runs.specs.Documents.{first_state}
+use Rattle.wit_json_runs.specs.Runs.{Answers, RespondsEach, answer_of, command_of}
+use Rattle.examples_json_runs.specs.Questions.{foo_bar}
+
+-- an empty graph with a feature on, and the other rule of tracks
+abbrev pub begun : ResolveParts
+begun = record { graph = new_state.graph; features = record { names = codes "f" ∷ []; all = true }; source_map = new_state.source_map; track_rule = WithPrereleases }
+
+-- the empty graph with a feature on
+abbrev pub with_f : State
+with_f = record new_state { features = record new_state.features { names = codes "f" ∷ [] } }
+
+pub record ExamplesOfChanges : Type 0 where
+  -- the command that a change is
+  pub importized : command_of (change.Importize foo_bar (codes "w") None) ≡ command.Importize foo_bar (codes "w") None
+  pub not_exportized : command_of (change.Importize foo_bar (codes "w") None) ≢ command.Exportize foo_bar (codes "w") None None
+  -- the answer that a reply is
+  pub done : answer_of new_state.source_map reply.Done ≡ answer.Done
+  pub pushed : answer_of new_state.source_map (reply.Pushed 2) ≡ answer.Pushed 2
+  pub no_world : answer_of new_state.source_map reply.NoWorld ≢ answer.Done
+  -- what a document begins with
+  pub empty : first_state None ≡ new_state
+  pub given : (first_state (Some begun)).features.all ≡ true
+  pub its_rule : (first_state (Some begun)).track_rule ≡ WithPrereleases
+  pub not_published : (first_state (Some begun)).track_rule ≢ Published
+  -- one answer to each command, in order; a question changes nothing
+  pub two : RespondsEach new_state (order.Request (request.Change (change.AddFeature (codes "f"))) ∷ order.Request (request.Change (change.SetTrackRule Published)) ∷ [])
+      (response.Answer answer.Done ∷ response.Answer answer.Done ∷ []) with_f
+  pub not_one : RespondsEach new_state (order.Request (request.Change (change.AddFeature (codes "f"))) ∷ order.Request (request.Change (change.SetTrackRule Published)) ∷ [])
+      (response.Answer answer.Done ∷ []) with_f → ⊥
+  pub nothing : RespondsEach new_state [] [] new_state
+  pub not_changed : RespondsEach new_state [] [] with_f → ⊥

@@ -1,0 +1,2 @@
+mod Completed
+mod Turns

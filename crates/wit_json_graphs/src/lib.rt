@@ -1,0 +1,10 @@
+//! The parts of a `Resolve` from JSON: a graph in the layout that `wit_json` writes, and what stands beside it. A document
+//! that comes out may so begin the next one.
+#![tactic(auto)]
+
+mod details;
+mod resolves;
+mod things;
+
+pub use crate::details::ReadDetails;
+pub use crate::resolves::ResolveParts;

@@ -1,0 +1,89 @@
+//! The parts of a `Resolve`.
+ghost use Rattle.std.specs.Prelude.{codes};
+ghost use Rattle.json.specs.Value.{value_view};
+ghost use Rattle.json.specs.Find.{get};
+ghost use Rattle.wit_json_reading.specs.Reading.{Reads};
+ghost use Rattle.wit_json_graphs.specs.Resolves.{features_beside, resolve_of, rule_beside, sources_beside, with_details};
+
+use crate::details::member_details;
+use json::Value;
+use std::alloc::Global;
+use wit_data::{SourceMap, TrackRule};
+use wit_graph_data::{Features, Graph};
+use wit_json_reading::{ReadError, ReadJson, only, optional, required};
+
+/// What a `Resolve` is made of.
+#[derive(Drop)]
+pub struct ResolveParts {
+    pub graph: Graph,
+    pub features: Features,
+    pub source_map: SourceMap,
+    pub track_rule: TrackRule,
+}
+
+/// A graph with its details, where the value has some.
+fn with_details(alloc: Global, value: &Value<'_>, graph: Graph) -> Result<Graph, ReadError>
+    ensures { Reads result (with_details graph (get (codes "details") (value_view value.now))) }
+{
+    let mut graph = graph;
+    if let Some(details) = value.get("details") {
+        member_details(alloc, details, "details", &mut graph)?;
+    }
+    Ok(graph)
+}
+
+/// The features that are on: none where they are left out.
+#[tactic(auto, unfolding(crate::specs::Resolves::features_beside))]
+fn features(alloc: Global, value: &Value<'_>) -> Result<Features, ReadError>
+    ensures { Reads result (features_beside (value_view value.now)) }
+{
+    match optional(alloc, value, "features")? {
+        Some(features) => Ok(features),
+        None => Ok(Features::new(alloc)),
+    }
+}
+
+/// The files: none where they are left out.
+#[tactic(auto, unfolding(crate::specs::Resolves::sources_beside))]
+fn sources(alloc: Global, value: &Value<'_>) -> Result<SourceMap, ReadError>
+    ensures { Reads result (sources_beside (value_view value.now)) }
+{
+    match optional(alloc, value, "sources")? {
+        Some(sources) => Ok(sources),
+        None => Ok(SourceMap::new(alloc)),
+    }
+}
+
+/// The rule of tracks: the published one where it is left out.
+#[tactic(auto, unfolding(crate::specs::Resolves::rule_beside))]
+fn rule(alloc: Global, value: &Value<'_>) -> Result<TrackRule, ReadError>
+    ensures { Reads result (rule_beside (value_view value.now)) }
+{
+    match optional(alloc, value, "track-rule")? {
+        Some(rule) => Ok(rule),
+        None => Ok(TrackRule::Published),
+    }
+}
+
+impl ReadJson for ResolveParts {
+    ghost reading = { resolve_of };
+
+    #[tactic(auto, unfolding(crate::specs::Resolves::resolve_of))]
+    fn read_json(alloc: Global, value: &Value<'_>) -> Result<ResolveParts, ReadError> {
+        only(
+            alloc,
+            value,
+            &["graph", "details", "features", "track-rule", "sources"],
+        )?;
+        let graph = with_details(alloc, value, required(alloc, value, "graph")?)?;
+        let features = features(alloc, value)?;
+        let track_rule = rule(alloc, value)?;
+        let source_map = sources(alloc, value)?;
+        Ok(ResolveParts {
+            graph,
+            features,
+            source_map,
+            track_rule,
+        })
+    }
+}
