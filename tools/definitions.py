@@ -19,7 +19,8 @@ from collections import defaultdict
 from dataclasses import dataclass, field
 
 CRATES = pathlib.Path(__file__).resolve().parent.parent / "crates"
-BEGIN = re.compile(r"( *)(?:pub )?(?:abbrev|unfoldable|record|data)(?: pub)? ([^\s{(]\S*)")
+# not a value `record x { field = ..` at the head of a line
+BEGIN = re.compile(r"( *)(?:pub )?(?:abbrev|unfoldable|record|data)(?: pub)? ([^\s{(.]+)(?![.\w])(?! \{(?:$| \w+ =))")
 USE = re.compile(r"^(pub )?use (Rattle(?:\.[\w«»]+)+)(?:\.\{([^}]*)\}| as (\S+))")
 WORD = re.compile(r"(?<![\w.'«»-])[A-Za-z_«◌][\w'«»◌-]*(?:\.[A-Za-z_«][\w'«»-]*)*|[^\s\w(){},;\"']+")
 BOUND = re.compile(r"λ ([^.]*?)\.|\(((?:\w+ )+): ")
