@@ -14,7 +14,6 @@ use Rattle.wit_data.specs.Entries.{Entry}
 use Rattle.wit_elaboration.specs.Elaborated.{import_steps, import_steps_within}
 use Rattle.wit_graph_data.specs.declared.graph.Graph.{Graph}
 use Rattle.wit_graph_theory.specs.examples.TestFacts.{only_one}
-use Rattle.wit_remap_spec.specs.Resources.{signature_positions}
 use Rattle.wit_remap_spec.specs.ValueRemap.{item_function}
 use Rattle.wit_link_spec.specs.Include.{EntryLists}
 use Rattle.examples_link.proofs.Accepted.{accepted, including_accepted, using_accepted}
@@ -24,6 +23,7 @@ use Rattle.examples_link.specs.IncludedWorlds.{ExamplesOfIncludedWorlds}
 use Rattle.examples_link.specs.Includes.{ExamplesOfIncluded, ExamplesOfIncludes}
 use Rattle.examples_link.specs.Pushes.{ExamplesOfPushes, ExamplesOfSpans}
 use Rattle.examples_link.specs.Values.{ExamplesOfValues}
+use Rattle.wit_data.specs.Kind.{signature_types}
 
 pub gates : ExamplesOfGates
 gates = record {
@@ -142,7 +142,7 @@ included = record {
   old_label = λ same.
       let keys : key.Name (codes "t2") ∷ key.Name (codes "f") ∷ [] ≡ key.Name (codes "t") ∷ key.Name (codes "f") ∷ [] = ap (λ (l : EntryLists). map (λ (e : Entry). e.0) l.imports) same in
       differ (codes "t2") (codes "t") refl (label_same _ _ (first_key _ _ _ _ keys));
-  old_parameter = λ same. let types : 1 ∷ [] ≡ 0 ∷ [] = ap (λ (l : EntryLists). flat_map signature_positions (flat_map (λ (e : Entry). item_function e.1) l.imports)) same in let type : 1 ≡ 0 = first_of 1 0 [] [] types in absurd (omega (arith, type));
+  old_parameter = λ same. let types : 1 ∷ [] ≡ 0 ∷ [] = ap (λ (l : EntryLists). flat_map signature_types (flat_map (λ (e : Entry). item_function e.1) l.imports)) same in let type : 1 ≡ 0 = first_of 1 0 [] [] types in absurd (omega (arith, type));
   since_other = refl;
   since_own = refl;
   since_joins = refl;

@@ -7,7 +7,6 @@ use Rattle.wit_data.specs.Ownership.{IsNamed, IsTypeOf, UsesOwn}
 use Rattle.wit_data.specs.declared.interface.Interface.{Interface}
 use Rattle.wit_data.specs.declared.types.TypeDef.{TypeDef}
 use Rattle.wit_data.specs.declared.world.World.{World}
-use Rattle.wit_data.specs.declared.world.WorldInclude.{WorldInclude}
 use Rattle.wit_data.specs.declared.world.WorldItem.{WorldItem}
 use Rattle.wit_data.specs.declared.world.WorldKey.{WorldKey}
 use Rattle.wit_data.specs.declared.types.TypeOwner.TheVariants as owner
@@ -54,10 +53,6 @@ ExportsAreAllowed interfaces world = Each (λ (e : Entry). IsExport interfaces e
 -- the functions among entries refer to types of world w alone
 abbrev pub EntriesUseOwn : List TypeDef → ℕ → List Entry → Type 0
 EntriesUseOwn types w entries = Each (λ (e : Entry). ItemUsesOwn types w e.1) entries
-
--- each include names an earlier world
-abbrev pub IncludesEarlier : ℕ → World → Type 0
-IncludesEarlier w world = Each (λ (i : WorldInclude). i.id < w) world.includes
 
 -- the interface that an item is
 abbrev pub item_interface : WorldItem → List ℕ

@@ -1,8 +1,8 @@
 -- What an unresolved package knows of other packages: interfaces and worlds by name alone, and types
 -- of kind `Unknown`.
-use Rattle.std.specs.Prelude.{◌≡◌, ◌≢◌, ◌↔◌, ℕ, ◌<◌, ◌≤◌, List, [], ◌∷◌, Some, length, nat_eq, IsSome, flat_map}
+use Rattle.std.specs.Prelude.{◌≡◌, ◌≢◌, ℕ, ◌<◌, ◌≤◌, List, [], ◌∷◌, Some, length, nat_eq, IsSome, flat_map}
 use Rattle.std.specs.List.{IsDistinct}
-use Rattle.wit_data.specs.Each.{Each, EachAt, SomeAt}
+use Rattle.wit_data.specs.Each.{Each, SomeAt}
 use Rattle.wit_data.specs.declared.unresolved.AstItem.{AstItem}
 use Rattle.wit_data.specs.declared.interface.Interface.{Interface}
 use Rattle.wit_names.specs.declared.package_name.PackageName.{PackageName}
@@ -10,7 +10,6 @@ use Rattle.wit_data.specs.declared.stability.Stability.{Stability}
 use Rattle.wit_data.specs.declared.types.TypeDef.{TypeDef}
 use Rattle.wit_data.specs.declared.types.TypeOwner.{TypeOwner}
 use Rattle.wit_data.specs.declared.world.World.{World}
-use Rattle.wit_data.specs.declared.types.TypeDefKind.TheVariants as kind
 use Rattle.wit_data.specs.declared.types.TypeOwner.TheVariants as owner
 use Rattle.wit_data.specs.declared.unresolved.AstItem.TheVariants as item
 
@@ -46,18 +45,11 @@ pub record AreFirst (ids : List ℕ) (count : ℕ) : Type 0 where
   pub first : Each (λ id. id < length ids) ids
   pub there : length ids ≤ count
 
--- a foreign interface has the name under which it is named, and no functions
-abbrev pub IsNameOnlyInterface : List ℕ → Interface → Type 0
-IsNameOnlyInterface name interface = (interface.name ≡ Some name) × (interface.functions ≡ [])
-
--- a foreign world has the name under which it is named, no items and no includes
-abbrev pub IsNameOnlyWorld : List ℕ → World → Type 0
-IsNameOnlyWorld name world = (world.name ≡ name) × (world.imports ≡ []) × (world.exports ≡ []) × (world.includes ≡ [])
-
--- the item is there and bare
+-- the item is there under the name by which it is named, and bare: an interface has no functions, a world no entries and
+-- no includes
 abbrev pub IsNameOnly : List Interface → List World → List ℕ → AstItem → Type 0
-IsNameOnly interfaces worlds name (item.Interface id) = SomeAt interfaces id (IsNameOnlyInterface name)
-IsNameOnly interfaces worlds name (item.World id) = SomeAt worlds id (IsNameOnlyWorld name)
+IsNameOnly interfaces worlds name (item.Interface id) = SomeAt interfaces id (λ (interface : Interface). (interface.name ≡ Some name) × (interface.functions ≡ []))
+IsNameOnly interfaces worlds name (item.World id) = SomeAt worlds id (λ (world : World). (world.name ≡ name) × (world.imports ≡ []) × (world.exports ≡ []) × (world.includes ≡ []))
 
 -- the item is there and bare, and some gate says under which it is named
 abbrev pub IsForeign : List Interface → List World → ForeignItem → Type 0
@@ -71,15 +63,3 @@ IsForeignType foreign def = IsSome def.name × IsForeignOwner def.owner
     IsForeignOwner (owner.Interface i) = i < foreign
     IsForeignOwner (owner.World w) = ⊥
     IsForeignOwner owner.None = ⊥
-
--- the types of kind `Unknown` are the first `unknown` ones
-abbrev pub AreUnknownFirst : ℕ → List TypeDef → Type 0
-AreUnknownFirst unknown types = (unknown ≤ length types) × EachAt (λ i (def : TypeDef). (def.kind ≡ kind.Unknown) ↔ (i < unknown)) types
-
--- each of the first `unknown` types is one of a foreign interface
-abbrev pub AreForeignTypes : ℕ → ℕ → List TypeDef → Type 0
-AreForeignTypes unknown foreign types = EachAt (λ i def. i < unknown → IsForeignType foreign def) types
-
--- each of the first `foreign` interfaces lists types among the first `unknown` ones alone
-abbrev pub ListUnknownAlone : ℕ → ℕ → List Interface → Type 0
-ListUnknownAlone unknown foreign interfaces = EachAt (λ i (interface : Interface). i < foreign → Each (λ (e : List ℕ × ℕ). e.1 < unknown) interface.types) interfaces

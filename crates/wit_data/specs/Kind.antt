@@ -159,7 +159,10 @@ referred_in roles k = flat_map (λ (p : KindPart). if roles p.role then named_op
 abbrev pub type_references : List TypeDef → List (List ℕ)
 type_references types = map (λ (def : TypeDef). referred def.kind) types
 
--- the types that a function refers to: the resource that it belongs to, then those of its parameters
--- and of its result
+-- the types of the parameters and of the result of a function
+abbrev pub signature_types : Function → List ℕ
+signature_types f = flat_map (λ (p : Param). named_type p.ty) f.params ++ named_option f.result_
+
+-- the types that a function refers to: the resource that it belongs to, then those of its signature
 abbrev pub function_references : Function → List ℕ
-function_references f = option_to_list (resource_of f.kind) ++ (flat_map (λ (p : Param). named_type p.ty) f.params ++ named_option f.result_)
+function_references f = option_to_list (resource_of f.kind) ++ signature_types f

@@ -90,18 +90,14 @@ pub record IsOwn (types : List TypeDef) (by : TypeOwner) (id : ℕ) : Type 0 whe
   pub there : id < length types
   pub only : (other : TypeOwner) → NamesThroughUnnamed types id other → other ≡ by
 
--- other than as an alias
+-- a part of any role but that of what an alias names
 abbrev pub is_no_target : PartRole → Bool
 is_no_target Target = false
 is_no_target _ = true
 
--- what a kind refers to, other than as an alias
-abbrev pub parts : TypeDefKind → List ℕ
-parts k = referred_in is_no_target k
-
--- a named type refers to its owner's types alone, but for an alias
+-- a named type refers to its owner's types alone, other than as an alias
 abbrev pub RefersToOwn : List TypeDef → TypeDef → Type 0
-RefersToOwn types def = IsSome def.name → Each (IsOwn types def.owner) (parts def.kind)
+RefersToOwn types def = IsSome def.name → Each (IsOwn types def.owner) (referred_in is_no_target def.kind)
 
 -- a function refers to its owner's types alone
 abbrev pub UsesOwn : List TypeDef → TypeOwner → Function → Type 0

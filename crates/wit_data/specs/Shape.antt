@@ -6,13 +6,13 @@
 -- are the types of foreign interfaces, are the first types. A world that is foreign holds nothing, so it
 -- owns no type; an interface that is foreign has a name, so it isn't one that a world writes in place.
 -- Source: how wit-parser 0.263.0 builds its `UnresolvedPackage`, and the WIT page of the component model.
-use Rattle.std.specs.Prelude.{◌≡◌, ℕ, ◌<◌, List, map, drop, length, Option, None, IfSome, flat_map, option_to_list, bytes_eq}
+use Rattle.std.specs.Prelude.{◌≡◌, ℕ, ◌<◌, List, map, drop, length, Option, None, IfSome, flat_map, option_to_list, bytes_eq, ◌≤◌, ◌↔◌}
 use Rattle.std.specs.List.{IsDistinct}
 use Rattle.wit_values.specs.Table.{HasDistinctKeys}
 use Rattle.wit_digraph.specs.Relation.{IsAcyclic}
 use Rattle.wit_data.specs.Each.{Each, EachAt, SomeAt}
-use Rattle.wit_data.specs.Entries.{EntriesUseOwn, ExportsAreAllowed, ImportsAreAllowed, IncludesEarlier, StandOnce}
-use Rattle.wit_data.specs.Foreign.{ForeignItem, AreFirst, AreForeignTypes, AreUnknownFirst, IsForeign, ListUnknownAlone, foreign_interfaces, foreign_worlds}
+use Rattle.wit_data.specs.Entries.{EntriesUseOwn, ExportsAreAllowed, ImportsAreAllowed, StandOnce}
+use Rattle.wit_data.specs.Foreign.{ForeignItem, AreFirst, IsForeign, foreign_interfaces, foreign_worlds, IsForeignType}
 use Rattle.wit_data.specs.Ownership.{AliasesNamed, FunctionsUseOwn, IsListed, IsPlain, ListsOwn, NamesFunctions, RefersToOwn}
 use Rattle.wit_data.specs.Kind.{referred}
 use Rattle.wit_names.specs.PackageName.{HasValidVersion}
@@ -25,6 +25,7 @@ use Rattle.wit_data.specs.declared.unresolved.UnresolvedPackage.{UnresolvedPacka
 use Rattle.wit_data.specs.declared.unresolved.UnresolvedPackageGroup.{UnresolvedPackageGroup}
 use Rattle.wit_data.specs.declared.world.World.{World}
 use Rattle.wit_data.specs.declared.types.TypeDefKind.TheVariants as kind
+use Rattle.wit_data.specs.declared.world.WorldInclude.{WorldInclude}
 
 -- the names of the interfaces after the foreign ones
 abbrev pub interface_names : ℕ → List Interface → List (List ℕ)
@@ -59,11 +60,11 @@ pub record HasForeign (p : UnresolvedPackage) : Type 0 where
 -- what the package knows of the types of other packages
 pub record HasUnknown (p : UnresolvedPackage) : Type 0 where
   -- the types of kind `Unknown` are the first ones, with one span each
-  pub first : AreUnknownFirst (length p.unknown_type_spans) p.types
+  pub first : (length p.unknown_type_spans ≤ length p.types) × EachAt (λ i (def : TypeDef). (def.kind ≡ kind.Unknown) ↔ (i < length p.unknown_type_spans)) p.types
   -- they have names, and foreign interfaces own them
-  pub foreign : AreForeignTypes (length p.unknown_type_spans) (length (foreign_interfaces p.foreign_deps)) p.types
+  pub foreign : EachAt (λ i (def : TypeDef). i < length p.unknown_type_spans → IsForeignType (length (foreign_interfaces p.foreign_deps)) def) p.types
   -- a foreign interface lists no other types
-  pub alone : ListUnknownAlone (length p.unknown_type_spans) (length (foreign_interfaces p.foreign_deps)) p.interfaces
+  pub alone : EachAt (λ i (interface : Interface). i < length (foreign_interfaces p.foreign_deps) → Each (λ (e : List ℕ × ℕ). e.1 < length p.unknown_type_spans) interface.types) p.interfaces
   -- what has to be a resource is of kind `Unknown`
   pub required : Each (λ (r : ℕ × Option (ℕ × ℕ)). SomeAt p.types r.0 (λ (def : TypeDef). def.kind ≡ kind.Unknown)) p.required_resource_types
 
@@ -113,7 +114,7 @@ pub record HasUnresolvedWorlds (p : UnresolvedPackage) : Type 0 where
   -- an interface without a name stands in one place at most
   pub once : StandOnce p.interfaces p.worlds
   -- a world includes earlier worlds
-  pub includes : EachAt IncludesEarlier p.worlds
+  pub includes : EachAt (λ w (world : World). Each (λ (i : WorldInclude). i.id < w) world.includes) p.worlds
 
 -- nothing is said of the package that interfaces and worlds belong to
 pub record IsUnplaced (p : UnresolvedPackage) : Type 0 where

@@ -9,13 +9,12 @@ use Rattle.wit_values.specs.Version.{Parts}
 use Rattle.wit_digraph.specs.Relation.{Reaches, direct}
 use Rattle.wit_digraph.specs.PostOrder.{first_of_each, post_order}
 use Rattle.wit_data.specs.Each.{SomeAt}
-use Rattle.wit_data.specs.Kind.{KindPart, kind_parts, variant_of, named_option, named_type, referred_in}
+use Rattle.wit_data.specs.Kind.{KindPart, kind_parts, variant_of, referred_in, signature_types}
 use Rattle.wit_names.specs.Track.{track_suffix, track_text}
 use Rattle.wit_data.specs.Uses.{uses_of, interface_uses, type_interface_dep}
 use Rattle.wit_data.specs.declared.function.Function.{Function}
 use Rattle.wit_data.specs.declared.interface.Interface.{Interface}
 use Rattle.wit_names.specs.declared.package_name.PackageName.{PackageName}
-use Rattle.wit_data.specs.declared.function.Param.{Param}
 use Rattle.wit_data.specs.declared.kind.PartRole.{PartRole}
 use Rattle.wit_data.specs.declared.types.TypeDef.{TypeDef}
 use Rattle.wit_data.specs.declared.types.TypeDefKind.{TypeDefKind}
@@ -206,10 +205,6 @@ is_future_kind _ = false
 -- is the type at place t a future or a stream?
 abbrev pub is_future : List TypeDef → ℕ → Bool
 is_future types t = option_map_or (λ (def : TypeDef). is_future_kind def.kind) (slice_get types t) false
-
--- the types of the parameters and of the result of a function
-abbrev pub signature_types : Function → List ℕ
-signature_types f = flat_map (λ (p : Param). named_type p.ty) f.params ++ named_option f.result_
 
 -- the futures and streams that the values of a function's parameters and of its result hold, those inside
 -- others before them, with repeats

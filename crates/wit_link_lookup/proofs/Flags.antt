@@ -11,7 +11,7 @@ use Rattle.std.specs.Option.{option_map_or}
 use Rattle.wit_values.specs.facts.Lists.{slice_get-set, take-next_at}
 use Rattle.wit_data.specs.Each.{Each}
 use Rattle.wit_data.specs.facts.EachFacts.{flat_map-next}
-use Rattle.wit_data.specs.Foreign.{ForeignItem, ForeignItems, IsNameOnly, IsNameOnlyInterface, IsNameOnlyWorld, interface_id, world_id}
+use Rattle.wit_data.specs.Foreign.{ForeignItem, ForeignItems, IsNameOnly, interface_id, world_id}
 use Rattle.wit_data.specs.Shape.{IsShaped}
 use Rattle.wit_data.specs.declared.unresolved.AstItem.{AstItem}
 use Rattle.wit_data.specs.declared.interface.Interface.{Interface}
@@ -27,6 +27,7 @@ use Rattle.wit_link_spec.specs.facts.RangeFacts.{range-at, range-past}
 use Rattle.wit_link_spec.specs.declared.addition.Activity.{Activity}
 use Rattle.wit_link_lookup.specs.steps.FeatureSteps.{AreNamedFlags, HasFlag, IsMarked, is_marked, own_activity, own_interface_flag, own_world_flag, with_item}
 use Rattle.wit_link_lookup.proofs.ForeignGates.{named_ids, notes_none}
+use Rattle.wit_data.specs.steps.Parts.{IsNameOnlyInterface, IsNameOnlyWorld}
 
 -- ---- flags by their places
 

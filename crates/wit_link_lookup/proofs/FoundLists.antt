@@ -1,7 +1,7 @@
 -- What stands in the lists of what is found, and what is named of other packages.
 use Rattle.std.proofs.Common.{◌≡◌, ◌∙◌, ℕ, Bool, true, false, not, is_some, List, length, Option, Some, None, slice_get, refl, sym, ap}
 use Rattle.std.proofs.lemmas.Option.{slice_get_within}
-use Rattle.wit_data.specs.Foreign.{IsNameOnly, IsNameOnlyInterface, IsNameOnlyWorld, interface_id, world_id}
+use Rattle.wit_data.specs.Foreign.{IsNameOnly, interface_id, world_id}
 use Rattle.wit_data.specs.Shape.{IsShaped}
 use Rattle.wit_data.specs.declared.unresolved.AstItem.{AstItem}
 use Rattle.wit_names.specs.declared.package_name.PackageName.{PackageName}
@@ -18,6 +18,7 @@ use Rattle.wit_link_spec.specs.steps.AdditionRefs.{activity_of}
 use Rattle.wit_link_lookup.specs.steps.ForeignItems.{HasEntryFor, NamedItem, NamesItem, first_among, found_among, named_is_active}
 use Rattle.wit_link_lookup.proofs.PackageItems.{IsItemOf}
 use Rattle.wit_link_lookup.specs.declared.foreign.Found.{Found}
+use Rattle.wit_data.specs.steps.Parts.{IsNameOnlyInterface, IsNameOnlyWorld}
 
 module _ (a : Addition) (named : List NamedItem) (found : Found) (is : found ≡ found_among a named) where
   -- what the package has has an entry

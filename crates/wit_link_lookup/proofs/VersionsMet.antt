@@ -12,7 +12,7 @@ use Rattle.wit_digraph.specs.facts.MemberFacts.{Contains-cons_cases, Contains-fl
 use Rattle.wit_sources.specs.Span.{moved_by}
 use Rattle.wit_data.specs.Each.{Each, EachAt}
 use Rattle.wit_data.specs.Entries.{Entry}
-use Rattle.wit_data.specs.Foreign.{AreFirst, ForeignItem, ForeignItems, IsNameOnly, IsNameOnlyInterface, IsNameOnlyWorld, foreign_interfaces, foreign_worlds, interface_id, world_id}
+use Rattle.wit_data.specs.Foreign.{AreFirst, ForeignItem, ForeignItems, IsNameOnly, foreign_interfaces, foreign_worlds, interface_id, world_id}
 use Rattle.wit_data.specs.Stability.{IsStable}
 use Rattle.wit_data.specs.declared.unresolved.AstItem.{AstItem}
 use Rattle.wit_data.specs.declared.interface.Interface.{Interface}
@@ -35,6 +35,7 @@ use Rattle.wit_link_lookup.specs.steps.FeatureSteps.{Asks, HasReached, IsAt, IsC
 use Rattle.wit_link_lookup.specs.declared.checker.Checker.{Checker}
 use Rattle.wit_link_lookup.proofs.AskedGates.{take_member}
 use Rattle.wit_link_lookup.proofs.ForeignGates.{named_ids, named_ids-items, note_from, notes_alone}
+use Rattle.wit_data.specs.steps.Parts.{IsNameOnlyInterface, IsNameOnlyWorld}
 
 -- ---- refusals
 

@@ -6,7 +6,7 @@ use Rattle.std.proofs.lemmas.List.FromFn.{length-map-range_with_len}
 use Rattle.std.proofs.lemmas.Option.{slice_get_within}
 use Rattle.wit_digraph.specs.Relation.{IsAcyclic}
 use Rattle.wit_digraph.specs.facts.EarlierFacts.{IsAcyclic-earlier}
-use Rattle.wit_data.specs.Kind.{referred, type_references}
+use Rattle.wit_data.specs.Kind.{referred, type_references, signature_types}
 use Rattle.wit_data.specs.Shape.{IsShaped}
 use Rattle.wit_data.specs.Uses.{alias_target}
 use Rattle.wit_data.specs.declared.function.Function.{Function}
@@ -22,7 +22,7 @@ use Rattle.wit_link_spec.specs.facts.Standing.{own_type_remapped}
 use Rattle.wit_link_spec.specs.Gates.{is_active, type_is_active}
 use Rattle.wit_link_spec.specs.Lookup.{is_foreign_type}
 use Rattle.wit_link_spec.specs.Reasons.{IsResolved}
-use Rattle.wit_remap_spec.specs.Resources.{signature_positions, value_positions}
+use Rattle.wit_remap_spec.specs.Resources.{value_positions}
 use Rattle.wit_remap_spec.specs.Selected.{rank, selected}
 use Rattle.wit_link_spec.specs.steps.AdditionRefs.{new_ids_of}
 use Rattle.wit_link_spec.specs.steps.NewThings.{is_new}
@@ -103,7 +103,7 @@ module _ (a : Addition) (valid : IsValid a.graph) (shaped : IsShaped a.unresolve
         subst (λ (ids : List (Option ℕ)). IsRemapOf a.graph.types types ids functions (remap_of_addition a)) (sym ids_are)
         (subst (λ (fs : List Function). IsRemapOf a.graph.types types all_ids fs (remap_of_addition a)) (sym (functions_are ∙ active_own a shaped)) all_remapped)
 
-    pub positions_remapped : (t : ℕ) → Contains (flat_map (λ (def : TypeDef). value_positions def.kind) (selected (is_new first new_ids) types) ++ flat_map signature_positions functions) t → IsRemapped new_ids t
+    pub positions_remapped : (t : ℕ) → Contains (flat_map (λ (def : TypeDef). value_positions def.kind) (selected (is_new first new_ids) types) ++ flat_map signature_types functions) t → IsRemapped new_ids t
     positions_remapped t has =
         subst (λ (ids : List (Option ℕ)). IsRemapped ids t) (sym ids_are)
         (remapped t (position_active a shaped image t (subst (λ (l : List ℕ). Contains l t) (positions_same a.graph.types types new_ids functions (remap_of_addition a) is_remap) has)))

@@ -7,7 +7,7 @@ use Rattle.std.proofs.lemmas.Grind.{flat_map-append}
 use Rattle.wit_digraph.specs.facts.MemberFacts.{Contains-cons_cases, Contains-flat_map_cases, Contains-nil}
 use Rattle.wit_data.specs.Each.{SomeAt}
 use Rattle.wit_data.specs.Entries.{Entry}
-use Rattle.wit_data.specs.Foreign.{ForeignItem, IsForeign, IsNameOnlyInterface, IsNameOnlyWorld, foreign_interfaces, foreign_worlds, interface_id, world_id}
+use Rattle.wit_data.specs.Foreign.{ForeignItem, IsForeign, foreign_interfaces, foreign_worlds, interface_id, world_id}
 use Rattle.wit_data.specs.Shape.{IsShaped}
 use Rattle.wit_data.specs.declared.function.Function.{Function}
 use Rattle.wit_data.specs.declared.interface.Interface.{Interface}
@@ -26,6 +26,7 @@ use Rattle.wit_remap_spec.specs.Selected.{selected, selected_with_index}
 use Rattle.wit_remap_spec.specs.ValueRemap.{item_function, world_functions as functions_of}
 use Rattle.wit_link_resources.specs.steps.Active.{active_entries, active_functions, active_named, interface_functions, world_functions}
 use Rattle.wit_link_resources.proofs.Gathered.{gathered}
+use Rattle.wit_data.specs.steps.Parts.{IsNameOnlyInterface, IsNameOnlyWorld}
 
 -- ---- what is named of other packages is bare
 

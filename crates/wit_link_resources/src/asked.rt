@@ -2,10 +2,11 @@
 ghost use Rattle.std.specs.Prelude.{◌≡◌, ◌++◌, ◌<◌, All, IfOk, OnOk, length, map, nat_eq};
 ghost use Rattle.std.specs.List.{flat_map, list_any, range_with_len};
 ghost use Rattle.wit_data.specs.declared.types.TypeDef.{TypeDef};
-ghost use Rattle.wit_remap_spec.specs.Resources.{signature_positions, value_positions};
+ghost use Rattle.wit_remap_spec.specs.Resources.{value_positions};
 ghost use Rattle.wit_remap_spec.specs.Selected.{selected};
 ghost use Rattle.wit_link_resources.specs.steps.Active.{seen};
 ghost use Rattle.wit_link_resources.specs.steps.IncomingTypes.{new_of, positions_of};
+ghost use Rattle.wit_data.specs.Kind.{signature_types};
 
 use crate::incoming::Incoming;
 use std::alloc::{AllocError, Global};
@@ -87,7 +88,7 @@ fn value_positions(alloc: Global, kind: &TypeDefKind) -> Result<Items<TypeId>, A
 ///
 /// Source: `update_function` of wit-parser 0.263.0.
 fn push_signature(ids: &mut Items<TypeId>, function: &Function) -> Result<(), AllocError>
-    ensures { OnOk result (ids.new ≡ ids.old ++ signature_positions function.now) }
+    ensures { OnOk result (ids.new ≡ ids.old ++ signature_types function.now) }
 {
     for param in function.params.as_slice() {
         push_type(ids, param.ty)?;

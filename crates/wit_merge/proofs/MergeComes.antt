@@ -10,7 +10,7 @@ use Rattle.wit_elaboration.specs.Valid.{IsValid}
 use Rattle.wit_link_spec.specs.facts.NewFacts.{nothing_below}
 use Rattle.wit_link_spec.specs.facts.RangeFacts.{range-at, range-read}
 use Rattle.wit_link_spec.specs.facts.RankFacts.{rank-agree, selected-agree}
-use Rattle.wit_remap_spec.specs.Resources.{signature_positions, value_positions}
+use Rattle.wit_remap_spec.specs.Resources.{value_positions}
 use Rattle.wit_remap_spec.specs.Selected.{rank, selected}
 use Rattle.wit_link_spec.specs.steps.NewThings.{is_from, is_new}
 use Rattle.wit_merge_spec.specs.Matches.{GraphMerge, counterpart_type}
@@ -21,6 +21,7 @@ use Rattle.wit_link_resources.specs.steps.IncomingTypes.{CanCome, IsRemapOf, IsR
 use Rattle.wit_link_resources.specs.facts.IncomingLeads.{positions_same}
 use Rattle.wit_link_resources.specs.facts.Leads.{target_there}
 use Rattle.wit_merge.proofs.Positions.{position_there}
+use Rattle.wit_data.specs.Kind.{signature_types}
 
 module _ (m : GraphMerge) (valid : IsValid m.graph) (valid_other : IsValid m.other) where
   abbrev types : List TypeDef
@@ -96,7 +97,7 @@ module _ (m : GraphMerge) (valid : IsValid m.graph) (valid_other : IsValid m.oth
         subst (λ (ids : List (Option ℕ)). IsRemapOf m.graph.types types ids functions (remap_of_merge m)) (sym ids_are)
         (subst (λ (fs : List Function). IsRemapOf m.graph.types types all_ids fs (remap_of_merge m)) (sym functions_are) all_remapped)
 
-    pub positions_remapped : (t : ℕ) → Contains (flat_map (λ (def : TypeDef). value_positions def.kind) (selected (is_new first new_ids) types) ++ flat_map signature_positions functions) t → IsRemapped new_ids t
+    pub positions_remapped : (t : ℕ) → Contains (flat_map (λ (def : TypeDef). value_positions def.kind) (selected (is_new first new_ids) types) ++ flat_map signature_types functions) t → IsRemapped new_ids t
     positions_remapped t has =
         subst (λ (ids : List (Option ℕ)). IsRemapped ids t) (sym ids_are)
         (remapped t (position_there m valid_other t (subst (λ (l : List ℕ). Contains l t) (positions_same m.graph.types types new_ids functions (remap_of_merge m) is_remap) has)))

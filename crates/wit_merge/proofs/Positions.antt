@@ -6,7 +6,7 @@ use Rattle.std.proofs.lemmas.List.Elements.{All-contains, Contains-append_cases,
 use Rattle.wit_digraph.specs.facts.MemberFacts.{Contains-flat_map_cases}
 use Rattle.wit_digraph.specs.Relation.{direct}
 use Rattle.wit_data.specs.Function.{resource_of}
-use Rattle.wit_data.specs.Kind.{function_references, referred, type_references}
+use Rattle.wit_data.specs.Kind.{function_references, referred, type_references, signature_types}
 use Rattle.wit_data.specs.facts.ReferenceFacts.{in_referred}
 use Rattle.wit_data.specs.declared.function.Function.{Function}
 use Rattle.wit_data.specs.declared.types.TypeDef.{TypeDef}
@@ -15,15 +15,15 @@ use Rattle.wit_graph_data.specs.declared.graph.Graph.{Graph}
 use Rattle.wit_graph_theory.specs.facts.ListFacts.{from_map, in_row, place_of}
 use Rattle.wit_link_spec.specs.facts.RankFacts.{selected_with_index-from}
 use Rattle.wit_remap_spec.specs.Selected.{selected_with_index}
-use Rattle.wit_remap_spec.specs.Resources.{is_value, signature_positions, value_positions}
+use Rattle.wit_remap_spec.specs.Resources.{is_value, value_positions}
 use Rattle.wit_remap_spec.specs.ValueRemap.{positions}
 use Rattle.wit_merge_spec.specs.Matches.{GraphMerge}
 use Rattle.wit_merge_spec.specs.Merged.{moved_functions, moved_types, moves_type, remap_of_merge}
 use Rattle.wit_merge_laws.specs.facts.FunctionsThere.{moved_refers}
 
 -- a value position of a function is a reference of it
-signature_referred : (f : Function) (t : ℕ) → Contains (signature_positions f) t → Contains (function_references f) t
-signature_referred f t has = Contains-append_right (option_to_list (resource_of f.kind)) (signature_positions f) t has
+signature_referred : (f : Function) (t : ℕ) → Contains (signature_types f) t → Contains (function_references f) t
+signature_referred f t has = Contains-append_right (option_to_list (resource_of f.kind)) (signature_types f) t has
 
 -- what a type of a valid graph refers to is there
 references_there : (g : Graph) → IsValid g → (i : ℕ) (def : TypeDef) → slice_get g.types i ≡ Some def → (t : ℕ) → Contains (referred def.kind) t → t < length g.types
@@ -45,15 +45,15 @@ module _ (m : GraphMerge) (valid : IsValid m.other) where
       let at : slice_get m.other.types taken_from.0.0 ≡ Some def = is.0 ∙ ap Some taken_from.2 in
       references_there m.other valid taken_from.0.0 def at t (in_referred is_value def.kind t from.1.1)
 
-  function_there : (t : ℕ) → Contains (flat_map signature_positions (moved_functions m)) t → t < length m.other.types
+  function_there : (t : ℕ) → Contains (flat_map signature_types (moved_functions m)) t → t < length m.other.types
   function_there t has =
-      let from = Contains-flat_map_cases signature_positions (moved_functions m) t has in
+      let from = Contains-flat_map_cases signature_types (moved_functions m) t has in
       moved_refers m valid from.0 from.1.0 t (signature_referred from.0 t from.1.1)
 
   -- what stands at a value position is there
   pub position_there : (t : ℕ) → Contains (positions (remap_of_merge m)) t → t < length m.other.types
   position_there t has =
-      elim (Contains-append_cases (flat_map (λ (def : TypeDef). value_positions def.kind) (moved_types m)) (flat_map signature_positions (moved_functions m)) t has) [
+      elim (Contains-append_cases (flat_map (λ (def : TypeDef). value_positions def.kind) (moved_types m)) (flat_map signature_types (moved_functions m)) t has) [
         | inl of_type ↦ type_there t of_type
         | inr of_function ↦ function_there t of_function
       ]

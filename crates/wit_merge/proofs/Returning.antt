@@ -5,7 +5,7 @@ use Rattle.std.proofs.lemmas.List.Elements.{Contains-append_right}
 use Rattle.std.proofs.lemmas.Option.{slice_get_within}
 use Rattle.wit_digraph.specs.facts.MemberFacts.{Contains-cons_cases, Contains-here, Contains-nil}
 use Rattle.wit_data.specs.Function.{resource_of}
-use Rattle.wit_data.specs.Kind.{named_option, named_type}
+use Rattle.wit_data.specs.Kind.{named_option, named_type, signature_types}
 use Rattle.wit_data.specs.declared.function.Function.{Function}
 use Rattle.wit_data.specs.declared.function.Param.{Param}
 use Rattle.wit_data.specs.declared.types.TypeDef.{TypeDef}
@@ -19,7 +19,6 @@ use Rattle.wit_remap_spec.specs.Image.{Maps, function_image, value_image}
 use Rattle.wit_graph_theory.specs.facts.ListFacts.{Contains-map_cases, found_at, get_at}
 use Rattle.wit_graph_theory.specs.steps.Sources.{Stands}
 use Rattle.wit_remap_spec.specs.Borrows.{borrow_text, HoldsBorrow}
-use Rattle.wit_remap_spec.specs.Resources.{signature_positions}
 use Rattle.wit_remap_spec.specs.ValueRemap.{value_id}
 use Rattle.wit_merge_spec.specs.Matches.{GraphMerge}
 use Rattle.wit_merge_spec.specs.Merged.{merge_maps, merged_type, moved_functions, remap_of_merge, joined_graph}
@@ -48,7 +47,7 @@ module _ (m : GraphMerge) (valid : IsValid m.graph) (valid_other : IsValid m.oth
       let values : List ℕ = flat_map (λ (p : Param). named_type p.ty) f.params in
       let one : t ∷ [] ≡ named_option f.result_ = ap (λ (x : Option ℕ). option_to_list x) (sym some) ∙ is in
       let has : Contains (named_option f.result_) t = subst (λ (ids : List ℕ). Contains ids t) one (Contains-here t []) in
-      moved_refers m valid_other f moved t (Contains-append_right (option_to_list (resource_of f.kind)) (signature_positions f) t (Contains-append_right values (named_option f.result_) t has))
+      moved_refers m valid_other f moved t (Contains-append_right (option_to_list (resource_of f.kind)) (signature_types f) t (Contains-append_right values (named_option f.result_) t has))
 
   -- and where a value of it goes there is a type
   pub value_there : (t : ℕ) → t < length m.other.types → value_id (remap_of_merge m) t < length (joined_graph m).types
@@ -69,7 +68,7 @@ module _ (m : GraphMerge) (valid : IsValid m.graph) (valid_other : IsValid m.oth
       let values : List ℕ = flat_map (λ (p : Param). named_type p.ty) f.params in
       let from = Contains-map_cases (value_id (remap_of_merge m)) (named_option f.result_) t' (subst (λ (ids : List ℕ). Contains ids t') (option_image (merge_maps m) f.result_) names) in
       let within : from.0 < length m.other.types =
-      moved_refers m valid_other f moved from.0 (Contains-append_right (option_to_list (resource_of f.kind)) (signature_positions f) from.0 (Contains-append_right values (named_option f.result_) from.0 from.1)) in
+      moved_refers m valid_other f moved from.0 (Contains-append_right (option_to_list (resource_of f.kind)) (signature_types f) from.0 (Contains-append_right values (named_option f.result_) from.0 from.1)) in
       subst (λ (x : ℕ). x < length (joined_graph m).types) from.2 (value_there from.0 within)
 
 -- ---- what is told of one function

@@ -1,14 +1,12 @@
 -- Which types are resources or other names of resources, and where values ask for an unnamed `own`: a value
 -- whose type leads to a resource is written `own` of it.
 -- Source: `update_ty` of wit-parser 0.263.0; handles on the WIT page of the component model.
-use Rattle.std.specs.Prelude.{ℕ, Bool, true, false, List, ◌++◌, slice_get, None, flat_map}
+use Rattle.std.specs.Prelude.{ℕ, Bool, true, false, List, slice_get, None}
 use Rattle.std.specs.List.{list_any}
 use Rattle.std.specs.Option.{option_map_or}
 use Rattle.wit_digraph.specs.PostOrder.{post_order}
 use Rattle.wit_data.specs.New.{new_type}
-use Rattle.wit_data.specs.Kind.{named_option, named_type, referred_in}
-use Rattle.wit_data.specs.declared.function.Function.{Function}
-use Rattle.wit_data.specs.declared.function.Param.{Param}
+use Rattle.wit_data.specs.Kind.{referred_in}
 use Rattle.wit_data.specs.declared.kind.PartRole.{PartRole}
 use Rattle.wit_data.specs.declared.types.TypeDef.{TypeDef}
 use Rattle.wit_data.specs.declared.types.TypeDefKind.{TypeDefKind}
@@ -38,10 +36,6 @@ is_value _ = false
 -- the types at the value positions of a kind: all that it names, but not what an alias or a handle names
 abbrev pub value_positions : TypeDefKind → List ℕ
 value_positions k = referred_in is_value k
-
--- the types at the value positions of a function: its parameters and its result
-abbrev pub signature_positions : Function → List ℕ
-signature_positions f = flat_map (λ (p : Param). named_type p.ty) f.params ++ named_option f.result_
 
 -- the unnamed `own` of a type
 abbrev pub own_of : ℕ → TypeDef

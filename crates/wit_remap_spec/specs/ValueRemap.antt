@@ -11,8 +11,9 @@ use Rattle.wit_data.specs.declared.world.World.{World}
 use Rattle.wit_data.specs.declared.world.WorldItem.{WorldItem}
 use Rattle.wit_data.specs.declared.world.WorldItem.TheVariants as item
 use Rattle.wit_remap_spec.specs.Image.{Maps, type_image}
-use Rattle.wit_remap_spec.specs.Resources.{leads_to_resource, own_of, signature_positions, value_positions}
+use Rattle.wit_remap_spec.specs.Resources.{leads_to_resource, own_of, value_positions}
 use Rattle.wit_remap_spec.specs.Selected.{rank}
+use Rattle.wit_data.specs.Kind.{signature_types}
 
 -- what comes into a graph
 pub record ValueRemap : Type 0 where
@@ -48,7 +49,7 @@ types_without_owns r = r.graph_types ++ map (type_image r.ids) r.new_types
 
 -- the types at the value positions of what comes
 abbrev pub positions : ValueRemap → List ℕ
-positions r = flat_map (λ (def : TypeDef). value_positions def.kind) r.new_types ++ flat_map signature_positions r.new_functions
+positions r = flat_map (λ (def : TypeDef). value_positions def.kind) r.new_types ++ flat_map signature_types r.new_functions
 
 -- does a value ask for an `own` of type t?
 abbrev pub needs_own : ValueRemap → ℕ → Bool

@@ -10,7 +10,7 @@ use Rattle.wit_data.specs.Each.{Each, SomeAt}
 use Rattle.wit_data.specs.facts.EachFacts.{SomeAt-of}
 use Rattle.wit_data.specs.facts.WorldKeyFacts.{key_is, same_key}
 use Rattle.wit_data.specs.Entries.{IsExport, IsImport, ItemUsesOwn}
-use Rattle.wit_data.specs.Ownership.{IsListed, IsNamedInterface, IsOwn, IsPlain, IsTypeOf, UsesOwn, entry_type, parts, world_types}
+use Rattle.wit_data.specs.Ownership.{IsListed, IsNamedInterface, IsOwn, IsPlain, IsTypeOf, UsesOwn, entry_type, world_types}
 use Rattle.wit_data.specs.Kind.{referred}
 use Rattle.wit_data.specs.Uses.{alias_target, other_owner}
 use Rattle.wit_data.specs.declared.function.Function.{Function}
@@ -30,6 +30,7 @@ use Rattle.wit_script_package.specs.Adding.{empty_interface, empty_world, type_w
 use Rattle.wit_script_package.specs.declared.draft.LineContext.{LineContext}
 use Rattle.wit_script_package.proofs.Places.{Each-nil, EachAt-push, EachAt-set, append_other, at_old, distinct-push, if-some-at, set-moves, set_other, some-within}
 use Rattle.wit_script_package.proofs.Things.{AreGood, Grows, IsGoodInterface, IsGoodType, IsGoodWorld, IsUse, ListsMore, MayName, Things, WorldListsMore, aliases-stay, all_interfaces-stay, all_types-stay, all_worlds-stay, good-earlier, good_interface-stays, good_world-stays, owns-stay, plain_alias, dep-is}
+use Rattle.wit_data.specs.steps.Parts.{parts}
 
 -- what the kind of a type with a name may be, whose owner is this
 pub record IsNamedKind (s : Things) (by : TypeOwner) (k : TypeDefKind) : Type 0 where

@@ -16,8 +16,8 @@ use Rattle.wit_data.specs.Each.{Each, EachAt, SomeAt}
 use Rattle.wit_data.specs.facts.EachFacts.{EachAt-nil, SomeAt-of}
 use Rattle.wit_names.specs.facts.PackageNameFacts.{own_name, same_name, same_package-Decides}
 use Rattle.wit_data.specs.Entries.{IsExport, IsImport, ItemUsesOwn}
-use Rattle.wit_data.specs.Foreign.{ForeignItem, ForeignItems, IsForeign, IsForeignType, IsNameOnly, IsNameOnlyInterface, IsNameOnlyWorld, foreign_interfaces, foreign_worlds, interface_id, world_id}
-use Rattle.wit_data.specs.Ownership.{IsListed, IsOwn, IsTypeOf, UsesOwn, parts}
+use Rattle.wit_data.specs.Foreign.{ForeignItem, ForeignItems, IsForeign, IsForeignType, IsNameOnly, foreign_interfaces, foreign_worlds, interface_id, world_id}
+use Rattle.wit_data.specs.Ownership.{IsListed, IsOwn, IsTypeOf, UsesOwn}
 use Rattle.wit_names.specs.PackageName.{HasValidVersion, same_package}
 use Rattle.wit_data.specs.Kind.{referred}
 use Rattle.wit_data.specs.Uses.{alias_target}
@@ -55,6 +55,7 @@ use Rattle.wit_script_package.proofs.Places.{Each-from_all, Each-nil, EachAt-pus
 use Rattle.wit_script_package.proofs.Sound.{IsOpenOwn, IsSound, interface_count, things, world_count}
 use Rattle.wit_script_package.proofs.Things.{IsGoodInterface, IsGoodType, IsGoodWorld, dep-is}
 use Rattle.wit_script_lines.specs.facts.OptionFacts.{map-of, step-of}
+use Rattle.wit_data.specs.steps.Parts.{parts, IsNameOnlyInterface, IsNameOnlyWorld}
 
 -- ---- what holds while mentions are added
 

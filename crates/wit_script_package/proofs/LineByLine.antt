@@ -7,8 +7,8 @@ use Rattle.std.proofs.lemmas.Option.{slice_get_within}
 use Rattle.wit_data.specs.Each.{Each, SomeAt}
 use Rattle.wit_data.specs.facts.EachFacts.{SomeAt-is, SomeAt-of}
 use Rattle.wit_data.specs.Entries.{IsExport, IsImport}
-use Rattle.wit_data.specs.Foreign.{ForeignItem, IsNameOnly, IsNameOnlyInterface}
-use Rattle.wit_data.specs.Ownership.{IsNamed, IsNamedInterface, IsOwn, IsTypeOf, UsesOwn, is_no_target, parts}
+use Rattle.wit_data.specs.Foreign.{ForeignItem, IsNameOnly}
+use Rattle.wit_data.specs.Ownership.{IsNamed, IsNamedInterface, IsOwn, IsTypeOf, UsesOwn, is_no_target}
 use Rattle.wit_data.specs.facts.KindFacts.{roles_are}
 use Rattle.wit_data.specs.facts.ReferenceFacts.{all_referred, record_refers}
 use Rattle.wit_names.specs.PackageName.{same_package}
@@ -50,6 +50,7 @@ use Rattle.wit_script_package.proofs.Makes.{AreOwn, IsMadeKind, fields-made, fun
 use Rattle.wit_script_package.proofs.Places.{Each-nil, SomeAt-moved, get_at, if-some, if-some-at, lookup-at, same_at, some-within}
 use Rattle.wit_script_package.proofs.Sound.{IsSound, open_interface-is, open_owner, owner_by, sound-export, sound-function, sound-import, sound-include, sound-interface, sound-named, sound-world, things}
 use Rattle.wit_script_lines.specs.facts.OptionFacts.{map-of, same-some, step-of}
+use Rattle.wit_data.specs.steps.Parts.{parts, IsNameOnlyInterface}
 
 -- ---- kinds of types with a name
 

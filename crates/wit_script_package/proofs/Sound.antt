@@ -10,7 +10,7 @@ use Rattle.wit_values.specs.Table.{HasDistinctKeys}
 use Rattle.wit_digraph.specs.facts.MemberFacts.{Contains-flat_map, Contains-here}
 use Rattle.wit_data.specs.Each.{Each, SomeAt}
 use Rattle.wit_data.specs.Entries.{IsExport, IsImport, ItemUsesOwn}
-use Rattle.wit_data.specs.Foreign.{ForeignItem, ForeignItems, IsForeign, IsNameOnly, IsNameOnlyInterface, IsNameOnlyWorld, foreign_interfaces, foreign_worlds, interface_id, world_id}
+use Rattle.wit_data.specs.Foreign.{ForeignItem, ForeignItems, IsForeign, IsNameOnly, foreign_interfaces, foreign_worlds, interface_id, world_id}
 use Rattle.wit_data.specs.Ownership.{UsesOwn}
 use Rattle.wit_data.specs.Shape.{interface_names, world_names}
 use Rattle.wit_data.specs.declared.unresolved.AstItem.{AstItem}
@@ -41,6 +41,7 @@ use Rattle.wit_script_package.proofs.Added.{IsNamedKind, good-begun, good-called
 use Rattle.wit_script_package.proofs.Places.{Each-contains, EachAt-push, contained_at, new-is, told-push, told-set}
 use Rattle.wit_script_package.proofs.Things.{AreGood, Grows, Things, good-earlier, type-stays}
 use Rattle.wit_script_lines.specs.facts.OptionFacts.{map-of, same-some, step-of}
+use Rattle.wit_data.specs.steps.Parts.{IsNameOnlyInterface, IsNameOnlyWorld}
 
 abbrev pub things : Draft → Things
 things p = record { types = p.types; interfaces = p.interfaces; worlds = p.worlds }

@@ -6,7 +6,7 @@ use Rattle.wit_values.specs.Table.{HasDistinctKeys}
 use Rattle.wit_data.specs.Each.{Each, EachAt, SomeAt}
 use Rattle.wit_data.specs.Entries.{EntriesUseOwn, ExportsAreAllowed, ImportsAreAllowed, IsExport, IsImport, ItemUsesOwn}
 use Rattle.wit_data.specs.Foreign.{IsForeignType}
-use Rattle.wit_data.specs.Ownership.{AliasesNamed, FunctionsUseOwn, IsListed, IsNamed, IsNamedInterface, IsOwn, IsPlain, ListsOwn, NamesFunctions, RefersToOwn, parts, world_types}
+use Rattle.wit_data.specs.Ownership.{AliasesNamed, FunctionsUseOwn, IsListed, IsNamed, IsNamedInterface, IsOwn, IsPlain, ListsOwn, NamesFunctions, RefersToOwn, world_types}
 use Rattle.wit_data.specs.Kind.{function_references, referred}
 use Rattle.wit_data.specs.Uses.{alias_target, other_owner, type_interface_dep}
 use Rattle.wit_data.specs.declared.interface.Interface.{Interface}
@@ -24,6 +24,7 @@ use Rattle.wit_data.specs.declared.world.WorldKey.TheVariants as key
 use Rattle.wit_script_package.proofs.Owned.{AreAmong, ReferToEarlier, own-stays}
 use Rattle.wit_script_package.proofs.Places.{SomeAt-moved, get_at, if-some, same_at}
 use Rattle.wit_script_lines.specs.facts.OptionFacts.{same-some, step-of}
+use Rattle.wit_data.specs.steps.Parts.{parts}
 
 -- the lists of a package
 pub record Things : Type 0 where

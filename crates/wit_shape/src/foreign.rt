@@ -1,9 +1,10 @@
 //! What an unresolved package knows of other packages.
 ghost use Rattle.std.specs.Prelude.{◌≡◌, ◌↔◌, List, IfOk, IsTrue};
 ghost use Rattle.wit_data.specs.Each.{Each};
-ghost use Rattle.wit_data.specs.Foreign.{ForeignItem, IsForeign, IsNameOnly, IsNameOnlyInterface, IsNameOnlyWorld, foreign_interfaces, foreign_worlds};
+ghost use Rattle.wit_data.specs.Foreign.{ForeignItem, IsForeign, IsNameOnly, foreign_interfaces, foreign_worlds};
 ghost use Rattle.wit_data.specs.Shape.{HasForeign};
 ghost use Rattle.wit_names.specs.declared.package_name.PackageName.{PackageName};
+ghost use Rattle.wit_data.specs.steps.Parts.{IsNameOnlyInterface, IsNameOnlyWorld};
 
 use crate::names::{has_name, is_text};
 use crate::numbers::are_first;

@@ -2,13 +2,14 @@
 ghost use Rattle.std.specs.Prelude.{◌≡◌, ◌↔◌, IfOk, IsTrue};
 ghost use Rattle.wit_data.specs.Each.{Each, EachAt};
 ghost use Rattle.wit_data.specs.Entries.{EntriesUseOwn, ItemUsesOwn};
-ghost use Rattle.wit_data.specs.Ownership.{FunctionsUseOwn, IsOwn, RefersToOwn, UsesOwn, parts};
+ghost use Rattle.wit_data.specs.Ownership.{FunctionsUseOwn, IsOwn, RefersToOwn, UsesOwn};
 ghost use Rattle.wit_data.specs.Kind.{type_references};
 ghost use Rattle.wit_data.specs.Shape.{KeepsToOwn};
 ghost use Rattle.wit_shape.specs.steps.NamedOwners.{AreNamedOwners};
 ghost use Rattle.wit_data.specs.declared.types.TypeOwner.TheVariants as owner;
 ghost use Rattle.wit_data.specs.declared.world.World.{World};
 ghost use Rattle.wit_digraph.specs.Relation.{IsAcyclic};
+ghost use Rattle.wit_data.specs.steps.Parts.{parts};
 
 use crate::named_owners::{NamedOwners, is_own, shown_by_each};
 use std::alloc::{AllocError, Global};

@@ -1,10 +1,11 @@
 //! What an unresolved package knows of the types of other packages: types of kind `Unknown`.
 ghost use Rattle.std.specs.Prelude.{◌≡◌, ◌↔◌, ◌<◌, ℕ, List, length, Option, IsTrue};
 ghost use Rattle.wit_data.specs.Each.{Each, EachAt, SomeAt};
-ghost use Rattle.wit_data.specs.Foreign.{AreForeignTypes, AreUnknownFirst, IsForeignType, ListUnknownAlone, foreign_interfaces};
+ghost use Rattle.wit_data.specs.Foreign.{IsForeignType, foreign_interfaces};
 ghost use Rattle.wit_data.specs.Shape.{HasUnknown};
 ghost use Rattle.wit_data.specs.declared.types.TypeDef.{TypeDef};
 ghost use Rattle.wit_data.specs.declared.types.TypeDefKind.TheVariants as kind;
+ghost use Rattle.wit_data.specs.steps.Parts.{AreUnknownFirst, AreForeignTypes, ListUnknownAlone};
 
 use wit_data::{Interface, TypeDef, TypeDefKind, TypeId, TypeOwner, UnresolvedPackage};
 use wit_sources::Span;

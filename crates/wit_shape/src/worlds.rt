@@ -1,8 +1,9 @@
 //! What worlds import, export and include.
 ghost use Rattle.std.specs.Prelude.{◌≡◌, ◌↔◌, ◌++◌, filter, IfOk, OnOk, IsTrue};
 ghost use Rattle.wit_data.specs.Each.{Each, EachAt};
-ghost use Rattle.wit_data.specs.Entries.{ExportsAreAllowed, ImportsAreAllowed, IncludesEarlier, IsExport, IsImport, StandOnce, interfaces_in_worlds, interfaces_of_entries, is_unnamed, item_interface};
+ghost use Rattle.wit_data.specs.Entries.{ExportsAreAllowed, ImportsAreAllowed, IsExport, IsImport, StandOnce, interfaces_in_worlds, interfaces_of_entries, is_unnamed, item_interface};
 ghost use Rattle.wit_data.specs.Shape.{HasUnresolvedWorlds};
+ghost use Rattle.wit_data.specs.steps.Parts.{IncludesEarlier};
 
 use crate::names::is_text;
 use crate::numbers::are_distinct;

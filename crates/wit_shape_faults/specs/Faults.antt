@@ -4,8 +4,8 @@ use Rattle.std.specs.Prelude.{◌≡◌, ◌↔◌, ℕ, ◌<◌, ◌≤◌, ◌
 use Rattle.std.specs.List.{IsDistinct}
 use Rattle.wit_digraph.specs.Relation.{IsAcyclic}
 use Rattle.wit_data.specs.Each.{Each, EachAt, SomeAt}
-use Rattle.wit_data.specs.Entries.{EntriesUseOwn, Entry, ExportsAreAllowed, ImportsAreAllowed, IncludesEarlier, IsExport, IsImport, ItemUsesOwn, StandOnce, interfaces_in_worlds, is_unnamed}
-use Rattle.wit_data.specs.Foreign.{AreFirst, AreForeignTypes, AreUnknownFirst, ForeignItem, IsForeign, IsForeignType, ListUnknownAlone, foreign_interfaces, foreign_worlds}
+use Rattle.wit_data.specs.Entries.{EntriesUseOwn, Entry, ExportsAreAllowed, ImportsAreAllowed, IsExport, IsImport, ItemUsesOwn, StandOnce, interfaces_in_worlds, is_unnamed}
+use Rattle.wit_data.specs.Foreign.{AreFirst, ForeignItem, IsForeign, IsForeignType, foreign_interfaces, foreign_worlds}
 use Rattle.wit_data.specs.Kind.{referred}
 use Rattle.wit_data.specs.Ownership.{AliasesNamed, FunctionsUseOwn, IsListed, IsPlain, IsTypeOf, ListsOwn, NamesFunctions, RefersToOwn, UsesOwn}
 use Rattle.wit_data.specs.Shape.{interface_names, world_names}
@@ -85,9 +85,9 @@ Holds p clause.ForeignSpans = length p.foreign_dep_spans ≡ length p.foreign_de
 Holds p clause.ForeignInterfaces = AreFirst (foreign_interfaces p.foreign_deps) (length p.interfaces)
 Holds p clause.ForeignWorlds = AreFirst (foreign_worlds p.foreign_deps) (length p.worlds)
 Holds p clause.ForeignBare = Each (λ (e : PackageName × List ForeignItem). Each (IsForeign p.interfaces p.worlds) e.1) p.foreign_deps
-Holds p clause.UnknownFirst = AreUnknownFirst (unknown_count p) p.types
-Holds p clause.UnknownForeign = AreForeignTypes (unknown_count p) (foreign_interface_count p) p.types
-Holds p clause.UnknownAlone = ListUnknownAlone (unknown_count p) (foreign_interface_count p) p.interfaces
+Holds p clause.UnknownFirst = (unknown_count p ≤ length p.types) × EachAt (λ i (def : TypeDef). (def.kind ≡ kind.Unknown) ↔ (i < unknown_count p)) p.types
+Holds p clause.UnknownForeign = EachAt (λ i (def : TypeDef). i < unknown_count p → IsForeignType (foreign_interface_count p) def) p.types
+Holds p clause.UnknownAlone = EachAt (λ i (interface : Interface). i < foreign_interface_count p → Each (λ (e : List ℕ × ℕ). e.1 < unknown_count p) interface.types) p.interfaces
 Holds p clause.UnknownRequired = Each (λ (r : ℕ × Option (ℕ × ℕ)). SomeAt p.types r.0 (λ (def : TypeDef). def.kind ≡ kind.Unknown)) p.required_resource_types
 Holds p clause.NamesNamespace = IsKebabName p.name.namespace
 Holds p clause.NamesOwn = IsKebabName p.name.name
@@ -109,7 +109,7 @@ Holds p clause.OwnExports = EachAt (λ w (world : World). EntriesUseOwn p.types 
 Holds p clause.WorldsImports = EachAt (ImportsAreAllowed p.interfaces p.types) p.worlds
 Holds p clause.WorldsExports = Each (ExportsAreAllowed p.interfaces) p.worlds
 Holds p clause.WorldsOnce = StandOnce p.interfaces p.worlds
-Holds p clause.WorldsIncludes = EachAt IncludesEarlier p.worlds
+Holds p clause.WorldsIncludes = EachAt (λ w (world : World). Each (λ (include : WorldInclude). include.id < w) world.includes) p.worlds
 Holds p clause.Uses = IsAcyclic (uses_of p.types p.interfaces)
 
 -- the id is below the number of ids and that of things, and none of the ids before it

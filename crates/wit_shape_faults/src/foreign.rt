@@ -1,11 +1,12 @@
 //! What a package knows of other packages.
 ghost use Rattle.std.specs.Prelude.{◌≡◌, ◌↔◌, IfOk, IsTrue};
 ghost use Rattle.wit_data.specs.Each.{Each};
-ghost use Rattle.wit_data.specs.Foreign.{AreFirst, IsForeign, IsNameOnly, IsNameOnlyInterface, IsNameOnlyWorld};
+ghost use Rattle.wit_data.specs.Foreign.{AreFirst, IsForeign, IsNameOnly};
 ghost use Rattle.wit_shape_faults.specs.Faults.{IsNewFirst};
 ghost use Rattle.wit_shape_faults.specs.First.{AtFirst, AtFirstId};
 ghost use Rattle.wit_shape_faults.specs.declared.clause.ShapeClause.TheVariants.{ForeignBare, ForeignInterfaces, ForeignSpans, ForeignWorlds};
 ghost use Rattle.wit_shape_faults.specs.steps.Telling.{IsTold, Tells};
+ghost use Rattle.wit_data.specs.steps.Parts.{IsNameOnlyInterface, IsNameOnlyWorld};
 
 use crate::place::ShapePlace;
 use std::alloc::{AllocError, Global};

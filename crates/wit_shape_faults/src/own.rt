@@ -3,7 +3,7 @@ ghost use Rattle.std.specs.Prelude.{◌≡◌, ◌↔◌, ℕ, List, IfOk, IsTru
 ghost use Rattle.wit_data.specs.Each.{Each};
 ghost use Rattle.wit_data.specs.Entries.{EntriesUseOwn, Entry, ItemUsesOwn};
 ghost use Rattle.wit_data.specs.Kind.{type_references};
-ghost use Rattle.wit_data.specs.Ownership.{FunctionsUseOwn, IsOwn, RefersToOwn, UsesOwn, parts};
+ghost use Rattle.wit_data.specs.Ownership.{FunctionsUseOwn, IsOwn, RefersToOwn, UsesOwn};
 ghost use Rattle.wit_data.specs.declared.function.Function.{Function};
 ghost use Rattle.wit_data.specs.declared.types.TypeOwner.TheVariants as owners;
 ghost use Rattle.wit_digraph.specs.Relation.{IsAcyclic};
@@ -11,6 +11,7 @@ ghost use Rattle.wit_shape.specs.steps.NamedOwners.{AreNamedOwners};
 ghost use Rattle.wit_shape_faults.specs.First.{AtFirst};
 ghost use Rattle.wit_shape_faults.specs.declared.clause.ShapeClause.TheVariants.{OwnExports, OwnFunctions, OwnImports, OwnTypes};
 ghost use Rattle.wit_shape_faults.specs.steps.Telling.{IsTold, Tells};
+ghost use Rattle.wit_data.specs.steps.Parts.{parts};
 
 use crate::place::ShapePlace;
 use std::alloc::{AllocError, Global};

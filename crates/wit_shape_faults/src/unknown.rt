@@ -1,13 +1,14 @@
 //! What a package knows of the types of other packages.
 ghost use Rattle.std.specs.Prelude.{◌≡◌, ◌↔◌, ◌<◌, ℕ, List, IfOk, IsTrue};
 ghost use Rattle.wit_data.specs.Each.{Each, SomeAt};
-ghost use Rattle.wit_data.specs.Foreign.{AreUnknownFirst, IsForeignType};
+ghost use Rattle.wit_data.specs.Foreign.{IsForeignType};
 ghost use Rattle.wit_data.specs.declared.types.TypeDef.{TypeDef};
 ghost use Rattle.wit_data.specs.declared.types.TypeDefKind.TheVariants as kind;
 ghost use Rattle.wit_shape_faults.specs.Faults.{foreign_interface_count};
 ghost use Rattle.wit_shape_faults.specs.First.{AtFirst};
 ghost use Rattle.wit_shape_faults.specs.declared.clause.ShapeClause.TheVariants.{UnknownAlone, UnknownFirst, UnknownForeign, UnknownRequired};
 ghost use Rattle.wit_shape_faults.specs.steps.Telling.{IsTold, Tells};
+ghost use Rattle.wit_data.specs.steps.Parts.{AreUnknownFirst};
 
 use crate::place::ShapePlace;
 use std::alloc::{AllocError, Global};

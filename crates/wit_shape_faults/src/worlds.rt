@@ -2,11 +2,12 @@
 ghost use Rattle.std.specs.Prelude.{◌≡◌, ◌↔◌, ◌++◌, ◌<◌, ℕ, filter, take, Contains, IfOk, OnOk, IsTrue, nat_eq};
 ghost use Rattle.std.specs.List.{IsDistinct};
 ghost use Rattle.wit_data.specs.Each.{Each};
-ghost use Rattle.wit_data.specs.Entries.{Entry, ExportsAreAllowed, ImportsAreAllowed, IncludesEarlier, IsExport, IsImport, interfaces_in_worlds, interfaces_of_entries, is_unnamed, item_interface};
+ghost use Rattle.wit_data.specs.Entries.{Entry, ExportsAreAllowed, ImportsAreAllowed, IsExport, IsImport, interfaces_in_worlds, interfaces_of_entries, is_unnamed, item_interface};
 ghost use Rattle.wit_data.specs.declared.world.WorldInclude.{WorldInclude};
 ghost use Rattle.wit_shape_faults.specs.First.{AtFirst, AtFirstId};
 ghost use Rattle.wit_shape_faults.specs.declared.clause.ShapeClause.TheVariants.{WorldsExports, WorldsImports, WorldsIncludes, WorldsOnce};
 ghost use Rattle.wit_shape_faults.specs.steps.Telling.{IsTold, Tells};
+ghost use Rattle.wit_data.specs.steps.Parts.{IncludesEarlier};
 
 use crate::owners::is_type_of;
 use crate::place::ShapePlace;

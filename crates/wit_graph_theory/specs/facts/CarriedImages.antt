@@ -1,6 +1,5 @@
 -- What is carried: an image, and what stays.
 use Rattle.std.proofs.Common.{◌≡◌, ◌∙◌, inl, ℕ, List, Option, None, Some, option_map, refl, sym, ap, subst}
-use Rattle.wit_data.specs.Ownership.{parts}
 use Rattle.wit_data.specs.Kind.{function_references, referred}
 use Rattle.wit_data.specs.Uses.{alias_target}
 use Rattle.wit_data.specs.declared.function.Function.{Function}
@@ -13,6 +12,7 @@ use Rattle.wit_remap_spec.specs.Image.{Maps, function_image, identity, name_imag
 use Rattle.wit_graph_theory.specs.facts.Referred.{RefersUnder}
 use Rattle.wit_graph_theory.specs.steps.Sources.{IsCarriedFunction, IsCarriedType, Source, Stands}
 use Rattle.wit_graph_theory.specs.facts.ReferredFacts.{alias_image, function_refers, kind_refers, known_image, parts_refer, plain_image}
+use Rattle.wit_data.specs.steps.Parts.{parts}
 
 pub from_mapped : (f : ℕ → ℕ) (o : Option ℕ) (t' : ℕ) → option_map f o ≡ Some t' → (t : ℕ) × (o ≡ Some t) × (t' ≡ f t)
 from_mapped f None t' is = cc

@@ -2,7 +2,7 @@
 use Rattle.std.proofs.Common.{◌≡◌, ◌∙◌, ◌⊎◌, inl, inr, ℕ, true, List, [], Option, None, Some, option_map, slice_get, refl, sym, ap, subst, Contains, IsSome, IfSome}
 use Rattle.wit_digraph.specs.facts.MemberFacts.{Contains-here}
 use Rattle.wit_data.specs.Each.{SomeAt}
-use Rattle.wit_data.specs.Ownership.{IsListed, IsNamed, IsNamedInterface, IsOwn, IsPlain, is_no_target, parts, world_types}
+use Rattle.wit_data.specs.Ownership.{IsListed, IsNamed, IsNamedInterface, IsOwn, IsPlain, is_no_target, world_types}
 use Rattle.wit_data.specs.Kind.{referred}
 use Rattle.wit_data.specs.facts.ReferenceFacts.{in_referred}
 use Rattle.wit_data.specs.Uses.{alias_target}
@@ -22,6 +22,7 @@ use Rattle.wit_graph_theory.specs.steps.Sources.{Carries, InterfaceStands, IsCar
 use Rattle.wit_graph_theory.specs.facts.ListFacts.{contained_at, found_at, place_of, some_at}
 use Rattle.wit_graph_theory.specs.facts.OptionFacts.{none_or_some}
 use Rattle.wit_graph_theory.specs.facts.OwnedFacts.{none_from, owns_refer, some_from}
+use Rattle.wit_data.specs.steps.Parts.{parts}
 
 -- what an alias names it refers to
 pub alias_referred : (k : TypeDefKind) (t : ℕ) → alias_target k ≡ Some t → Contains (referred k) t

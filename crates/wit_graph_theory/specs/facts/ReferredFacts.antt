@@ -6,7 +6,7 @@ use Rattle.std.specs.List.{flat_map}
 use Rattle.wit_data.specs.Function.{resource_of}
 use Rattle.wit_data.specs.Kind.{KindPart, kind_parts, map_type, variant_of, function_references, named_type, named_option, referred, referred_in}
 use Rattle.wit_data.specs.facts.KindFacts.{parts_mapped, variant_mapped, map_part}
-use Rattle.wit_data.specs.Ownership.{IsPlain, is_no_target, parts}
+use Rattle.wit_data.specs.Ownership.{IsPlain, is_no_target}
 use Rattle.wit_data.specs.facts.ReferenceFacts.{in_role, in_those}
 use Rattle.wit_data.specs.Uses.{alias_target}
 use Rattle.wit_data.specs.declared.function.Function.{Function}
@@ -23,6 +23,7 @@ use Rattle.wit_sources.specs.Span.{moved_by}
 use Rattle.wit_remap_spec.specs.Image.{Maps, value_image, kind_image, param_image, function_image, function_kind_image, role_remap}
 use Rattle.wit_graph_theory.specs.facts.Referred.{RefersUnder, RemapsTo}
 use Rattle.wit_graph_theory.specs.facts.ListFacts.{Contains-map_cases, flat_map-placed}
+use Rattle.wit_data.specs.steps.Parts.{parts}
 
 module _ (m : Maps) where
   named_type_image : (ty : Type_) → named_type (value_image m ty) ≡ map m.values (named_type ty)

@@ -12,7 +12,7 @@
 use Rattle.std.specs.Prelude.{◌≡◌, ◌≢◌, ◌⊎◌, ◌<◌, ℕ, Bool, true, List, length, None, Some, Contains, IsSome, slice_get, map, option_map}
 use Rattle.wit_data.specs.Each.{Each, SomeAt}
 use Rattle.wit_data.specs.Entries.{Entry}
-use Rattle.wit_data.specs.Ownership.{IsNamedInterface, IsPlain, parts, world_types}
+use Rattle.wit_data.specs.Ownership.{IsNamedInterface, IsPlain, world_types}
 use Rattle.wit_data.specs.Kind.{function_references, referred}
 use Rattle.wit_data.specs.Uses.{alias_target}
 use Rattle.wit_data.specs.declared.function.Function.{Function}
@@ -29,6 +29,7 @@ use Rattle.wit_graph_data.specs.declared.graph.Graph.{Graph}
 use Rattle.wit_graph_theory.specs.facts.Good.{IsGoodExport, IsGoodImport, IsGoodInterface, IsGoodType}
 use Rattle.wit_remap_spec.specs.Image.{Maps, name_image, owner_image}
 use Rattle.wit_graph_theory.specs.facts.Referred.{RefersUnder}
+use Rattle.wit_data.specs.steps.Parts.{parts}
 
 pub record Source : Type 0 where
   pub graph : Graph

@@ -6,7 +6,7 @@ use Rattle.std.proofs.lemmas.Option.{slice_get_within}
 use Rattle.wit_digraph.specs.facts.MemberFacts.{Contains-cons_cases, Contains-nil}
 use Rattle.wit_digraph.specs.Relation.{IsPath, Reaches, direct}
 use Rattle.wit_data.specs.Each.{SomeAt}
-use Rattle.wit_data.specs.Ownership.{IsNamedInterface, IsOwn, is_no_target, parts, through_unnamed}
+use Rattle.wit_data.specs.Ownership.{IsNamedInterface, IsOwn, is_no_target, through_unnamed}
 use Rattle.wit_data.specs.facts.KindFacts.{roles_are}
 use Rattle.wit_data.specs.Kind.{referred, type_references}
 use Rattle.wit_data.specs.facts.ReferenceFacts.{all_referred}
@@ -23,6 +23,7 @@ use Rattle.wit_graph_theory.specs.facts.GoodTypes.{IsAliased, from_if}
 use Rattle.wit_graph_theory.specs.facts.ListFacts.{found_at, from_row, in_row, place_of, same_at, some_at}
 use Rattle.wit_graph_theory.specs.facts.OwnedFacts.{row_into}
 use Rattle.wit_link_laws.specs.facts.PartiallyLinked.{IsSoundSoFar}
+use Rattle.wit_data.specs.steps.Parts.{parts}
 
 -- ---- kinds and names
 

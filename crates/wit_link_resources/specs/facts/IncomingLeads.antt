@@ -19,13 +19,14 @@ use Rattle.wit_graph_theory.specs.facts.ListFacts.{at_below, at_map, at_new, fro
 use Rattle.wit_graph_theory.specs.facts.ReferredFacts.{alias_image}
 use Rattle.wit_graph_theory.specs.facts.RowFacts.{IsAcyclic-grown}
 use Rattle.wit_link_spec.specs.facts.RankFacts.{selected-at, selected_with_index-from}
-use Rattle.wit_remap_spec.specs.Resources.{is_resource_kind, leads_to_resource, signature_positions, value_positions}
+use Rattle.wit_remap_spec.specs.Resources.{is_resource_kind, leads_to_resource, value_positions}
 use Rattle.wit_remap_spec.specs.Selected.{rank, selected, selected_with_index}
 use Rattle.wit_remap_spec.specs.ValueRemap.{ValueRemap, positions, types_without_owns}
 use Rattle.wit_link_spec.specs.steps.NewThings.{is_from, is_new}
 use Rattle.wit_link_resources.specs.steps.IncomingTypes.{CanCome, IsRemapOf, IsRemapped, leads_in}
 use Rattle.wit_link_resources.specs.facts.Leads.{leads_here, leads_on, leads_stays, target_there, walk_falls}
 use Rattle.wit_graph_theory.specs.facts.AliasFacts.{alias_acyclic}
+use Rattle.wit_data.specs.Kind.{signature_types}
 
 abbrev row : TypeDef → List ℕ
 row def = option_to_list (alias_target def.kind)
@@ -256,7 +257,7 @@ module _ (old types : List TypeDef) (new_ids : List (Option ℕ)) (can : CanCome
 
 -- what stands at those of new types and of the functions stands at those of the remap
 pub positions_same : (old types : List TypeDef) (new_ids : List (Option ℕ)) (functions : List Function) (r : ValueRemap) → IsRemapOf old types new_ids functions r
-    → flat_map (λ (def : TypeDef). value_positions def.kind) (selected (is_new (length old) new_ids) types) ++ flat_map signature_positions functions ≡ positions r
+    → flat_map (λ (def : TypeDef). value_positions def.kind) (selected (is_new (length old) new_ids) types) ++ flat_map signature_types functions ≡ positions r
 positions_same old types new_ids functions r is =
-    sym (ap (λ (ts : List TypeDef). flat_map (λ (def : TypeDef). value_positions def.kind) ts ++ flat_map signature_positions r.new_functions) is.new_types
-    ∙ ap (λ (fs : List Function). flat_map (λ (def : TypeDef). value_positions def.kind) (selected (is_new (length old) new_ids) types) ++ flat_map signature_positions fs) is.new_functions)
+    sym (ap (λ (ts : List TypeDef). flat_map (λ (def : TypeDef). value_positions def.kind) ts ++ flat_map signature_types r.new_functions) is.new_types
+    ∙ ap (λ (fs : List Function). flat_map (λ (def : TypeDef). value_positions def.kind) (selected (is_new (length old) new_ids) types) ++ flat_map signature_types fs) is.new_functions)

@@ -4,11 +4,11 @@ use Rattle.std.specs.Prelude.{◌≡◌, ◌⊎◌, ◌<◌, ◌+◌, ℕ, Bool,
 use Rattle.std.specs.List.{range_with_len}
 use Rattle.std.specs.Option.{option_map_or}
 use Rattle.wit_digraph.specs.Relation.{IsAcyclic}
-use Rattle.wit_data.specs.Kind.{type_references}
+use Rattle.wit_data.specs.Kind.{type_references, signature_types}
 use Rattle.wit_data.specs.Uses.{alias_target}
 use Rattle.wit_data.specs.declared.function.Function.{Function}
 use Rattle.wit_data.specs.declared.types.TypeDef.{TypeDef}
-use Rattle.wit_remap_spec.specs.Resources.{leads_to_resource, signature_positions, value_positions}
+use Rattle.wit_remap_spec.specs.Resources.{leads_to_resource, value_positions}
 use Rattle.wit_remap_spec.specs.Selected.{rank, selected}
 use Rattle.wit_remap_spec.specs.ValueRemap.{ValueRemap, owns, types_without_owns, value_id}
 use Rattle.wit_link_spec.specs.declared.addition.Values.{Values}
@@ -41,7 +41,7 @@ CanComeIn s = CanCome s.graph_types.now s.types.now s.ids.now
 
 -- the types at those of new types and of functions
 abbrev pub positions_of : Incoming → List Function → List ℕ
-positions_of s functions = flat_map (λ (def : TypeDef). value_positions def.kind) (selected (new_of s) s.types.now) ++ flat_map signature_positions functions
+positions_of s functions = flat_map (λ (def : TypeDef). value_positions def.kind) (selected (new_of s) s.types.now) ++ flat_map signature_types functions
 
 -- ---- the remap
 

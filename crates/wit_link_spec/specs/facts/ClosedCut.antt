@@ -10,7 +10,7 @@ use Rattle.wit_digraph.specs.facts.MemberFacts.{Contains-cons_cases, Contains-fl
 use Rattle.wit_digraph.specs.facts.FreshFacts.{any_from_contains, contains_from_any}
 use Rattle.wit_data.specs.Each.{Each, SomeAt}
 use Rattle.wit_data.specs.Entries.{Entry}
-use Rattle.wit_data.specs.Foreign.{AreFirst, ForeignItem, IsForeign, IsForeignType, IsNameOnlyWorld, foreign_interfaces, foreign_worlds, interface_id, world_id}
+use Rattle.wit_data.specs.Foreign.{AreFirst, ForeignItem, IsForeign, IsForeignType, foreign_interfaces, foreign_worlds, interface_id, world_id}
 use Rattle.wit_data.specs.Ownership.{IsListed, entry_type, world_types}
 use Rattle.wit_data.specs.Kind.{function_references, named_type, referred}
 use Rattle.wit_data.specs.facts.ReferenceFacts.{record_refers}
@@ -33,6 +33,7 @@ use Rattle.wit_link_spec.specs.Addition.{Addition, own_world}
 use Rattle.wit_link_spec.specs.facts.ActivePart.{part}
 use Rattle.wit_link_spec.specs.Gates.{HasEntry, OptionalSpan, foreign_gates, function_is_active, interface_is_active, is_active, is_foreign_interface, is_foreign_world, item_is_active, some_active, type_is_active, world_is_active}
 use Rattle.wit_link_spec.specs.Reasons.{IsResolved, IsActiveFunction, IsExcluded, RefersTo, Thing, AType, AnInterface, AWorld, kind_references, of_entry, of_foreign_type, of_function, of_interface, of_type, of_world, owner_thing}
+use Rattle.wit_data.specs.steps.Parts.{IsNameOnlyWorld}
 
 -- what a test that is true of nothing where nothing is there tells
 pub there_where : {X : Type 0} (f : X → Bool) (o : Option X) → option_map_or f o false ≡ true → (x : X) × (o ≡ Some x) × (f x ≡ true)

@@ -8,7 +8,7 @@ use Rattle.wit_digraph.specs.facts.FreshFacts.{contains_from_any}
 use Rattle.wit_data.specs.Each.{Each}
 use Rattle.wit_data.specs.Entries.{Entry}
 use Rattle.wit_data.specs.Function.{resource_of}
-use Rattle.wit_data.specs.Kind.{function_references, referred}
+use Rattle.wit_data.specs.Kind.{function_references, referred, signature_types}
 use Rattle.wit_data.specs.facts.ReferenceFacts.{in_referred}
 use Rattle.wit_data.specs.Shape.{IsShaped}
 use Rattle.wit_data.specs.declared.function.Function.{Function}
@@ -26,12 +26,12 @@ use Rattle.wit_link_spec.specs.facts.ClosedCut.{closed_part, references_kept}
 use Rattle.wit_link_spec.specs.Gates.{type_is_active}
 use Rattle.wit_link_spec.specs.facts.OwnThingFacts.{own_interface_from, own_type_from, own_world_from}
 use Rattle.wit_link_spec.specs.Reasons.{IsResolved}
-use Rattle.wit_remap_spec.specs.Resources.{is_value, leads_to_resource, signature_positions, value_positions}
+use Rattle.wit_remap_spec.specs.Resources.{is_value, leads_to_resource, value_positions}
 use Rattle.wit_remap_spec.specs.ValueRemap.{ValueRemap, item_function, needs_own, positions, types_without_owns, world_functions}
 
 -- a value position of a function is a reference of it
-signature_referred : (f : Function) (t : ℕ) → Contains (signature_positions f) t → Contains (function_references f) t
-signature_referred f t has = Contains-append_right (option_to_list (resource_of f.kind)) (signature_positions f) t has
+signature_referred : (f : Function) (t : ℕ) → Contains (signature_types f) t → Contains (function_references f) t
+signature_referred f t has = Contains-append_right (option_to_list (resource_of f.kind)) (signature_types f) t has
 
 module _ (a : Addition) (shaped : IsShaped a.unresolved) (image : IsResolved a) where
   abbrev IsActive : ℕ → Type 0
@@ -86,10 +86,10 @@ module _ (a : Addition) (shaped : IsShaped a.unresolved) (image : IsResolved a) 
   -- what a value position names is active
   pub position_active : (t : ℕ) → Contains (positions (remap_of_addition a)) t → type_is_active a.features a.unresolved.types t ≡ true
   position_active t has =
-      elim (Contains-append_cases (flat_map (λ (def : TypeDef). value_positions def.kind) (own_types a)) (flat_map signature_positions (own_functions a)) t has) [
+      elim (Contains-append_cases (flat_map (λ (def : TypeDef). value_positions def.kind) (own_types a)) (flat_map signature_types (own_functions a)) t has) [
         | inl here ↦ type_position t here
         | inr later ↦
-            let from = Contains-flat_map_cases signature_positions (own_functions a) t later in
+            let from = Contains-flat_map_cases signature_types (own_functions a) t later in
             of_each (function_references from.0) t (function_refers from.0 from.1.0) (signature_referred from.0 t from.1.1)
       ]
 

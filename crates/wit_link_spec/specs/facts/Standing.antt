@@ -7,7 +7,7 @@ use Rattle.std.proofs.lemmas.Bool.{lt-ltb, ltb-true}
 use Rattle.std.proofs.lemmas.Map.Views.{Contains-from_lookup}
 use Rattle.std.proofs.lemmas.Slice.Eq.{bytes_eq-Decides}
 use Rattle.wit_data.specs.Each.{SomeAt}
-use Rattle.wit_data.specs.Foreign.{ForeignItem, IsForeignType, IsNameOnly, IsNameOnlyInterface, foreign_interfaces, interface_id}
+use Rattle.wit_data.specs.Foreign.{ForeignItem, IsForeignType, IsNameOnly, foreign_interfaces, interface_id}
 use Rattle.wit_data.specs.Ownership.{IsTypeOf}
 use Rattle.wit_data.specs.Shape.{IsShaped}
 use Rattle.wit_data.specs.declared.interface.Interface.{Interface}
@@ -31,6 +31,7 @@ use Rattle.wit_link_spec.specs.Gates.{OptionalSpan, interface_is_active, is_fore
 use Rattle.wit_link_spec.specs.Lookup.{find_interface, find_package, find_world, foreign_interface_id, foreign_type_id, foreign_world_id, is_foreign_type, named_items, naming_item, owning_interface}
 use Rattle.wit_graph_data.specs.Named.{interface_type}
 use Rattle.wit_link_spec.specs.Reasons.{IsResolved, of_foreign_type}
+use Rattle.wit_data.specs.steps.Parts.{IsNameOnlyInterface}
 
 -- ---- what ids are remapped to
 

@@ -8,7 +8,7 @@ use Rattle.std.proofs.lemmas.List.{length-map}
 use Rattle.std.proofs.lemmas.Option.{slice_get_within}
 use Rattle.wit_values.specs.facts.Lists.{slice_get-append}
 use Rattle.wit_data.specs.Each.{SomeAt}
-use Rattle.wit_data.specs.Ownership.{IsPlain, parts}
+use Rattle.wit_data.specs.Ownership.{IsPlain}
 use Rattle.wit_data.specs.Uses.{alias_target}
 use Rattle.wit_data.specs.declared.types.TypeDef.{TypeDef}
 use Rattle.wit_data.specs.declared.types.TypeDefKind.{TypeDefKind}
@@ -34,6 +34,7 @@ use Rattle.wit_link_laws.specs.facts.ValueRemapFacts.{behind_from, leads_named, 
 use Rattle.wit_merge_spec.specs.Merged.{joined_graph, joined_type, with_type, merge_maps, merge_maps_without_owns, merged_type, moved_types, moves_type, remap_of_merge}
 use Rattle.wit_merge_spec.specs.Matches.{GraphMerge, counterpart_of, counterpart_type}
 use Rattle.wit_merge_laws.specs.facts.MatchFacts.{goes_to, type_is}
+use Rattle.wit_data.specs.steps.Parts.{parts}
 
 -- ---- what moves, and what is matched
 

@@ -1,11 +1,11 @@
 -- What is asked of a package that lines built before it is pushed: what lines may break. All else of its shape they keep.
 use Rattle.std.specs.Prelude.{IfSome}
 use Rattle.wit_data.specs.Each.{Each, EachAt}
-use Rattle.wit_data.specs.Entries.{IncludesEarlier}
 use Rattle.wit_names.specs.UsePath.{IsKebabName}
 use Rattle.wit_data.specs.declared.interface.Interface.{Interface}
 use Rattle.wit_data.specs.declared.unresolved.UnresolvedPackage.{UnresolvedPackage}
 use Rattle.wit_data.specs.declared.world.World.{World}
+use Rattle.wit_data.specs.steps.Parts.{IncludesEarlier}
 
 -- names are kebab names, and a world includes earlier worlds, so not itself
 pub record IsPushable (p : UnresolvedPackage) : Type 0 where

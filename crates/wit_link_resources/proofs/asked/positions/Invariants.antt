@@ -1,13 +1,14 @@
 use Rattle.std.proofs.Common.{◌≡◌, ◌++◌, take}
 use Rattle.std.specs.List.{flat_map}
 use Rattle.wit_data.specs.declared.types.TypeDef.{TypeDef}
-use Rattle.wit_remap_spec.specs.Resources.{signature_positions, value_positions}
+use Rattle.wit_remap_spec.specs.Resources.{value_positions}
 use Rattle.wit_remap_spec.specs.Selected.{selected}
 use Rattle.wit_link_resources.specs.steps.Active.{seen}
 use Rattle.wit_link_resources.specs.steps.IncomingTypes.{new_of}
 use Rattle.wit_link_resources.proofs.asked.positions.Given as goal
+use Rattle.wit_data.specs.Kind.{signature_types}
 
 -- those of new types, and of the first functions
 abbrev pub invariant-loop-function : goal.invariant-loop-function
 invariant-loop-function l =
-    l.ids ≡ flat_map (λ (def : TypeDef). value_positions def.kind) (selected (new_of l.incoming) l.incoming.types.now) ++ flat_map signature_positions (seen (take l.function-index l.functions))
+    l.ids ≡ flat_map (λ (def : TypeDef). value_positions def.kind) (selected (new_of l.incoming) l.incoming.types.now) ++ flat_map signature_types (seen (take l.function-index l.functions))

@@ -4,7 +4,7 @@ use Rattle.std.proofs.lemmas.List.Elements.{Contains-append_right}
 use Rattle.std.specs.List.{flat_map}
 use Rattle.wit_digraph.specs.facts.MemberFacts.{Contains-here}
 use Rattle.wit_data.specs.Function.{resource_of}
-use Rattle.wit_data.specs.Kind.{function_references, named_option, named_type}
+use Rattle.wit_data.specs.Kind.{function_references, named_option, named_type, signature_types}
 use Rattle.wit_data.specs.Shape.{IsShaped}
 use Rattle.wit_data.specs.declared.function.Function.{Function}
 use Rattle.wit_data.specs.declared.function.Param.{Param}
@@ -15,7 +15,6 @@ use Rattle.wit_link_spec.specs.Addition.{Addition}
 use Rattle.wit_link_spec.specs.facts.ClosedCut.{function_kept, there_where}
 use Rattle.wit_link_spec.specs.Gates.{is_active}
 use Rattle.wit_link_spec.specs.Reasons.{IsActiveFunction, IsResolved}
-use Rattle.wit_remap_spec.specs.Resources.{signature_positions}
 use Rattle.wit_link_resources.proofs.Tells.{borrow_cause}
 use Rattle.wit_link_resources.proofs.results.check_result.Goals as goal
 
@@ -23,7 +22,7 @@ use Rattle.wit_link_resources.proofs.results.check_result.Goals as goal
 returned_there : (a : Addition) → IsShaped a.unresolved → IsResolved a → (f : Function) → IsActiveFunction a f → (t : ℕ) → Contains (named_option f.result_) t → t < length a.unresolved.types
 returned_there a shaped image f active t has =
     let values : List ℕ = flat_map (λ (p : Param). named_type p.ty) f.params in
-    let place = place_of (function_references f) t (Contains-append_right (option_to_list (resource_of f.kind)) (signature_positions f) t (Contains-append_right values (named_option f.result_) t has)) in
+    let place = place_of (function_references f) t (Contains-append_right (option_to_list (resource_of f.kind)) (signature_types f) t (Contains-append_right values (named_option f.result_) t has)) in
     let at = there_where (λ (def : TypeDef). is_active a.features def.stability) (slice_get a.unresolved.types t) (function_kept a shaped image f active place.0 t place.1) in
     slice_get_within a.unresolved.types t at.0 at.1
 

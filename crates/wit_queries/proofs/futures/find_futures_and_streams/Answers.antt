@@ -3,10 +3,11 @@ use Rattle.std.specs.List.{flat_map}
 use Rattle.wit_digraph.specs.Relation.{IsAcyclic}
 use Rattle.wit_data.specs.declared.types.TypeDef.{TypeDef}
 use Rattle.wit_graph_data.specs.facts.ContentFacts.{contents_acyclic, held_long}
-use Rattle.wit_graph_data.specs.Queries.{signature_types, type_contents}
+use Rattle.wit_graph_data.specs.Queries.{type_contents}
 use Rattle.wit_queries.specs.steps.Unfolding.{futures_of, places_within}
 use Rattle.wit_queries.proofs.Unfolds.{told_within, within_below}
 use Rattle.wit_queries.proofs.futures.find_futures_and_streams.Goals as goal
+use Rattle.wit_data.specs.Kind.{signature_types}
 
 pub returns-then-is_empty-clause-found : goal.returns-then-is_empty-clause-found
 returns-then-is_empty-clause-found c =

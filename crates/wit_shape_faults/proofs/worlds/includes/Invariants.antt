@@ -1,6 +1,6 @@
 use Rattle.wit_data.specs.facts.EachFacts.{EachBelow}
-use Rattle.wit_data.specs.Entries.{IncludesEarlier}
 use Rattle.wit_shape_faults.proofs.worlds.includes.Given as goal
+use Rattle.wit_data.specs.steps.Parts.{IncludesEarlier}
 
 -- it holds of the first ones
 abbrev pub invariant-loop-index : goal.invariant-loop-index
