@@ -5,10 +5,10 @@ use Rattle.wit_data.specs.declared.interface.Interface.{Interface}
 use Rattle.wit_names.specs.PackageName.{HasValidVersion}
 use Rattle.wit_names.specs.declared.package_name.PackageName.{PackageName}
 use Rattle.wit_data.specs.declared.world.WorldKey.TheVariants as key
-use Rattle.wit_graph_data.specs.IdText.{id_text_in}
-use Rattle.wit_graph_data.specs.Queries.{canonical_id_text, canonical_id_text_in, canonical_interface_id_at, canonical_key_text, version_suffix_of}
+use Rattle.wit_graph_data.specs.Queries.{canonical_id_text, canonical_interface_id_at, canonical_key_text, version_suffix_of}
 use Rattle.wit_graph_data.specs.examples.Samples.{foo_bar, foo_bar_of, interface_of, no_docs}
 use Rattle.wit_graph_data.specs.declared.graph.Package.{Package}
+use Rattle.wit_graph_data.specs.steps.Parts.{canonical_id_text_in, id_text_in}
 
 -- the name foo:x with a version, or without one
 abbrev pub foo_x : Option Parts → PackageName

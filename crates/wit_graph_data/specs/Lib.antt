@@ -6,3 +6,4 @@ pub mod Named
 pub mod Queries
 pub mod examples
 pub mod facts
+pub mod steps

@@ -14,7 +14,6 @@ use Rattle.wit_names.specs.Track.{track_suffix, track_text}
 use Rattle.wit_data.specs.Uses.{uses_of, interface_uses, type_interface_dep}
 use Rattle.wit_data.specs.declared.function.Function.{Function}
 use Rattle.wit_data.specs.declared.interface.Interface.{Interface}
-use Rattle.wit_names.specs.declared.package_name.PackageName.{PackageName}
 use Rattle.wit_data.specs.declared.kind.PartRole.{PartRole}
 use Rattle.wit_data.specs.declared.types.TypeDef.{TypeDef}
 use Rattle.wit_data.specs.declared.types.TypeDefKind.{TypeDefKind}
@@ -44,13 +43,10 @@ entry_interface types (item.Interface id stability docs span external_id) = Some
 entry_interface types (item.Function function) = None
 entry_interface types (item.Type_ id span) = type_interface_dep types id
 
--- the interfaces that some entries name, in order
-abbrev pub entry_interfaces : List TypeDef → List (WorldKey × WorldItem) → List ℕ
-entry_interfaces types entries = filter_map (λ (e : WorldKey × WorldItem). entry_interface types e.1) entries
-
 -- the interfaces that a world names, those of its imports first
 abbrev pub world_interfaces : List TypeDef → World → List ℕ
-world_interfaces types world = entry_interfaces types world.imports ++ entry_interfaces types world.exports
+world_interfaces types world =
+    filter_map (λ (e : WorldKey × WorldItem). entry_interface types e.1) world.imports ++ filter_map (λ (e : WorldKey × WorldItem). entry_interface types e.1) world.exports
 
 -- what the interfaces of a package use, in the order of its table, and then what its worlds name, in the
 -- order of theirs
@@ -64,13 +60,10 @@ abbrev pub other_package : List Interface → ℕ → ℕ → Option ℕ
 other_package interfaces p i =
     option_and_then (λ (interface : Interface). option_and_then (λ q. if q == p then None else Some q) interface.package) (slice_get interfaces i)
 
--- the packages that package p depends on directly, in order, with repeats
-abbrev pub package_needs : List TypeDef → List Interface → List World → ℕ → Package → List ℕ
-package_needs types interfaces worlds p home = filter_map (other_package interfaces p) (package_interfaces types interfaces worlds home)
-
--- list p: the packages that package p depends on directly
+-- list p: the packages that package p depends on directly, in order, with repeats
 abbrev pub package_uses : List TypeDef → List Interface → List World → List Package → List (List ℕ)
-package_uses types interfaces worlds packages = map (λ (e : ℕ × Package). package_needs types interfaces worlds e.0 e.1) (enumerate_from 0 packages)
+package_uses types interfaces worlds packages =
+    map (λ (e : ℕ × Package). filter_map (other_package interfaces e.0) (package_interfaces types interfaces worlds e.1)) (enumerate_from 0 packages)
 
 -- the direct dependencies of package p, none where there is no such package
 abbrev pub package_direct_deps : List TypeDef → List Interface → List World → List Package → ℕ → List ℕ
@@ -94,22 +87,16 @@ abbrev pub track_part : Option Parts → List ℕ
 track_part None = []
 track_part (Some version) = 64 ∷ track_text version
 
--- `namespace:package/name`, and `@track` where the package has a version
-abbrev pub canonical_id_text_in : PackageName → List ℕ → List ℕ
-canonical_id_text_in home name = home.namespace ++ (58 ∷ (home.name ++ (47 ∷ (name ++ track_part home.version))))
-
 -- `namespace:package/name`, and `@track` where there is a version, of a name in package p; empty where that isn't
 -- there
 abbrev pub canonical_id_text : List Package → ℕ → List ℕ → List ℕ
-canonical_id_text packages p name = option_map_or (λ (home : Package). canonical_id_text_in home.name name) (slice_get packages p) []
-
--- the canonical id of an interface that has a name and a package
-abbrev pub canonical_interface_id : List Package → Interface → Option (List ℕ)
-canonical_interface_id packages interface = option_and_then (λ name. option_map (λ p. canonical_id_text packages p name) interface.package) interface.name
+canonical_id_text packages p name =
+    option_map_or (λ (home : Package). home.name.namespace ++ (58 ∷ (home.name.name ++ (47 ∷ (name ++ track_part home.name.version))))) (slice_get packages p) []
 
 -- the canonical id of interface i, where it is there and has a name and a package
 abbrev pub canonical_interface_id_at : List Package → List Interface → ℕ → Option (List ℕ)
-canonical_interface_id_at packages interfaces i = option_and_then (canonical_interface_id packages) (slice_get interfaces i)
+canonical_interface_id_at packages interfaces i =
+    option_and_then (λ (interface : Interface). option_and_then (λ name. option_map (λ p. canonical_id_text packages p name) interface.package) interface.name) (slice_get interfaces i)
 
 -- what names a key: a label as it stands, an interface by its canonical id
 abbrev pub canonical_key_text : List Package → List Interface → WorldKey → List ℕ
@@ -174,21 +161,14 @@ abbrev pub is_held : PartRole → Bool
 is_held Argument = false
 is_held _ = true
 
--- a part that values hold is a number or a type of the list
-abbrev pub is_fixed_part : KindPart → Bool
-is_fixed_part p = if is_held p.role then option_map_or is_number_or_listed p.ty false else true
-
--- the kind has numbers and types of the list as parts, all of them at fixed places
+-- all parts of the kind are at fixed places, and those that its values hold are numbers and types of the list
 abbrev pub has_fixed_parts : TypeDefKind → Bool
-has_fixed_parts k = has_fixed_layout (variant_of k) && list_all is_fixed_part (kind_parts k)
-
--- what the values of a kind hold
-abbrev pub content_types : TypeDefKind → List ℕ
-content_types k = referred_in is_held k
+has_fixed_parts k =
+    has_fixed_layout (variant_of k) && list_all (λ (p : KindPart). if is_held p.role then option_map_or is_number_or_listed p.ty false else true) (kind_parts k)
 
 -- as adjacency lists: list t has what the values of type t hold
 abbrev pub type_contents : List TypeDef → List (List ℕ)
-type_contents types = map (λ (def : TypeDef). content_types def.kind) types
+type_contents types = map (λ (def : TypeDef). referred_in is_held def.kind) types
 
 -- whatever its bits, a value of the type is valid: it is a number, or a type whose values hold nothing
 -- but numbers and handles at fixed places
@@ -202,11 +182,8 @@ is_future_kind (kind.Future ty) = true
 is_future_kind (kind.Stream ty) = true
 is_future_kind _ = false
 
--- is the type at place t a future or a stream?
-abbrev pub is_future : List TypeDef → ℕ → Bool
-is_future types t = option_map_or (λ (def : TypeDef). is_future_kind def.kind) (slice_get types t) false
-
 -- the futures and streams that the values of a function's parameters and of its result hold, those inside
 -- others before them, with repeats
 abbrev pub futures_and_streams : List TypeDef → Function → List ℕ
-futures_and_streams types f = filter (is_future types) (flat_map (post_order (type_contents types)) (signature_types f))
+futures_and_streams types f =
+    filter (λ t. option_map_or (λ (def : TypeDef). is_future_kind def.kind) (slice_get types t) false) (flat_map (post_order (type_contents types)) (signature_types f))

@@ -3,7 +3,8 @@ ghost use Rattle.std.specs.Prelude.{◌≡◌, IfOk, IfErr, Some, string_bytes};
 ghost use Rattle.wit_names.specs.PackageName.{version_suffix};
 ghost use Rattle.std.specs.Option.{option_map};
 ghost use Rattle.wit_graph_data.specs.declared.error_kind.ResolveErrorKind.TheVariants.{OutOfMemory};
-ghost use Rattle.wit_graph_data.specs.IdText.{id_text, id_text_in, interface_id_at, key_text};
+ghost use Rattle.wit_graph_data.specs.IdText.{id_text, interface_id_at, key_text};
+ghost use Rattle.wit_graph_data.specs.steps.Parts.{id_text_in};
 
 use crate::error::ResolveResult;
 use crate::graph::Graph;

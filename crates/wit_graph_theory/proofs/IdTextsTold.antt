@@ -9,12 +9,13 @@ use Rattle.wit_names.proofs.UsePathGrammar.{use_path_of-grammar}
 use Rattle.wit_names.specs.declared.package_name.PackageName.{PackageName}
 use Rattle.wit_names.specs.declared.use_path.ParsedUsePath.TheVariants as path
 use Rattle.wit_elaboration.specs.Valid.{IsValid}
-use Rattle.wit_graph_data.specs.IdText.{id_text, id_text_in, interface_id_at, interface_id_text}
+use Rattle.wit_graph_data.specs.IdText.{id_text, interface_id_at}
 use Rattle.wit_graph_data.specs.declared.graph.Graph.{Graph}
 use Rattle.wit_graph_data.specs.declared.graph.Package.{Package}
 use Rattle.wit_graph_theory.specs.laws.IdTexts.{IdTextsDiffer}
 use Rattle.wit_graph_theory.specs.facts.ListFacts.{found_at, place_of, same_at}
 use Rattle.wit_graph_theory.specs.facts.OptionFacts.{some_parts}
+use Rattle.wit_graph_data.specs.steps.Parts.{id_text_in, interface_id_text}
 
 -- ---- options and tables
 

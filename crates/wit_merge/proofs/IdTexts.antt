@@ -4,11 +4,12 @@ use Rattle.std.specs.Option.{IsSomeAnd}
 use Rattle.wit_data.specs.Each.{EachAt}
 use Rattle.wit_data.specs.Ownership.{IsNamed}
 use Rattle.wit_data.specs.declared.interface.Interface.{Interface}
-use Rattle.wit_graph_data.specs.IdText.{id_text, interface_id_at, interface_id_text}
+use Rattle.wit_graph_data.specs.IdText.{id_text, interface_id_at}
 use Rattle.wit_elaboration.specs.Valid.{IsInTable}
 use Rattle.wit_graph_data.specs.declared.graph.Package.{Package}
 use Rattle.wit_graph_theory.specs.facts.ListFacts.{found_at}
 use Rattle.wit_graph_theory.specs.facts.OptionFacts.{some_there}
+use Rattle.wit_graph_data.specs.steps.Parts.{interface_id_text}
 
 module _ (packages : List Package) (interfaces : List Interface) (tables : EachAt (IsInTable packages) interfaces) where
   has_home : (P : ℕ → Type 0) (o : Option ℕ) → IsSomeAnd o P → (p : ℕ) × (o ≡ Some p)

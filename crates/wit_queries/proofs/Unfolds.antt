@@ -13,8 +13,9 @@ use Rattle.wit_digraph.specs.Relation.{direct, IsAcyclic, IsPath}
 use Rattle.wit_digraph.specs.PostOrder.{first_of_each, post_order, post_order_within, UsesFirst}
 use Rattle.wit_digraph.specs.facts.PostOrderFacts.{post_order_is, Contains-post_order_end, Reaches-from_post_order, UsesFirst-flat_map, UsesFirst-use, UsesFirst-post_order}
 use Rattle.wit_data.specs.declared.types.TypeDef.{TypeDef}
-use Rattle.wit_graph_data.specs.Queries.{is_future, is_future_kind}
+use Rattle.wit_graph_data.specs.Queries.{is_future_kind}
 use Rattle.wit_queries.specs.steps.Unfolding.{futures_of, KeepsOthers, OthersHoldNone, places_within}
+use Rattle.wit_graph_data.specs.steps.Parts.{is_future}
 
 -- what was told and what the types on the stack still tell is what the roots tell
 pub record IsUnfolding (types : List TypeDef) (held : List (List ℕ)) (roots stack told : List ℕ) : Type 0 where

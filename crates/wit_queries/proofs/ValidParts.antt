@@ -15,8 +15,9 @@ use Rattle.wit_data.specs.declared.types.Type_.{Type_}
 use Rattle.wit_data.specs.declared.types.Handle.TheVariants as handle
 use Rattle.wit_data.specs.declared.types.TypeDefKind.TheVariants as kind
 use Rattle.wit_data.specs.declared.types.Type_.TheVariants as type
-use Rattle.wit_graph_data.specs.Queries.{content_types, has_fixed_layout, has_fixed_parts, is_fixed_part, is_held, is_number_or_listed}
+use Rattle.wit_graph_data.specs.Queries.{has_fixed_layout, has_fixed_parts, is_held, is_number_or_listed}
 use Rattle.wit_queries.specs.ValidBits.{has_valid_parts, is_valid_by, is_valid_part}
+use Rattle.wit_graph_data.specs.steps.Parts.{is_fixed_part, content_types}
 
 -- flag u is on
 abbrev pub is_on : List Bool → ℕ → Bool

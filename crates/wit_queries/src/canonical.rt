@@ -1,8 +1,9 @@
 //! Canonical names: with the text of the track in the place of the version.
 ghost use Rattle.std.specs.Prelude.{◌≡◌, IfErr, IfOk, string_bytes};
 ghost use Rattle.std.specs.Option.{option_map};
-ghost use Rattle.wit_graph_data.specs.Queries.{canonical_id_text, canonical_id_text_in, canonical_interface_id_at, canonical_key_text, track_part, version_suffix_of};
+ghost use Rattle.wit_graph_data.specs.Queries.{canonical_id_text, canonical_interface_id_at, canonical_key_text, track_part, version_suffix_of};
 ghost use Rattle.wit_graph_data.specs.declared.error_kind.ResolveErrorKind.TheVariants.{OutOfMemory};
+ghost use Rattle.wit_graph_data.specs.steps.Parts.{canonical_id_text_in};
 
 use std::alloc::{AllocError, Global};
 use wit_data::{InterfaceId, PackageId, PackageName, Version, WorldKey};

@@ -1,6 +1,7 @@
 //! What the values of types hold.
 ghost use Rattle.std.specs.Prelude.{◌≡◌, IfOk};
-ghost use Rattle.wit_graph_data.specs.Queries.{content_types, type_contents};
+ghost use Rattle.wit_graph_data.specs.Queries.{type_contents};
+ghost use Rattle.wit_graph_data.specs.steps.Parts.{content_types};
 
 use std::alloc::{AllocError, Global};
 use wit_data::{PartRole, TypeDef, TypeDefKind, part_role, places, referred};

@@ -1,12 +1,13 @@
 //! The futures and streams of a function.
 ghost use Rattle.std.specs.Prelude.{◌≡◌, ◌++◌, ◌<◌, [], All, Contains, IfErr, IfOk, OnOk, ℕ, false, filter, length, nat_eq};
 ghost use Rattle.std.specs.List.{flat_map, list_any};
-ghost use Rattle.wit_graph_data.specs.Queries.{futures_and_streams, is_future};
+ghost use Rattle.wit_graph_data.specs.Queries.{futures_and_streams};
 ghost use Rattle.wit_graph_data.specs.declared.error_kind.ResolveErrorKind.TheVariants.{OutOfMemory};
 ghost use Rattle.wit_data.specs.Kind.{named_type, type_references, signature_types};
 ghost use Rattle.wit_queries.specs.steps.Unfolding.{KeepsOthers, OthersHoldNone, futures_of, places_within};
 ghost use Rattle.wit_digraph.specs.Relation.{IsAcyclic};
 ghost use Rattle.wit_digraph.specs.PostOrder.{UsesFirst, first_of_each, post_order};
+ghost use Rattle.wit_graph_data.specs.steps.Parts.{is_future};
 
 use crate::contents::type_contents;
 use std::alloc::{AllocError, Global};

@@ -18,7 +18,7 @@ use Rattle.wit_elaboration.specs.facts.Filters.{Contains-filter, Contains-filter
 use Rattle.wit_elaboration.specs.Elaborated.{Elaborated}
 use Rattle.wit_elaboration.specs.Elaboration.{graph_uses}
 use Rattle.wit_elaboration.specs.Imported.{HasTransitiveConflict}
-use Rattle.wit_graph_data.specs.Queries.{other_package, package_interfaces, package_needs, package_uses, world_interfaces}
+use Rattle.wit_graph_data.specs.Queries.{other_package, package_interfaces, package_uses, world_interfaces}
 use Rattle.wit_values.specs.Table.{HasDistinctKeys}
 use Rattle.wit_elaboration.specs.Valid.{HasPackageNames, IsValid, IsWorldInTable, IsWorldOf}
 use Rattle.wit_graph_data.specs.declared.graph.Graph.{Graph}
@@ -39,6 +39,7 @@ use Rattle.wit_transform.proofs.NamedInterfaces.{done_named, fewer_acyclic}
 use Rattle.wit_transform.specs.facts.UnnamedOnceTransformed.{set_split, unnamed_once_transformed}
 use Rattle.wit_transform.specs.facts.TransformedWorlds.{done, done_is_canonical, done_is_good, types_stay}
 use Rattle.wit_transform.specs.Transformed.{NameIsTakenIn, WorldLists, put_last, transformed_at, with_renamed}
+use Rattle.wit_graph_data.specs.steps.Parts.{package_needs}
 
 some_and : (P Q : ℕ → Type 0) (o : Option ℕ) → ((q : ℕ) → P q → Q q) → IsSomeAnd o P → IsSomeAnd o Q
 some_and P Q None weaker h = absurd h

@@ -12,11 +12,12 @@ use Rattle.wit_data.specs.declared.types.TypeDefKind.TheVariants as kind
 use Rattle.wit_data.specs.declared.types.Type_.TheVariants as type
 use Rattle.wit_data.specs.declared.world.WorldItem.TheVariants as item
 use Rattle.wit_data.specs.declared.world.WorldKey.TheVariants as key
-use Rattle.wit_graph_data.specs.Queries.{HasAllBitsValid, canonical_id_text_in, external_id_value, futures_and_streams, implements_interface, interface_direct_deps, topological_packages, version_suffix_of, package_direct_deps, package_uses}
+use Rattle.wit_graph_data.specs.Queries.{HasAllBitsValid, external_id_value, futures_and_streams, implements_interface, interface_direct_deps, topological_packages, version_suffix_of, package_direct_deps, package_uses}
 use Rattle.wit_graph_data.specs.examples.Samples.{entry_of, foo_bar, foo_bar_of, function_of, instance, interface_of, labelled_entry, no_docs, sample, sample_interfaces, sample_types, type_in, unnamed, world_of}
 use Rattle.wit_elaboration.specs.Valid.{HasValidNames, HasOwners, HasPackageNames, HasReferences, HasTables, HasWorlds, IsValid}
 use Rattle.wit_graph_data.specs.declared.graph.Graph.{Graph}
 use Rattle.wit_graph_data.specs.declared.graph.Package.{Package}
+use Rattle.wit_graph_data.specs.steps.Parts.{canonical_id_text_in}
 
 -- the graph of nothing
 abbrev pub empty_graph : Graph

@@ -11,7 +11,8 @@ use Rattle.wit_data.specs.declared.kind.PartRole.{PartRole}
 use Rattle.wit_data.specs.declared.types.TypeDef.{TypeDef}
 use Rattle.wit_data.specs.declared.types.TypeDefKind.{TypeDefKind}
 use Rattle.wit_data.specs.declared.kind.PartRole.TheVariants.{Argument}
-use Rattle.wit_graph_data.specs.Queries.{content_types, is_held, type_contents}
+use Rattle.wit_graph_data.specs.Queries.{is_held, type_contents}
+use Rattle.wit_graph_data.specs.steps.Parts.{content_types}
 
 module _ (row : TypeDefKind → List ℕ) (among : (k : TypeDefKind) (t : ℕ) → Contains (row k) t → Contains (referred k) t) where
   row_among : (types : List TypeDef) (i j : ℕ) → Contains (direct (map (λ (def : TypeDef). row def.kind) types) i) j → Contains (direct (type_references types) i) j

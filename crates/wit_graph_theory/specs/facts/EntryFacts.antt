@@ -23,11 +23,12 @@ use Rattle.wit_elaboration.specs.Imported.{exported_keys}
 use Rattle.wit_elaboration.specs.laws.Imports.{roots_of}
 use Rattle.wit_elaboration.specs.laws.KeptByElaboration.{HoldsImports, ImportsAreLeast}
 use Rattle.wit_elaboration.specs.facts.SoundFacts.{dep_is_named, lists_in_order, named_within}
-use Rattle.wit_graph_data.specs.Queries.{entry_interface, entry_interfaces, world_interfaces}
+use Rattle.wit_graph_data.specs.Queries.{entry_interface, world_interfaces}
 use Rattle.wit_graph_theory.specs.facts.DependencyFacts.{filter_map_into}
 use Rattle.wit_graph_theory.specs.facts.ListFacts.{place_of}
 use Rattle.wit_graph_theory.specs.facts.NamedUses.{used_is_named}
 use Rattle.wit_graph_theory.specs.laws.PackageCycles.{ListsKey, ListsUses}
+use Rattle.wit_graph_data.specs.steps.Parts.{entry_interfaces}
 
 pub one_of : (i j : ℕ) → Contains (i ∷ []) j → i ≡ j
 one_of i j has = elim (Contains-cons_cases i j [] has) [ inl same ↦ same | inr none ↦ absurd (Contains-nil none) ]

@@ -12,11 +12,12 @@ use Rattle.wit_data.specs.declared.types.TypeDef.{TypeDef}
 use Rattle.wit_data.specs.declared.world.World.{World}
 use Rattle.wit_data.specs.declared.types.TypeOwner.TheVariants as owner
 use Rattle.wit_data.specs.declared.world.WorldItem.TheVariants as item
-use Rattle.wit_graph_data.specs.Queries.{other_package, package_interfaces, package_needs}
+use Rattle.wit_graph_data.specs.Queries.{other_package, package_interfaces}
 use Rattle.wit_graph_data.specs.declared.graph.Graph.{Graph}
 use Rattle.wit_graph_data.specs.declared.graph.Package.{Package}
 use Rattle.wit_graph_theory.specs.facts.Referred.{RefersUnder}
 use Rattle.wit_graph_theory.specs.steps.Sources.{Source}
+use Rattle.wit_graph_data.specs.steps.Parts.{package_needs}
 
 -- the types of a graph grow behind old ones
 pub record TypesGrow {K : Type 0} (at : K → Source) (rank : K → ℕ → ℕ) (old : List TypeDef) (g : Graph) : Type 0 where

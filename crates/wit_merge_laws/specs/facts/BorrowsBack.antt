@@ -24,7 +24,7 @@ use Rattle.wit_data.specs.declared.types.TypeDefKind.TheVariants as kind
 use Rattle.wit_data.specs.declared.types.Type_.TheVariants as type
 use Rattle.wit_elaboration.specs.Valid.{IsValid}
 use Rattle.wit_graph_data.specs.facts.ContentFacts.{held_among}
-use Rattle.wit_graph_data.specs.Queries.{content_types, is_held, type_contents}
+use Rattle.wit_graph_data.specs.Queries.{is_held, type_contents}
 use Rattle.wit_remap_spec.specs.Image.{Maps, kind_image, type_image, value_image}
 use Rattle.wit_graph_theory.specs.facts.ListFacts.{found_at, from_row, get_at, in_row, place_of, same_at, some_at}
 use Rattle.wit_graph_theory.specs.facts.Referred.{RemapsTo}
@@ -44,6 +44,7 @@ use Rattle.wit_merge_laws.specs.facts.MatchedTypes.{no_difference}
 use Rattle.wit_merge_laws.specs.facts.StructuresRead.{kinds_alike, refers_within, same_structure, type_alike}
 use Rattle.wit_link_laws.specs.facts.ValueRemapFacts.{value_plain}
 use Rattle.wit_merge_laws.specs.facts.TypesStand.{joined_keeps, matched_some, new_type_at, old_type_at, own_at}
+use Rattle.wit_graph_data.specs.steps.Parts.{content_types}
 
 -- ---- kinds
 

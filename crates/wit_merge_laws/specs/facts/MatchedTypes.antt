@@ -36,7 +36,7 @@ use Rattle.wit_data.specs.declared.world.WorldKey.TheVariants as key
 use Rattle.wit_elaboration.specs.facts.FreshEntries.{same_key-true}
 use Rattle.wit_elaboration.specs.Entries.{same_key}
 use Rattle.wit_elaboration.specs.Valid.{IsValid}
-use Rattle.wit_graph_data.specs.Queries.{topological_packages, package_needs, package_uses}
+use Rattle.wit_graph_data.specs.Queries.{topological_packages, package_uses}
 use Rattle.wit_graph_data.specs.declared.graph.Graph.{Graph}
 use Rattle.wit_graph_data.specs.declared.graph.Package.{Package}
 use Rattle.wit_graph_theory.specs.facts.GoodTypes.{IsAliased, from_if}
@@ -56,6 +56,7 @@ use Rattle.wit_merge_laws.specs.facts.MatchedOnce.{in_own_table, lists_distinct,
 use Rattle.wit_merge_laws.specs.facts.OnceStand.{spot_of}
 use Rattle.wit_merge_laws.specs.facts.StructureHeads.{alias_kind, alias_structure, alias_variant, same_id, same_variant, structure_begins}
 use Rattle.wit_merge_laws.specs.facts.WorldsStand.{entry, entry_there, listed_by}
+use Rattle.wit_graph_data.specs.steps.Parts.{package_needs}
 
 -- ---- where no first pair differs none does
 

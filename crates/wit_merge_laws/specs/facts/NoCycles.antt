@@ -18,7 +18,7 @@ use Rattle.wit_data.specs.declared.types.TypeDef.{TypeDef}
 use Rattle.wit_data.specs.declared.world.World.{World}
 use Rattle.wit_elaboration.specs.Elaboration.{graph_uses}
 use Rattle.wit_elaboration.specs.laws.ElaborationLaws.{ConflictsAreRefused}
-use Rattle.wit_graph_data.specs.IdText.{id_text, interface_id_at, interface_id_text, key_text}
+use Rattle.wit_graph_data.specs.IdText.{id_text, interface_id_at, key_text}
 use Rattle.wit_elaboration.specs.Imported.{HasTransitiveConflict}
 use Rattle.wit_elaboration.specs.facts.SoundFacts.{named_within}
 use Rattle.wit_elaboration.specs.Valid.{IsValid}
@@ -45,6 +45,7 @@ use Rattle.wit_merge_laws.specs.facts.PackagesStand.{interfaces_in_tables}
 use Rattle.wit_merge_laws.specs.facts.TypesStand.{images, joined_keeps, long_old, matched_some, new_type_at, old_types}
 use Rattle.wit_merge_laws.specs.facts.WorldsStand.{joined_covered, joined_stands, sources_good}
 use Rattle.wit_remap_spec.specs.ValueRemap.{owns}
+use Rattle.wit_graph_data.specs.steps.Parts.{interface_id_text}
 
 -- ---- no type refers to itself
 

@@ -4,7 +4,7 @@ use Rattle.std.specs.Prelude.{◌≡◌, ◌<◌, ℕ, List, [], ◌∷◌, ◌+
 use Rattle.wit_digraph.specs.Relation.{direct}
 use Rattle.wit_digraph.specs.PostOrder.{first_of_each, post_order}
 use Rattle.wit_data.specs.declared.types.TypeDef.{TypeDef}
-use Rattle.wit_graph_data.specs.Queries.{is_future}
+use Rattle.wit_graph_data.specs.steps.Parts.{is_future}
 
 -- the futures and streams that the values of type t hold, as rows tell what they hold: those inside others
 -- before them, with repeats

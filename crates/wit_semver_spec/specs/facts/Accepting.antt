@@ -24,7 +24,7 @@ use Rattle.wit_elaboration.specs.facts.Filters.{Contains-filter}
 use Rattle.wit_elaboration.specs.Elaborated.{Elaborated}
 use Rattle.wit_elaboration.specs.laws.ElaborationLaws.{ConflictsAreRefused}
 use Rattle.wit_elaboration.specs.Entries.{Entry}
-use Rattle.wit_graph_data.specs.IdText.{id_text, interface_id_at, interface_id_text, key_text}
+use Rattle.wit_graph_data.specs.IdText.{id_text, interface_id_at, key_text}
 use Rattle.wit_elaboration.specs.Imported.{HasTransitiveConflict}
 use Rattle.wit_elaboration.specs.Sound.{HasSoundEntries}
 use Rattle.wit_elaboration.specs.facts.SoundFacts.{lists_in_order, named_within}
@@ -41,6 +41,7 @@ use Rattle.wit_graph_theory.specs.facts.OptionFacts.{some_same, some_there}
 use Rattle.wit_semver_spec.specs.SemverMerged.{listed_world, new_target, retargeted, semver_merged, rewritten_types, with_new_entries_at, SemverMerge, is_replaced, newest, IsComplete, SemverMergeIsAccepted, conflict_4, interface_cycle_22, package_cycle_6, type_cycle_23, type_missing_25}
 use Rattle.wit_semver_spec.specs.facts.Greatest.{newest_stays}
 use Rattle.wit_semver_spec.specs.facts.TypesAfter.{retargeted_from, retargeted_name, retargeted_owner, retargeted_type, type_after, type_into}
+use Rattle.wit_graph_data.specs.steps.Parts.{interface_id_text}
 
 some_and : (P : ℕ → Type 0) (o : Option ℕ) → IsSomeAnd o P → (p : ℕ) × (o ≡ Some p)
 some_and P None h = absurd h

@@ -1,7 +1,7 @@
 use Rattle.std.proofs.Common.{◌≡◌, map, take}
-use Rattle.wit_graph_data.specs.Queries.{content_types}
 use Rattle.wit_data.specs.declared.types.TypeDef.{TypeDef}
 use Rattle.wit_queries.proofs.contents.type_contents.Given as goal
+use Rattle.wit_graph_data.specs.steps.Parts.{content_types}
 
 -- the rows so far
 abbrev pub invariant-loop-def : goal.invariant-loop-def

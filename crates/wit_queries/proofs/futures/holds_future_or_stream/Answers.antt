@@ -4,11 +4,12 @@ use Rattle.wit_digraph.specs.Relation.{IsAcyclic}
 use Rattle.wit_digraph.specs.PostOrder.{first_of_each, post_order}
 use Rattle.wit_data.specs.declared.types.TypeDef.{TypeDef}
 use Rattle.wit_graph_data.specs.facts.ContentFacts.{contents_acyclic, held_long}
-use Rattle.wit_graph_data.specs.Queries.{is_future, type_contents}
+use Rattle.wit_graph_data.specs.Queries.{type_contents}
 use Rattle.wit_queries.specs.steps.Unfolding.{places_within}
 use Rattle.wit_queries.proofs.Unfolds.{filter-post_orders, none_picked, picked_once, told_within, within_below}
 use Rattle.wit_queries.proofs.futures.holds_future_or_stream.Goals as goal
 use Rattle.wit_data.specs.Kind.{signature_types}
+use Rattle.wit_graph_data.specs.steps.Parts.{is_future}
 
 pub returns-then-not-is_future-clause-told : goal.returns-then-not-is_future-clause-told
 returns-then-not-is_future-clause-told c =

@@ -1,11 +1,11 @@
 use Rattle.std.proofs.Common.{◌∙◌, ◌≡◌, ◌++◌, ◌∷◌, [], List, ℕ, Contains, ap, sym, subst, filter, nat_eq, reverse}
 use Rattle.std.specs.List.{flat_map, list_any}
 use Rattle.std.proofs.lemmas.List.Elements.{Contains-push}
-use Rattle.wit_graph_data.specs.Queries.{is_future}
 use Rattle.wit_queries.specs.steps.Unfolding.{futures_of}
 use Rattle.wit_queries.proofs.Unfolds.{IsUnfolding, IsUnfolding-begun, IsUnfolding-step, step-shorter, told-more, told-same}
 use Rattle.wit_queries.proofs.futures.unfold.Goals.{then-is_future+in_ok-push, else-is_future}
 use Rattle.wit_queries.proofs.futures.unfold.Goals as goal
+use Rattle.wit_graph_data.specs.steps.Parts.{is_future}
 
 pub loop-place-init : goal.loop-place-init
 loop-place-init c =
