@@ -7,7 +7,7 @@ use Rattle.wit_data.specs.declared.world.World.{World}
 use Rattle.wit_data.specs.declared.world.WorldKey.TheVariants as key
 use Rattle.wit_elaboration.specs.Elaboration.{graph_uses}
 use Rattle.wit_elaboration.specs.Entries.{Entry}
-use Rattle.wit_elaboration.specs.Imported.{HasTransitiveConflict, IsEntryInConflict, IsRefusedName, exported_keys}
+use Rattle.wit_elaboration.specs.Imported.{HasTransitiveConflict, IsEntryInConflict, IsRefusedName}
 use Rattle.wit_graph_data.specs.examples.Samples.{entry_of, world_of}
 use Rattle.wit_graph_data.specs.declared.cause.Cause.TheVariants.{TypeExported}
 use Rattle.wit_graph_data.specs.declared.error_kind.ResolveErrorKind.TheVariants.{InvalidTransitiveDependency, Semantic}
@@ -18,6 +18,7 @@ use Rattle.wit_transform.specs.Transformed.{ExportizeCause, HasNameTaken, export
 use Rattle.wit_transform.specs.examples.TransformExamples.{a, b}
 use Rattle.examples_graph.proofs.TakenNames.{not_taken}
 use Rattle.examples_graph.specs.TransformCauses.{ExamplesOfConflictsBesideTypes, chain_with_k, ends_and, k}
+use Rattle.wit_elaboration.specs.steps.Parts.{exported_keys}
 
 abbrev c : Entry
 c = entry_of 2

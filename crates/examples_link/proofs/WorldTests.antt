@@ -22,7 +22,7 @@ use Rattle.wit_graph_theory.specs.facts.ListFacts.{Contains-map, contained_at}
 use Rattle.wit_graph_theory.specs.facts.OptionFacts.{some_same}
 use Rattle.wit_graph_theory.specs.examples.TestFacts.{all_are, implied, implies, none_in}
 use Rattle.wit_elaboration.specs.Elaboration.{graph_uses}
-use Rattle.wit_elaboration.specs.Imported.{HasTransitiveConflict, exported_keys}
+use Rattle.wit_elaboration.specs.Imported.{HasTransitiveConflict}
 use Rattle.wit_labels.specs.Setters.{IsSetter, getter_label, is_setter_label, setters_placed}
 use Rattle.wit_labels.specs.Strong.{strong_key}
 use Rattle.wit_labels.specs.declared.strong.StrongKey.{StrongKey}
@@ -37,6 +37,7 @@ use Rattle.wit_link_spec.specs.Added.{updated_include, unfinished_world, with_al
 use Rattle.wit_link_spec.specs.Reasons.{IsResolved}
 use Rattle.examples_link.proofs.Matching.{ClashAt, LonelySetterAt, clash_at, conflict_in, lonely_at, taken_of}
 use Rattle.examples_link.proofs.AtWorlds.{HaveLists, include_same, lists_are, world_same}
+use Rattle.wit_elaboration.specs.steps.Parts.{exported_keys}
 
 -- ---- labels that come
 

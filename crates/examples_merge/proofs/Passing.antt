@@ -23,12 +23,11 @@ use Rattle.wit_data.specs.declared.types.TypeDefKind.TheVariants as kind
 use Rattle.wit_data.specs.declared.world.WorldItem.TheVariants as item
 use Rattle.wit_data.specs.declared.world.WorldKey.TheVariants as key
 use Rattle.wit_elaboration.specs.Elaboration.{graph_uses}
-use Rattle.wit_elaboration.specs.Imported.{exported_interfaces}
 use Rattle.wit_graph_data.specs.Queries.{type_contents}
 use Rattle.wit_graph_data.specs.declared.cause.Cause.TheVariants as cause
 use Rattle.wit_graph_data.specs.declared.error_kind.ResolveErrorKind.TheVariants.{Semantic}
 use Rattle.wit_graph_theory.specs.examples.AgreementFacts.{functions_pass, interfaces_accepted}
-use Rattle.wit_elaboration.specs.AllElaborated.{HasWorldInConflict, graph_package_uses}
+use Rattle.wit_elaboration.specs.AllElaborated.{HasWorldInConflict}
 use Rattle.wit_remap_spec.specs.FunctionMismatch.{HaveFunctionMismatch}
 use Rattle.wit_remap_spec.specs.Image.{function_image}
 use Rattle.wit_graph_theory.specs.facts.ListFacts.{contained_at, found_at}
@@ -44,6 +43,7 @@ use Rattle.wit_merge_spec.specs.Merged.{merge_maps, moved_functions, joined_grap
 use Rattle.wit_merge_spec.specs.facts.DifferenceFacts.{same_no_first}
 use Rattle.wit_merge_spec.specs.Structure.{Feature, structure}
 use Rattle.wit_merge_laws.specs.facts.InterfacesStand.{option_is, option_so}
+use Rattle.wit_elaboration.specs.steps.Parts.{exported_interfaces, graph_package_uses}
 
 -- ---- interfaces
 

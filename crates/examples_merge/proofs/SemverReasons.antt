@@ -17,7 +17,7 @@ use Rattle.wit_names.specs.declared.track.TrackRule.TheVariants.{Published, With
 use Rattle.wit_data.specs.declared.types.Type_.TheVariants as type
 use Rattle.wit_elaboration.specs.Elaboration.{graph_uses}
 use Rattle.wit_elaboration.specs.Entries.{Entry}
-use Rattle.wit_elaboration.specs.Imported.{HasTransitiveConflict, IsEntryInConflict, exported_interfaces, exported_keys}
+use Rattle.wit_elaboration.specs.Imported.{HasTransitiveConflict, IsEntryInConflict}
 use Rattle.wit_graph_data.specs.examples.Samples.{entry_of}
 use Rattle.wit_graph_data.specs.declared.cause.Cause.TheVariants.{InterfaceCycle, TypeCycle}
 use Rattle.wit_graph_data.specs.declared.graph.Graph.{Graph}
@@ -27,7 +27,7 @@ use Rattle.wit_graph_data.specs.declared.error_kind.ResolveErrorKind.TheVariants
 use Rattle.wit_data.specs.declared.world.WorldKey.TheVariants as key
 use Rattle.wit_graph_theory.specs.facts.ListFacts.{in_row}
 use Rattle.wit_graph_theory.specs.examples.AgreementFacts.{functions_accepted}
-use Rattle.wit_elaboration.specs.AllElaborated.{DependsOnItself, RefersToItself, graph_package_uses}
+use Rattle.wit_elaboration.specs.AllElaborated.{DependsOnItself, RefersToItself}
 use Rattle.wit_remap_spec.specs.FunctionMismatch.{FunctionMismatch, parameter_names_differ}
 use Rattle.wit_graph_theory.specs.facts.OptionFacts.{some_same}
 use Rattle.wit_graph_theory.specs.examples.TestFacts.{all_are, all_uses, falls, is_empty, no_cycle, not_on_cycle, only_one}
@@ -37,6 +37,7 @@ use Rattle.examples_merge.proofs.SemverMismatches.{x_is_not_y, x_of, y_of}
 use Rattle.examples_merge.specs.CauseExamples.{ExamplesOfCauses, IsCauseOf, IsFine, around_main, around_z, exporting, f_of, failed, foo_app, newer_x, older_x, with_functions, with_newer, without_type, without_type_but_cycle}
 use Rattle.examples_merge.specs.Releases.{alias_in, called, foo_main, foo_x, keyed, number_in, package_of, release, with_function, world_in}
 use Rattle.examples_merge.specs.RewrittenExamples.{first_release, of_three, published}
+use Rattle.wit_elaboration.specs.steps.Parts.{exported_keys, exported_interfaces, graph_package_uses}
 
 -- the ranks of nodes by their places
 abbrev rank_of : List ℕ → ℕ → ℕ

@@ -8,7 +8,6 @@ use Rattle.wit_data.specs.declared.stability.Stability.{Stability}
 use Rattle.wit_elaboration.specs.Elaboration.{graph_uses}
 use Rattle.wit_graph_data.specs.declared.error_kind.ResolveErrorKind.TheVariants.{StabilityMismatch}
 use Rattle.wit_graph_data.specs.declared.graph.Package.{Package}
-use Rattle.wit_elaboration.specs.AllElaborated.{graph_package_uses}
 use Rattle.wit_remap_spec.specs.FunctionMismatch.{HaveFunctionMismatch}
 use Rattle.wit_graph_theory.specs.examples.TestFacts.{all_uses, falls, no_cycle, none_some, only_one}
 use Rattle.wit_merge_spec.specs.Cause.{GraphsDiffer, AreJoined, IsMergeCause, MergeIsAccepted, StabilitiesMismatch}
@@ -17,6 +16,7 @@ use Rattle.wit_merge_spec.specs.Matches.{GraphMerge, Pair, counterpart_interface
 use Rattle.wit_merge_spec.specs.Merged.{joined_graph}
 use Rattle.wit_merge_spec.specs.Structure.{DifferInStructure, Feature, structure, structure_within}
 use Rattle.examples_script.specs.SmallGraphs.{bare, gate, gated}
+use Rattle.wit_elaboration.specs.steps.Parts.{graph_package_uses}
 
 no_pair : {X : Type 0} (found : ℕ → Option ℕ) (ours : List X) → Pair found [] ours → ⊥
 no_pair found ours p = let is = p.from_is in cc

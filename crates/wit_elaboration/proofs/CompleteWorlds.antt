@@ -17,14 +17,15 @@ use Rattle.wit_digraph.specs.facts.MemberFacts.{Contains-nil, Contains-cons_case
 use Rattle.wit_digraph.specs.Relation.{IsAcyclic}
 use Rattle.wit_elaboration.specs.Elaborated.{dependency_of, elaborated_exports, elaborated_imports, export_imports, export_with_needs, import_steps, import_with_needs, inherited_by_export, inherited_by_import, without_span}
 use Rattle.wit_elaboration.specs.laws.ElaborationLaws.{DependenciesFirst, stands_on}
-use Rattle.wit_elaboration.specs.Entries.{Entry, Instance, by_class, fresh_entries, is_interface, item_interface, key_interface, role_of, same_key}
-use Rattle.wit_elaboration.specs.Imported.{HasTransitiveConflict, exported_interfaces, is_exported}
+use Rattle.wit_elaboration.specs.Entries.{Entry, Instance, by_class, fresh_entries, item_interface, key_interface, role_of, same_key}
+use Rattle.wit_elaboration.specs.Imported.{HasTransitiveConflict, is_exported}
 use Rattle.wit_elaboration.specs.Sound.{AreSound, IsRoleInRange, IsUnderOwnKey}
 use Rattle.wit_elaboration.proofs.Absorbed.{absorbed}
 use Rattle.wit_elaboration.specs.facts.Filters.{filter-all, filter-none}
 use Rattle.wit_elaboration.proofs.FirstClasses.{AllNew-from_distinct}
 use Rattle.wit_elaboration.specs.facts.FreshEntries.{AllNew, id_known, ids-push, interfaces_of_keys}
 use Rattle.wit_elaboration.proofs.Roles.{InOrder, in_order, role_from_instance}
+use Rattle.wit_elaboration.specs.steps.Parts.{is_interface, exported_interfaces}
 
 -- the import of an entry leaves it as it is
 abbrev pub IsSettled : Entry → Type 0

@@ -11,8 +11,9 @@ use Rattle.wit_digraph.specs.PostOrder.{UsesFirst, post_order, first_of_each}
 use Rattle.wit_elaboration.specs.Elaborated.{dependencies_before}
 use Rattle.wit_elaboration.specs.steps.Elaborating.{AreMarked, AreOutside, HasMarkedUse, IsExportedList}
 use Rattle.wit_elaboration.specs.Entries.{Entry, Instance, item_interface}
-use Rattle.wit_elaboration.specs.Imported.{HasTransitiveConflict, IsBetween, LeadsToConflict, IsEntryInConflict, exported_keys, exported_interfaces}
+use Rattle.wit_elaboration.specs.Imported.{HasTransitiveConflict, IsBetween, IsEntryInConflict}
 use Rattle.wit_elaboration.proofs.ExportSteps.{all_needs}
+use Rattle.wit_elaboration.specs.steps.Parts.{exported_keys, exported_interfaces, LeadsToConflict}
 
 -- what was listed of some keys tells them
 pub tells_keys : (listed : List ℕ) (exports : List Entry) → listed ≡ first_of_each (exported_keys exports) → IsExportedList listed exports

@@ -17,8 +17,8 @@ use Rattle.wit_digraph.specs.Relation.{IsAcyclic}
 use Rattle.wit_digraph.specs.PostOrder.{Listed}
 use Rattle.wit_elaboration.specs.Elaborated.{dependency_of, dependencies_before, inherited_by_export, import_with_needs, import_steps, export_imports, export_with_needs, elaborated_imports, elaborated_exports}
 use Rattle.wit_elaboration.specs.steps.Elaborating.{IsExportedList, is_listed, walked_exports, walked_imports}
-use Rattle.wit_elaboration.specs.Entries.{Entry, Instance, role_of, item_interface, key_interface, is_instance, is_interface, same_key, by_class, fresh_entries}
-use Rattle.wit_elaboration.specs.Imported.{HasTransitiveConflict, exported_keys, exported_interfaces, is_exported}
+use Rattle.wit_elaboration.specs.Entries.{Entry, Instance, role_of, item_interface, key_interface, is_instance, same_key, by_class, fresh_entries}
+use Rattle.wit_elaboration.specs.Imported.{HasTransitiveConflict, is_exported}
 use Rattle.wit_elaboration.specs.Sound.{IsRoleInRange}
 use Rattle.wit_elaboration.proofs.ExportedUses.{key_here}
 use Rattle.wit_elaboration.specs.facts.Filters.{Contains-filter, not_true}
@@ -26,6 +26,7 @@ use Rattle.wit_elaboration.proofs.FirstClasses.{AllNew-from_distinct}
 use Rattle.wit_elaboration.specs.facts.FreshEntries.{AllNew-filter, AllNew-one, Contains-keys, Contains-deps, contains_from_known, known_from_contains, fresh_entries-known, fresh_entries-new, fresh_entries-all_new, fresh_entries-next}
 use Rattle.wit_elaboration.proofs.OneWalk.{imports_of_walk, exports_of_walk}
 use Rattle.wit_elaboration.proofs.Roles.{InOrder, instance_from_role, is_instance_from_role}
+use Rattle.wit_elaboration.specs.steps.Parts.{is_interface, exported_keys, exported_interfaces}
 
 -- keys that no entry has don't matter
 fresh_entries-apart : (ks seen : List WorldKey) (es : List Entry) → ((e : Entry) → Contains es e → Contains ks e.0 → ⊥) → fresh_entries (ks ++ seen) es ≡ fresh_entries seen es

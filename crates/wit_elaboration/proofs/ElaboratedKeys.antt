@@ -8,7 +8,7 @@ use Rattle.wit_data.specs.declared.world.World.{World}
 use Rattle.wit_data.specs.declared.world.WorldKey.{WorldKey}
 use Rattle.wit_digraph.specs.facts.MemberFacts.{Contains-nil, Contains-here, Contains-there, Contains-cons_cases, Contains-flat_map}
 use Rattle.wit_digraph.specs.Relation.{IsAcyclic}
-use Rattle.wit_elaboration.specs.Entries.{Entry, is_interface, fresh_entries}
+use Rattle.wit_elaboration.specs.Entries.{Entry, fresh_entries}
 use Rattle.wit_elaboration.specs.Elaborated.{entry_post_order, inherited_by_export, elaborated_imports, elaborated_exports}
 use Rattle.wit_elaboration.specs.laws.KeptByElaboration.{ElaboratedOnce, ExportKeysStay}
 use Rattle.wit_values.specs.Table.{HasDistinctKeys}
@@ -20,6 +20,7 @@ use Rattle.wit_elaboration.specs.facts.FreshEntries.{AllNew, AllNew-apart, AllNe
 use Rattle.wit_elaboration.proofs.ImportsAgain.{keys-Contains, from_imports, from_exports}
 use Rattle.wit_elaboration.proofs.Marking.{contains_at}
 use Rattle.wit_elaboration.proofs.Roles.{InOrder, in_order, is_instance_from_role}
+use Rattle.wit_elaboration.specs.steps.Parts.{is_interface}
 
 -- ---- distinct keys, by places and one after the other
 

@@ -14,7 +14,7 @@ use Rattle.wit_digraph.specs.Relation.{direct, IsPath, Reaches, IsAcyclic}
 use Rattle.wit_digraph.specs.PostOrder.{post_order}
 use Rattle.wit_elaboration.specs.Entries.{Entry, Role, Instance, TypeUse, TypeDefinition, FreeFunction, ResourceFunction, role_of, item_interface, key_interface, keyed_interfaces, by_class}
 use Rattle.wit_elaboration.specs.Elaborated.{dependency_of, dependencies_before, inherited_by_import, inherited_by_export, without_span, import_with_needs, import_steps_within, import_steps, export_imports}
-use Rattle.wit_elaboration.specs.Imported.{exported_interfaces, is_exported}
+use Rattle.wit_elaboration.specs.Imported.{is_exported}
 use Rattle.wit_elaboration.specs.laws.Imports.{Needed, roots_of, IsImported}
 use Rattle.wit_elaboration.specs.Sound.{IsRoleInRange}
 use Rattle.wit_elaboration.specs.facts.Classes.{by_class_in, in_by_class}
@@ -22,6 +22,7 @@ use Rattle.wit_elaboration.proofs.ExportedUses.{key_here, exported_entry, id_inj
 use Rattle.wit_elaboration.specs.facts.FreshEntries.{Contains-keys, Contains-deps, deps-Contains, fresh_entries_in, fresh_entries_all}
 use Rattle.wit_elaboration.proofs.ImportsAgain.{from_imports, from_exports, all_imports, export_import}
 use Rattle.wit_elaboration.proofs.Roles.{InOrder, instance_from_role, role_from_instance}
+use Rattle.wit_elaboration.specs.steps.Parts.{exported_interfaces}
 
 -- what an import's walk lists is reached from its roots
 needs_reached : (uses : List (List ℕ)) → IsAcyclic uses → (key : WorldKey) (role : Role) (j : ℕ) → IsRoleInRange (length uses) role → ((i : ℕ) → key ≡ Interface i → role ≡ Instance i) →

@@ -7,8 +7,8 @@ use Rattle.wit_digraph.specs.facts.MemberFacts.{Contains-here, Contains-flat_map
 use Rattle.wit_digraph.specs.PostOrder.{fresh}
 use Rattle.wit_elaboration.specs.Elaborated.{dependencies_before}
 use Rattle.wit_elaboration.specs.Entries.{Entry, Instance, item_interface}
-use Rattle.wit_elaboration.specs.Imported.{exported_interfaces}
 use Rattle.wit_elaboration.proofs.Marking.{contains_at}
+use Rattle.wit_elaboration.specs.steps.Parts.{exported_interfaces}
 
 -- the next member of what entries give, where this one gives one
 pub given_at : (f : Entry → List ℕ) (es : List Entry) (at : ℕ) (e : Entry) (i : ℕ) → slice_get es at ≡ Some e → i ∷ [] ≡ f e → Contains (flat_map f es) i

@@ -11,9 +11,10 @@ use Rattle.wit_digraph.specs.facts.PostOrderFacts.{Reaches-from_post_order}
 use Rattle.wit_digraph.specs.Relation.{direct, IsPath, IsAcyclic}
 use Rattle.wit_digraph.specs.PostOrder.{post_order}
 use Rattle.wit_elaboration.specs.Entries.{Entry, Role, Instance, TypeUse, TypeDefinition, FreeFunction, ResourceFunction, elaboration_class, key_interface, keyed_interfaces}
-use Rattle.wit_elaboration.specs.Elaborated.{dependencies_before, exported_uses}
+use Rattle.wit_elaboration.specs.Elaborated.{dependencies_before}
 use Rattle.wit_elaboration.specs.Imported.{is_exported}
 use Rattle.wit_elaboration.specs.facts.Filters.{Contains-filter}
+use Rattle.wit_elaboration.specs.steps.Parts.{exported_uses}
 
 pub direct-among : (exported : ℕ → Bool) (uses : List (List ℕ)) (i : ℕ) → direct (exported_uses exported uses) i ≡ filter exported (direct uses i)
 direct-among exported uses i =

@@ -7,8 +7,8 @@ use Rattle.std.proofs.lemmas.List.Elements.{Contains-append_cases, Contains-appe
 use Rattle.wit_data.specs.declared.types.TypeDef.{TypeDef}
 use Rattle.wit_digraph.specs.facts.MemberFacts.{Contains-nil, Contains-here, Contains-cons_cases, Contains-flat_map, Contains-flat_map_cases}
 use Rattle.wit_digraph.specs.Relation.{IsAcyclic}
-use Rattle.wit_elaboration.specs.Entries.{Entry, Role, Instance, role_of, is_interface, fresh_entries}
-use Rattle.wit_elaboration.specs.Elaborated.{InheritedData, dependency_of, dependencies_before, entry_post_order, inherited_by_export, exported_uses, elaborated_exports}
+use Rattle.wit_elaboration.specs.Entries.{Entry, Role, Instance, role_of, fresh_entries}
+use Rattle.wit_elaboration.specs.Elaborated.{InheritedData, dependency_of, dependencies_before, entry_post_order, inherited_by_export, elaborated_exports}
 use Rattle.wit_elaboration.specs.Imported.{is_exported}
 use Rattle.wit_elaboration.specs.Sound.{IsRoleInRange}
 use Rattle.wit_elaboration.proofs.Absorbed.{absorbed}
@@ -17,6 +17,7 @@ use Rattle.wit_elaboration.specs.facts.Filters.{Contains-filter, Contains-filter
 use Rattle.wit_elaboration.specs.facts.FreshEntries.{Contains-keys, Contains-deps, fresh_entries_in, fresh_entries_all, fresh_entries-AllNew}
 use Rattle.wit_elaboration.specs.facts.Order.{AreOwn, DependenciesFirst-fresh, entry_walks_first}
 use Rattle.wit_elaboration.proofs.Roles.{InOrder, class_from_instance, is_instance_from_role}
+use Rattle.wit_elaboration.specs.steps.Parts.{exported_uses, is_interface}
 
 module _ (types : List TypeDef) where
   module _ (uses : List (List ℕ)) (acyclic : IsAcyclic uses) (imports exports : List Entry) (listed : InOrder types (length uses) imports exports) where

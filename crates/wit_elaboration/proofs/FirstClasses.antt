@@ -11,12 +11,13 @@ use Rattle.wit_data.specs.declared.types.TypeDef.{TypeDef}
 use Rattle.wit_data.specs.declared.world.WorldKey.{WorldKey}
 use Rattle.wit_data.specs.contracts.world.WorldKeyPartialEq.TheImpl.{eq-value}
 use Rattle.wit_digraph.specs.facts.MemberFacts.{Contains-nil, Contains-cons_cases, Contains-here, Contains-there}
-use Rattle.wit_elaboration.specs.Entries.{Entry, same_key, role_of, elaboration_class, of_class, by_class, fresh_entries}
+use Rattle.wit_elaboration.specs.Entries.{Entry, same_key, role_of, elaboration_class, by_class, fresh_entries}
 use Rattle.wit_elaboration.specs.facts.Classes.{by_class-new}
 use Rattle.wit_elaboration.specs.facts.Filters.{filter-pass}
 use Rattle.wit_elaboration.specs.facts.FreshEntries.{AllNew, same_key-refl, absent_from, fresh_entries-next, fresh_entries-all_new}
 use Rattle.wit_elaboration.specs.facts.Keys.{key_eq-same}
 use Rattle.wit_elaboration.proofs.Roles.{each_member}
+use Rattle.wit_elaboration.specs.steps.Parts.{of_class}
 
 abbrev classes : List ℕ
 classes = 0 ∷ 1 ∷ 2 ∷ 3 ∷ 4 ∷ []

@@ -4,8 +4,9 @@ use Rattle.wit_digraph.specs.facts.MemberFacts.{Contains-nil, Contains-here, Con
 use Rattle.wit_digraph.specs.Relation.{direct}
 use Rattle.wit_elaboration.specs.steps.Elaborating.{HasMarkedUse, IsFirstConflict}
 use Rattle.wit_elaboration.specs.Entries.{Entry, item_interface}
-use Rattle.wit_elaboration.specs.Imported.{IsEntryInConflict, LeadsToConflict}
+use Rattle.wit_elaboration.specs.Imported.{IsEntryInConflict}
 use Rattle.wit_elaboration.proofs.Marking.{contains_at}
+use Rattle.wit_elaboration.specs.steps.Parts.{LeadsToConflict}
 
 -- a use that is marked, of the uses that were read
 pub marked_use : (uses : List (List ℕ)) (leading row : List ℕ) (i k : ℕ) → row ≡ direct uses k → k ≡ i → (j : ℕ) × Contains row j × Contains leading j → HasMarkedUse uses leading i

@@ -8,8 +8,8 @@ use Rattle.wit_data.specs.declared.world.WorldItem.{WorldItem}
 use Rattle.wit_data.specs.declared.world.WorldItem.TheVariants as item
 use Rattle.wit_digraph.specs.facts.MemberFacts.{Contains-nil, Contains-cons_cases, Contains-flat_map_cases, flat_map-same}
 use Rattle.wit_digraph.specs.Relation.{direct, IsAcyclic}
-use Rattle.wit_elaboration.specs.Entries.{Entry, role_of, item_interface, is_instance, is_interface, elaboration_class, of_class, by_class, fresh_entries}
-use Rattle.wit_elaboration.specs.Elaborated.{InheritedData, dependency_of, dependencies_before, inherited_by_import, inherited_by_export, without_span, import_with_needs, export_imports, export_with_needs, import_steps, exported_uses, elaborated_imports, elaborated_exports}
+use Rattle.wit_elaboration.specs.Entries.{Entry, role_of, item_interface, is_instance, elaboration_class, by_class, fresh_entries}
+use Rattle.wit_elaboration.specs.Elaborated.{InheritedData, dependency_of, dependencies_before, inherited_by_import, inherited_by_export, without_span, import_with_needs, export_imports, export_with_needs, import_steps, elaborated_imports, elaborated_exports}
 use Rattle.wit_elaboration.specs.Imported.{HasTransitiveConflict, is_exported}
 use Rattle.wit_elaboration.specs.laws.KeptByElaboration.{ElaborationIsLocal, SameRoles, SameInheritedData}
 use Rattle.wit_elaboration.specs.facts.Classes.{by_class_in}
@@ -18,6 +18,7 @@ use Rattle.wit_elaboration.specs.facts.Filters.{Contains-filter, filter-same}
 use Rattle.wit_elaboration.specs.facts.FreshEntries.{Contains-deps, fresh_entries_in}
 use Rattle.wit_elaboration.proofs.GrowingUses.{direct-left, used_below, IsPath-left, dependencies_before-left, import_steps-left, exported_needs-left}
 use Rattle.wit_elaboration.proofs.Roles.{InOrder, in_order, role_of-without_span}
+use Rattle.wit_elaboration.specs.steps.Parts.{of_class, exported_uses, is_interface}
 
 module _ (types wider : List TypeDef) where
   -- ---- classes

@@ -7,11 +7,12 @@ use Rattle.wit_digraph.specs.facts.MemberFacts.{flat_map-same}
 use Rattle.wit_digraph.specs.facts.PostOrderFacts.{post_order_is, uses_ind}
 use Rattle.wit_digraph.specs.Relation.{direct, IsPath, IsAcyclic}
 use Rattle.wit_digraph.specs.PostOrder.{post_order}
-use Rattle.wit_elaboration.specs.Elaborated.{dependencies_before, import_steps, exported_uses}
+use Rattle.wit_elaboration.specs.Elaborated.{dependencies_before, import_steps}
 use Rattle.wit_elaboration.specs.Entries.{Role, Instance, TypeUse, TypeDefinition, FreeFunction, ResourceFunction}
 use Rattle.wit_elaboration.specs.Sound.{IsRoleInRange}
 use Rattle.wit_elaboration.proofs.ExportedUses.{among-acyclic}
 use Rattle.wit_elaboration.proofs.Steps.{steps_are}
+use Rattle.wit_elaboration.specs.steps.Parts.{exported_uses}
 
 pub direct-left : (uses rows : List (List ℕ)) (i : ℕ) → i < length uses → direct (uses ++ rows) i ≡ direct uses i
 direct-left [] rows i here = absurd (omega (arith, here))

@@ -10,10 +10,10 @@ use Rattle.wit_digraph.specs.facts.FreshFacts.{any_from_contains, contains_from_
 use Rattle.wit_digraph.specs.facts.MemberFacts.{Contains-nil, Contains-here, Contains-there, Contains-cons_cases, Contains-flat_map, Contains-flat_map_cases}
 use Rattle.wit_digraph.specs.Relation.{IsAcyclic}
 use Rattle.wit_digraph.specs.PostOrder.{UsesFirst}
-use Rattle.wit_elaboration.specs.Entries.{Entry, Instance, role_of, item_interface, is_interface, keyed_interfaces, same_key, by_class, fresh_entries}
+use Rattle.wit_elaboration.specs.Entries.{Entry, Instance, role_of, item_interface, keyed_interfaces, same_key, by_class, fresh_entries}
 use Rattle.wit_elaboration.specs.Elaborated.{InheritedData, dependency_of, dependencies_before, inherited_by_import, inherited_by_export, without_span, import_with_needs, import_steps, export_imports, elaborated_imports, elaborated_exports}
 use Rattle.wit_elaboration.specs.laws.ElaborationLaws.{DependenciesFirst}
-use Rattle.wit_elaboration.specs.Imported.{HasTransitiveConflict, exported_keys, is_exported}
+use Rattle.wit_elaboration.specs.Imported.{HasTransitiveConflict, is_exported}
 use Rattle.wit_elaboration.specs.Sound.{IsRoleInRange}
 use Rattle.wit_elaboration.proofs.Absorbed.{absorbed}
 use Rattle.wit_elaboration.specs.facts.Classes.{by_class-new, by_class-by_class, by_class_in, in_by_class, DependenciesFirst-by_class}
@@ -24,6 +24,7 @@ use Rattle.wit_elaboration.specs.facts.FreshEntries.{Contains-keys, Contains-dep
 use Rattle.wit_elaboration.specs.facts.Order.{DependenciesFirst-append, DependenciesFirst-fresh, DependenciesFirst-map, entry_walks_first}
 use Rattle.wit_elaboration.proofs.Roles.{InOrder, instance_from_role, role_of-without_span, without_span-twice}
 use Rattle.wit_elaboration.proofs.Steps.{import_steps_first, import_steps_below, needs_below}
+use Rattle.wit_elaboration.specs.steps.Parts.{is_interface, exported_keys}
 
 -- the key of an entry is among the keys
 pub keys-Contains : (es : List Entry) (e : Entry) → Contains es e → Contains (keys_of es) e.0

@@ -9,7 +9,7 @@ use Rattle.wit_data.specs.declared.world.World.{World}
 use Rattle.wit_data.specs.declared.world.WorldKey.{WorldKey}
 use Rattle.wit_digraph.specs.facts.MemberFacts.{Contains-nil, Contains-cons_cases, Contains-flat_map_cases, flat_map-same}
 use Rattle.wit_digraph.specs.Relation.{IsAcyclic}
-use Rattle.wit_elaboration.specs.Entries.{Entry, role_of, same_key, elaboration_class, of_class, by_class, fresh_entries}
+use Rattle.wit_elaboration.specs.Entries.{Entry, role_of, same_key, elaboration_class, by_class, fresh_entries}
 use Rattle.wit_elaboration.specs.Elaborated.{dependency_of, dependencies_before, inherited_by_import, import_with_needs, export_imports, elaborated_imports}
 use Rattle.wit_elaboration.specs.Imported.{is_exported}
 use Rattle.wit_elaboration.specs.laws.KeptByElaboration.{LabelsStay, is_label, labelled, listed_without_span}
@@ -19,6 +19,7 @@ use Rattle.wit_elaboration.specs.facts.Filters.{filter-pass, filter-fail, filter
 use Rattle.wit_elaboration.specs.facts.FreshEntries.{AllNew, AllNew-filter, Contains-deps, known_from_contains, contains_from_known, fresh_entries-known, fresh_entries-new, fresh_entries-all_new}
 use Rattle.wit_elaboration.proofs.ImportsAgain.{from_imports, from_exports, export_import}
 use Rattle.wit_elaboration.proofs.Roles.{InOrder, in_order, role_of-without_span}
+use Rattle.wit_elaboration.specs.steps.Parts.{of_class}
 
 abbrev has_label : Entry → Bool
 has_label e = is_label e.0

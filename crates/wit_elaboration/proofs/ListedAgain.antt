@@ -9,7 +9,7 @@ use Rattle.wit_data.specs.declared.world.WorldKey.{WorldKey}
 use Rattle.wit_data.specs.declared.world.WorldKey.TheVariants.{Name, Interface}
 use Rattle.wit_digraph.specs.facts.MemberFacts.{Contains-here, Contains-there}
 use Rattle.wit_digraph.specs.Relation.{IsAcyclic}
-use Rattle.wit_elaboration.specs.Entries.{Entry, Instance, role_of, is_interface, by_class}
+use Rattle.wit_elaboration.specs.Entries.{Entry, Instance, role_of, by_class}
 use Rattle.wit_elaboration.specs.Elaborated.{elaborated_imports, elaborated_exports}
 use Rattle.wit_elaboration.specs.laws.KeptByElaboration.{ListedStays}
 use Rattle.wit_elaboration.specs.Sound.{AreSound, IsRoleInRange, IsUnderOwnKey}
@@ -19,6 +19,7 @@ use Rattle.wit_elaboration.specs.facts.Filters.{Contains-filter}
 use Rattle.wit_elaboration.proofs.ImportsAgain.{all_imports, import_fine}
 use Rattle.wit_elaboration.specs.facts.Order.{AreOwn}
 use Rattle.wit_elaboration.proofs.Roles.{InOrder, in_order, instance_from_role}
+use Rattle.wit_elaboration.specs.steps.Parts.{is_interface}
 
 -- what is so of every member is so of each element
 each_element : {X : Type 0} (P : X → Type 0) (xs : List X) → ((x : X) → Contains xs x → P x) → AllByRecursion P xs

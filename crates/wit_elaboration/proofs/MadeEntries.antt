@@ -9,9 +9,9 @@ use Rattle.wit_digraph.specs.facts.MemberFacts.{Contains-nil, Contains-here, Con
 use Rattle.wit_digraph.specs.facts.PostOrderFacts.{Reaches-from_post_order}
 use Rattle.wit_digraph.specs.Relation.{direct, IsPath, IsAcyclic}
 use Rattle.wit_digraph.specs.PostOrder.{post_order}
-use Rattle.wit_elaboration.specs.Entries.{Entry, Role, Instance, TypeUse, TypeDefinition, FreeFunction, ResourceFunction, role_of, is_interface, key_interface, by_class}
+use Rattle.wit_elaboration.specs.Entries.{Entry, Role, Instance, TypeUse, TypeDefinition, FreeFunction, ResourceFunction, role_of, key_interface, by_class}
 use Rattle.wit_elaboration.specs.Elaborated.{dependency_of, dependencies_before, inherited_by_import, inherited_by_export, without_span, import_with_needs, import_steps_within, import_steps, export_imports, elaborated_imports, elaborated_exports}
-use Rattle.wit_elaboration.specs.Imported.{exported_keys, is_exported}
+use Rattle.wit_elaboration.specs.Imported.{is_exported}
 use Rattle.wit_elaboration.specs.laws.Imports.{IsImported}
 use Rattle.wit_elaboration.specs.laws.KeptByElaboration.{ElaboratedEntries, IsListedWithoutSpan, IsMadeImport, IsMadeExport}
 use Rattle.wit_elaboration.specs.Sound.{IsRoleInRange}
@@ -22,6 +22,7 @@ use Rattle.wit_elaboration.specs.facts.Filters.{Contains-filter}
 use Rattle.wit_elaboration.specs.facts.FreshEntries.{Contains-deps, fresh_entries_in}
 use Rattle.wit_elaboration.proofs.ImportsAgain.{from_imports, from_exports, all_imports, export_import}
 use Rattle.wit_elaboration.proofs.Roles.{InOrder, in_order}
+use Rattle.wit_elaboration.specs.steps.Parts.{is_interface, exported_keys}
 
 -- some interface uses j directly
 abbrev HasUser : List (List ℕ) → ℕ → Type 0

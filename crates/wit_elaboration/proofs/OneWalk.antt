@@ -9,12 +9,13 @@ use Rattle.wit_digraph.specs.facts.MemberFacts.{flat_map-same}
 use Rattle.wit_digraph.specs.facts.PostOrderFacts.{uses_ind, post_order_is, Reaches-from_post_order}
 use Rattle.wit_digraph.specs.Relation.{direct, IsAcyclic}
 use Rattle.wit_digraph.specs.PostOrder.{post_order}
-use Rattle.wit_elaboration.specs.Elaborated.{dependencies_before, import_steps, exported_uses}
+use Rattle.wit_elaboration.specs.Elaborated.{dependencies_before, import_steps}
 use Rattle.wit_elaboration.specs.Entries.{Entry, Instance}
-use Rattle.wit_elaboration.specs.Imported.{HasTransitiveConflict, is_exported, exported_keys, exported_interfaces}
+use Rattle.wit_elaboration.specs.Imported.{HasTransitiveConflict, is_exported}
 use Rattle.wit_elaboration.proofs.ExportedUses.{among-acyclic, direct-among}
 use Rattle.wit_elaboration.specs.facts.Filters.{filter-all, filter-none, filter-pass, filter-fail, filter-flat_map, flat_map-filter}
 use Rattle.wit_elaboration.proofs.Steps.{steps_are}
+use Rattle.wit_elaboration.specs.steps.Parts.{exported_uses, exported_keys, exported_interfaces}
 
 module _ (uses : List (List ℕ)) (acyclic : IsAcyclic uses) (exports : List Entry) (own : (j : ℕ) → Contains (exported_keys exports) j → Contains (exported_interfaces exports) j) (no_conflict : HasTransitiveConflict uses exports → ⊥) where
   abbrev E : ℕ → Bool

@@ -12,12 +12,13 @@ use Rattle.wit_digraph.specs.Relation.{direct, IsAcyclic}
 use Rattle.wit_digraph.specs.PostOrder.{post_order}
 use Rattle.wit_elaboration.specs.Entries.{Entry, item_interface}
 use Rattle.wit_elaboration.specs.laws.ElaborationLaws.{ConflictsAreRefused}
-use Rattle.wit_elaboration.specs.Imported.{IsEntryInConflict, IsRefusedKey, exported_keys, is_exported}
+use Rattle.wit_elaboration.specs.Imported.{IsEntryInConflict, IsRefusedKey, is_exported}
 use Rattle.wit_elaboration.proofs.ConflictIs.{conflict_found, conflict_from}
 use Rattle.wit_elaboration.proofs.ElaboratedIs.{own_keys}
 use Rattle.wit_elaboration.specs.facts.Filters.{not_true}
 use Rattle.wit_elaboration.proofs.Roles.{in_order}
 use Rattle.wit_elaboration.proofs.Steps.{path_below}
+use Rattle.wit_elaboration.specs.steps.Parts.{exported_keys}
 
 -- a member that passes
 passing : {X : Type 0} (p : X → Bool) (xs : List X) → list_any p xs ≡ true → (x : X) × (Contains xs x × (p x ≡ true))

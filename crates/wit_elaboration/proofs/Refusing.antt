@@ -12,12 +12,13 @@ use Rattle.wit_elaboration.specs.steps.Elaborating.{IsFirstConflict}
 use Rattle.wit_elaboration.specs.Elaboration.{graph_uses, HasConflictAt, IsConflictError, IsErrorAt}
 use Rattle.wit_elaboration.specs.Entries.{Entry}
 use Rattle.wit_graph_data.specs.IdText.{key_text}
-use Rattle.wit_elaboration.specs.Imported.{HasTransitiveConflict, IsRefusedKey, IsRefusedName, exported_keys, exported_interfaces}
+use Rattle.wit_elaboration.specs.Imported.{HasTransitiveConflict, IsRefusedKey, IsRefusedName}
 use Rattle.wit_elaboration.specs.Sound.{HasSoundEntries}
 use Rattle.wit_elaboration.proofs.ConflictIs.{conflict_found, conflict_from}
 use Rattle.wit_elaboration.proofs.ElaboratedIs.{interfaces_below, keys_below, own_keys}
 use Rattle.wit_elaboration.proofs.Marking.{contains_at}
 use Rattle.wit_elaboration.proofs.Roles.{in_order}
+use Rattle.wit_elaboration.specs.steps.Parts.{exported_keys, exported_interfaces}
 
 -- what is always so is so of each result that is `Ok`
 pub always_ok : {T E : Type 0} (r : Result T E) (P : Type 0) → P → OnOk r P

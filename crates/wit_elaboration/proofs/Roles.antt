@@ -7,10 +7,11 @@ use Rattle.wit_data.specs.declared.types.TypeDef.{TypeDef}
 use Rattle.wit_data.specs.declared.world.WorldItem.{WorldItem}
 use Rattle.wit_data.specs.declared.world.WorldItem.TheVariants as item
 use Rattle.wit_digraph.specs.facts.MemberFacts.{Contains-nil, Contains-cons_cases}
-use Rattle.wit_elaboration.specs.Entries.{Entry, Instance, type_role, function_role, role_of, item_interface, is_instance, elaboration_class}
+use Rattle.wit_elaboration.specs.Entries.{Entry, Instance, role_of, item_interface, is_instance, elaboration_class}
 use Rattle.wit_elaboration.specs.Elaborated.{without_span}
 use Rattle.wit_elaboration.specs.Sound.{IsUnderOwnKey, IsRoleInRange, HasSoundEntries}
 use Rattle.wit_elaboration.specs.facts.Order.{AreOwn}
+use Rattle.wit_elaboration.specs.steps.Parts.{type_role, function_role}
 
 -- what is so of each element is so of a member
 pub each_member : {X : Type 0} (P : X → Type 0) (xs : List X) (x : X) → AllByRecursion P xs → Contains xs x → P x

@@ -2,8 +2,9 @@
 use Rattle.std.proofs.Common.{◌≡◌, ℕ, suc, ◌<◌, ◌≤◌, List, [], ◌∷◌, ◌++◌, refl, sym, ap, subst, ◌∙◌, arith, eqb, nat_eq, true, rules}
 use Rattle.std.proofs.lemmas.Bool.{ne_eqb}
 use Rattle.wit_data.specs.declared.types.TypeDef.{TypeDef}
-use Rattle.wit_elaboration.specs.Entries.{Entry, Role, Instance, TypeUse, TypeDefinition, FreeFunction, ResourceFunction, role_of, elaboration_class, of_class, by_class}
+use Rattle.wit_elaboration.specs.Entries.{Entry, Role, Instance, TypeUse, TypeDefinition, FreeFunction, ResourceFunction, role_of, elaboration_class, by_class}
 use Rattle.wit_elaboration.specs.facts.Filters.{filter-pass, filter-fail}
+use Rattle.wit_elaboration.specs.steps.Parts.{of_class}
 
 module _ (types : List TypeDef) where
   -- the entries go on after one of this class

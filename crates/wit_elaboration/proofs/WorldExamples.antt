@@ -8,8 +8,9 @@ use Rattle.wit_digraph.specs.PostOrder.{post_order, post_order_within}
 use Rattle.wit_digraph.specs.Relation.{direct, IsPath}
 use Rattle.wit_elaboration.specs.Elaborated.{import_steps, import_steps_within}
 use Rattle.wit_elaboration.specs.Entries.{Entry}
-use Rattle.wit_elaboration.specs.Imported.{HasTransitiveConflict, IsEntryInConflict, LeadsToConflict, exported_keys}
+use Rattle.wit_elaboration.specs.Imported.{HasTransitiveConflict, IsEntryInConflict}
 use Rattle.wit_elaboration.specs.examples.ElaborationExamples.{chain, a, b, c, d, labelled, WorkedElaborations, WorkedConflicts}
+use Rattle.wit_elaboration.specs.steps.Parts.{exported_keys, LeadsToConflict}
 
 pub worked_elaborations : WorkedElaborations
 unfolding post_order post_order_within import_steps import_steps_within

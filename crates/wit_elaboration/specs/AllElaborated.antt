@@ -18,35 +18,25 @@ use Rattle.wit_graph_data.specs.declared.graph.Package.{Package}
 
 -- ---- what holds against it
 
--- which package of a graph depends on which
-abbrev pub graph_package_uses : Graph → List (List ℕ)
-graph_package_uses g = package_uses g.types g.interfaces g.worlds g.packages
-
 -- 6: a package depends on itself, through whatever others; any on the cycle is told
 pub record DependsOnItself (g : Graph) (home : PackageName) : Type 0 where
   pub p : ℕ
   pub q : ℕ
-  pub on_cycle : IsOnCycle (graph_package_uses g) p q
+  pub on_cycle : IsOnCycle (package_uses g.types g.interfaces g.worlds g.packages) p q
   pub there : Package
   pub is : slice_get g.packages p ≡ Some there
   pub home_is : home ≡ there.name
 
 -- 22: an interface uses itself; any on the cycle that has a name is told, by its id text
-abbrev pub interface_cycle_text : List ℕ → List ℕ
-interface_cycle_text id = codes "interface `" ++ (id ++ codes "` would depend on itself")
-
 pub record UsesItself (g : Graph) (message : List ℕ) : Type 0 where
   pub i : ℕ
   pub j : ℕ
   pub on_cycle : IsOnCycle (graph_uses g) i j
   pub id : List ℕ
   pub id_is : interface_id_at g.packages g.interfaces i ≡ Some id
-  pub message_is : message ≡ interface_cycle_text id
+  pub message_is : message ≡ codes "interface `" ++ (id ++ codes "` would depend on itself")
 
 -- 23: a type refers to itself; any on the cycle that has a name is told
-abbrev pub type_cycle_text : List ℕ → List ℕ
-type_cycle_text name = codes "type `" ++ (name ++ codes "` would refer to itself")
-
 pub record RefersToItself (g : Graph) (message : List ℕ) : Type 0 where
   pub t : ℕ
   pub u : ℕ
@@ -55,7 +45,7 @@ pub record RefersToItself (g : Graph) (message : List ℕ) : Type 0 where
   pub is : slice_get g.types t ≡ Some def
   pub name : List ℕ
   pub name_is : def.name ≡ Some name
-  pub message_is : message ≡ type_cycle_text name
+  pub message_is : message ≡ codes "type `" ++ (name ++ codes "` would refer to itself")
 
 -- 4: what the exports of a world need from outside is exported; told of any such world, at its span. Where
 -- interfaces or types are on cycles there is no elaboration to speak of; a cycle of packages is no hindrance

@@ -12,7 +12,7 @@ use Rattle.wit_data.specs.declared.world.WorldKey.TheVariants.{Interface}
 pub use Rattle.wit_elaboration.specs.declared.entries.InheritedData.{InheritedData}
 use Rattle.wit_digraph.specs.Relation.{direct}
 use Rattle.wit_digraph.specs.PostOrder.{post_order}
-use Rattle.wit_elaboration.specs.Entries.{Entry, Role, Instance, TypeUse, TypeDefinition, FreeFunction, ResourceFunction, role_of, item_interface, is_interface, fresh_entries, by_class}
+use Rattle.wit_elaboration.specs.Entries.{Entry, Role, Instance, TypeUse, TypeDefinition, FreeFunction, ResourceFunction, role_of, item_interface, fresh_entries, by_class, is_instance}
 use Rattle.wit_elaboration.specs.Imported.{HasTransitiveConflict, is_exported}
 
 -- ---- what a dependency carries
@@ -72,13 +72,9 @@ import_steps uses exported i = import_steps_within uses exported (length uses) i
 abbrev pub export_imports : List (List ℕ) → (ℕ → Bool) → Entry → List Entry
 export_imports uses exported e = flat_map (λ i. map (dependency_of (inherited_by_export e.1)) (import_steps uses exported i)) (item_interface e.1)
 
--- the uses of exported interfaces alone
-abbrev pub exported_uses : (ℕ → Bool) → List (List ℕ) → List (List ℕ)
-exported_uses exported uses = map (filter exported) uses
-
--- an export as it stands, and before it those that it needs along uses of exported interfaces
+-- an export as it stands, and before it those that it needs along uses of exported interfaces alone
 abbrev pub export_with_needs : List TypeDef → List (List ℕ) → (ℕ → Bool) → Entry → List Entry
-export_with_needs types uses exported e = entry_post_order types (exported_uses exported uses) inherited_by_export (λ item. item) e
+export_with_needs types uses exported e = entry_post_order types (map (filter exported) uses) inherited_by_export (λ item. item) e
 
 -- ---- the elaborated lists
 
@@ -90,8 +86,8 @@ elaborated_imports types uses imports exports =
 -- the functions, then the interfaces, each after the exported ones that it uses, of each key the first
 abbrev pub elaborated_exports : List TypeDef → List (List ℕ) → List Entry → List Entry
 elaborated_exports types uses exports =
-    filter (λ e. not (is_interface e)) exports
-    ++ fresh_entries [] (flat_map (export_with_needs types uses (is_exported exports)) (filter is_interface exports))
+    filter (λ (e : Entry). not (is_instance e.1)) exports
+    ++ fresh_entries [] (flat_map (export_with_needs types uses (is_exported exports)) (filter (λ (e : Entry). is_instance e.1) exports))
 
 -- a world with its lists elaborated, over these types and uses
 abbrev pub with_elaborated_lists : List TypeDef → List (List ℕ) → World → World

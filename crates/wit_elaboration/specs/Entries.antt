@@ -1,5 +1,5 @@
 -- The entries of a world: their keys, what they are to its elaboration, and their order by class.
-use Rattle.std.specs.Prelude.{ℕ, Bool, true, false, List, [], ◌∷◌, ◌++◌, Option, Some, None, filter, nat_eq, if◌then◌else◌, flat_map}
+use Rattle.std.specs.Prelude.{ℕ, Bool, true, false, List, [], ◌∷◌, ◌++◌, filter, nat_eq, if◌then◌else◌, flat_map}
 use Rattle.std.specs.List.{list_any}
 use Rattle.wit_data.specs.Function.{resource_of}
 use Rattle.wit_data.specs.Uses.{type_interface_dep}
@@ -12,6 +12,7 @@ pub use Rattle.wit_data.specs.Entries.{Entry, item_interface}
 pub use Rattle.wit_data.specs.facts.WorldKeyFacts.{same_key}
 pub use Rattle.wit_elaboration.specs.declared.role.Role.{Role}
 pub use Rattle.wit_elaboration.specs.declared.role.Role.TheVariants.{Instance, TypeUse, TypeDefinition, FreeFunction, ResourceFunction}
+use Rattle.std.specs.Option.{option_map_or}
 
 -- ---- keys
 
@@ -37,25 +38,12 @@ is_instance (item.Interface i stability docs span external_id) = true
 is_instance (item.Function function) = false
 is_instance (item.Type_ id span) = false
 
--- is the entry an interface, under a label or under its own key?
-abbrev pub is_interface : Entry → Bool
-is_interface e = is_instance e.1
-
--- what a type is to elaboration: another name of a type that an interface owns, or a type that the world defines
-abbrev pub type_role : Option ℕ → Role
-type_role (Some i) = TypeUse i
-type_role None = TypeDefinition
-
--- what a function is, of a resource or of none
-abbrev pub function_role : Option ℕ → Role
-function_role (Some resource) = ResourceFunction
-function_role None = FreeFunction
-
--- what an item is to elaboration
+-- what an item is to elaboration. A type is a use where it is another name of a type that an interface owns, else the
+-- world defines it
 abbrev pub role_of : List TypeDef → WorldItem → Role
 role_of types (item.Interface i stability docs span external_id) = Instance i
-role_of types (item.Function function) = function_role (resource_of function.kind)
-role_of types (item.Type_ id span) = type_role (type_interface_dep types id)
+role_of types (item.Function function) = option_map_or (λ resource. ResourceFunction) (resource_of function.kind) FreeFunction
+role_of types (item.Type_ id span) = option_map_or TypeUse (type_interface_dep types id) TypeDefinition
 
 -- ---- classes: interfaces, type uses, type definitions, free functions, functions of resources
 -- Source: the order in which `elaborate_world` of wit-parser 0.263.0 sorts imports.
@@ -67,10 +55,6 @@ elaboration_class TypeDefinition = 2
 elaboration_class FreeFunction = 3
 elaboration_class ResourceFunction = 4
 
--- the entries of one class, in their order
-abbrev pub of_class : List TypeDef → ℕ → List Entry → List Entry
-of_class types class entries = filter (λ (e : Entry). nat_eq (elaboration_class (role_of types e.1)) class) entries
-
 -- the entries sorted by class, those of one class in their order
 abbrev pub by_class : List TypeDef → List Entry → List Entry
-by_class types entries = flat_map (λ class. of_class types class entries) (0 ∷ 1 ∷ 2 ∷ 3 ∷ 4 ∷ [])
+by_class types entries = flat_map (λ class. filter (λ (e : Entry). nat_eq (elaboration_class (role_of types e.1)) class) entries) (0 ∷ 1 ∷ 2 ∷ 3 ∷ 4 ∷ [])

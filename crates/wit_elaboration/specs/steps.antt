@@ -1,2 +1,3 @@
 pub mod Closures
 pub mod Elaborating
+pub mod Parts

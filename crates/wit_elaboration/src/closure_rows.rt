@@ -8,7 +8,8 @@ ghost use Rattle.std.specs.List.{IsDistinct, sum_by};
 ghost use Rattle.wit_digraph.specs.Relation.{IsAcyclic, Reaches, direct};
 ghost use Rattle.wit_elaboration.specs.steps.Closures.{AreRowsOf, AreRowsOfAll, HasColumnsOf, HaveCommonBit, IsOrder, IsRowOf, MayNeed, column};
 ghost use Rattle.wit_elaboration.specs.steps.Elaborating.{IsExportedList};
-ghost use Rattle.wit_elaboration.specs.Imported.{HasTransitiveConflict, exported_interfaces};
+ghost use Rattle.wit_elaboration.specs.Imported.{HasTransitiveConflict};
+ghost use Rattle.wit_elaboration.specs.steps.Parts.{exported_interfaces};
 
 use crate::passes::mark_leading;
 use crate::role::item_interface;

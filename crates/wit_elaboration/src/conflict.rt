@@ -10,9 +10,10 @@ ghost use Rattle.wit_elaboration.specs.steps.Closures.{IsClosureOf};
 ghost use Rattle.wit_elaboration.specs.Elaborated.{dependencies_before};
 ghost use Rattle.wit_elaboration.specs.steps.Elaborating.{AreMarked, AreOutside, HasMarkedUse, HaveNodes, IsExportedList, IsFirstConflict, IsPostOrder};
 ghost use Rattle.wit_elaboration.specs.Entries.{Entry, item_interface};
-ghost use Rattle.wit_elaboration.specs.Imported.{HasTransitiveConflict, LeadsToConflict, exported_interfaces, exported_keys};
+ghost use Rattle.wit_elaboration.specs.Imported.{HasTransitiveConflict};
 ghost use Rattle.wit_digraph.specs.Relation.{IsAcyclic, direct};
 ghost use Rattle.wit_digraph.specs.PostOrder.{UsesFirst, first_of_each, fresh};
+ghost use Rattle.wit_elaboration.specs.steps.Parts.{exported_keys, exported_interfaces, LeadsToConflict};
 
 use crate::closure_rows::ClosureRows;
 use crate::imports::list_needs;

@@ -5,9 +5,9 @@ ghost use Rattle.std.specs.List.{flat_map};
 ghost use Rattle.std.specs.Map.{keys_of};
 ghost use Rattle.wit_elaboration.specs.Elaborated.{dependencies_before, dependency_of, inherited_by_export};
 ghost use Rattle.wit_elaboration.specs.steps.Elaborating.{IsExporting, is_listed, walked_exports, walked_imports};
-ghost use Rattle.wit_elaboration.specs.Entries.{fresh_entries, is_interface};
-ghost use Rattle.wit_elaboration.specs.Imported.{exported_interfaces};
+ghost use Rattle.wit_elaboration.specs.Entries.{fresh_entries};
 ghost use Rattle.wit_digraph.specs.Relation.{IsAcyclic};
+ghost use Rattle.wit_elaboration.specs.steps.Parts.{is_interface, exported_interfaces};
 
 use crate::entries::{InheritedData, Lists, add_copy, add_dependencies, export_data};
 use crate::imports::{list_needs, order_from};

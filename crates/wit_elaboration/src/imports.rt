@@ -4,10 +4,11 @@ ghost use Rattle.std.specs.List.{flat_map};
 ghost use Rattle.std.specs.Map.{keys_of};
 ghost use Rattle.wit_elaboration.specs.Elaborated.{dependencies_before, dependency_of, import_with_needs, inherited_by_import};
 ghost use Rattle.wit_elaboration.specs.steps.Elaborating.{IsImporting, IsPostOrder};
-ghost use Rattle.wit_elaboration.specs.Entries.{by_class, fresh_entries, of_class, role_of};
+ghost use Rattle.wit_elaboration.specs.Entries.{by_class, fresh_entries, role_of};
 ghost use Rattle.wit_elaboration.specs.Sound.{AreSound, IsRoleInRange};
 ghost use Rattle.wit_digraph.specs.Relation.{IsAcyclic};
 ghost use Rattle.wit_digraph.specs.PostOrder.{fresh};
+ghost use Rattle.wit_elaboration.specs.steps.Parts.{of_class};
 
 use crate::entries::{add_copy, add_dependencies, add_import, import_data};
 use crate::role::Role;

@@ -11,7 +11,6 @@ use Rattle.wit_elaboration.specs.facts.SoundFacts.{named_within}
 use Rattle.wit_elaboration.specs.Valid.{IsValid}
 use Rattle.wit_graph_data.specs.declared.graph.Graph.{Graph}
 use Rattle.wit_graph_data.specs.declared.error_kind.ResolveErrorKind.{ResolveErrorKind}
-use Rattle.wit_elaboration.specs.AllElaborated.{graph_package_uses}
 use Rattle.wit_graph_theory.specs.facts.NamedUses.{used_is_named}
 use Rattle.wit_graph_theory.specs.facts.PackageCycleFacts.{used_package}
 use Rattle.wit_merge_spec.specs.Cause.{HasNoMismatch, IsMergeCause, MergeIsAccepted, MergeReturnsBorrow, borrow_in_result_15, conflict_4, interface_cycle_22, merge_mismatch_24, mismatch_8, offset_overflow_27, package_cycle_6}
@@ -24,6 +23,7 @@ use Rattle.wit_unite_common.specs.steps.Reasons.{CanBeElaborated, ElaborationCau
 use Rattle.wit_unite_common.specs.steps.Reasons as settles
 use Rattle.wit_merge.specs.steps.UnionSteps.{DoAgree}
 use Rattle.wit_merge.proofs.IdTexts.{id_of_named}
+use Rattle.wit_elaboration.specs.steps.Parts.{graph_package_uses}
 
 module _ (m : GraphMerge) (valid : IsValid m.graph) (valid_other : IsValid m.other) (one : HasNoMismatch m) where
   abbrev g : Graph

@@ -16,7 +16,7 @@ use Rattle.wit_elaboration.specs.facts.SoundFacts.{named_within}
 use Rattle.wit_elaboration.specs.Valid.{IsValid}
 use Rattle.wit_graph_data.specs.declared.graph.Graph.{Graph}
 use Rattle.wit_graph_data.specs.declared.error_kind.ResolveErrorKind.{ResolveErrorKind}
-use Rattle.wit_elaboration.specs.AllElaborated.{all_elaborated, graph_package_uses}
+use Rattle.wit_elaboration.specs.AllElaborated.{all_elaborated}
 use Rattle.wit_graph_theory.specs.facts.GoodIsValid.{good_things}
 use Rattle.wit_graph_theory.specs.facts.ListFacts.{from_row, in_row}
 use Rattle.wit_graph_theory.specs.facts.NamedUses.{used_is_named}
@@ -28,6 +28,7 @@ use Rattle.wit_semver_spec.specs.facts.TypesAfter.{type_after}
 use Rattle.wit_semver_spec.specs.facts.TypesGood.{refers_in_range, unnamed_plain}
 use Rattle.wit_unite_common.specs.steps.Reasons.{CanBeElaborated, ElaborationCause, IsSomeNamed}
 use Rattle.wit_unite_common.specs.steps.Reasons as settles
+use Rattle.wit_elaboration.specs.steps.Parts.{graph_package_uses}
 
 module _ (u : SemverMerge) (valid : IsValid u.graph) (w : ℕ) (there : slice_get u.graph.worlds w ≡ Some u.world) where
   abbrev types : List TypeDef

@@ -18,13 +18,14 @@ use Rattle.wit_data.specs.declared.world.WorldKey.{WorldKey}
 use Rattle.wit_data.specs.declared.world.WorldItem.TheVariants as item
 use Rattle.wit_data.specs.declared.world.WorldKey.TheVariants.{Name, Interface}
 use Rattle.wit_elaboration.specs.Elaborated.{dependencies_before, dependency_of, elaborated_imports, export_imports, import_with_needs, inherited_by_import, without_span}
-use Rattle.wit_elaboration.specs.Entries.{Entry, by_class, elaboration_class, fresh_entries, function_role, key_interface, of_class, role_of, same_key, type_role}
+use Rattle.wit_elaboration.specs.Entries.{Entry, by_class, elaboration_class, fresh_entries, key_interface, role_of, same_key}
 use Rattle.wit_elaboration.specs.Imported.{is_exported}
 use Rattle.wit_elaboration.specs.Sound.{IsRoleInRange}
 use Rattle.wit_elaboration.specs.facts.Filters.{Contains-filter, filter-fail, filter-flat_map, filter-pass}
 use Rattle.wit_elaboration.specs.facts.FreshEntries.{AllNew, AllNew-filter, Contains-deps, fresh_entries-all_known, fresh_entries-append, fresh_entries-new, id_known, ids-push, interfaces_of_keys, known_from_contains}
 use Rattle.wit_elaboration.specs.facts.Order.{AreOwn}
 use Rattle.wit_elaboration.specs.laws.ElaborationLaws.{DependenciesFirst, stands_on}
+use Rattle.wit_elaboration.specs.steps.Parts.{type_role, function_role, of_class}
 
 -- ---- of a list that is picked from a sorted one
 

@@ -14,7 +14,7 @@ use Rattle.wit_data.specs.declared.types.TypeOwner.TheVariants as owner
 use Rattle.wit_data.specs.declared.world.WorldItem.TheVariants as item
 use Rattle.wit_data.specs.declared.world.WorldKey.TheVariants as key
 use Rattle.wit_elaboration.specs.facts.Filters.{Contains-filter, filter-all, filter-fail, filter-flat_map, filter-pass, filter-same}
-use Rattle.wit_elaboration.specs.Entries.{Entry, by_class, elaboration_class, of_class, role_of, type_role}
+use Rattle.wit_elaboration.specs.Entries.{Entry, by_class, elaboration_class, role_of}
 use Rattle.wit_elaboration.specs.laws.KeptByElaboration.{is_label, labelled, listed_without_span}
 use Rattle.wit_elaboration.specs.facts.SoundFacts.{lists_in_order}
 use Rattle.wit_elaboration.specs.Valid.{IsValid}
@@ -30,6 +30,7 @@ use Rattle.wit_semver_spec.specs.facts.Accepting.{complete, elaborates, in_order
 use Rattle.wit_semver_spec.specs.facts.Merged.{is_done}
 use Rattle.wit_semver_spec.specs.facts.TypesAfter.{after, needs_after, retargeted_from, retargeted_owner, retargeted_type, type_into}
 use Rattle.wit_semver_spec.specs.laws.TrackLaws.{IsSemverMerged}
+use Rattle.wit_elaboration.specs.steps.Parts.{type_role, of_class}
 
 -- ---- lists
 

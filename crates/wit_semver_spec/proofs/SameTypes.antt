@@ -24,10 +24,10 @@ use Rattle.wit_data.specs.declared.world.WorldItem.{WorldItem}
 use Rattle.wit_data.specs.declared.world.WorldKey.{WorldKey}
 use Rattle.wit_data.specs.declared.world.WorldItem.TheVariants as item
 use Rattle.wit_data.specs.declared.world.WorldKey.TheVariants as key
-use Rattle.wit_elaboration.specs.AllElaborated.{all_elaborated, graph_package_uses}
+use Rattle.wit_elaboration.specs.AllElaborated.{all_elaborated}
 use Rattle.wit_elaboration.specs.Elaborated.{Elaborated, dependency_of, elaborated_exports, elaborated_imports, export_imports, import_steps, import_with_needs, inherited_by_export, with_elaborated_lists, without_span}
 use Rattle.wit_elaboration.specs.Elaboration.{graph_uses}
-use Rattle.wit_elaboration.specs.Entries.{Entry, by_class, fresh_entries, function_role, item_interface, key_interface, keyed_interfaces, role_of, type_role}
+use Rattle.wit_elaboration.specs.Entries.{Entry, by_class, fresh_entries, item_interface, key_interface, keyed_interfaces, role_of}
 use Rattle.wit_elaboration.specs.Imported.{HasTransitiveConflict, is_exported}
 use Rattle.wit_elaboration.specs.Sound.{HasSoundEntries, IsRoleInRange}
 use Rattle.wit_elaboration.specs.Valid.{IsValid}
@@ -55,6 +55,7 @@ use Rattle.wit_semver_spec.specs.facts.KeptKeys.{kept_holds, kept_into, kept_tes
 use Rattle.wit_semver_spec.specs.laws.TrackLaws.{RetargetsNone, SameTypesKeepWorlds}
 use Rattle.wit_semver_spec.proofs.FewerImports.{AreClosed, AreSettled, part_is_elaborated}
 use Rattle.wit_graph_data.specs.steps.Parts.{entry_interfaces, package_needs}
+use Rattle.wit_elaboration.specs.steps.Parts.{type_role, function_role, graph_package_uses}
 
 -- ---- lists that stay
 

@@ -18,7 +18,6 @@ use Rattle.wit_elaboration.specs.facts.Classes.{by_class_in, in_by_class}
 use Rattle.wit_elaboration.specs.facts.Filters.{Contains-filter, Contains-filtered}
 use Rattle.wit_elaboration.specs.Elaboration.{graph_uses}
 use Rattle.wit_elaboration.specs.Entries.{Entry, by_class, key_interface, keyed_interfaces, item_interface, role_of}
-use Rattle.wit_elaboration.specs.Imported.{exported_interfaces}
 use Rattle.wit_elaboration.specs.laws.Imports.{roots_of}
 use Rattle.wit_elaboration.specs.laws.KeptByElaboration.{IsListedWithoutSpan, is_label, labelled, listed_without_span}
 use Rattle.wit_elaboration.specs.Valid.{IsValid}
@@ -34,6 +33,7 @@ use Rattle.wit_transform.proofs.NamedInterfaces.{import_uses}
 use Rattle.wit_transform.specs.facts.TransformedWorlds.{in_order, is_elaborated, listed}
 use Rattle.wit_transform.specs.Transformed.{IsExportizeCause, imports_at, WorldLists, entries_by_answer, exportized, importized, transformed, transformed_at, transformed_world, type_entries}
 use Rattle.wit_transform.specs.laws.TransformLaws.{AreFormerExports, ExportizedImportsNothing, ImportizedExportsNothing, ImportizedThenExportized, IsBehind}
+use Rattle.wit_elaboration.specs.steps.Parts.{exported_interfaces}
 
 inside : {X : Type 0} (x y : X) → Some x ≡ Some y → x ≡ y
 inside x y h = cc

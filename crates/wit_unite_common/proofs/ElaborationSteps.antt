@@ -12,8 +12,8 @@ use Rattle.wit_elaboration.specs.Imported.{HasTransitiveConflict}
 use Rattle.wit_graph_data.specs.declared.graph.Graph.{Graph}
 use Rattle.wit_graph_data.specs.declared.error_kind.ResolveErrorKind.{ResolveErrorKind}
 use Rattle.wit_graph_data.specs.declared.error_kind.ResolveErrorKind.TheVariants.{OutOfMemory}
-use Rattle.wit_elaboration.specs.AllElaborated.{graph_package_uses}
 use Rattle.wit_unite_common.specs.steps.Reasons.{ElaborationCause, conflict_4, interface_cycle_22, package_cycle_6, type_cycle_23}
+use Rattle.wit_elaboration.specs.steps.Parts.{graph_package_uses}
 
 -- nothing depends on itself
 pub record HasNoCycle (g : Graph) : Type 0 where

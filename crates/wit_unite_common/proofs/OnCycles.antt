@@ -15,9 +15,9 @@ use Rattle.wit_graph_data.specs.declared.graph.Graph.{Graph}
 use Rattle.wit_graph_data.specs.declared.graph.Package.{Package}
 use Rattle.wit_graph_data.specs.declared.error_kind.ResolveErrorKind.{ResolveErrorKind}
 use Rattle.wit_graph_data.specs.declared.error_kind.ResolveErrorKind.TheVariants.{OutOfMemory, PackageCycle}
-use Rattle.wit_elaboration.specs.AllElaborated.{graph_package_uses, interface_cycle_text, type_cycle_text}
 use Rattle.wit_unite_common.specs.steps.Reasons.{CyclesHaveNames, ElaborationCause, IsInterfaceCycleError, IsRound, IsSomeNamed, IsTypeCycleError, interface_cycle_22, package_cycle_6, type_cycle_23}
 use Rattle.wit_graph_data.specs.steps.Parts.{package_needs}
+use Rattle.wit_elaboration.specs.steps.Parts.{graph_package_uses, interface_cycle_text, type_cycle_text}
 
 -- ---- on a cycle
 

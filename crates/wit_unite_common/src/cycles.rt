@@ -4,10 +4,10 @@ ghost use Rattle.wit_elaboration.specs.Elaboration.{graph_uses};
 ghost use Rattle.wit_graph_data.specs.IdText.{interface_id_at};
 ghost use Rattle.wit_graph_data.specs.declared.cause.Cause.TheVariants as cause;
 ghost use Rattle.wit_graph_data.specs.declared.error_kind.ResolveErrorKind.TheVariants.{OutOfMemory, Semantic};
-ghost use Rattle.wit_elaboration.specs.AllElaborated.{graph_package_uses, type_cycle_text};
 ghost use Rattle.wit_data.specs.Kind.{type_references};
 ghost use Rattle.wit_digraph.specs.Relation.{IsAcyclic, IsInRange};
 ghost use Rattle.wit_unite_common.specs.steps.Reasons.{CyclesHaveNames, ElaborationCause, IsInterfaceCycleError, IsSomeNamed, IsTypeCycleError, UsedHaveNames};
+ghost use Rattle.wit_elaboration.specs.steps.Parts.{graph_package_uses, type_cycle_text};
 
 use crate::round::find_round;
 use std::alloc::{AllocError, Global};

@@ -9,11 +9,12 @@ use Rattle.wit_data.specs.declared.types.TypeDef.{TypeDef}
 use Rattle.wit_data.specs.declared.world.WorldKey.{WorldKey}
 use Rattle.wit_data.specs.declared.world.WorldKey.TheVariants.{Name, Interface}
 use Rattle.wit_digraph.specs.facts.MemberFacts.{Contains-nil, Contains-here, Contains-there, Contains-cons_cases, Contains-flat_map, Contains-flat_map_cases}
-use Rattle.wit_elaboration.specs.Entries.{Entry, Role, Instance, TypeUse, TypeDefinition, FreeFunction, ResourceFunction, role_of, elaboration_class, of_class, by_class, key_interface, keyed_interfaces}
+use Rattle.wit_elaboration.specs.Entries.{Entry, Role, Instance, TypeUse, TypeDefinition, FreeFunction, ResourceFunction, role_of, elaboration_class, by_class, key_interface, keyed_interfaces}
 use Rattle.wit_elaboration.specs.laws.ElaborationLaws.{stands_on, DependenciesFirst}
 use Rattle.wit_elaboration.specs.facts.Filters.{Contains-filter, Contains-filtered, filter-all, filter-none, filter-pass, filter-fail}
 use Rattle.wit_elaboration.specs.facts.FreshEntries.{AllNew, AllNew-append, AllNew-over, AllNew-filter, AllNew-one, Contains-keys}
 use Rattle.wit_elaboration.specs.facts.Order.{AreOwn, DependenciesFirst-append}
+use Rattle.wit_elaboration.specs.steps.Parts.{of_class}
 
 module _ (types : List TypeDef) where
   five : {A B : Type 0} (f : A → A → A → A → A → B) {a a' b b' c c' d d' e e' : A} → a ≡ a' → b ≡ b' → c ≡ c' → d ≡ d' → e ≡ e' → f a b c d e ≡ f a' b' c' d' e'

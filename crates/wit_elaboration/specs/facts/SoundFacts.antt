@@ -20,8 +20,9 @@ use Rattle.wit_data.specs.declared.world.WorldKey.{WorldKey}
 use Rattle.wit_data.specs.declared.types.TypeOwner.TheVariants as owner
 use Rattle.wit_data.specs.declared.world.WorldItem.TheVariants as item
 use Rattle.wit_data.specs.declared.world.WorldKey.TheVariants as key
-use Rattle.wit_elaboration.specs.Entries.{function_role, role_of, type_role}
+use Rattle.wit_elaboration.specs.Entries.{role_of}
 use Rattle.wit_elaboration.specs.Sound.{HasSoundEntries, IsRoleInRange, IsUnderOwnKey}
+use Rattle.wit_elaboration.specs.steps.Parts.{type_role, function_role}
 
 -- ---- what an alias needs
 

@@ -5,7 +5,7 @@ use Rattle.wit_data.specs.declared.world.WorldKey.{WorldKey}
 use Rattle.wit_data.specs.declared.world.WorldKey.TheVariants as key
 use Rattle.wit_digraph.specs.Relation.{direct, Reaches}
 use Rattle.wit_elaboration.specs.Entries.{Entry, Role, Instance, TypeUse, TypeDefinition, FreeFunction, ResourceFunction, role_of}
-use Rattle.wit_elaboration.specs.Imported.{exported_interfaces, exported_keys}
+use Rattle.wit_elaboration.specs.steps.Parts.{exported_keys, exported_interfaces}
 
 -- the exports need j from outside: an exported interface uses one that is not an exported key, and that reaches j
 abbrev pub Needed : List (List ℕ) → List Entry → ℕ → Type 0

@@ -8,10 +8,10 @@ use Rattle.wit_data.specs.declared.world.WorldKey.TheVariants.{Name, Interface}
 use Rattle.wit_digraph.specs.Relation.{direct, IsAcyclic}
 use Rattle.wit_elaboration.specs.Entries.{Entry, TypeUse, role_of, keyed_interfaces, by_class}
 use Rattle.wit_elaboration.specs.Elaborated.{Elaborated, InheritedData, dependency_of, inherited_by_import, without_span}
-use Rattle.wit_elaboration.specs.Imported.{exported_interfaces, exported_keys}
 use Rattle.wit_elaboration.specs.laws.Imports.{IsImported, roots_of}
 use Rattle.wit_elaboration.specs.Sound.{HasSoundEntries}
 use Rattle.wit_values.specs.Table.{HasDistinctKeys}
+use Rattle.wit_elaboration.specs.steps.Parts.{exported_keys, exported_interfaces}
 
 -- ---- a graph that grows
 

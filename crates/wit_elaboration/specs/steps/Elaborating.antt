@@ -8,7 +8,8 @@ use Rattle.wit_digraph.specs.PostOrder.{Listed, UsesFirst}
 use Rattle.wit_elaboration.specs.declared.marks.Marks.{Marks}
 use Rattle.wit_elaboration.specs.Elaborated.{dependencies_before, dependency_of, inherited_by_export}
 use Rattle.wit_elaboration.specs.Entries.{Entry, Instance, item_interface}
-use Rattle.wit_elaboration.specs.Imported.{exported_keys, IsEntryInConflict}
+use Rattle.wit_elaboration.specs.Imported.{IsEntryInConflict}
+use Rattle.wit_elaboration.specs.steps.Parts.{exported_keys}
 
 -- what was walked has all its uses walked before it
 pub record IsPostOrder (uses : List (List ℕ)) (walked : Listed) : Type 0 where

@@ -9,13 +9,13 @@ use Rattle.wit_data.specs.declared.world.World.{World}
 use Rattle.wit_data.specs.declared.world.WorldItem.{WorldItem}
 use Rattle.wit_data.specs.declared.world.WorldItem.TheVariants as item
 use Rattle.wit_elaboration.specs.Elaborated.{Elaborated, without_span}
-use Rattle.wit_elaboration.specs.Imported.{exported_keys}
 use Rattle.wit_elaboration.specs.laws.KeptByElaboration.{ElaboratedEntries, ElaboratedOnce, IsUsed, listed_without_span}
 use Rattle.wit_elaboration.specs.Sound.{HasSoundEntries}
 use Rattle.wit_graph_data.specs.declared.graph.Graph.{Graph}
 use Rattle.wit_graph_theory.specs.facts.Covered.{EntryComes, IsDependency, IsNoType, ItemComes, WorldComes}
 use Rattle.wit_graph_theory.specs.steps.Sources.{Source}
 use Rattle.wit_graph_theory.specs.facts.ListFacts.{contained_at, place_of}
+use Rattle.wit_elaboration.specs.steps.Parts.{exported_keys}
 
 -- an item with its stability settled is the same interface
 pub interface_without_span : (held : WorldItem) → item_interface (without_span held) ≡ item_interface held

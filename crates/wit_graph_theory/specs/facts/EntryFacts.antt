@@ -18,8 +18,7 @@ use Rattle.wit_data.specs.declared.world.WorldKey.{WorldKey}
 use Rattle.wit_data.specs.declared.world.WorldItem.TheVariants as item
 use Rattle.wit_data.specs.declared.world.WorldKey.TheVariants as key
 use Rattle.wit_elaboration.specs.Elaborated.{Elaborated, without_span}
-use Rattle.wit_elaboration.specs.Entries.{Entry, function_role, key_interface, keyed_interfaces, item_interface, role_of, type_role}
-use Rattle.wit_elaboration.specs.Imported.{exported_keys}
+use Rattle.wit_elaboration.specs.Entries.{Entry, key_interface, keyed_interfaces, item_interface, role_of}
 use Rattle.wit_elaboration.specs.laws.Imports.{roots_of}
 use Rattle.wit_elaboration.specs.laws.KeptByElaboration.{HoldsImports, ImportsAreLeast}
 use Rattle.wit_elaboration.specs.facts.SoundFacts.{dep_is_named, lists_in_order, named_within}
@@ -29,6 +28,7 @@ use Rattle.wit_graph_theory.specs.facts.ListFacts.{place_of}
 use Rattle.wit_graph_theory.specs.facts.NamedUses.{used_is_named}
 use Rattle.wit_graph_theory.specs.laws.PackageCycles.{ListsKey, ListsUses}
 use Rattle.wit_graph_data.specs.steps.Parts.{entry_interfaces}
+use Rattle.wit_elaboration.specs.steps.Parts.{type_role, function_role, exported_keys}
 
 pub one_of : (i j : ℕ) → Contains (i ∷ []) j → i ≡ j
 one_of i j has = elim (Contains-cons_cases i j [] has) [ inl same ↦ same | inr none ↦ absurd (Contains-nil none) ]

@@ -10,12 +10,13 @@ use Rattle.wit_data.specs.declared.types.TypeDef.{TypeDef}
 use Rattle.wit_data.specs.declared.world.WorldItem.{WorldItem}
 use Rattle.wit_data.specs.declared.world.WorldItem.TheVariants as item
 use Rattle.wit_digraph.specs.Relation.{direct}
-use Rattle.wit_elaboration.specs.Entries.{function_role, role_of, type_role}
+use Rattle.wit_elaboration.specs.Entries.{role_of}
 use Rattle.wit_elaboration.specs.laws.KeptByElaboration.{IsUsed}
 use Rattle.wit_elaboration.specs.facts.SoundFacts.{dep_is_named}
 use Rattle.wit_elaboration.specs.declared.role.Role.TheVariants.{TypeUse}
 use Rattle.wit_graph_theory.specs.facts.DependencyFacts.{filter_map_from}
 use Rattle.wit_graph_theory.specs.facts.ListFacts.{from_row}
+use Rattle.wit_elaboration.specs.steps.Parts.{type_role, function_role}
 
 -- the type whose use an item is
 used_type : (types : List TypeDef) (held : WorldItem) (j : ℕ) → role_of types held ≡ TypeUse j → (t : ℕ) × (type_interface_dep types t ≡ Some j)

@@ -20,12 +20,13 @@ use Rattle.wit_data.specs.declared.types.TypeOwner.TheVariants as owner
 use Rattle.wit_data.specs.declared.world.WorldItem.TheVariants as item
 use Rattle.wit_data.specs.declared.world.WorldKey.TheVariants as key
 use Rattle.wit_elaboration.specs.Elaborated.{Elaborated, inherited_by_import}
-use Rattle.wit_elaboration.specs.Entries.{role_of, type_role}
+use Rattle.wit_elaboration.specs.Entries.{role_of}
 use Rattle.wit_elaboration.specs.laws.KeptByElaboration.{ElaborationIsLocal}
 use Rattle.wit_elaboration.specs.facts.SoundFacts.{lists_in_order}
 use Rattle.wit_graph_data.specs.declared.graph.Graph.{Graph}
 use Rattle.wit_graph_theory.specs.facts.Good.{HasGoodItems}
 use Rattle.wit_graph_theory.specs.facts.ListFacts.{found_at, place_of}
+use Rattle.wit_elaboration.specs.steps.Parts.{type_role}
 
 -- the interface that what an alias names belongs to, where that isn't its own owner
 abbrev pub named_dep : List TypeDef → TypeOwner → ℕ → Option ℕ

@@ -14,7 +14,6 @@ use Rattle.wit_data.specs.declared.world.WorldKey.{WorldKey}
 use Rattle.wit_data.specs.declared.world.WorldItem.TheVariants as item
 use Rattle.wit_data.specs.declared.world.WorldKey.TheVariants as key
 use Rattle.wit_elaboration.specs.Entries.{key_interface}
-use Rattle.wit_elaboration.specs.Imported.{exported_keys}
 use Rattle.wit_elaboration.specs.laws.KeptByElaboration.{IsUsed}
 use Rattle.wit_elaboration.specs.Sound.{HasSoundEntries}
 use Rattle.wit_elaboration.specs.facts.SoundFacts.{HasSoundEntries-of_world, lists_in_order}
@@ -25,6 +24,7 @@ use Rattle.wit_link_spec.specs.Added.{with_setters_placed}
 use Rattle.wit_labels.specs.Setters.{setters_placed}
 use Rattle.wit_link_laws.specs.facts.PartiallyLinked.{IsSoundSoFar}
 use Rattle.wit_link_laws.specs.facts.PlacedFacts.{placed_distinct, placed_in}
+use Rattle.wit_elaboration.specs.steps.Parts.{exported_keys}
 
 pub named_export : (interfaces : List Interface) (k : WorldKey) (held : WorldItem) (j : ℕ) → Contains (key_interface k) j → IsExport interfaces k held → IsNamed interfaces j
 named_export interfaces (key.Name name) held j has is = absurd (Contains-nil has)

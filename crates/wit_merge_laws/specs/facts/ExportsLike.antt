@@ -16,7 +16,7 @@ use Rattle.wit_elaboration.specs.Elaboration.{graph_uses}
 use Rattle.wit_elaboration.specs.Entries.{key_interface}
 use Rattle.wit_elaboration.specs.facts.FreshEntries.{same_key-true}
 use Rattle.wit_elaboration.specs.facts.SoundFacts.{named_within}
-use Rattle.wit_elaboration.specs.Imported.{HasTransitiveConflict, exported_interfaces, exported_keys}
+use Rattle.wit_elaboration.specs.Imported.{HasTransitiveConflict}
 use Rattle.wit_elaboration.specs.Valid.{IsValid}
 use Rattle.wit_graph_data.specs.declared.graph.Graph.{Graph}
 use Rattle.wit_graph_theory.specs.facts.EntryFacts.{key_entry}
@@ -39,6 +39,7 @@ use Rattle.wit_merge_laws.specs.facts.UsesFrom.{use_from}
 use Rattle.wit_merge_laws.specs.facts.UsesListed.{KeepsEntries, held_one, key_in, key_remapped, one_held, world_keeps_entries}
 use Rattle.wit_merge_laws.specs.facts.WorldsStand.{entry, entry_there}
 use Rattle.wit_merge_laws.specs.laws.MergingLaws.{merge_of_graphs}
+use Rattle.wit_elaboration.specs.steps.Parts.{exported_keys, exported_interfaces}
 
 -- ---- what entries hold
 

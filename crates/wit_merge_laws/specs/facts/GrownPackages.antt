@@ -24,7 +24,6 @@ use Rattle.wit_data.specs.declared.world.WorldItem.{WorldItem}
 use Rattle.wit_data.specs.declared.world.WorldItem.TheVariants as item
 use Rattle.wit_data.specs.declared.world.WorldKey.{WorldKey}
 use Rattle.wit_data.specs.declared.world.WorldKey.TheVariants as key
-use Rattle.wit_elaboration.specs.AllElaborated.{graph_package_uses}
 use Rattle.wit_elaboration.specs.Elaboration.{graph_uses}
 use Rattle.wit_elaboration.specs.Valid.{IsValid}
 use Rattle.wit_graph_data.specs.Queries.{entry_interface, other_package, package_interfaces, world_interfaces}
@@ -54,6 +53,7 @@ use Rattle.wit_merge_laws.specs.facts.PackagesStand.{PackageFrom, interface_move
 use Rattle.wit_merge_laws.specs.facts.TypesStand.{matched_some, moved_next}
 use Rattle.wit_merge_laws.specs.facts.UsesInto.{needs_back}
 use Rattle.wit_graph_data.specs.steps.Parts.{entry_interfaces, package_needs}
+use Rattle.wit_elaboration.specs.steps.Parts.{graph_package_uses}
 
 -- functions that agree on the elements give the same lists
 flat_map_agrees : {X Y : Type 0} (f g : X → List Y) (xs : List X) → ((i : ℕ) (x : X) → slice_get xs i ≡ Some x → f x ≡ g x) → flat_map f xs ≡ flat_map g xs

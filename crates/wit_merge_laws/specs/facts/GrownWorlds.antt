@@ -6,7 +6,7 @@ use Rattle.std.proofs.lemmas.List.Elements.{Contains-append_cases, Contains-appe
 use Rattle.wit_digraph.specs.Cycles.{IsOnCycle}
 use Rattle.wit_digraph.specs.Relation.{IsAcyclic}
 use Rattle.wit_data.specs.declared.world.World.{World}
-use Rattle.wit_elaboration.specs.AllElaborated.{DependsOnItself, HasWorldInConflict, RefersToItself, UsesItself, graph_package_uses}
+use Rattle.wit_elaboration.specs.AllElaborated.{DependsOnItself, HasWorldInConflict, RefersToItself, UsesItself}
 use Rattle.wit_elaboration.specs.Elaborated.{with_elaborated_lists}
 use Rattle.wit_elaboration.specs.Elaboration.{IsRefusedWorld, elaborated_world, graph_uses}
 use Rattle.wit_elaboration.specs.Imported.{HasTransitiveConflict}
@@ -26,6 +26,7 @@ use Rattle.wit_merge_laws.specs.facts.GrownUses.{grown_uses_acyclic, is_grown, m
 use Rattle.wit_merge_laws.specs.facts.NoCycles.{joined_types_acyclic}
 use Rattle.wit_merge_laws.specs.facts.NothingFacts.{map_same}
 use Rattle.wit_merge_laws.specs.laws.GrowingLaws.{GrowsAlone, GrowthIsAccepted, NothingNewIsCyclic, OldWorldsStay, UnionsGrow, WorldStays}
+use Rattle.wit_elaboration.specs.steps.Parts.{graph_package_uses}
 
 pub no_new_cycles : NothingNewIsCyclic
 no_new_cycles m valid valid_other one leaves = record {

@@ -18,8 +18,7 @@ use Rattle.wit_data.specs.declared.types.TypeOwner.TheVariants as owner
 use Rattle.wit_data.specs.declared.world.WorldItem.TheVariants as item
 use Rattle.wit_data.specs.declared.world.WorldKey.TheVariants as key
 use Rattle.wit_elaboration.specs.Elaboration.{graph_uses}
-use Rattle.wit_elaboration.specs.Entries.{key_interface, keyed_interfaces, role_of, type_role}
-use Rattle.wit_elaboration.specs.Imported.{exported_interfaces, exported_keys}
+use Rattle.wit_elaboration.specs.Entries.{key_interface, keyed_interfaces, role_of}
 use Rattle.wit_elaboration.specs.laws.Imports.{IsImported, Needed, roots_of}
 use Rattle.wit_elaboration.specs.facts.SoundFacts.{dep_is_named, named_within}
 use Rattle.wit_graph_data.specs.declared.graph.Graph.{Graph}
@@ -41,6 +40,7 @@ use Rattle.wit_merge_laws.specs.facts.UnitedWorlds.{is_elaborated, named_key}
 use Rattle.wit_merge_laws.specs.facts.UsesFrom.{old_needs}
 use Rattle.wit_merge_laws.specs.facts.UsesInto.{needs_back, needs_goes, needs_stay}
 use Rattle.wit_merge_laws.specs.facts.WorldsStand.{entry}
+use Rattle.wit_elaboration.specs.steps.Parts.{type_role, exported_keys, exported_interfaces}
 
 -- ---- images of entries
 

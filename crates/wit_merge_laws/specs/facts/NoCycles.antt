@@ -25,7 +25,7 @@ use Rattle.wit_elaboration.specs.Valid.{IsValid}
 use Rattle.wit_graph_data.specs.declared.cause.Cause.TheVariants as cause
 use Rattle.wit_graph_data.specs.declared.error_kind.ResolveErrorKind.TheVariants.{InvalidTransitiveDependency, Semantic}
 use Rattle.wit_graph_data.specs.declared.graph.Graph.{Graph}
-use Rattle.wit_elaboration.specs.AllElaborated.{RefersToItself, UsesItself, interface_cycle_text}
+use Rattle.wit_elaboration.specs.AllElaborated.{RefersToItself, UsesItself}
 use Rattle.wit_graph_theory.specs.facts.Growth.{TypesGrow}
 use Rattle.wit_graph_theory.specs.facts.ListFacts.{at_below, found_at, in_row, place_of, some_at}
 use Rattle.wit_graph_theory.specs.facts.NamedUses.{used_is_named}
@@ -46,6 +46,7 @@ use Rattle.wit_merge_laws.specs.facts.TypesStand.{images, joined_keeps, long_old
 use Rattle.wit_merge_laws.specs.facts.WorldsStand.{joined_covered, joined_stands, sources_good}
 use Rattle.wit_remap_spec.specs.ValueRemap.{owns}
 use Rattle.wit_graph_data.specs.steps.Parts.{interface_id_text}
+use Rattle.wit_elaboration.specs.steps.Parts.{interface_cycle_text}
 
 -- ---- no type refers to itself
 

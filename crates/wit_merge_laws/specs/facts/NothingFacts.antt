@@ -13,13 +13,14 @@ use Rattle.wit_elaboration.specs.examples.Examples.{empty_graph}
 use Rattle.wit_elaboration.specs.Imported.{HasTransitiveConflict}
 use Rattle.wit_elaboration.specs.Valid.{IsValid}
 use Rattle.wit_graph_data.specs.declared.graph.Graph.{Graph}
-use Rattle.wit_elaboration.specs.AllElaborated.{all_elaborated, elaborated_world, graph_package_uses}
+use Rattle.wit_elaboration.specs.AllElaborated.{all_elaborated, elaborated_world}
 use Rattle.wit_graph_theory.specs.facts.ListFacts.{place_of}
 use Rattle.wit_merge_spec.specs.Cause as differ
 use Rattle.wit_merge_spec.specs.Cause.{GraphsDiffer, AreJoined, MergeIsAccepted, borrow_in_result_15, conflict_4, entries, interface_cycle_22, interfaces, merge_mismatch_24, mismatch_8, offset_overflow_27, package_cycle_6, types, worlds}
 use Rattle.wit_merge_spec.specs.Matches.{GraphMerge, Pair, TypePair, counterpart_interface, counterpart_type, counterpart_world}
 use Rattle.wit_merge_spec.specs.Merged.{joined_graph}
 use Rattle.wit_merge_laws.specs.laws.MergingLaws.{NothingComes, merge_of_graphs}
+use Rattle.wit_elaboration.specs.steps.Parts.{graph_package_uses}
 
 -- the elements of a numbered list are the list
 pub unnumbered : {X : Type 0} (n : ℕ) (xs : List X) → map (λ (e : ℕ × X). e.1) (enumerate_from n xs) ≡ xs

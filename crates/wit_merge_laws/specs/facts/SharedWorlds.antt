@@ -21,8 +21,7 @@ use Rattle.wit_data.specs.declared.world.WorldItem.TheVariants as item
 use Rattle.wit_data.specs.declared.world.WorldKey.TheVariants as key
 use Rattle.wit_elaboration.specs.facts.FreshEntries.{same_key-true}
 use Rattle.wit_elaboration.specs.Elaboration.{graph_uses}
-use Rattle.wit_elaboration.specs.Entries.{keyed_interfaces, role_of, same_key, type_role}
-use Rattle.wit_elaboration.specs.Imported.{exported_interfaces, exported_keys}
+use Rattle.wit_elaboration.specs.Entries.{keyed_interfaces, role_of, same_key}
 use Rattle.wit_elaboration.specs.laws.Imports.{roots_of}
 use Rattle.wit_elaboration.specs.laws.KeptByElaboration.{HoldsImports, ImportsAreLeast}
 use Rattle.wit_graph_data.specs.Queries.{entry_interface}
@@ -45,6 +44,7 @@ use Rattle.wit_merge_laws.specs.facts.NamesParts.{item_matched}
 use Rattle.wit_merge_laws.specs.facts.UsesFrom.{old_needs, use_from}
 use Rattle.wit_merge_laws.specs.facts.UsesListed.{counterpart_lists_key, held_one, key_in, key_remapped, one_held, world_keeps_entries}
 use Rattle.wit_merge_laws.specs.facts.WorldsStand.{entry, entry_there}
+use Rattle.wit_elaboration.specs.steps.Parts.{type_role, exported_keys, exported_interfaces}
 
 -- ---- items
 

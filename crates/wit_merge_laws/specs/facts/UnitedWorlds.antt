@@ -16,7 +16,6 @@ use Rattle.wit_elaboration.specs.facts.Filters.{Contains-filter, Contains-filter
 use Rattle.wit_elaboration.specs.Elaborated.{Elaborated}
 use Rattle.wit_elaboration.specs.Elaboration.{graph_uses}
 use Rattle.wit_elaboration.specs.Entries.{by_class, key_interface}
-use Rattle.wit_elaboration.specs.Imported.{exported_keys}
 use Rattle.wit_elaboration.specs.laws.KeptByElaboration.{IsListedWithoutSpan, IsMadeExport, IsMadeImport, IsUsed, is_label, labelled, listed_without_span}
 use Rattle.wit_elaboration.specs.Sound.{HasSoundEntries}
 use Rattle.wit_elaboration.specs.Valid.{IsValid}
@@ -38,6 +37,7 @@ use Rattle.wit_merge_laws.specs.facts.JoinedGood.{UnionCanElaborate, aliases, in
 use Rattle.wit_merge_laws.specs.facts.ListedStand.{worlds_come}
 use Rattle.wit_merge_laws.specs.facts.TypesStand as types
 use Rattle.wit_merge_laws.specs.facts.WorldsStand.{entry, joined_stands, listed_by, lists_it}
+use Rattle.wit_elaboration.specs.steps.Parts.{exported_keys}
 
 -- an exported key is that of an interface with a name
 pub named_key : (interfaces : List Interface) (k : WorldKey) (held : WorldItem) (j : ℕ) → Contains (key_interface k) j → IsExport interfaces k held → IsNamed interfaces j

@@ -8,7 +8,7 @@ use Rattle.wit_elaboration.specs.Elaboration.{graph_uses}
 use Rattle.wit_elaboration.specs.Valid.{IsValid}
 use Rattle.wit_graph_data.specs.declared.error_kind.ResolveErrorKind.TheVariants.{PackageCycle}
 use Rattle.wit_graph_data.specs.declared.graph.Graph.{Graph}
-use Rattle.wit_elaboration.specs.AllElaborated.{elaborated_world, graph_package_uses}
+use Rattle.wit_elaboration.specs.AllElaborated.{elaborated_world}
 use Rattle.wit_graph_theory.specs.facts.CoveredIsValid.{IsValid-of_covered}
 use Rattle.wit_graph_theory.specs.facts.Good.{IsGoodAsAWhole}
 use Rattle.wit_graph_theory.specs.facts.LawsOfElaboration.{LawsOfElaboration}
@@ -27,6 +27,7 @@ use Rattle.wit_merge_laws.specs.facts.PackagesStand.{good_names, good_tables, in
 use Rattle.wit_merge_laws.specs.facts.UnitedWorlds.{is_elaborated, united_canonical, united_covered, united_stands}
 use Rattle.wit_merge_laws.specs.facts.UsesListed.{joined_lists_uses}
 use Rattle.wit_merge_laws.specs.facts.WorldsStand.{sources_good}
+use Rattle.wit_elaboration.specs.steps.Parts.{graph_package_uses}
 
 module _ (laws : LawsOfElaboration) (m : GraphMerge) (valid : IsValid m.graph) (valid_other : IsValid m.other) (can : MergeIsAccepted m) where
   abbrev g : Graph

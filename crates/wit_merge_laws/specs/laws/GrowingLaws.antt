@@ -8,7 +8,7 @@ use Rattle.wit_data.specs.declared.function.Function.{Function}
 use Rattle.wit_data.specs.declared.stability.Stability.{Stability}
 use Rattle.wit_data.specs.declared.world.World.{World}
 use Rattle.wit_names.specs.declared.package_name.PackageName.{PackageName}
-use Rattle.wit_elaboration.specs.AllElaborated.{DependsOnItself, HasWorldInConflict, UsesItself, graph_package_uses}
+use Rattle.wit_elaboration.specs.AllElaborated.{DependsOnItself, HasWorldInConflict, UsesItself}
 use Rattle.wit_elaboration.specs.Elaboration.{IsRefusedWorld, elaborated_world, graph_uses}
 use Rattle.wit_elaboration.specs.Imported.{HasTransitiveConflict}
 use Rattle.wit_elaboration.specs.Sound.{HasSoundEntries}
@@ -21,6 +21,7 @@ use Rattle.wit_merge_spec.specs.Cause.{HasNoMismatch, IsMergeCause, MergeIsAccep
 use Rattle.wit_merge_spec.specs.Matches.{GraphMerge, Pair, counterpart_interface, counterpart_package, counterpart_type, counterpart_world}
 use Rattle.wit_merge_spec.specs.Merged.{joined_graph, merge_maps, moved_functions, moved_interfaces, merged, with_interface, with_package, with_type, with_world}
 use Rattle.wit_merge_spec.specs.steps.Leaving.{LeavesGraph, grown_graph, new_functions, new_worlds, with_new_worlds}
+use Rattle.wit_elaboration.specs.steps.Parts.{graph_package_uses}
 
 -- what is matched leaves its counterpart as it is: it has no stability that this lacks, and nothing of it moves
 pub record BringsNothing (m : GraphMerge) : Type 0 where

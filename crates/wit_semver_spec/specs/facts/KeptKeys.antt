@@ -18,8 +18,7 @@ use Rattle.wit_data.specs.declared.world.WorldKey.{WorldKey}
 use Rattle.wit_data.specs.declared.world.WorldItem.TheVariants as item
 use Rattle.wit_data.specs.declared.world.WorldKey.TheVariants as key
 use Rattle.wit_elaboration.specs.facts.Filters.{Contains-filter, Contains-filtered}
-use Rattle.wit_elaboration.specs.Entries.{Entry, key_interface, keyed_interfaces, item_interface, role_of, type_role}
-use Rattle.wit_elaboration.specs.Imported.{exported_interfaces, exported_keys}
+use Rattle.wit_elaboration.specs.Entries.{Entry, key_interface, keyed_interfaces, item_interface, role_of}
 use Rattle.wit_elaboration.specs.laws.Imports.{roots_of}
 use Rattle.wit_elaboration.specs.laws.KeptByElaboration.{HoldsImports, ImportsAreLeast}
 use Rattle.wit_elaboration.specs.Valid.{IsValid}
@@ -32,6 +31,7 @@ use Rattle.wit_graph_theory.specs.facts.PackagesAcyclic.{is_there}
 use Rattle.wit_semver_spec.specs.SemverMerged.{entry_types, is_replaced_entry, kept_imports, listed_world, rewritable_types, rewritten_types, types_of, SemverMerge, imported, is_replaced, newest, IsComplete}
 use Rattle.wit_semver_spec.specs.facts.Greatest.{both_true, newest_stays}
 use Rattle.wit_semver_spec.specs.facts.TypesAfter.{needs_after}
+use Rattle.wit_elaboration.specs.steps.Parts.{type_role, exported_keys, exported_interfaces}
 
 -- ---- entries
 

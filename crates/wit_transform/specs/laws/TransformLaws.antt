@@ -8,12 +8,12 @@ use Rattle.wit_data.specs.declared.world.WorldKey.TheVariants as key
 use Rattle.wit_digraph.specs.Relation.{Reaches, direct}
 use Rattle.wit_elaboration.specs.Elaboration.{graph_uses}
 use Rattle.wit_elaboration.specs.Entries.{Entry}
-use Rattle.wit_elaboration.specs.Imported.{exported_interfaces}
 use Rattle.wit_elaboration.specs.laws.KeptByElaboration.{IsListedWithoutSpan, is_label}
 use Rattle.wit_elaboration.specs.Valid.{IsValid}
 use Rattle.wit_graph_data.specs.Error.{NoCause}
 use Rattle.wit_graph_data.specs.declared.graph.Graph.{Graph}
 use Rattle.wit_transform.specs.Transformed.{IsExportizeCause, IsImportizeCause, imports_at, exportized, importized, transformed, type_entries}
+use Rattle.wit_elaboration.specs.steps.Parts.{exported_interfaces}
 
 -- a valid graph stays valid where a world's exports become its imports and no cause holds against it
 abbrev pub ImportizedStayValid : Type 0

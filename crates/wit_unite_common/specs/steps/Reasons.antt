@@ -16,7 +16,8 @@ use Rattle.wit_graph_data.specs.declared.error_kind.ResolveErrorKind.{ResolveErr
 use Rattle.wit_graph_data.specs.declared.error_kind.ResolveErrorKind.TheVariants.{InvalidTransitiveDependency, PackageCycle, Semantic}
 use Rattle.wit_elaboration.specs.Elaboration.{graph_uses}
 use Rattle.wit_elaboration.specs.Sound.{HasSoundEntries}
-use Rattle.wit_elaboration.specs.AllElaborated.{DependsOnItself, HasWorldInConflict, RefersToItself, UsesItself, graph_package_uses, interface_cycle_text, type_cycle_text}
+use Rattle.wit_elaboration.specs.AllElaborated.{DependsOnItself, HasWorldInConflict, RefersToItself, UsesItself}
+use Rattle.wit_elaboration.specs.steps.Parts.{graph_package_uses, interface_cycle_text, type_cycle_text}
 
 -- this interface uses itself
 pub record IsInterfaceCycleError (g : Graph) (interface : ℕ) (error : ResolveErrorKind) : Type 0 where

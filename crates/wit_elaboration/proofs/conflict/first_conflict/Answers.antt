@@ -1,12 +1,13 @@
 use Rattle.std.proofs.Common.{◌<◌, length, arith}
 use Rattle.std.proofs.lemmas.List.Elements.{All-contains}
 use Rattle.wit_elaboration.specs.Entries.{Entry, item_interface}
-use Rattle.wit_elaboration.specs.Imported.{IsEntryInConflict, exported_interfaces}
+use Rattle.wit_elaboration.specs.Imported.{IsEntryInConflict}
 use Rattle.wit_elaboration.proofs.ExportSteps.{given_at, nothing_given}
 use Rattle.wit_elaboration.proofs.FirstConflict.{conflict_here, conflict_passed, marked_use, no_interface, use_marked}
 use Rattle.wit_elaboration.proofs.Marking.{none_all, none_next}
 use Rattle.wit_elaboration.proofs.conflict.first_conflict.Goals.{in-Some+else-has_any, in_default}
 use Rattle.wit_elaboration.proofs.conflict.first_conflict.Goals as goal
+use Rattle.wit_elaboration.specs.steps.Parts.{exported_interfaces}
 
 pub direct_uses-requires : goal.direct_uses-requires
 direct_uses-requires c =

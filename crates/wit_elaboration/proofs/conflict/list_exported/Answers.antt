@@ -3,9 +3,9 @@ use Rattle.std.proofs.lemmas.List.Elements.{All-contains}
 use Rattle.std.proofs.lemmas.Map.Iter.{iter_turn}
 use Rattle.std.specs.Map.Iter.{deref_pair}
 use Rattle.wit_elaboration.specs.Entries.{Entry, key_interface}
-use Rattle.wit_elaboration.specs.Imported.{exported_keys}
 use Rattle.wit_elaboration.proofs.ExportSteps.{given_at}
 use Rattle.wit_elaboration.proofs.conflict.list_exported.Goals as goal
+use Rattle.wit_elaboration.specs.steps.Parts.{exported_keys}
 
 pub add_node-requires : goal.add_node-requires
 add_node-requires c =

@@ -1,7 +1,7 @@
 use Rattle.std.proofs.Common.{◌≡◌, ◌++◌}
-use Rattle.wit_elaboration.specs.Imported.{exported_keys}
 use Rattle.wit_digraph.specs.PostOrder.{first_of_each, fresh}
 use Rattle.wit_elaboration.proofs.conflict.list_exported.Given as goal
+use Rattle.wit_elaboration.specs.steps.Parts.{exported_keys}
 
 -- those so far, and those that are left
 abbrev pub invariant-loop-key : goal.invariant-loop-key

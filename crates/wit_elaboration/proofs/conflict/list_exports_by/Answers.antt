@@ -4,9 +4,9 @@ use Rattle.std.proofs.lemmas.Map.Iter.{iter_turn, rest_more}
 use Rattle.std.specs.Map.Iter.{deref_pair}
 use Rattle.wit_digraph.specs.PostOrder.{Listed}
 use Rattle.wit_elaboration.specs.Entries.{Entry, item_interface}
-use Rattle.wit_elaboration.specs.Imported.{exported_interfaces}
 use Rattle.wit_elaboration.proofs.ExportSteps.{given_at, needs_more}
 use Rattle.wit_elaboration.proofs.conflict.list_exports_by.Goals as goal
+use Rattle.wit_elaboration.specs.steps.Parts.{exported_interfaces}
 
 pub list_needs-requires-clause-role : goal.list_needs-requires-clause-role
 list_needs-requires-clause-role c =

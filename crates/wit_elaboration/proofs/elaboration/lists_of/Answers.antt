@@ -2,10 +2,11 @@ use Rattle.std.proofs.Common.{◌++◌, List, ℕ, Bool, not, length, filter, ap
 use Rattle.std.specs.List.{flat_map}
 use Rattle.std.specs.Map.{keys_of}
 use Rattle.wit_elaboration.specs.steps.Elaborating.{walked_exports, walked_imports}
-use Rattle.wit_elaboration.specs.Entries.{Entry, fresh_entries, is_interface}
+use Rattle.wit_elaboration.specs.Entries.{Entry, fresh_entries}
 use Rattle.wit_elaboration.proofs.ElaboratedIs.{interfaces_below, imports_are, exports_are, listed_is}
 use Rattle.wit_elaboration.proofs.Roles.{in_order}
 use Rattle.wit_elaboration.proofs.elaboration.lists_of.Goals as goal
+use Rattle.wit_elaboration.specs.steps.Parts.{is_interface}
 
 pub export_listed-requires-clause-in_range : goal.export_listed-requires-clause-in_range
 export_listed-requires-clause-in_range c =

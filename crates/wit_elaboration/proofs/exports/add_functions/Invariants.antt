@@ -1,7 +1,8 @@
 use Rattle.std.proofs.Common.{◌≡◌, ◌++◌, not, filter}
 use Rattle.std.specs.Map.{keys_of}
-use Rattle.wit_elaboration.specs.Entries.{fresh_entries, is_interface}
+use Rattle.wit_elaboration.specs.Entries.{fresh_entries}
 use Rattle.wit_elaboration.proofs.exports.add_functions.Given as goal
+use Rattle.wit_elaboration.specs.steps.Parts.{is_interface}
 
 -- the functions so far, and those that are left
 abbrev pub invariant-loop-key : goal.invariant-loop-key

@@ -5,13 +5,13 @@ use Rattle.std.specs.Map.Iter.{deref_pair}
 use Rattle.std.proofs.lemmas.List.Elements.{All-contains}
 use Rattle.std.proofs.lemmas.Map.Iter.{iter_turn, rest_more}
 use Rattle.wit_elaboration.specs.steps.Elaborating.{is_listed, walked_exports, walked_imports}
-use Rattle.wit_elaboration.specs.Entries.{Entry, fresh_entries, is_interface, item_interface}
-use Rattle.wit_elaboration.specs.Imported.{exported_interfaces}
+use Rattle.wit_elaboration.specs.Entries.{Entry, fresh_entries, item_interface}
 use Rattle.wit_elaboration.proofs.ExportSteps.{given_at}
 use Rattle.wit_elaboration.proofs.Exporting.{exports_of, imports_of, instance_is}
 use Rattle.wit_elaboration.specs.facts.Filters.{filter-pass}
 use Rattle.wit_elaboration.specs.facts.FreshEntries.{fresh_entries-left}
 use Rattle.wit_elaboration.proofs.exports.export_listed.Goals as goal
+use Rattle.wit_elaboration.specs.steps.Parts.{is_interface, exported_interfaces}
 
 pub export_entry-requires-clause-interface : goal.export_entry-requires-clause-interface
 export_entry-requires-clause-interface c =

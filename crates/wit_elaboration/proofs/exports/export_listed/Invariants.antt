@@ -2,8 +2,9 @@ use Rattle.std.proofs.Common.{◌≡◌, ◌++◌, filter}
 use Rattle.std.specs.List.{flat_map}
 use Rattle.std.specs.Map.{keys_of}
 use Rattle.wit_elaboration.specs.steps.Elaborating.{IsExporting, is_listed, walked_exports, walked_imports}
-use Rattle.wit_elaboration.specs.Entries.{fresh_entries, is_interface}
+use Rattle.wit_elaboration.specs.Entries.{fresh_entries}
 use Rattle.wit_elaboration.proofs.exports.export_listed.Given as goal
+use Rattle.wit_elaboration.specs.steps.Parts.{is_interface}
 
 -- what is there, and what those will add that are left
 abbrev pub invariant-loop-key : goal.invariant-loop-key

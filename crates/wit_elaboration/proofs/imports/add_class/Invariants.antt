@@ -1,7 +1,8 @@
 use Rattle.std.proofs.Common.{◌≡◌, ◌++◌}
 use Rattle.std.specs.Map.{keys_of}
-use Rattle.wit_elaboration.specs.Entries.{fresh_entries, of_class}
+use Rattle.wit_elaboration.specs.Entries.{fresh_entries}
 use Rattle.wit_elaboration.proofs.imports.add_class.Given as goal
+use Rattle.wit_elaboration.specs.steps.Parts.{of_class}
 
 -- the entries so far, and those that are left
 abbrev pub invariant-loop-key : goal.invariant-loop-key

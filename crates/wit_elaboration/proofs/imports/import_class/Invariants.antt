@@ -3,8 +3,9 @@ use Rattle.std.specs.List.{flat_map}
 use Rattle.std.specs.Map.{keys_of}
 use Rattle.wit_elaboration.specs.Elaborated.{import_with_needs}
 use Rattle.wit_elaboration.specs.steps.Elaborating.{IsImporting}
-use Rattle.wit_elaboration.specs.Entries.{fresh_entries, of_class}
+use Rattle.wit_elaboration.specs.Entries.{fresh_entries}
 use Rattle.wit_elaboration.proofs.imports.import_class.Given as goal
+use Rattle.wit_elaboration.specs.steps.Parts.{of_class}
 
 -- what is imported, and what those will import that are left
 abbrev pub invariant-loop-key : goal.invariant-loop-key

@@ -1,9 +1,9 @@
 use Rattle.std.proofs.Common.{◌≡◌, None, rules}
 use Rattle.wit_digraph.specs.Cycles.{IsOnCycle}
 use Rattle.wit_graph_data.specs.declared.error_kind.ResolveErrorKind.TheVariants.{PackageCycle}
-use Rattle.wit_elaboration.specs.AllElaborated.{graph_package_uses}
 use Rattle.wit_unite_common.proofs.OnCycles.{package_there, package_told}
 use Rattle.wit_unite_common.proofs.cycles.check_packages.Goals as goal
+use Rattle.wit_elaboration.specs.steps.Parts.{graph_package_uses}
 
 pub at-requires : goal.at-requires
 at-requires c =

@@ -4,10 +4,10 @@ use Rattle.std.proofs.lemmas.Map.Iter.{iter_turn, rest_all, rest_more}
 use Rattle.std.specs.Map.Iter.{deref_pair}
 use Rattle.wit_elaboration.specs.Entries.{Entry, item_interface}
 use Rattle.wit_elaboration.specs.steps.Closures.{HasColumnsOf, MayNeed}
-use Rattle.wit_elaboration.specs.Imported.{exported_interfaces}
 use Rattle.wit_elaboration.proofs.ExportSteps.{given_at, nothing_given}
 use Rattle.wit_elaboration.proofs.MayConflict.{EntryMayNeed, given_passed, left_none, none_needed, nothing_passed}
 use Rattle.wit_elaboration.proofs.closure_rows.ClosureRows.may_conflict.Goals as goal
+use Rattle.wit_elaboration.specs.steps.Parts.{exported_interfaces}
 
 pub loop-item-init : goal.loop-item-init
 loop-item-init c = λ e has need. subst (λ (xs : List Entry). Contains xs e) (sym (c.into_iter-item-iterator.ensures.into_iter_gives ∙ c.iter-item-items.ensures.rest)) has
