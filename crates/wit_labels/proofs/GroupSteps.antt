@@ -6,7 +6,8 @@ use Rattle.std.proofs.lemmas.List.{append_assoc, drop-drop, drop_at, length-appe
 use Rattle.std.specs.Prelude.{◌==◌, ◌&&◌, IsCharBoundary, IsUtf8}
 use Rattle.std.proofs.lemmas.Str.{IsCharBoundary-at_seam}
 use Rattle.std.specs.List.{list_any, concat, before_first, after_first, position_or_len}
-use Rattle.wit_labels.specs.Groups.{begins_group, groups_of, groups_within, has_closing, rest_of}
+use Rattle.wit_labels.specs.Groups.{begins_group, groups_of, groups_within, rest_of}
+use Rattle.wit_labels.specs.steps.Parts.{has_closing}
 
 abbrev first_group : List ℕ → List ℕ
 first_group text = before_first (λ b. b == 93) text ++ 93 ∷ []

@@ -8,7 +8,7 @@ use Rattle.std.specs.List.{concat, before_first, cons_option, position_or_len}
 use Rattle.wit_data.specs.declared.world.IncludeName.{IncludeName}
 use Rattle.wit_labels.specs.steps.FirstRenamings.{is_of}
 use Rattle.wit_labels.specs.Groups.{begins_group, groups_of, rest_of}
-use Rattle.wit_labels.specs.Rename.{behind, renamed_behind, renamed_label, renamed_label_by, renamed_rest}
+use Rattle.wit_labels.specs.Rename.{renamed_label, renamed_label_by}
 
 -- with no dot, all is the word
 pub whole_word : (rest : List ℕ) → position_or_len (λ b. b == 46) rest ≡ length rest → rest ≡ before_first (λ b. b == 46) rest
@@ -26,11 +26,10 @@ renamed_label_by-new name label groups word after new plain groups_are word_is a
     let equal : bytes_eq first name.name ≡ true =
     subst (λ (w : List ℕ). bytes_eq w name.name ≡ true) (sym same ∙ word_is) (nat_list_eq_equiv.refl name.name) in
     let tail : name.as_ ++ after ≡ name.as_ ++ drop (length first) rest = ap (λ (w : List ℕ). name.as_ ++ w) (after_is ∙ ap (λ (w : List ℕ). drop (length w) rest) word_is) in
-    let inner : renamed_rest name rest ≡ Some (name.as_ ++ drop (length first) rest) = cond-true (bytes_eq first name.name) (Some (name.as_ ++ drop (length first) rest)) None equal in
-    let whole : renamed_behind name groups rest ≡ Some (groups ++ (name.as_ ++ drop (length first) rest)) =
-    cond-false (begins_group rest) None (behind groups (renamed_rest name rest)) plain ∙ ap (behind groups) inner in
-    ap Some (made ∙ append_assoc groups name.as_ after ∙ ap (λ (w : List ℕ). groups ++ w) tail) ∙ sym whole
-    ∙ ap (λ (g : List ℕ). renamed_behind name g rest) groups_are
+    let renamed = concat (groups_of label) ++ (name.as_ ++ drop (length first) rest) in
+    let whole : renamed_label_by name label ≡ Some renamed =
+    cond-false (begins_group rest) None (cond (bytes_eq first name.name) (Some renamed) None) plain ∙ cond-true (bytes_eq first name.name) (Some renamed) None equal in
+    ap Some (made ∙ append_assoc groups name.as_ after ∙ ap (λ (w : List ℕ). groups ++ w) tail ∙ ap (λ (g : List ℕ). g ++ (name.as_ ++ drop (length first) rest)) groups_are) ∙ sym whole
 
 -- ---- the first renaming that is of a label
 
@@ -50,7 +49,7 @@ first-made label plain (name ∷ names) = by (begins_group (rest_of label)) (byt
     f n = renamed_label_by n label
 
     by : (open_bracket same : Bool) → open_bracket ≡ false → slice_get (filter_map f names) 0 ≡ option_map (made_by label) (find (is_of (word_of label)) names)
-        → slice_get (cons_option (cond open_bracket None (behind (concat (groups_of label)) (cond same (Some (name.as_ ++ drop (length (word_of label)) (rest_of label))) None))) (filter_map f names)) 0
+        → slice_get (cons_option (cond open_bracket None (cond same (Some (made_by label name)) None)) (filter_map f names)) 0
         ≡ option_map (made_by label) (cond same (Some name) (find (is_of (word_of label)) names))
     by true same is rest = absurd (true≢false is)
     by false true is rest = refl
@@ -60,7 +59,7 @@ first-made label plain (name ∷ names) = by (begins_group (rest_of label)) (byt
 none-made : (label : List ℕ) → begins_group (rest_of label) ≡ true → (names : List IncludeName) → filter_map (λ (n : IncludeName). renamed_label_by n label) names ≡ []
 none-made label unclosed [] = refl
 none-made label unclosed (name ∷ names) =
-    ap (λ (o : Option (List ℕ)). cons_option o (filter_map (λ (n : IncludeName). renamed_label_by n label) names)) (cond-true (begins_group (rest_of label)) None (behind (concat (groups_of label)) (renamed_rest name (rest_of label))) unclosed)
+    ap (λ (o : Option (List ℕ)). cons_option o (filter_map (λ (n : IncludeName). renamed_label_by n label) names)) (cond-true (begins_group (rest_of label)) None (cond (bytes_eq (word_of label) name.name) (Some (made_by label name)) None) unclosed)
     ∙ none-made label unclosed names
 
 pub renamed_label-unclosed : (names : List IncludeName) (label : List ℕ) → begins_group (rest_of label) ≡ true → label ≡ renamed_label names label

@@ -20,7 +20,8 @@ use Rattle.wit_data.specs.declared.world.WorldKey.{WorldKey}
 use Rattle.wit_data.specs.declared.world.WorldItem.TheVariants as item
 use Rattle.wit_data.specs.declared.world.WorldKey.TheVariants as key
 use Rattle.wit_labels.specs.steps.Placing.{getters_of, order_after_getters, stand_at, waiters, waits_for}
-use Rattle.wit_labels.specs.Setters.{after, indexed_entries, is_under, later_getter, setters_placed, waiting_setters, wanted_getter}
+use Rattle.wit_labels.specs.Setters.{is_under, later_getter, setters_placed, waiting_setters, wanted_getter}
+use Rattle.wit_labels.specs.steps.Parts.{indexed_entries, after}
 
 -- ---- numbers from one on
 

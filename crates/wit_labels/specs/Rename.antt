@@ -6,24 +6,13 @@ use Rattle.std.specs.List.{concat, before_first}
 use Rattle.wit_data.specs.declared.world.IncludeName.{IncludeName}
 use Rattle.wit_labels.specs.Groups.{begins_group, groups_of, rest_of}
 
--- what follows the groups, renamed: the part before the first dot, or all where there is no dot
-abbrev pub renamed_rest : IncludeName → List ℕ → Option (List ℕ)
-renamed_rest name rest =
-    let word = before_first (λ b. b == 46) rest in
-    if bytes_eq word name.name then Some (name.as_ ++ drop (length word) rest) else None
-
--- a text with a prefix before it, where there is a text
-abbrev pub behind : List ℕ → Option (List ℕ) → Option (List ℕ)
-behind prefix None = None
-behind prefix (Some rest) = Some (prefix ++ rest)
-
--- the same of what follows these groups; where a bracket follows that isn't closed nothing is renamed
-abbrev pub renamed_behind : IncludeName → List ℕ → List ℕ → Option (List ℕ)
-renamed_behind name groups rest = if begins_group rest then None else behind groups (renamed_rest name rest)
-
--- the label as this renaming makes it, None where it is of another label
+-- the label as this renaming makes it, None where it is of another label: what stands behind the groups up to the first
+-- dot, 46, is renamed, or all where there is no dot; where a bracket stands there that isn't closed nothing is
 abbrev pub renamed_label_by : IncludeName → List ℕ → Option (List ℕ)
-renamed_label_by name label = renamed_behind name (concat (groups_of label)) (rest_of label)
+renamed_label_by name label =
+    let word = before_first (λ b. b == 46) (rest_of label) in
+    if begins_group (rest_of label) then None
+    else (if bytes_eq word name.name then Some (concat (groups_of label) ++ (name.as_ ++ drop (length word) (rest_of label))) else None)
 
 -- the label as the first renaming that is of it makes it, itself where none is
 abbrev pub renamed_label : List IncludeName → List ℕ → List ℕ

@@ -61,23 +61,17 @@ abbrev pub is_under : List ℕ → WorldKey → Bool
 is_under label (key.Name name) = bytes_eq label name
 is_under label (key.Interface i) = false
 
--- the entries with their indices
-abbrev pub indexed_entries : List Entry → List (ℕ × Entry)
-indexed_entries entries = enumerate_from 0 entries
-
--- the index that was found, where it is after index i
-abbrev pub after : ℕ → Option ℕ → Option ℕ
-after i None = None
-after i (Some g) = if nat_lt i g then Some g else None
-
 -- the index of the getter of the setter at index i, where it stands after i
 abbrev pub later_getter : List Entry → ℕ → Entry → Option ℕ
-later_getter entries i e = after i (option_and_then (λ (label : List ℕ). position (is_under label) (keys_of entries)) (wanted_getter e.0 e.1))
+later_getter entries i e =
+    option_and_then (λ g. if nat_lt i g then Some g else None) (option_and_then (λ (label : List ℕ). position (is_under label) (keys_of entries)) (wanted_getter e.0 e.1))
 
 -- the setters whose getter, later in the list, is the entry at index g
 abbrev pub waiting_setters : List Entry → ℕ → List Entry
-waiting_setters entries g = map (λ (s : ℕ × Entry). s.1) (filter (λ (s : ℕ × Entry). option_eq nat_eq (later_getter entries s.0 s.1) (Some g)) (indexed_entries entries))
+waiting_setters entries g =
+    map (λ (s : ℕ × Entry). s.1) (filter (λ (s : ℕ × Entry). option_eq nat_eq (later_getter entries s.0 s.1) (Some g)) (enumerate_from 0 entries))
 
 -- the list with each setter that stands before its getter moved to just after it; nothing else moves
 abbrev pub setters_placed : List Entry → List Entry
-setters_placed entries = flat_map (λ (p : ℕ × Entry). (if is_some (later_getter entries p.0 p.1) then [] else p.1 ∷ []) ++ waiting_setters entries p.0) (indexed_entries entries)
+setters_placed entries =
+    flat_map (λ (p : ℕ × Entry). (if is_some (later_getter entries p.0 p.1) then [] else p.1 ∷ []) ++ waiting_setters entries p.0) (enumerate_from 0 entries)

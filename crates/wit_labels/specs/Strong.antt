@@ -16,13 +16,10 @@ class_named group =
     if bytes_eq group (codes "[constructor]") then Some Constructor
     else (if bytes_eq group (codes "[get]") then Some Getter else (if bytes_eq group (codes "[set]") then Some Setter else None))
 
--- the class of a label: the first that one of its groups tells
-abbrev pub label_class : List ℕ → Option Class
-label_class label = slice_get (filter_map class_named (groups_of label)) 0
-
--- what tells labels apart: their class, and what follows the groups, in whatever case
+-- what tells labels apart: the first class that one of their groups tells, and what follows the groups, in whatever
+-- case
 abbrev pub strong_key : List ℕ → StrongKey
-strong_key label = record { class = label_class label; name = str_to_ascii_lowercase (rest_of label) }
+strong_key label = record { class = slice_get (filter_map class_named (groups_of label)) 0; name = str_to_ascii_lowercase (rest_of label) }
 
 -- label n clashes with the label m that stands earlier in the list
 abbrev pub Clashes : List WorldKey → List ℕ → List ℕ → Type 0

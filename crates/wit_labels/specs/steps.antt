@@ -1,2 +1,3 @@
 pub mod FirstRenamings
+pub mod Parts
 pub mod Placing

@@ -6,7 +6,8 @@ ghost use Rattle.wit_data.specs.Each.{Each};
 ghost use Rattle.wit_data.specs.Entries.{Entry};
 ghost use Rattle.wit_data.specs.contracts.world.WorldKeyPartialEq.TheImpl.{eq-value};
 ghost use Rattle.wit_labels.specs.steps.Placing.{getters_of, order_after_getters, waiters};
-ghost use Rattle.wit_labels.specs.Setters.{after, later_getter, setters_placed, wanted_getter};
+ghost use Rattle.wit_labels.specs.Setters.{later_getter, setters_placed, wanted_getter};
+ghost use Rattle.wit_labels.specs.steps.Parts.{after};
 
 use crate::setters::{is_setter, wanted_getter};
 use std::alloc::{AllocError, Global};

@@ -15,15 +15,15 @@ use Rattle.wit_data.specs.declared.world.WorldKey.{WorldKey}
 use Rattle.wit_data.specs.declared.world.WorldKey.TheVariants as key
 use Rattle.wit_graph_theory.specs.facts.ListFacts.{contained_at, place_of}
 use Rattle.wit_labels.specs.Groups.{begins_group, groups_of, rest_of}
-use Rattle.wit_labels.specs.Rename.{behind, renamed_label_by, renamed_rest}
+use Rattle.wit_labels.specs.Rename.{renamed_label_by}
 use Rattle.wit_link_spec.specs.WorldReasons.{IsFirstUnmatched, IsRenamed}
 use Rattle.wit_link_include.specs.steps.Included.{AreRenamed, has_word, word_of}
 
 -- ---- a renaming is of a label exactly where it is of its word
 
-behind-is : (b : Bool) (text prefix : List ℕ) → is_some (behind prefix (cond b (Some text) None)) ≡ b
-behind-is true text prefix = refl
-behind-is false text prefix = refl
+some-is : (b : Bool) (text : List ℕ) → is_some (cond b (Some text) None) ≡ b
+some-is true text = refl
+some-is false text = refl
 
 pub renames-word : (name : IncludeName) (label : List ℕ) → is_some (renamed_label_by name label) ≡ has_word name.name (key.Name label)
 renames-word name label = by (begins_group (rest_of label))
@@ -31,10 +31,13 @@ renames-word name label = by (begins_group (rest_of label))
     word : List ℕ
     word = before_first (λ b. nat_eq b 46) (rest_of label)
 
-    by : (b : Bool) → is_some (cond b None (behind (concat (groups_of label)) (renamed_rest name (rest_of label)))) ≡ option_map_or (bytes_eq name.name) (cond b None (Some word)) false
+    renamed : List ℕ
+    renamed = concat (groups_of label) ++ (name.as_ ++ drop (length word) (rest_of label))
+
+    by : (b : Bool) → is_some (cond b None (cond (bytes_eq word name.name) (Some renamed) None)) ≡ option_map_or (bytes_eq name.name) (cond b None (Some word)) false
     by true = refl
     by false =
-        behind-is (bytes_eq word name.name) (name.as_ ++ drop (length word) (rest_of label)) (concat (groups_of label)) ∙ nat_list_eq_equiv.symm word name.name
+        some-is (bytes_eq word name.name) renamed ∙ nat_list_eq_equiv.symm word name.name
 
 -- ---- tests of lists
 

@@ -3,7 +3,8 @@ use Rattle.std.specs.Prelude.{ℕ, Bool, List, [], ◌∷◌, ◌++◌, length, 
 use Rattle.std.specs.List.{range_with_len}
 use Rattle.std.specs.Option.{option_eq}
 use Rattle.wit_data.specs.Entries.{Entry}
-use Rattle.wit_labels.specs.Setters.{indexed_entries, later_getter}
+use Rattle.wit_labels.specs.Setters.{later_getter}
+use Rattle.wit_labels.specs.steps.Parts.{indexed_entries}
 
 -- of each entry the index of the getter that it waits for
 abbrev pub getters_of : List Entry → List (Option ℕ)

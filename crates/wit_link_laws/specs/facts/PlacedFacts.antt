@@ -15,7 +15,8 @@ use Rattle.wit_graph_theory.specs.facts.CutIsGood.{distinct_kept}
 use Rattle.wit_graph_theory.specs.facts.ListFacts.{contained_at, from_map, place_of, same_at}
 use Rattle.wit_graph_theory.specs.facts.PackagesAcyclic.{numbered_from, numbered_into}
 use Rattle.wit_link_laws.specs.facts.KeysApart.{joined_apart}
-use Rattle.wit_labels.specs.Setters.{after, indexed_entries, is_under, later_getter, setters_placed, waiting_setters, wanted_getter}
+use Rattle.wit_labels.specs.Setters.{is_under, later_getter, setters_placed, waiting_setters, wanted_getter}
+use Rattle.wit_labels.specs.steps.Parts.{indexed_entries, after}
 
 -- ---- keys of lists joined end to end
 

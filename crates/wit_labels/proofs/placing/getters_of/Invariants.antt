@@ -1,7 +1,8 @@
 use Rattle.std.proofs.Common.{◌≡◌, ℕ, map, take}
 use Rattle.wit_data.specs.Entries.{Entry}
-use Rattle.wit_labels.specs.Setters.{indexed_entries, later_getter}
+use Rattle.wit_labels.specs.Setters.{later_getter}
 use Rattle.wit_labels.proofs.placing.getters_of.Given as goal
+use Rattle.wit_labels.specs.steps.Parts.{indexed_entries}
 
 -- those so far
 abbrev pub invariant-loop-index : goal.invariant-loop-index
