@@ -11,12 +11,12 @@ use Rattle.wit_data.specs.declared.types.Type_.TheVariants as type
 use Rattle.wit_data.specs.declared.unresolved.AstItem.TheVariants as named
 use Rattle.wit_graph_data.specs.examples.Samples.{foo_bar, function_of, interface_of, no_docs, sample, type_in, unnamed}
 use Rattle.wit_graph_data.specs.declared.graph.Graph.{Graph}
-use Rattle.wit_remap_spec.specs.Image.{kind_image, value_image}
 use Rattle.wit_link_spec.specs.Addition.{Addition, addition_maps, remapped_type, remap_of_addition}
 use Rattle.wit_link_spec.specs.Added.{added}
-use Rattle.wit_remap_spec.specs.Resources.{leads_to_resource, value_positions}
-use Rattle.wit_remap_spec.specs.ValueRemap.{needs_own, value_id}
+use Rattle.wit_remap_spec.specs.Resources.{leads_to_resource}
+use Rattle.wit_remap_spec.specs.ValueRemap.{needs_own}
 use Rattle.examples_link.specs.Packages.{adding, bare, loose_interface, main_name, no_features}
+use Rattle.wit_remap_spec.specs.steps.Parts.{value_image, kind_image, value_positions, value_id}
 
 -- resource r, s another name of it, t a number, and an `own` of s
 abbrev pub resource_types : List TypeDef

@@ -15,7 +15,7 @@ use Rattle.wit_data.specs.declared.world.WorldKey.TheVariants as key
 use Rattle.wit_graph_data.specs.examples.Samples.{entry_of, foo_bar, function_of, instance}
 use Rattle.wit_graph_data.specs.declared.cause.Cause.TheVariants as cause
 use Rattle.wit_graph_data.specs.declared.error_kind.ResolveErrorKind.TheVariants.{Semantic}
-use Rattle.wit_remap_spec.specs.FunctionMismatch.{FunctionMismatch, HaveFunctionMismatch, function_mismatch_text, kinds_differ, parameter_counts_differ, parameter_names_differ, parameter_types_differ, result_counts_differ, results_differ}
+use Rattle.wit_remap_spec.specs.FunctionMismatch.{FunctionMismatch, HaveFunctionMismatch, kinds_differ, parameter_counts_differ, parameter_names_differ, parameter_types_differ, result_counts_differ, results_differ}
 use Rattle.wit_graph_theory.specs.examples.TestFacts.{none_some}
 use Rattle.wit_merge_spec.specs.Cause.{EntriesDiffer, StructuresDiffer, IsMergeCause}
 use Rattle.wit_merge_spec.specs.Cause as reason
@@ -27,6 +27,7 @@ use Rattle.wit_data.specs.declared.kind.Variant.TheVariants as variants
 use Rattle.examples_merge.proofs.Passing.{differs_in_nothing}
 use Rattle.examples_merge.specs.Graphs.{merge_of_graphs, record_x, resource_t, taking}
 use Rattle.examples_merge.specs.Refusals.{ExamplesOfMismatches, holding, importing, naming, returning, taking_x}
+use Rattle.wit_remap_spec.specs.steps.Parts.{function_mismatch_text}
 
 -- a function of one name in which two interfaces disagree
 pub disagreeing : (from into : Interface) (f g : Function) (text : List ℕ) → f.name ≡ g.name → Contains from.functions (g.name, g) → Contains into.functions (f.name, f) → FunctionMismatch g f text

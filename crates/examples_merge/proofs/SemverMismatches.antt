@@ -4,9 +4,10 @@ use Rattle.wit_data.specs.declared.function.FunctionKind.TheVariants as function
 use Rattle.wit_data.specs.declared.function.Param.{Param}
 use Rattle.wit_data.specs.declared.types.Type_.TheVariants as type
 use Rattle.wit_graph_theory.specs.examples.AgreementFacts.{functions_accepted}
-use Rattle.wit_remap_spec.specs.FunctionMismatch.{AreOfOneSort, FunctionMismatch, kinds_differ, parameter_counts_differ, parameter_names_differ, parameter_names_text, parameter_types_differ, result_counts_differ, results_differ}
+use Rattle.wit_remap_spec.specs.FunctionMismatch.{AreOfOneSort, FunctionMismatch, kinds_differ, parameter_counts_differ, parameter_names_differ, parameter_types_differ, result_counts_differ, results_differ}
 use Rattle.wit_graph_theory.specs.facts.OptionFacts.{some_same}
 use Rattle.examples_merge.specs.CauseExamples.{ExamplesOfMismatches, f_kind, f_of}
+use Rattle.wit_remap_spec.specs.steps.Parts.{parameter_names_text}
 
 -- the letter at which two texts differ
 letter : List ℕ → ℕ

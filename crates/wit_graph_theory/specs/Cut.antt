@@ -15,9 +15,10 @@ use Rattle.wit_data.specs.declared.types.TypeOwner.TheVariants as owner
 use Rattle.wit_data.specs.declared.world.WorldItem.TheVariants as item
 use Rattle.wit_graph_data.specs.declared.graph.Graph.{Graph}
 use Rattle.wit_graph_theory.specs.facts.Good.{IsGoodExport, IsGoodImport, IsGoodInterface, IsGoodType}
-use Rattle.wit_remap_spec.specs.Image.{Maps, identity}
+use Rattle.wit_remap_spec.specs.Image.{Maps}
 use Rattle.wit_remap_spec.specs.Kept.{KeptIds, cut_interface, cut_world}
 use Rattle.wit_graph_theory.specs.steps.Sources.{Source}
+use Rattle.wit_remap_spec.specs.steps.Parts.{identity}
 
 abbrev pub cut_source : KeptIds → List TypeDef → List Interface → List World → Maps → Source
 cut_source kept types interfaces worlds m = record {

@@ -22,7 +22,6 @@ use Rattle.wit_link_spec.specs.facts.Standing.{own_type_remapped}
 use Rattle.wit_link_spec.specs.Gates.{is_active, type_is_active}
 use Rattle.wit_link_spec.specs.Lookup.{is_foreign_type}
 use Rattle.wit_link_spec.specs.Reasons.{IsResolved}
-use Rattle.wit_remap_spec.specs.Resources.{value_positions}
 use Rattle.wit_remap_spec.specs.Selected.{rank, selected}
 use Rattle.wit_link_spec.specs.steps.AdditionRefs.{new_ids_of}
 use Rattle.wit_link_spec.specs.steps.NewThings.{is_new}
@@ -31,6 +30,7 @@ use Rattle.wit_link_resources.specs.steps.IncomingTypes.{CanCome, IsRemapOf, IsR
 use Rattle.wit_link_resources.specs.facts.IncomingLeads.{positions_same}
 use Rattle.wit_link_resources.proofs.OwnFunctions.{active_own}
 use Rattle.wit_link_resources.proofs.Where.{both, foreign_back, goes_there, nowhere, own_active, taken_is_active, target_active}
+use Rattle.wit_remap_spec.specs.steps.Parts.{value_positions}
 
 module _ (a : Addition) (valid : IsValid a.graph) (shaped : IsShaped a.unresolved) (image : IsResolved a) where
   abbrev types : List TypeDef

@@ -2,11 +2,11 @@
 ghost use Rattle.std.specs.Prelude.{◌≡◌, ◌++◌, ◌<◌, All, IfOk, OnOk, length, map, nat_eq};
 ghost use Rattle.std.specs.List.{flat_map, list_any, range_with_len};
 ghost use Rattle.wit_data.specs.declared.types.TypeDef.{TypeDef};
-ghost use Rattle.wit_remap_spec.specs.Resources.{value_positions};
 ghost use Rattle.wit_remap_spec.specs.Selected.{selected};
 ghost use Rattle.wit_link_resources.specs.steps.Active.{seen};
 ghost use Rattle.wit_link_resources.specs.steps.IncomingTypes.{new_of, positions_of};
 ghost use Rattle.wit_data.specs.Kind.{signature_types};
+ghost use Rattle.wit_remap_spec.specs.steps.Parts.{value_positions};
 
 use crate::incoming::Incoming;
 use std::alloc::{AllocError, Global};

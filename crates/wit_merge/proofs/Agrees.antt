@@ -11,7 +11,6 @@ use Rattle.wit_data.specs.declared.world.WorldItem.TheVariants as item
 use Rattle.wit_data.specs.declared.world.WorldKey.TheVariants as key
 use Rattle.wit_remap_spec.specs.Image.{entry_image, function_image, interface_image, item_image, key_image, type_image}
 use Rattle.wit_link_spec.specs.facts.RangeFacts.{range-at}
-use Rattle.wit_remap_spec.specs.ValueRemap.{value_id}
 use Rattle.wit_remap.specs.steps.Movers.{goes, id_or, maps_of}
 use Rattle.wit_remap.specs.declared.mover.Mover.{Mover}
 use Rattle.wit_merge_spec.specs.Matches.{GraphMerge}
@@ -20,6 +19,7 @@ use Rattle.wit_merge.specs.steps.UnionSteps.{EntryWithin, FunctionMoves, Interfa
 use Rattle.wit_merge.specs.declared.merge_plan.MergePlan.{MergePlan}
 use Rattle.wit_merge.proofs.NamesStay.{name_stays}
 use Rattle.wit_merge.proofs.SameImages.{Agree, each_same, entries_same, function_same, interface_same, type_same}
+use Rattle.wit_remap_spec.specs.steps.Parts.{value_id}
 
 -- where an id that is there goes by a list of places
 goes_there : (new_ids : List (Option ℕ)) (f : ℕ → ℕ) (n x : ℕ) → new_ids ≡ map (λ (t : ℕ). Some (f t)) (range_with_len 0 n) → x < n → goes new_ids x ≡ f x

@@ -10,7 +10,6 @@ use Rattle.wit_elaboration.specs.Valid.{IsValid}
 use Rattle.wit_link_spec.specs.facts.NewFacts.{nothing_below}
 use Rattle.wit_link_spec.specs.facts.RangeFacts.{range-at, range-read}
 use Rattle.wit_link_spec.specs.facts.RankFacts.{rank-agree, selected-agree}
-use Rattle.wit_remap_spec.specs.Resources.{value_positions}
 use Rattle.wit_remap_spec.specs.Selected.{rank, selected}
 use Rattle.wit_link_spec.specs.steps.NewThings.{is_from, is_new}
 use Rattle.wit_merge_spec.specs.Matches.{GraphMerge, counterpart_type}
@@ -22,6 +21,7 @@ use Rattle.wit_link_resources.specs.facts.IncomingLeads.{positions_same}
 use Rattle.wit_link_resources.specs.facts.Leads.{target_there}
 use Rattle.wit_merge.proofs.Positions.{position_there}
 use Rattle.wit_data.specs.Kind.{signature_types}
+use Rattle.wit_remap_spec.specs.steps.Parts.{value_positions}
 
 module _ (m : GraphMerge) (valid : IsValid m.graph) (valid_other : IsValid m.other) where
   abbrev types : List TypeDef

@@ -26,7 +26,6 @@ use Rattle.wit_graph_theory.specs.Cut.{mapped_source}
 use Rattle.wit_graph_theory.specs.facts.Good.{IsGoodInterface, IsGoodPackage}
 use Rattle.wit_graph_theory.specs.facts.GoodIsValid.{good_things}
 use Rattle.wit_graph_theory.specs.facts.GraphSource.{mapped_is_good}
-use Rattle.wit_remap_spec.specs.Image.{identity}
 use Rattle.wit_graph_theory.specs.facts.ListFacts.{found_at, place_of}
 use Rattle.wit_graph_theory.specs.steps.Sources.{IsGoodSource, OwnerIsActive, Source}
 use Rattle.wit_merge_spec.specs.Merged.{joined_graph, joined_package, merged, with_interface, with_package, moves_package}
@@ -39,6 +38,7 @@ use Rattle.wit_merge_laws.specs.facts.PackagesStand.{old_package_at, packages_go
 use Rattle.wit_merge.specs.steps.UnionSteps.{EntryWithin, FunctionsMove, InterfaceJoins, InterfaceMoves, OwnerWithin, PackageJoins, PackageMoves, TypeMoves, Within, WorldJoins, WorldMoves, CanUnite, merging_of}
 use Rattle.wit_merge.specs.declared.merge_plan.MergePlan.{MergePlan}
 use Rattle.wit_merge.proofs.Agrees.{of_any}
+use Rattle.wit_remap_spec.specs.steps.Parts.{identity}
 
 -- what is said of a package is said of one that is there
 home_there : {X : Type 0} (packages : List X) (home : Option ℕ) (P : ℕ → X → Type 0) → IsSomeAnd home (λ p. SomeAt packages p (P p)) → (p : ℕ) × (home ≡ Some p) × (p < length packages)

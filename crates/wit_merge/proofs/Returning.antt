@@ -15,17 +15,17 @@ use Rattle.wit_data.specs.declared.types.TypeDefKind.TheVariants as kind
 use Rattle.wit_data.specs.declared.types.TypeOwner.TheVariants as owner
 use Rattle.wit_data.specs.declared.types.Type_.TheVariants as type
 use Rattle.wit_elaboration.specs.Valid.{IsValid}
-use Rattle.wit_remap_spec.specs.Image.{Maps, function_image, value_image}
+use Rattle.wit_remap_spec.specs.Image.{Maps, function_image}
 use Rattle.wit_graph_theory.specs.facts.ListFacts.{Contains-map_cases, found_at, get_at}
 use Rattle.wit_graph_theory.specs.steps.Sources.{Stands}
 use Rattle.wit_remap_spec.specs.Borrows.{borrow_text, HoldsBorrow}
-use Rattle.wit_remap_spec.specs.ValueRemap.{value_id}
 use Rattle.wit_merge_spec.specs.Matches.{GraphMerge}
 use Rattle.wit_merge_spec.specs.Merged.{merge_maps, merged_type, moved_functions, remap_of_merge, joined_graph}
 use Rattle.wit_merge_spec.specs.Cause.{MergeReturnsBorrow}
 use Rattle.wit_merge_laws.specs.facts.TypesStand.{type_stands, values_stand}
 use Rattle.wit_merge.specs.steps.UnionSteps.{ReturnsFree}
 use Rattle.wit_merge_laws.specs.facts.FunctionsThere.{moved_refers}
+use Rattle.wit_remap_spec.specs.steps.Parts.{value_image, value_id}
 
 one_of : (x y : ℕ) → Contains (x ∷ []) y → x ≡ y
 one_of x y has = elim (Contains-cons_cases x y [] has) [ inl same ↦ same | inr none ↦ absurd (Contains-nil none) ]

@@ -27,7 +27,8 @@ use Rattle.wit_data.specs.declared.world.WorldKey.TheVariants as key
 use Rattle.wit_sources.specs.Span.{moved_by}
 use Rattle.wit_graph_theory.specs.facts.ListFacts.{contained_at}
 use Rattle.wit_merge.specs.steps.UnionSteps.{EntryWithin, ItemWithin, KeyWithin, OwnerWithin, Within}
-use Rattle.wit_remap_spec.specs.Image.{Maps, entry_image, function_image, function_kind_image, interface_image, item_image, key_image, kind_image, name_image, owner_image, param_image, role_remap, type_image, value_image}
+use Rattle.wit_remap_spec.specs.Image.{Maps, entry_image, function_image, interface_image, item_image, key_image, name_image, owner_image, role_remap, type_image}
+use Rattle.wit_remap_spec.specs.steps.Parts.{value_image, kind_image, param_image, function_kind_image}
 
 -- maps that send the first so many types, interfaces and worlds to the same places
 pub record Agree (a b : Maps) (types interfaces worlds : ℕ) : Type 0 where

@@ -1,9 +1,9 @@
 //! What comes of another graph behind what a graph has.
 ghost use Rattle.std.specs.Prelude.{◌≡◌, IfOk};
-ghost use Rattle.wit_remap_spec.specs.ValueRemap.{owns as owns_of};
 ghost use Rattle.wit_merge_spec.specs.Merged.{remap_of_merge};
 ghost use Rattle.wit_merge.specs.steps.Behind.{IsComing};
 ghost use Rattle.wit_merge.specs.steps.UnionSteps.{CanUnite, merging_of};
+ghost use Rattle.wit_remap_spec.specs.steps.Parts.{owns as owns_of};
 
 use crate::interfaces::moved_interfaces;
 use crate::merge_plan::MergePlan;

@@ -2,7 +2,7 @@
 ghost use Rattle.std.specs.Prelude.{◌≡◌, IfOk};
 ghost use Rattle.wit_merge_spec.specs.Merged.{joined_graph, remap_of_merge};
 ghost use Rattle.wit_merge.specs.steps.UnionSteps.{CanUnite, merging_of};
-ghost use Rattle.wit_remap_spec.specs.ValueRemap.{owns as owns_of};
+ghost use Rattle.wit_remap_spec.specs.steps.Parts.{owns as owns_of};
 
 use crate::counterparts::counterparts;
 use crate::interfaces::joined_interfaces;

@@ -1,13 +1,13 @@
 //! Where the types of another graph go at value positions, and the `own`s that come for that.
 ghost use Rattle.std.specs.Prelude.{◌≡◌, ℕ, IfOk};
 ghost use Rattle.wit_elaboration.specs.Valid.{IsValid};
-ghost use Rattle.wit_remap_spec.specs.ValueRemap.{owns};
 ghost use Rattle.wit_link_resources.specs.steps.Leading.{AreRight};
 ghost use Rattle.wit_merge_spec.specs.Merged.{remap_of_merge};
 ghost use Rattle.wit_remap.specs.Grown.{Begins};
 ghost use Rattle.wit_merge_match.specs.Differing.{merge_of_graphs_by};
 ghost use Rattle.wit_merge_match.specs.steps.Matched.{AreMatches, merge_of_graphs, merge_remap_of};
 ghost use Rattle.wit_merge.specs.steps.UnionSteps.{value_ids};
+ghost use Rattle.wit_remap_spec.specs.steps.Parts.{owns};
 
 use crate::functions::moved_functions;
 use std::alloc::{AllocError, Global};

@@ -2,7 +2,8 @@
 ghost use Rattle.std.specs.Prelude.{◌≡◌, IfOk};
 ghost use Rattle.wit_merge_spec.specs.Merged.{joined_graph, remap_of_merge};
 ghost use Rattle.wit_merge.specs.steps.UnionSteps.{CanUnite, KnowsCounterparts, merging_of};
-ghost use Rattle.wit_remap_spec.specs.ValueRemap.{owns as owns_of, types_behind};
+ghost use Rattle.wit_remap_spec.specs.ValueRemap.{types_behind};
+ghost use Rattle.wit_remap_spec.specs.steps.Parts.{owns as owns_of};
 
 use crate::merge_plan::MergePlan;
 use crate::parts::{Part, joined_list, move_all};

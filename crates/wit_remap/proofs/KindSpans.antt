@@ -12,9 +12,9 @@ use Rattle.wit_data.specs.declared.types.Flag.{Flag}
 use Rattle.wit_data.specs.declared.types.TypeDefKind.{TypeDefKind}
 use Rattle.wit_data.specs.declared.types.TypeDefKind.TheVariants as kind
 use Rattle.wit_link_spec.specs.Gates.{OptionalSpan}
-use Rattle.wit_remap_spec.specs.Spans.{kind_spans}
 use Rattle.wit_graph_theory.specs.facts.ListFacts.{at_map}
 use Rattle.wit_remap.specs.facts.FittingFacts.{Each-append, Each-left, Each-right}
+use Rattle.wit_remap_spec.specs.steps.Parts.{kind_spans}
 
 module _ (P : OptionalSpan → Type 0) where
   abbrev part_spans : KindPart → List OptionalSpan

@@ -10,11 +10,12 @@ use Rattle.wit_remap_spec.specs.Selected.{rank}
 use Rattle.wit_link_spec.specs.Gates.{function_is_active, interface_is_active, item_is_active, type_is_active, world_is_active}
 use Rattle.wit_link_spec.specs.facts.PositionFacts.{needs_active}
 use Rattle.wit_link_spec.specs.Reasons.{IsResolved}
-use Rattle.wit_remap_spec.specs.ValueRemap.{needs_own, value_id}
+use Rattle.wit_remap_spec.specs.ValueRemap.{needs_own}
 use Rattle.wit_link_spec.specs.facts.NewFacts.{interface_past, type_past, world_past}
 use Rattle.wit_remap.specs.steps.Movers.{goes, maps_with}
 use Rattle.wit_remap.specs.steps.Parts.{flag, has_item, kept_with}
 use Rattle.wit_remap.proofs.Places.{flag-is, goes-is, values-are}
+use Rattle.wit_remap_spec.specs.steps.Parts.{value_id}
 
 off : {X : Type 0} (b : Bool) (x y : X) → b ≡ false → (if b then x else y) ≡ y
 off true x y h = cc

@@ -1,5 +1,6 @@
 //! Functions and interfaces, with new ids and spans.
-ghost use Rattle.wit_remap_spec.specs.Image.{function_image, function_kind_image, interface_image, param_image};
+ghost use Rattle.wit_remap_spec.specs.Image.{function_image, interface_image};
+ghost use Rattle.wit_remap_spec.specs.steps.Parts.{param_image, function_kind_image};
 
 use crate::moves::Moves;
 use crate::update::Update;

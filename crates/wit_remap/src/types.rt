@@ -1,6 +1,7 @@
 //! Types, with new ids and spans.
 ghost use Rattle.std.specs.Prelude.{◌≡◌};
-ghost use Rattle.wit_remap_spec.specs.Image.{case_image, enum_case_image, field_image, flag_image, handle_image, kind_image, owner_image, target_image, type_image, value_image};
+ghost use Rattle.wit_remap_spec.specs.Image.{owner_image, type_image};
+ghost use Rattle.wit_remap_spec.specs.steps.Parts.{value_image, target_image, field_image, case_image, flag_image, enum_case_image, handle_image, kind_image};
 
 use crate::moves::Moves;
 use crate::update::Update;

@@ -8,13 +8,9 @@ use Rattle.wit_data.specs.declared.types.Handle.TheVariants.{Borrow}
 use Rattle.wit_data.specs.declared.types.TypeDefKind.TheVariants as kind
 use Rattle.wit_graph_data.specs.Queries.{type_contents}
 
--- type t is a borrow
-abbrev pub IsBorrow : List TypeDef → ℕ → Type 0
-IsBorrow types t = SomeAt types t (λ (def : TypeDef). (r : ℕ) × (def.kind ≡ kind.Handle (Borrow r)))
-
--- the values of type t hold a borrow
+-- the values of type t hold a borrow: it is one, or some type that they hold is
 abbrev pub HoldsBorrow : List TypeDef → ℕ → Type 0
-HoldsBorrow types t = (b : ℕ) × Reaches (type_contents types) t b × IsBorrow types b
+HoldsBorrow types t = (b : ℕ) × Reaches (type_contents types) t b × SomeAt types b (λ (def : TypeDef). (r : ℕ) × (def.kind ≡ kind.Handle (Borrow r)))
 
 -- what the message says of a function of this name
 abbrev pub borrow_text : List ℕ → List ℕ

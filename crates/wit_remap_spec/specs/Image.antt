@@ -4,22 +4,15 @@
 -- wit-parser 0.263.0.
 use Rattle.std.specs.Prelude.{ℕ, List, [], map, Option, option_map, nat_eq, Some, if◌then◌else◌}
 use Rattle.wit_data.specs.Entries.{Entry}
-use Rattle.wit_data.specs.Kind.{map_handle, map_kind, map_type}
+use Rattle.wit_data.specs.Kind.{map_kind, map_type}
 use Rattle.wit_sources.specs.Span.{moved_by}
-use Rattle.wit_data.specs.declared.types.Case.{Case}
-use Rattle.wit_data.specs.declared.types.EnumCase.{EnumCase}
-use Rattle.wit_data.specs.declared.types.Field.{Field}
-use Rattle.wit_data.specs.declared.types.Flag.{Flag}
 use Rattle.wit_data.specs.declared.function.Function.{Function}
 use Rattle.wit_data.specs.declared.function.FunctionKind.{FunctionKind}
-use Rattle.wit_data.specs.declared.types.Handle.{Handle}
 use Rattle.wit_data.specs.declared.interface.Interface.{Interface}
 use Rattle.wit_data.specs.declared.function.Param.{Param}
 use Rattle.wit_data.specs.declared.kind.PartRole.{PartRole}
 use Rattle.wit_data.specs.declared.types.TypeDef.{TypeDef}
-use Rattle.wit_data.specs.declared.types.TypeDefKind.{TypeDefKind}
 use Rattle.wit_data.specs.declared.types.TypeOwner.{TypeOwner}
-use Rattle.wit_data.specs.declared.types.Type_.{Type_}
 use Rattle.wit_data.specs.declared.world.World.{World}
 use Rattle.wit_data.specs.declared.world.WorldItem.{WorldItem}
 use Rattle.wit_data.specs.declared.world.WorldKey.{WorldKey}
@@ -42,51 +35,12 @@ pub record Maps : Type 0 where
   pub labels : ℕ → List ℕ → List ℕ
   pub offset : ℕ
 
--- everything stays
-abbrev pub identity : Maps
-identity = record {
-  types = λ t. t;
-  values = λ t. t;
-  interfaces = λ i. i;
-  worlds = λ w. w;
-  home = λ p. p;
-  labels = λ w name. name;
-  offset = 0;
-}
-
 -- ---- types
 
 -- where the types go that parts of a role name: those of values as values go, those of aliases and handles to their images
 abbrev pub role_remap : Maps → PartRole → ℕ → ℕ
 role_remap m Value = m.values
 role_remap m _ = m.types
-
--- a type at a value position
-abbrev pub value_image : Maps → Type_ → Type_
-value_image m = map_type m.values
-
--- a type that an alias names
-abbrev pub target_image : Maps → Type_ → Type_
-target_image m = map_type m.types
-
-abbrev pub field_image : Maps → Field → Field
-field_image m f = record f { ty = value_image m f.ty; span = moved_by m.offset f.span }
-
-abbrev pub case_image : Maps → Case → Case
-case_image m c = record c { ty = option_map (value_image m) c.ty; span = moved_by m.offset c.span }
-
-abbrev pub flag_image : Maps → Flag → Flag
-flag_image m flag = record flag { span = moved_by m.offset flag.span }
-
-abbrev pub enum_case_image : Maps → EnumCase → EnumCase
-enum_case_image m case = record case { span = moved_by m.offset case.span }
-
-abbrev pub handle_image : Maps → Handle → Handle
-handle_image m = map_handle m.types
-
--- a kind: the ids of its parts go by their roles
-abbrev pub kind_image : Maps → TypeDefKind → TypeDefKind
-kind_image m = map_kind (role_remap m) (moved_by m.offset)
 
 abbrev pub owner_image : Maps → TypeOwner → TypeOwner
 owner_image m (owner.World w) = owner.World (m.worlds w)
@@ -99,39 +53,39 @@ name_image m (owner.World w) name = m.labels w name
 name_image m (owner.Interface i) name = name
 name_image m owner.None name = name
 
+-- a type: the ids of its kind's parts go by their roles
 abbrev pub type_image : Maps → TypeDef → TypeDef
 type_image m def = record def {
   name = option_map (name_image m def.owner) def.name;
-  kind = kind_image m def.kind;
+  kind = map_kind (role_remap m) (moved_by m.offset) def.kind;
   owner = owner_image m def.owner;
   span = moved_by m.offset def.span;
 }
 
 -- ---- functions and interfaces
 
-abbrev pub function_kind_image : Maps → FunctionKind → FunctionKind
-function_kind_image m Freestanding = Freestanding
-function_kind_image m AsyncFreestanding = AsyncFreestanding
-function_kind_image m (Method r) = Method (m.types r)
-function_kind_image m (AsyncMethod r) = AsyncMethod (m.types r)
-function_kind_image m (Static r) = Static (m.types r)
-function_kind_image m (AsyncStatic r) = AsyncStatic (m.types r)
-function_kind_image m (Constructor r) = Constructor (m.types r)
-function_kind_image m Getter = Getter
-function_kind_image m Setter = Setter
-function_kind_image m (MethodGetter r) = MethodGetter (m.types r)
-function_kind_image m (MethodSetter r) = MethodSetter (m.types r)
-function_kind_image m (StaticGetter r) = StaticGetter (m.types r)
-function_kind_image m (StaticSetter r) = StaticSetter (m.types r)
+-- the kind of a function with the id of its resource mapped
+abbrev pub map_function_kind : (ℕ → ℕ) → FunctionKind → FunctionKind
+map_function_kind go Freestanding = Freestanding
+map_function_kind go AsyncFreestanding = AsyncFreestanding
+map_function_kind go (Method r) = Method (go r)
+map_function_kind go (AsyncMethod r) = AsyncMethod (go r)
+map_function_kind go (Static r) = Static (go r)
+map_function_kind go (AsyncStatic r) = AsyncStatic (go r)
+map_function_kind go (Constructor r) = Constructor (go r)
+map_function_kind go Getter = Getter
+map_function_kind go Setter = Setter
+map_function_kind go (MethodGetter r) = MethodGetter (go r)
+map_function_kind go (MethodSetter r) = MethodSetter (go r)
+map_function_kind go (StaticGetter r) = StaticGetter (go r)
+map_function_kind go (StaticSetter r) = StaticSetter (go r)
 
-abbrev pub param_image : Maps → Param → Param
-param_image m param = record param { ty = value_image m param.ty; span = moved_by m.offset param.span }
-
+-- a function: the types of its parameters and of its result go as values go
 abbrev pub function_image : Maps → Function → Function
 function_image m f = record f {
-  kind = function_kind_image m f.kind;
-  params = map (param_image m) f.params;
-  result_ = option_map (value_image m) f.result_;
+  kind = map_function_kind m.types f.kind;
+  params = map (λ (p : Param). record p { ty = map_type m.values p.ty; span = moved_by m.offset p.span }) f.params;
+  result_ = option_map (map_type m.values) f.result_;
   span = moved_by m.offset f.span;
 }
 

@@ -7,3 +7,4 @@ pub mod Resources
 pub mod Selected
 pub mod Spans
 pub mod ValueRemap
+pub mod steps

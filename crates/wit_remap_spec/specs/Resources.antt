@@ -6,7 +6,6 @@ use Rattle.std.specs.List.{list_any}
 use Rattle.std.specs.Option.{option_map_or}
 use Rattle.wit_digraph.specs.PostOrder.{post_order}
 use Rattle.wit_data.specs.New.{new_type}
-use Rattle.wit_data.specs.Kind.{referred_in}
 use Rattle.wit_data.specs.declared.kind.PartRole.{PartRole}
 use Rattle.wit_data.specs.declared.types.TypeDef.{TypeDef}
 use Rattle.wit_data.specs.declared.types.TypeDefKind.{TypeDefKind}
@@ -32,10 +31,6 @@ leads_to_resource types t = list_any (is_resource types) (post_order (alias_rows
 abbrev pub is_value : PartRole → Bool
 is_value Value = true
 is_value _ = false
-
--- the types at the value positions of a kind: all that it names, but not what an alias or a handle names
-abbrev pub value_positions : TypeDefKind → List ℕ
-value_positions k = referred_in is_value k
 
 -- the unnamed `own` of a type
 abbrev pub own_of : ℕ → TypeDef

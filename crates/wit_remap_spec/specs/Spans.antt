@@ -7,19 +7,14 @@ use Rattle.wit_data.specs.declared.function.Function.{Function}
 use Rattle.wit_data.specs.declared.function.Param.{Param}
 use Rattle.wit_data.specs.declared.interface.Interface.{Interface}
 use Rattle.wit_data.specs.declared.types.TypeDef.{TypeDef}
-use Rattle.wit_data.specs.declared.types.TypeDefKind.{TypeDefKind}
 use Rattle.wit_data.specs.declared.world.World.{World}
 use Rattle.wit_data.specs.declared.world.WorldInclude.{WorldInclude}
 use Rattle.wit_data.specs.declared.world.WorldItem.{WorldItem}
 use Rattle.wit_data.specs.declared.world.WorldItem.TheVariants as item
 
--- those of the fields, cases and flags of a kind
-abbrev pub kind_spans : TypeDefKind → List OptionalSpan
-kind_spans k = flat_map (λ (p : KindPart). option_to_list p.span) (kind_parts k)
-
--- those of a type and of its parts
+-- those of a type and of its fields, cases and flags
 abbrev pub type_spans : TypeDef → List OptionalSpan
-type_spans def = def.span ∷ kind_spans def.kind
+type_spans def = def.span ∷ flat_map (λ (p : KindPart). option_to_list p.span) (kind_parts def.kind)
 
 -- those of a function and of its parameters
 abbrev pub function_spans : Function → List OptionalSpan

@@ -11,9 +11,9 @@ use Rattle.wit_data.specs.declared.world.World.{World}
 use Rattle.wit_data.specs.declared.world.WorldItem.{WorldItem}
 use Rattle.wit_data.specs.declared.world.WorldItem.TheVariants as item
 use Rattle.wit_remap_spec.specs.Image.{Maps, type_image}
-use Rattle.wit_remap_spec.specs.Resources.{leads_to_resource, own_of, value_positions}
+use Rattle.wit_remap_spec.specs.Resources.{leads_to_resource, own_of, is_value}
 use Rattle.wit_remap_spec.specs.Selected.{rank}
-use Rattle.wit_data.specs.Kind.{signature_types}
+use Rattle.wit_data.specs.Kind.{signature_types, referred_in}
 
 -- what comes into a graph
 pub record ValueRemap : Type 0 where
@@ -42,33 +42,23 @@ world_functions world = flat_map (λ (e : Entry). item_function e.1) (world.impo
 
 -- ---- which types need an `own`
 
--- the types of the graph and those that come, before values ask for `own`s: which of them lead to resources is seen
--- here already
-abbrev pub types_without_owns : ValueRemap → List TypeDef
-types_without_owns r = r.graph_types ++ map (type_image r.ids) r.new_types
-
--- the types at the value positions of what comes
+-- the types at the value positions of what comes: all that kinds name, but not what an alias or a handle names, and those
+-- of parameters and results
 abbrev pub positions : ValueRemap → List ℕ
-positions r = flat_map (λ (def : TypeDef). value_positions def.kind) r.new_types ++ flat_map signature_types r.new_functions
+positions r = flat_map (λ (def : TypeDef). referred_in is_value def.kind) r.new_types ++ flat_map signature_types r.new_functions
 
--- does a value ask for an `own` of type t?
+-- does a value ask for an `own` of type t? Which types lead to resources is seen before values ask for `own`s
 abbrev pub needs_own : ValueRemap → ℕ → Bool
-needs_own r t = list_any (nat_eq t) (positions r) && leads_to_resource (types_without_owns r) (r.ids.types t)
+needs_own r t = list_any (nat_eq t) (positions r) && leads_to_resource (r.graph_types ++ map (type_image r.ids) r.new_types) (r.ids.types t)
 
 -- ---- what comes of it
 
--- what a type is remapped to at a value position: to its `own` where it needs one
-abbrev pub value_id : ValueRemap → ℕ → ℕ
-value_id r t = if needs_own r t then length r.graph_types + length r.new_types + rank (needs_own r) t else r.ids.types t
-
--- the `own`s
-abbrev pub owns : ValueRemap → List TypeDef
-owns r = map (λ t. own_of (r.ids.types t)) (filter (needs_own r) (range_with_len 0 r.count))
-
--- what ids are remapped to, values to their `own`s
+-- what ids are remapped to; at a value position a type that needs an `own` to that
 abbrev pub maps_with_owns : ValueRemap → Maps
-maps_with_owns r = record r.ids { values = value_id r }
+maps_with_owns r = record r.ids {
+  values = λ t. if needs_own r t then length r.graph_types + length r.new_types + rank (needs_own r) t else r.ids.types t;
+}
 
--- what stands behind the types of the graph
+-- what stands behind the types of the graph: the types that come, then the `own`s
 abbrev pub types_behind : ValueRemap → List TypeDef
-types_behind r = map (type_image (maps_with_owns r)) r.new_types ++ owns r
+types_behind r = map (type_image (maps_with_owns r)) r.new_types ++ map (λ t. own_of (r.ids.types t)) (filter (needs_own r) (range_with_len 0 r.count))

@@ -10,9 +10,10 @@ use Rattle.std.proofs.lemmas.Slice.Eq.{bytes_eq-Decides}
 use Rattle.wit_data.specs.declared.function.Function.{Function}
 use Rattle.wit_data.specs.declared.interface.Interface.{Interface}
 use Rattle.wit_data.specs.declared.function.Param.{Param}
-use Rattle.wit_remap_spec.specs.FunctionMismatch.{AreOfOneKind, FunctionMismatch, HaveFunctionMismatch, function_mismatch_text, kinds_differ, parameter_counts_differ, parameter_names_differ, parameter_types_differ, result_counts_differ, results_differ}
+use Rattle.wit_remap_spec.specs.FunctionMismatch.{AreOfOneKind, FunctionMismatch, HaveFunctionMismatch, kinds_differ, parameter_counts_differ, parameter_names_differ, parameter_types_differ, result_counts_differ, results_differ}
 use Rattle.wit_graph_theory.specs.facts.ListFacts.{below_or_same, contained_at, place_of}
 use Rattle.wit_unite_common.specs.steps.Agreeing.{AgreesIn, DisagreesIn, ParamAgrees, ParamMismatch, ParamsAgree, ResultsAgree, names_differ, types_differ}
+use Rattle.wit_remap_spec.specs.steps.Parts.{function_mismatch_text}
 
 -- what follows where there is nothing
 pub none-weaker : {X P Q : Type 0} → (P → Q) → (o : Option X) → IfNone o P → IfNone o Q

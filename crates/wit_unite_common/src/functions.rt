@@ -1,8 +1,8 @@
 //! What a function disagrees in with another of its name: its kind, its parameters or its result.
 ghost use Rattle.std.specs.Prelude.{◌≡◌, ◌↔◌, IfNone, IfOk, IfSome, IsTrue, List, ℕ, length, string_bytes};
-ghost use Rattle.wit_remap_spec.specs.FunctionMismatch.{AreOfOneKind, AreOfOneSort, FunctionMismatch, one_place};
-ghost use Rattle.wit_remap_spec.specs.Image.{function_kind_image, value_image};
+ghost use Rattle.wit_remap_spec.specs.FunctionMismatch.{AreOfOneKind, AreOfOneSort, FunctionMismatch};
 ghost use Rattle.wit_unite_common.specs.steps.Agreeing.{ParamAgrees, ParamMismatch, ParamsAgree, ResultsAgree};
+ghost use Rattle.wit_remap_spec.specs.steps.Parts.{value_image, function_kind_image, one_place};
 
 use std::alloc::{AllocError, Global};
 use wit_data::{Function, FunctionKind, Param, Type_, TypeId};

@@ -13,10 +13,10 @@ use Rattle.wit_data.specs.declared.function.Param.{Param}
 use Rattle.wit_data.specs.declared.types.Type_.{Type_}
 use Rattle.wit_data.specs.declared.function.FunctionKind.TheVariants.{Freestanding, AsyncFreestanding, Method, AsyncMethod, Static, AsyncStatic, Constructor, Getter, Setter, MethodGetter, MethodSetter, StaticGetter, StaticSetter}
 use Rattle.wit_data.specs.declared.types.Type_.TheVariants as type
-use Rattle.wit_remap_spec.specs.FunctionMismatch.{AreOfOneKind, AreOfOneSort, FunctionMismatch, HaveFunctionMismatch, kinds_differ, one_place, parameter_counts_differ, parameter_names_differ, parameter_types_differ, result_counts_differ, results_differ}
-use Rattle.wit_remap_spec.specs.Image.{function_kind_image, value_image}
+use Rattle.wit_remap_spec.specs.FunctionMismatch.{AreOfOneKind, AreOfOneSort, FunctionMismatch, HaveFunctionMismatch, kinds_differ, parameter_counts_differ, parameter_names_differ, parameter_types_differ, result_counts_differ, results_differ}
 use Rattle.wit_graph_theory.specs.facts.OptionFacts.{some_same}
 use Rattle.wit_graph_theory.specs.examples.TestFacts.{all_are, implied, implies, none_some}
+use Rattle.wit_remap_spec.specs.steps.Parts.{value_image, function_kind_image, one_place}
 
 -- ---- functions
 

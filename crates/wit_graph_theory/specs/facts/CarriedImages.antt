@@ -8,11 +8,12 @@ use Rattle.wit_data.specs.declared.types.TypeOwner.{TypeOwner}
 use Rattle.wit_data.specs.declared.types.TypeDefKind.TheVariants as kind
 use Rattle.wit_data.specs.declared.types.TypeOwner.TheVariants as owner
 use Rattle.wit_graph_data.specs.declared.graph.Graph.{Graph}
-use Rattle.wit_remap_spec.specs.Image.{Maps, function_image, identity, name_image, owner_image, type_image}
+use Rattle.wit_remap_spec.specs.Image.{Maps, function_image, name_image, owner_image, type_image}
 use Rattle.wit_graph_theory.specs.facts.Referred.{RefersUnder}
 use Rattle.wit_graph_theory.specs.steps.Sources.{IsCarriedFunction, IsCarriedType, Source, Stands}
 use Rattle.wit_graph_theory.specs.facts.ReferredFacts.{alias_image, function_refers, kind_refers, known_image, parts_refer, plain_image}
 use Rattle.wit_data.specs.steps.Parts.{parts}
+use Rattle.wit_remap_spec.specs.steps.Parts.{identity}
 
 pub from_mapped : (f : ℕ → ℕ) (o : Option ℕ) (t' : ℕ) → option_map f o ≡ Some t' → (t : ℕ) × (o ≡ Some t) × (t' ≡ f t)
 from_mapped f None t' is = cc

@@ -25,12 +25,13 @@ use Rattle.wit_graph_data.specs.declared.graph.Graph.{Graph}
 use Rattle.wit_graph_theory.specs.Cut.{IsClosedCut, IsGoodWhere, ItemIsKept, OwnerIsKept, StaysIn, graph_source, kept_whole, mapped_source}
 use Rattle.wit_remap_spec.specs.Kept.{cut_interface, cut_world}
 use Rattle.wit_graph_theory.specs.facts.Good.{HasGoodItems, HasGoodThings}
-use Rattle.wit_remap_spec.specs.Image.{Maps, identity}
+use Rattle.wit_remap_spec.specs.Image.{Maps}
 use Rattle.wit_graph_theory.specs.facts.Referred.{RefersUnder}
 use Rattle.wit_graph_theory.specs.steps.Sources.{Carries, InterfaceStands, IsGoodSource, Stands, WorldStands}
 use Rattle.wit_graph_theory.specs.facts.CarriedImages.{itself_stands}
 use Rattle.wit_graph_theory.specs.facts.CutIsGood.{cut_is_good}
 use Rattle.wit_graph_theory.specs.facts.ListFacts.{contained_at, found_at, from_map, in_row, some_at}
+use Rattle.wit_remap_spec.specs.steps.Parts.{identity}
 
 module _ (g : Graph) (good : HasGoodItems g) (acyclic : IsAcyclic (type_references g.types)) where
   type_in_range : (t : ℕ) (def : TypeDef) → slice_get g.types t ≡ Some def → (kept_whole g).types t ≡ true

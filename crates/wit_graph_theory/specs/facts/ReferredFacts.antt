@@ -20,10 +20,11 @@ use Rattle.wit_data.specs.declared.kind.PartRole.TheVariants.{Value}
 use Rattle.wit_data.specs.declared.types.TypeDefKind.TheVariants as kind
 use Rattle.wit_data.specs.declared.types.Type_.TheVariants as type
 use Rattle.wit_sources.specs.Span.{moved_by}
-use Rattle.wit_remap_spec.specs.Image.{Maps, value_image, kind_image, param_image, function_image, function_kind_image, role_remap}
+use Rattle.wit_remap_spec.specs.Image.{Maps, function_image, role_remap}
 use Rattle.wit_graph_theory.specs.facts.Referred.{RefersUnder, RemapsTo}
 use Rattle.wit_graph_theory.specs.facts.ListFacts.{Contains-map_cases, flat_map-placed}
 use Rattle.wit_data.specs.steps.Parts.{parts}
+use Rattle.wit_remap_spec.specs.steps.Parts.{value_image, kind_image, param_image, function_kind_image}
 
 module _ (m : Maps) where
   named_type_image : (ty : Type_) → named_type (value_image m ty) ≡ map m.values (named_type ty)

@@ -38,11 +38,11 @@ use Rattle.wit_link_spec.specs.Lookup.{is_foreign_type}
 use Rattle.wit_link_spec.specs.facts.OwnThingFacts.{own_of_both}
 use Rattle.wit_link_spec.specs.Reasons.{IsResolved}
 use Rattle.wit_link_spec.specs.facts.Standing.{foreign_interface_remapped, foreign_type, listed_is}
-use Rattle.wit_remap_spec.specs.ValueRemap.{owns}
 use Rattle.wit_link_laws.specs.facts.ListedStage.{listed, stage_covered, stage_inherits}
 use Rattle.wit_link_laws.specs.facts.Parts.{HasParts}
 use Rattle.wit_link_laws.specs.facts.PartsStand.{own_interface_at, own_type_at}
 use Rattle.wit_link_laws.specs.facts.SourcesGood.{sources, sources_good}
+use Rattle.wit_remap_spec.specs.steps.Parts.{owns}
 
 -- ---- what goes behind the old things is the package's own
 

@@ -25,7 +25,7 @@ use Rattle.wit_graph_theory.specs.Cut.{StaysIn, graph_source, kept_whole}
 use Rattle.wit_graph_theory.specs.facts.ElaboratedCome.{elaborated_comes, interface_without_span}
 use Rattle.wit_graph_theory.specs.facts.GoodWorlds.{same_one}
 use Rattle.wit_graph_theory.specs.facts.GraphSource.{graph_stands, items_are_good}
-use Rattle.wit_remap_spec.specs.Image.{identity, key_image}
+use Rattle.wit_remap_spec.specs.Image.{key_image}
 use Rattle.wit_remap_spec.specs.Kept.{everything}
 use Rattle.wit_graph_theory.specs.facts.LawsOfElaboration.{LawsOfElaboration}
 use Rattle.wit_graph_theory.specs.facts.ListFacts.{Contains-map, contained_at, place_of, same_at, some_at}
@@ -40,6 +40,7 @@ use Rattle.wit_link_laws.specs.facts.PartiallyLinked.{IsSoundSoFar}
 use Rattle.wit_link_laws.specs.facts.PlacedFacts.{placed_in, placed_into}
 use Rattle.wit_link_laws.specs.facts.PlacedWorlds.{exported_named, exports_distinct, imports_distinct, placed_in_order, used_named}
 use Rattle.wit_link_laws.specs.facts.Remains.{beside, export_remains, import_remains, interface_remains, type_remains, world_remains}
+use Rattle.wit_remap_spec.specs.steps.Parts.{identity}
 
 -- world `host` at place `into` becomes `done`, its elaboration, and all else stays
 module _ (laws : LawsOfElaboration) (g : Graph) (stands : IsSoundSoFar g) (into : ℕ) (host : World) (host_at : slice_get g.worlds into ≡ Some host) (done : World)

@@ -18,7 +18,7 @@ use Rattle.wit_graph_theory.specs.facts.CarriedImages.{image_carried}
 use Rattle.wit_graph_theory.specs.facts.Covered.{EntryComes, InterfaceComes, IsCovered, IsNoType, IsOwnMade, ItemComes, TypeComes, WorldComes}
 use Rattle.wit_remap_spec.specs.Kept.{KeptIds, cut_interface, cut_world, everything}
 use Rattle.wit_graph_theory.specs.facts.GraphSource.{graph_stands, items_are_good}
-use Rattle.wit_remap_spec.specs.Image.{entry_image, identity}
+use Rattle.wit_remap_spec.specs.Image.{entry_image}
 use Rattle.wit_graph_theory.specs.facts.ImagesCome.{entry_image_comes, interface_image_comes}
 use Rattle.wit_graph_theory.specs.facts.ListFacts.{at_map, contained_at, place_of}
 use Rattle.wit_graph_theory.specs.steps.Sources.{Carries, IsCarriedType, IsGoodSource, Source}
@@ -35,6 +35,7 @@ use Rattle.wit_link_laws.specs.facts.JoinedItems.{joined_comes, new_comes, no_ty
 use Rattle.wit_link_laws.specs.facts.PartiallyLinked.{IsSoundSoFar}
 use Rattle.wit_link_laws.specs.facts.Remains.{beside, export_no_type, export_remains, image_no_type, import_remains, interface_remains, type_remains, world_remains}
 use Rattle.wit_link_laws.specs.facts.Truth.{or_left}
+use Rattle.wit_remap_spec.specs.steps.Parts.{identity}
 
 -- ---- what is there comes
 

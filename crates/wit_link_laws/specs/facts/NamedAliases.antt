@@ -27,10 +27,11 @@ use Rattle.wit_link_spec.specs.Gates.{interface_is_active, type_is_active}
 use Rattle.wit_link_spec.specs.facts.OwnThingFacts.{own_type_from}
 use Rattle.wit_link_spec.specs.Reasons.{IsResolved}
 use Rattle.wit_remap_spec.specs.Resources.{own_of}
-use Rattle.wit_remap_spec.specs.ValueRemap.{needs_own, owns}
+use Rattle.wit_remap_spec.specs.ValueRemap.{needs_own}
 use Rattle.wit_link_laws.specs.facts.Parts.{HasParts}
 use Rattle.wit_link_laws.specs.facts.PartsStand.{interface_stands, old_interface_at, old_type_at, type_stands}
 use Rattle.wit_link_laws.specs.facts.SourcesGood.{package_source}
+use Rattle.wit_remap_spec.specs.steps.Parts.{owns}
 
 module _ (a : Addition) (valid : IsValid a.graph) (shaped : IsShaped a.unresolved) (image : IsResolved a) (types : List TypeDef) (interfaces : List Interface) (are : HasParts a types interfaces) where
   -- ---- interfaces

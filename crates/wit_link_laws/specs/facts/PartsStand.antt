@@ -33,10 +33,10 @@ use Rattle.wit_link_spec.specs.facts.RankFacts.{selected-at}
 use Rattle.wit_link_spec.specs.Reasons.{IsResolved}
 use Rattle.wit_remap_spec.specs.Resources.{leads_to_resource, own_of}
 use Rattle.wit_link_spec.specs.facts.Standing.{ForeignType, foreign_interface_remapped, foreign_type, listed_is, own_interface_remapped, own_type_remapped}
-use Rattle.wit_remap_spec.specs.ValueRemap.{owns, types_without_owns, value_id}
 use Rattle.wit_link_laws.specs.facts.Parts.{HasParts}
 use Rattle.wit_link_laws.specs.facts.SourcesGood.{package_source}
 use Rattle.wit_link_laws.specs.facts.ValueRemapFacts.{leads_named, new_stands, own_stands, value_stands}
+use Rattle.wit_remap_spec.specs.steps.Parts.{types_without_owns, value_id, owns}
 
 module _ (a : Addition) (valid : IsValid a.graph) (shaped : IsShaped a.unresolved) (image : IsResolved a) (types : List TypeDef) (interfaces : List Interface) (are : HasParts a types interfaces) where
   -- an own type stands as its image at its place

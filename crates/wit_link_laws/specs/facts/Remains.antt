@@ -21,9 +21,10 @@ use Rattle.wit_graph_theory.specs.facts.Covered.{EntryComes, InterfaceAt, Interf
 use Rattle.wit_graph_theory.specs.Cut.{graph_source, item_in_range, kept_whole}
 use Rattle.wit_remap_spec.specs.Kept.{cut_interface, cut_world}
 use Rattle.wit_graph_theory.specs.facts.Good.{HasGoodItems}
-use Rattle.wit_remap_spec.specs.Image.{Maps, identity, item_image, key_image}
+use Rattle.wit_remap_spec.specs.Image.{Maps, item_image, key_image}
 use Rattle.wit_graph_theory.specs.facts.ListFacts.{at_map, contained_at, found_at}
 use Rattle.wit_graph_theory.specs.steps.Sources.{Source}
+use Rattle.wit_remap_spec.specs.steps.Parts.{identity}
 
 -- a graph and another source
 abbrev pub beside : Graph → Source → Bool → Source

@@ -6,7 +6,6 @@ use Rattle.wit_graph_theory.specs.Cut.{cut_source}
 use Rattle.wit_graph_theory.specs.facts.CutIsGood.{cut_is_good}
 use Rattle.wit_graph_theory.specs.facts.GoodIsValid.{good_things}
 use Rattle.wit_graph_theory.specs.facts.GraphSource.{mapped_is_good}
-use Rattle.wit_remap_spec.specs.Image.{identity}
 use Rattle.wit_graph_theory.specs.Operations.{add_sources}
 use Rattle.wit_graph_theory.specs.facts.ShapeIsGood.{shape_is_good}
 use Rattle.wit_graph_theory.specs.steps.Sources.{IsGoodSource, Source}
@@ -14,6 +13,7 @@ use Rattle.wit_link_spec.specs.Addition.{Addition, addition_maps}
 use Rattle.wit_link_spec.specs.facts.ActivePart.{part}
 use Rattle.wit_link_spec.specs.facts.ClosedCut.{closed_part}
 use Rattle.wit_link_spec.specs.Reasons.{IsResolved}
+use Rattle.wit_remap_spec.specs.steps.Parts.{identity}
 
 -- the sources: the graph, and the package
 abbrev pub sources : Addition → ℕ → Source

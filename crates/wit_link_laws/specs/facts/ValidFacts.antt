@@ -20,7 +20,6 @@ use Rattle.wit_link_spec.specs.Addition.{Addition, addition_maps, own_interfaces
 use Rattle.wit_link_spec.specs.Cause.{IsReached}
 use Rattle.wit_link_spec.specs.Added.{added, with_parts, with_world, with_worlds}
 use Rattle.wit_link_spec.specs.Reasons.{HasPackage, IsResolved}
-use Rattle.wit_remap_spec.specs.ValueRemap.{owns}
 use Rattle.wit_link_laws.specs.facts.Grown.{IsGrown, grown}
 use Rattle.wit_link_laws.specs.facts.ListedOnce.{listed_stands}
 use Rattle.wit_link_laws.specs.facts.ListedStage.{listed_images}
@@ -31,6 +30,7 @@ use Rattle.wit_link_laws.specs.facts.TableFacts.{good_tables}
 use Rattle.wit_link_laws.specs.facts.WorldTables.{new_table, new_worlds_distinct, worlds_in_tables}
 use Rattle.wit_link_laws.specs.facts.CanonicalStays.{canonical_longer}
 use Rattle.wit_link_laws.specs.facts.PartiallyLinked.{IsSoundSoFar}
+use Rattle.wit_remap_spec.specs.steps.Parts.{owns}
 
 module _ (laws : LawsOfElaboration) (a : Addition) (valid : IsValid a.graph) (shaped : IsShaped a.unresolved) (image : IsResolved a) where
   -- ---- each stage is partially linked

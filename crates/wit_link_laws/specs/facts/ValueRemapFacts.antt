@@ -17,10 +17,11 @@ use Rattle.wit_graph_theory.specs.facts.ReferredFacts.{plain_image}
 use Rattle.wit_graph_theory.specs.steps.Sources.{IsOwnOf}
 use Rattle.wit_remap_spec.specs.Resources.{leads_to_resource, own_of}
 use Rattle.wit_remap_spec.specs.Selected.{rank, selected_with_index}
-use Rattle.wit_remap_spec.specs.ValueRemap.{ValueRemap, maps_with_owns, needs_own, owns, positions, types_behind, types_without_owns, value_id}
+use Rattle.wit_remap_spec.specs.ValueRemap.{ValueRemap, maps_with_owns, needs_own, positions, types_behind}
 use Rattle.wit_link_spec.specs.facts.RangeFacts.{range-at, range_below}
 use Rattle.wit_link_spec.specs.facts.RankFacts.{selected_with_index-at}
 use Rattle.wit_link_laws.specs.facts.LeadFacts.{filtered_range, leads_nowhere}
+use Rattle.wit_remap_spec.specs.steps.Parts.{types_without_owns, value_id, owns}
 
 module _ (r : ValueRemap) where
   -- ---- where values go

@@ -14,19 +14,20 @@ use Rattle.wit_data.specs.declared.function.Function.{Function}
 use Rattle.wit_data.specs.declared.types.TypeDef.{TypeDef}
 use Rattle.wit_data.specs.declared.types.TypeDefKind.{TypeDefKind}
 use Rattle.wit_data.specs.declared.types.TypeDefKind.TheVariants as kind
-use Rattle.wit_remap_spec.specs.Image.{Maps, kind_image, type_image}
+use Rattle.wit_remap_spec.specs.Image.{Maps, type_image}
 use Rattle.wit_graph_theory.specs.facts.ListFacts.{at_below, at_map, at_new, from_map, from_row, get_at, in_row, old_or_new}
 use Rattle.wit_graph_theory.specs.facts.ReferredFacts.{alias_image}
 use Rattle.wit_graph_theory.specs.facts.RowFacts.{IsAcyclic-grown}
 use Rattle.wit_link_spec.specs.facts.RankFacts.{selected-at, selected_with_index-from}
-use Rattle.wit_remap_spec.specs.Resources.{is_resource_kind, leads_to_resource, value_positions}
+use Rattle.wit_remap_spec.specs.Resources.{is_resource_kind, leads_to_resource}
 use Rattle.wit_remap_spec.specs.Selected.{rank, selected, selected_with_index}
-use Rattle.wit_remap_spec.specs.ValueRemap.{ValueRemap, positions, types_without_owns}
+use Rattle.wit_remap_spec.specs.ValueRemap.{ValueRemap, positions}
 use Rattle.wit_link_spec.specs.steps.NewThings.{is_from, is_new}
 use Rattle.wit_link_resources.specs.steps.IncomingTypes.{CanCome, IsRemapOf, IsRemapped, leads_in}
 use Rattle.wit_link_resources.specs.facts.Leads.{leads_here, leads_on, leads_stays, target_there, walk_falls}
 use Rattle.wit_graph_theory.specs.facts.AliasFacts.{alias_acyclic}
 use Rattle.wit_data.specs.Kind.{signature_types}
+use Rattle.wit_remap_spec.specs.steps.Parts.{kind_image, value_positions, types_without_owns}
 
 abbrev row : TypeDef → List ℕ
 row def = option_to_list (alias_target def.kind)

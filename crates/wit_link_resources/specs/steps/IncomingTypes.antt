@@ -8,12 +8,13 @@ use Rattle.wit_data.specs.Kind.{type_references, signature_types}
 use Rattle.wit_data.specs.Uses.{alias_target}
 use Rattle.wit_data.specs.declared.function.Function.{Function}
 use Rattle.wit_data.specs.declared.types.TypeDef.{TypeDef}
-use Rattle.wit_remap_spec.specs.Resources.{leads_to_resource, value_positions}
+use Rattle.wit_remap_spec.specs.Resources.{leads_to_resource}
 use Rattle.wit_remap_spec.specs.Selected.{rank, selected}
-use Rattle.wit_remap_spec.specs.ValueRemap.{ValueRemap, owns, types_without_owns, value_id}
+use Rattle.wit_remap_spec.specs.ValueRemap.{ValueRemap}
 use Rattle.wit_link_spec.specs.declared.addition.Values.{Values}
 use Rattle.wit_link_spec.specs.steps.NewThings.{is_new}
 use Rattle.wit_link_resources.specs.declared.incoming.Incoming.{Incoming}
+use Rattle.wit_remap_spec.specs.steps.Parts.{value_positions, types_without_owns, value_id, owns}
 
 -- ---- what is asked of them
 

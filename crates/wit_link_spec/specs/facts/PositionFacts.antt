@@ -26,8 +26,9 @@ use Rattle.wit_link_spec.specs.facts.ClosedCut.{closed_part, references_kept}
 use Rattle.wit_link_spec.specs.Gates.{type_is_active}
 use Rattle.wit_link_spec.specs.facts.OwnThingFacts.{own_interface_from, own_type_from, own_world_from}
 use Rattle.wit_link_spec.specs.Reasons.{IsResolved}
-use Rattle.wit_remap_spec.specs.Resources.{is_value, leads_to_resource, value_positions}
-use Rattle.wit_remap_spec.specs.ValueRemap.{ValueRemap, item_function, needs_own, positions, types_without_owns, world_functions}
+use Rattle.wit_remap_spec.specs.Resources.{is_value, leads_to_resource}
+use Rattle.wit_remap_spec.specs.ValueRemap.{ValueRemap, item_function, needs_own, positions, world_functions}
+use Rattle.wit_remap_spec.specs.steps.Parts.{value_positions, types_without_owns}
 
 -- a value position of a function is a reference of it
 signature_referred : (f : Function) (t : ℕ) → Contains (signature_types f) t → Contains (function_references f) t

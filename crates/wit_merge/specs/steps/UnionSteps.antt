@@ -12,7 +12,6 @@ use Rattle.wit_graph_data.specs.declared.error_kind.ResolveErrorKind.TheVariants
 use Rattle.wit_elaboration.specs.Valid.{IsValid}
 use Rattle.wit_remap_spec.specs.Image.{function_image, entry_image}
 use Rattle.wit_remap_spec.specs.Borrows.{HoldsBorrow}
-use Rattle.wit_remap_spec.specs.ValueRemap.{value_id}
 use Rattle.wit_remap.specs.steps.Fits.{PartsFit, Fits, FunctionFits, InterfaceFits, TypeFits, WorldFits}
 use Rattle.wit_merge_spec.specs.Matches.{GraphMerge}
 use Rattle.wit_merge_spec.specs.Merged.{merge_maps, remap_of_merge, joined_graph, with_interface, with_package, moves_interface, moves_world}
@@ -35,6 +34,7 @@ use Rattle.wit_elaboration.specs.Entries.{same_key}
 use Rattle.wit_graph_data.specs.declared.graph.Package.{Package}
 use Rattle.wit_remap_spec.specs.Joined.{joined_stability}
 use Rattle.wit_remap.specs.steps.Movers.{goes}
+use Rattle.wit_remap_spec.specs.steps.Parts.{value_id}
 
 -- the place of the first one, from place n on, that is matched with thing x'
 abbrev pub first_from : ℕ → List (Option ℕ) → ℕ → Option ℕ

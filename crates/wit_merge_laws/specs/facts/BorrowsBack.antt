@@ -25,13 +25,13 @@ use Rattle.wit_data.specs.declared.types.Type_.TheVariants as type
 use Rattle.wit_elaboration.specs.Valid.{IsValid}
 use Rattle.wit_graph_data.specs.facts.ContentFacts.{held_among}
 use Rattle.wit_graph_data.specs.Queries.{is_held, type_contents}
-use Rattle.wit_remap_spec.specs.Image.{Maps, kind_image, type_image, value_image}
+use Rattle.wit_remap_spec.specs.Image.{Maps, type_image}
 use Rattle.wit_graph_theory.specs.facts.ListFacts.{found_at, from_row, get_at, in_row, place_of, same_at, some_at}
 use Rattle.wit_graph_theory.specs.facts.Referred.{RemapsTo}
 use Rattle.wit_graph_theory.specs.facts.ReferredFacts.{kind_refers, variant_image}
-use Rattle.wit_remap_spec.specs.Borrows.{HoldsBorrow, IsBorrow}
+use Rattle.wit_remap_spec.specs.Borrows.{HoldsBorrow}
 use Rattle.wit_remap_spec.specs.Resources.{own_of}
-use Rattle.wit_remap_spec.specs.ValueRemap.{needs_own, value_id}
+use Rattle.wit_remap_spec.specs.ValueRemap.{needs_own}
 use Rattle.wit_merge_spec.specs.Structure.{held_features, structure}
 use Rattle.wit_merge_spec.specs.facts.StructureFacts.{part_refers}
 use Rattle.wit_merge_spec.specs.Merged.{joined_graph, joined_type, merge_maps, merged_type, moves_type, remap_of_merge}
@@ -45,6 +45,7 @@ use Rattle.wit_merge_laws.specs.facts.StructuresRead.{kinds_alike, refers_within
 use Rattle.wit_link_laws.specs.facts.ValueRemapFacts.{value_plain}
 use Rattle.wit_merge_laws.specs.facts.TypesStand.{joined_keeps, matched_some, new_type_at, old_type_at, own_at}
 use Rattle.wit_graph_data.specs.steps.Parts.{content_types}
+use Rattle.wit_remap_spec.specs.steps.Parts.{value_image, kind_image, value_id, IsBorrow}
 
 -- ---- kinds
 

@@ -3,7 +3,8 @@
 use Rattle.std.proofs.Common.{ℕ, List, codes, refl, sym}
 use Rattle.wit_data.specs.declared.function.Function.{Function}
 use Rattle.wit_data.specs.declared.interface.Interface.{Interface}
-use Rattle.wit_remap_spec.specs.FunctionMismatch.{FunctionMismatch, HaveFunctionMismatch, function_mismatch_text, kinds_differ, parameter_counts_differ, parameter_names_differ, parameter_names_text, parameter_types_differ, parameter_types_text, result_counts_differ, results_differ}
+use Rattle.wit_remap_spec.specs.FunctionMismatch.{FunctionMismatch, HaveFunctionMismatch, kinds_differ, parameter_counts_differ, parameter_names_differ, parameter_types_differ, result_counts_differ, results_differ}
+use Rattle.wit_remap_spec.specs.steps.Parts.{parameter_names_text, parameter_types_text, function_mismatch_text}
 
 function_back : (from into : Function) (text : List ℕ) → FunctionMismatch from into text → (text' : List ℕ) × FunctionMismatch into from text'
 function_back from into text (kinds_differ apart is) = (codes "different function kind types", kinds_differ (λ same. apart (sym same)) refl)

@@ -25,7 +25,7 @@ use Rattle.wit_graph_theory.specs.facts.Covered.{FunctionComes, InterfaceAt, Int
 use Rattle.wit_graph_theory.specs.Cut.{mapped_source}
 use Rattle.wit_graph_theory.specs.facts.CutIsGood.{distinct_kept}
 use Rattle.wit_graph_theory.specs.facts.GoodIsValid.{good_things}
-use Rattle.wit_remap_spec.specs.Image.{function_image, identity, interface_image}
+use Rattle.wit_remap_spec.specs.Image.{function_image, interface_image}
 use Rattle.wit_graph_theory.specs.facts.ImagesCome.{distinct_map, interface_image_comes, interface_image_stands}
 use Rattle.wit_graph_theory.specs.facts.ListFacts.{Contains-map, Contains-map_cases, at_map, at_new, contained_at, found_at, from_map, old_or_new, place_of, some_at}
 use Rattle.wit_graph_theory.specs.Operations.{merge_sources}
@@ -43,6 +43,7 @@ use Rattle.wit_merge_laws.specs.facts.MatchFacts.{goes_to, interface_is}
 use Rattle.wit_merge_laws.specs.facts.MatchedOnce.{interface_once}
 use Rattle.wit_merge_laws.specs.facts.TypesStand.{matched_some, moved_next}
 use Rattle.wit_merge_laws.specs.facts.WholeFacts.{interface_at, types_within}
+use Rattle.wit_remap_spec.specs.steps.Parts.{identity}
 
 -- ---- counterparts
 

@@ -17,7 +17,7 @@ use Rattle.wit_data.specs.declared.types.TypeDefKind.{TypeDefKind}
 use Rattle.wit_data.specs.declared.types.TypeDefKind.TheVariants as kind
 use Rattle.wit_elaboration.specs.Valid.{IsValid}
 use Rattle.wit_graph_theory.specs.facts.AliasFacts.{alias_acyclic}
-use Rattle.wit_remap_spec.specs.Image.{kind_image, type_image}
+use Rattle.wit_remap_spec.specs.Image.{type_image}
 use Rattle.wit_graph_theory.specs.facts.ListFacts.{from_row, in_row}
 use Rattle.wit_graph_theory.specs.facts.ReferredFacts.{alias_image}
 use Rattle.wit_remap_spec.specs.Resources.{is_resource, is_resource_kind, leads_to_resource}
@@ -30,6 +30,7 @@ use Rattle.wit_merge_laws.specs.facts.NoCycles.{joined_types_acyclic}
 use Rattle.wit_merge_laws.specs.laws.OrderLaws.{ResourcesStay}
 use Rattle.wit_merge_laws.specs.facts.StructureHeads.{resource_variant}
 use Rattle.wit_merge_laws.specs.facts.TypesStand.{joined_keeps, matched_some, new_type_at, old_type_at}
+use Rattle.wit_remap_spec.specs.steps.Parts.{kind_image}
 
 -- ---- some pass a test
 

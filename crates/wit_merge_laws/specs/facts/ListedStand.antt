@@ -21,7 +21,7 @@ use Rattle.wit_elaboration.specs.Entries.{same_key}
 use Rattle.wit_elaboration.specs.Valid.{IsValid}
 use Rattle.wit_graph_theory.specs.facts.CarriedImages.{function_itself_carried}
 use Rattle.wit_graph_theory.specs.facts.Covered.{EntryComes, IsNoType, ItemComes, WorldComes}
-use Rattle.wit_remap_spec.specs.Image.{Maps, entry_image, identity, item_image, key_image, world_image}
+use Rattle.wit_remap_spec.specs.Image.{Maps, entry_image, item_image, key_image, world_image}
 use Rattle.wit_graph_theory.specs.facts.ImagesCome.{entry_image_comes}
 use Rattle.wit_graph_theory.specs.facts.ListFacts.{at_map, at_new, contained_at, from_map, old_or_new, place_of}
 use Rattle.wit_graph_theory.specs.Operations.{merge_sources}
@@ -39,6 +39,7 @@ use Rattle.wit_merge_laws.specs.facts.MatchedOnce.{interface_once}
 use Rattle.wit_merge_laws.specs.facts.NothingFacts.{map_same}
 use Rattle.wit_merge_laws.specs.facts.TypesStand.{matched_some, moved_next}
 use Rattle.wit_merge_laws.specs.facts.WholeFacts.{world_at}
+use Rattle.wit_remap_spec.specs.steps.Parts.{identity}
 
 -- ---- where worlds stand
 

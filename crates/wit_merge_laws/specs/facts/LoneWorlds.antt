@@ -25,7 +25,7 @@ use Rattle.wit_graph_data.specs.declared.graph.Graph.{Graph}
 use Rattle.wit_elaboration.specs.AllElaborated.{elaborated_world}
 use Rattle.wit_graph_theory.specs.facts.DependencyFacts.{needs_from, needs_into}
 use Rattle.wit_graph_theory.specs.facts.EntryFacts.{no_function_root, one_of, type_root}
-use Rattle.wit_remap_spec.specs.Image.{Maps, entry_image, function_kind_image, item_image, key_image, world_image}
+use Rattle.wit_remap_spec.specs.Image.{Maps, entry_image, item_image, key_image, world_image}
 use Rattle.wit_graph_theory.specs.facts.LawsOfElaboration.{LawsOfElaboration}
 use Rattle.wit_graph_theory.specs.facts.ListFacts.{Contains-map, Contains-map_cases, found_at, place_of}
 use Rattle.wit_graph_theory.specs.facts.OptionFacts.{none_there, some_by}
@@ -41,6 +41,7 @@ use Rattle.wit_merge_laws.specs.facts.UsesFrom.{old_needs}
 use Rattle.wit_merge_laws.specs.facts.UsesInto.{needs_back, needs_goes, needs_stay}
 use Rattle.wit_merge_laws.specs.facts.WorldsStand.{entry}
 use Rattle.wit_elaboration.specs.steps.Parts.{type_role, exported_keys, exported_interfaces}
+use Rattle.wit_remap_spec.specs.steps.Parts.{function_kind_image}
 
 -- ---- images of entries
 

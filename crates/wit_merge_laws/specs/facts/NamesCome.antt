@@ -18,7 +18,7 @@ use Rattle.wit_graph_data.specs.declared.graph.Graph.{Graph}
 use Rattle.wit_graph_data.specs.declared.graph.Package.{Package}
 use Rattle.wit_elaboration.specs.AllElaborated.{elaborated_world}
 use Rattle.wit_graph_theory.specs.facts.Covered.{InterfaceAt}
-use Rattle.wit_remap_spec.specs.Image.{identity, key_image}
+use Rattle.wit_remap_spec.specs.Image.{key_image}
 use Rattle.wit_graph_theory.specs.facts.LawsOfElaboration.{LawsOfElaboration}
 use Rattle.wit_graph_theory.specs.facts.ListFacts.{found_at, from_map, place_of, some_at}
 use Rattle.wit_graph_theory.specs.Operations.{merge_sources}
@@ -44,6 +44,7 @@ use Rattle.wit_merge_laws.specs.facts.UnitedWorlds.{named_key}
 use Rattle.wit_merge_laws.specs.facts.UsesListed.{image_entry, unmatched, world_keeps_entries}
 use Rattle.wit_merge_laws.specs.facts.WorldsStand.{entry}
 use Rattle.wit_merge_laws.specs.facts.WholeFacts.{interface_from}
+use Rattle.wit_remap_spec.specs.steps.Parts.{identity}
 
 -- a label comes of that label, the key of an interface of the key of one that goes there
 pub label_key : (m : GraphMerge) (w : ℕ) (k : WorldKey) (label : List ℕ) → key_image (merge_maps m) w k ≡ key.Name label → k ≡ key.Name label

@@ -44,9 +44,9 @@ use Rattle.wit_merge_laws.specs.facts.MatchFacts.{goes_to, type_is}
 use Rattle.wit_merge_laws.specs.facts.PackagesStand.{interfaces_in_tables}
 use Rattle.wit_merge_laws.specs.facts.TypesStand.{images, joined_keeps, long_old, matched_some, new_type_at, old_types}
 use Rattle.wit_merge_laws.specs.facts.WorldsStand.{joined_covered, joined_stands, sources_good}
-use Rattle.wit_remap_spec.specs.ValueRemap.{owns}
 use Rattle.wit_graph_data.specs.steps.Parts.{interface_id_text}
 use Rattle.wit_elaboration.specs.steps.Parts.{interface_cycle_text}
+use Rattle.wit_remap_spec.specs.steps.Parts.{owns}
 
 -- ---- no type refers to itself
 

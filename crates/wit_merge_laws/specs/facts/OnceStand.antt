@@ -21,7 +21,7 @@ use Rattle.wit_graph_theory.specs.Cut.{kept_whole, mapped_source}
 use Rattle.wit_remap_spec.specs.Kept.{cut_interface}
 use Rattle.wit_graph_theory.specs.facts.ElaboratedCome.{interface_without_span}
 use Rattle.wit_graph_theory.specs.facts.GoodWorlds.{same_one}
-use Rattle.wit_remap_spec.specs.Image.{Maps, entry_image, identity, item_image, key_image, world_image}
+use Rattle.wit_remap_spec.specs.Image.{Maps, entry_image, item_image, key_image, world_image}
 use Rattle.wit_graph_theory.specs.facts.LawsOfElaboration.{LawsOfElaboration}
 use Rattle.wit_graph_theory.specs.facts.ListFacts.{Contains-map_cases, contained_at, found_at, from_map, place_of, same_at}
 use Rattle.wit_graph_theory.specs.steps.UnnamedOnce.{Holds, Origin, StandsOnceOnly}
@@ -44,6 +44,7 @@ use Rattle.wit_merge_laws.specs.facts.TypesStand.{matched_some}
 use Rattle.wit_merge_laws.specs.facts.UnitedWorlds.{entries_from, exported_is_named, united_covered, united_stands, used_is_named}
 use Rattle.wit_merge_laws.specs.facts.WholeFacts.{world_from}
 use Rattle.wit_merge_laws.specs.facts.WorldsStand.{sources_good}
+use Rattle.wit_remap_spec.specs.steps.Parts.{identity}
 
 unnamed_cut : (g : Graph) (f : ℕ) → is_unnamed (map (cut_interface (kept_whole g)) g.interfaces) f ≡ is_unnamed g.interfaces f
 unnamed_cut g f = by g.interfaces f

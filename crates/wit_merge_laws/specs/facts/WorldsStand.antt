@@ -28,7 +28,7 @@ use Rattle.wit_graph_theory.specs.facts.Covered.{IsCovered}
 use Rattle.wit_graph_theory.specs.Cut.{StaysIn, mapped_source}
 use Rattle.wit_graph_theory.specs.facts.GoodIsValid.{good_things}
 use Rattle.wit_graph_theory.specs.facts.GraphSource.{graph_stands, mapped_is_good}
-use Rattle.wit_remap_spec.specs.Image.{entry_image, identity, world_image}
+use Rattle.wit_remap_spec.specs.Image.{entry_image, world_image}
 use Rattle.wit_remap_spec.specs.Kept.{everything}
 use Rattle.wit_graph_theory.specs.facts.ListFacts.{Contains-map, found_at, some_at}
 use Rattle.wit_graph_theory.specs.Operations.{merge_sources}
@@ -49,6 +49,7 @@ use Rattle.wit_merge_laws.specs.facts.MatchedOnce.{world_in_table, world_once}
 use Rattle.wit_merge_laws.specs.facts.TypesStand as types
 use Rattle.wit_merge_laws.specs.facts.TypesStand.{matched_some}
 use Rattle.wit_merge_laws.specs.facts.WholeFacts.{interface_from, world_from}
+use Rattle.wit_remap_spec.specs.steps.Parts.{identity}
 
 abbrev pub entry : WorldKey → WorldItem → Entry
 entry k held = (k, held)

@@ -15,10 +15,11 @@ use Rattle.wit_data.specs.declared.world.WorldInclude.{WorldInclude}
 use Rattle.wit_data.specs.declared.world.WorldItem.{WorldItem}
 use Rattle.wit_data.specs.declared.world.WorldItem.TheVariants as item
 use Rattle.wit_link_spec.specs.Gates.{OptionalSpan}
-use Rattle.wit_remap_spec.specs.Spans.{function_spans, interface_spans, item_spans, kind_spans, type_spans, world_spans}
+use Rattle.wit_remap_spec.specs.Spans.{function_spans, interface_spans, item_spans, type_spans, world_spans}
 use Rattle.wit_values.specs.facts.Lists.{slice_get-append}
 use Rattle.wit_graph_theory.specs.facts.ListFacts.{Each-map, at_map}
 use Rattle.wit_remap.specs.steps.Fits.{EntriesFit, Fits, FunctionFits, InterfaceFits, ItemFits, PartsFit, TypeFits, WholeWorldFits}
+use Rattle.wit_remap_spec.specs.steps.Parts.{kind_spans}
 
 -- ---- what holds of each element
 

@@ -4,7 +4,8 @@ use Rattle.wit_data.specs.declared.function.Function.{Function}
 use Rattle.wit_data.specs.declared.interface.Interface.{Interface}
 use Rattle.wit_data.specs.declared.function.Param.{Param}
 use Rattle.wit_data.specs.declared.types.Type_.{Type_}
-use Rattle.wit_remap_spec.specs.FunctionMismatch.{AreOfOneSort, FunctionMismatch, function_mismatch_text, parameter_names_text, parameter_types_text}
+use Rattle.wit_remap_spec.specs.FunctionMismatch.{AreOfOneSort, FunctionMismatch}
+use Rattle.wit_remap_spec.specs.steps.Parts.{parameter_names_text, parameter_types_text, function_mismatch_text}
 
 -- ---- parameters and results
 

@@ -4,13 +4,13 @@ use Rattle.std.specs.List.{flat_map}
 use Rattle.std.proofs.lemmas.List.{take_all}
 use Rattle.wit_data.specs.declared.function.Function.{Function}
 use Rattle.wit_data.specs.declared.types.TypeDef.{TypeDef}
-use Rattle.wit_remap_spec.specs.Resources.{value_positions}
 use Rattle.wit_remap_spec.specs.Selected.{selected}
 use Rattle.wit_link_resources.specs.steps.Active.{seen}
 use Rattle.wit_link_resources.specs.steps.IncomingTypes.{new_of}
 use Rattle.wit_link_resources.proofs.Ranges.{seen-next}
 use Rattle.wit_link_resources.proofs.asked.positions.Goals as goal
 use Rattle.wit_data.specs.Kind.{signature_types}
+use Rattle.wit_remap_spec.specs.steps.Parts.{value_positions}
 
 pub loop-function-preserved : goal.loop-function-preserved
 loop-function-preserved c =

@@ -2,7 +2,6 @@ use Rattle.std.proofs.Common.{◌≡◌, ◌∙◌, ◌++◌, [], ℕ, Bool, Lis
 use Rattle.std.specs.List.{flat_map, range_with_len}
 use Rattle.std.specs.Option.{option_map_or}
 use Rattle.wit_data.specs.declared.types.TypeDef.{TypeDef}
-use Rattle.wit_remap_spec.specs.Resources.{value_positions}
 use Rattle.wit_link_resources.specs.declared.incoming.Incoming.{Incoming}
 use Rattle.wit_link_resources.specs.steps.IncomingTypes.{new_of}
 use Rattle.wit_link_resources.proofs.NewPositions.{positions_at}
@@ -10,6 +9,7 @@ use Rattle.wit_link_resources.proofs.Gathered.{gathered}
 use Rattle.wit_link_resources.proofs.Ranges.{lent_at, ranged-next, ranged-same}
 use Rattle.wit_link_resources.proofs.asked.push_types.Goals.{then-is_new+in_ok-value_positions+in_ok-append, else-is_new}
 use Rattle.wit_link_resources.proofs.asked.push_types.Goals as goal
+use Rattle.wit_remap_spec.specs.steps.Parts.{value_positions}
 
 -- the value positions of a type by what is told of it
 told : (s : Incoming) (t : ℕ) (def : TypeDef) → slice_get s.types.now t ≡ Some def → positions_at s t ≡ (if new_of s t then value_positions def.kind else [])

@@ -7,11 +7,11 @@ use Rattle.wit_digraph.specs.PostOrder.{post_order}
 use Rattle.wit_data.specs.declared.types.TypeDef.{TypeDef}
 use Rattle.wit_graph_data.specs.facts.ContentFacts.{content_row, contents_acyclic, held_long}
 use Rattle.wit_graph_data.specs.Queries.{type_contents}
-use Rattle.wit_remap_spec.specs.Borrows.{IsBorrow}
 use Rattle.wit_link_resources.proofs.Inserting.{insert-known, insert-new, insert-same}
 use Rattle.wit_link_resources.proofs.MayHold.{borrow_back, borrow_here}
 use Rattle.wit_link_resources.proofs.Searching.{IsSearching, search-bad, search-begun, search-free, search-known, search-more, search-none, shorter-known, shorter-more, top_there}
 use Rattle.wit_link_resources.proofs.borrows.holds_borrow.Goals as goal
+use Rattle.wit_remap_spec.specs.steps.Parts.{IsBorrow}
 
 abbrev Search : List TypeDef → ℕ → List ℕ → List ℕ → Type 0
 Search types id keys stack = IsSearching (type_contents types) (IsBorrow types) id keys stack

@@ -5,7 +5,7 @@ use Rattle.wit_data.specs.declared.types.TypeDef.{TypeDef}
 use Rattle.wit_graph_theory.specs.facts.ListFacts.{get_at}
 use Rattle.wit_remap_spec.specs.Resources.{own_of}
 use Rattle.wit_remap_spec.specs.Selected.{rank}
-use Rattle.wit_remap_spec.specs.ValueRemap.{ValueRemap, needs_own, value_id}
+use Rattle.wit_remap_spec.specs.ValueRemap.{ValueRemap, needs_own}
 use Rattle.wit_link_spec.specs.facts.RangeFacts.{range-pushed, range-read}
 use Rattle.wit_link_spec.specs.declared.addition.Values.{Values}
 use Rattle.wit_link_resources.specs.declared.incoming.Incoming.{Incoming}
@@ -14,6 +14,7 @@ use Rattle.wit_link_resources.proofs.Ranges.{lent_read, passed-next, picked-next
 use Rattle.wit_link_resources.proofs.Ranks.{length-filtered, length-selected}
 use Rattle.wit_link_resources.proofs.owning.remapped_values.Goals.{then-needs+in_ok-push+in_ok-push-2, else-needs+in_ok-push-3}
 use Rattle.wit_link_resources.proofs.owning.remapped_values.Goals as goal
+use Rattle.wit_remap_spec.specs.steps.Parts.{value_id}
 
 -- the `own` of a type where it goes
 abbrev own_at : ValueRemap → ℕ → TypeDef

@@ -5,13 +5,13 @@ use Rattle.wit_data.specs.Kind.{type_references}
 use Rattle.wit_data.specs.declared.types.TypeDef.{TypeDef}
 use Rattle.wit_remap_spec.specs.Borrows.{borrow_text}
 use Rattle.wit_link_spec.specs.facts.RangeFacts.{range-inside, range-read}
-use Rattle.wit_remap_spec.specs.ValueRemap.{value_id}
 use Rattle.wit_merge_spec.specs.Merged.{remap_of_merge}
 use Rattle.wit_merge_spec.specs.Matches.{GraphMerge}
 use Rattle.wit_merge_laws.specs.facts.NoCycles.{joined_types_acyclic}
 use Rattle.wit_merge.specs.steps.UnionSteps.{merging_of}
 use Rattle.wit_merge.proofs.Returning.{returned_there, returns_borrow, returns_free, value_there}
 use Rattle.wit_merge.proofs.results.check_result.Goals as goal
+use Rattle.wit_remap_spec.specs.steps.Parts.{value_id}
 
 pub at-place-requires : goal.at-place-requires
 at-place-requires c =

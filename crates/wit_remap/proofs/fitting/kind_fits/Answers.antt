@@ -7,10 +7,10 @@ use Rattle.wit_data.specs.declared.types.EnumCase.{EnumCase}
 use Rattle.wit_data.specs.declared.types.Field.{Field}
 use Rattle.wit_data.specs.declared.types.Flag.{Flag}
 use Rattle.wit_data.specs.declared.types.TypeDefKind.{TypeDefKind}
-use Rattle.wit_remap_spec.specs.Spans.{kind_spans}
 use Rattle.wit_remap.specs.steps.Fits.{Fits}
 use Rattle.wit_remap.proofs.KindSpans.{made_fit_too, no_spans}
 use Rattle.wit_remap.proofs.fitting.kind_fits.Goals as goal
+use Rattle.wit_remap_spec.specs.steps.Parts.{kind_spans}
 
 pub returns-in-Record : goal.returns-in-Record
 returns-in-Record c =

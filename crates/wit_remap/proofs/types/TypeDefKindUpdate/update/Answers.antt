@@ -6,9 +6,9 @@ use Rattle.wit_data.specs.declared.types.EnumCase.{EnumCase}
 use Rattle.wit_data.specs.declared.types.Field.{Field}
 use Rattle.wit_data.specs.declared.types.Flag.{Flag}
 use Rattle.wit_data.specs.declared.types.TypeDefKind.{TypeDefKind}
-use Rattle.wit_remap_spec.specs.Spans.{kind_spans}
 use Rattle.wit_remap.proofs.KindSpans.{made_fit}
 use Rattle.wit_remap.proofs.types.TypeDefKindUpdate.update.Goals as goal
+use Rattle.wit_remap_spec.specs.steps.Parts.{kind_spans}
 
 pub update-requires : goal.update-requires
 update-requires g c =
