@@ -20,7 +20,7 @@ use Rattle.wit_link_spec.specs.Cause as reason
 use Rattle.wit_link_spec.specs.Gates.{OptionalSpan, package_spans}
 use Rattle.wit_link_spec.specs.Reasons.{AdditionOverflows, IsActiveFunction, IsResolved}
 use Rattle.wit_link_spec.specs.Reasons as part
-use Rattle.wit_link_spec.specs.WorldReasons.{AtInclude, AtWorld, IncludeIsAccepted, IsCauseAtWorld}
+use Rattle.wit_link_spec.specs.WorldReasons.{AtInclude, AtWorld, IsCauseAtWorld}
 use Rattle.wit_link_spec.specs.facts.WorldCauseFacts.{cause_world}
 use Rattle.examples_link.proofs.AtWorlds.{all_fine, fine_without, no_include, of_first}
 use Rattle.examples_link.proofs.HasImage.{image}
@@ -28,6 +28,7 @@ use Rattle.examples_link.proofs.WorldTests.{IsPlain, fine, plain_accepted}
 use Rattle.examples_link.specs.IncludedWorlds.{including}
 use Rattle.examples_link.specs.Packages.{adding, first_package, include_with, no_features}
 use Rattle.examples_link.specs.Pushes.{add_using}
+use Rattle.wit_link_spec.specs.steps.Parts.{IncludeIsAccepted}
 
 -- ---- tests
 

@@ -6,9 +6,10 @@ use Rattle.wit_graph_theory.specs.facts.OptionFacts.{some_same}
 use Rattle.wit_graph_theory.specs.examples.TestFacts.{none_some}
 use Rattle.wit_link_spec.specs.Addition.{Addition, active_includes, own_worlds, remapped_world}
 use Rattle.wit_link_spec.specs.Include.{EntryLists, PartiallyLinked, lists_of}
-use Rattle.wit_link_spec.specs.Added.{with_all_includes, with_includes, with_worlds}
+use Rattle.wit_link_spec.specs.Added.{with_includes, with_worlds}
 use Rattle.wit_link_spec.specs.Reasons.{IsResolved}
-use Rattle.wit_link_spec.specs.WorldReasons.{AtInclude, AtWorld, IncludeIsAccepted}
+use Rattle.wit_link_spec.specs.WorldReasons.{AtInclude, AtWorld}
+use Rattle.wit_link_spec.specs.steps.Parts.{with_all_includes, IncludeIsAccepted}
 
 -- the lists of world k by which its labels are told: with all its includes, or as they are written where it lists none
 pub data HaveLists (a : Addition) (k : ℕ) : EntryLists → Type 0 where

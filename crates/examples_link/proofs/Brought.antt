@@ -21,7 +21,7 @@ use Rattle.wit_link_spec.specs.Gates.{OptionalSpan}
 use Rattle.wit_link_spec.specs.Include.{is_other_package, lists_of}
 use Rattle.wit_remap_spec.specs.Joined.{include_stability, HasStability}
 use Rattle.wit_link_spec.specs.Reasons.{IsResolved}
-use Rattle.wit_link_spec.specs.WorldReasons.{mismatch_8, shadowing_7, AtInclude, IncludeIsAccepted, IsCauseAtFinish, IsCauseAtInclude, of_finish, conflict_4, no_getter_18, not_strongly_unique_17}
+use Rattle.wit_link_spec.specs.WorldReasons.{mismatch_8, shadowing_7, AtInclude, IsCauseAtFinish, IsCauseAtInclude, of_finish, conflict_4, no_getter_18, not_strongly_unique_17}
 use Rattle.examples_link.proofs.AtWorlds.{all_fine, include_same, list_world, of_first, of_first_include}
 use Rattle.examples_link.proofs.HasImage.{image}
 use Rattle.examples_link.proofs.Matching.{ClashAt, LonelySetterAt, apart_of, of_alike, of_conflict, of_getter, of_mismatch, of_shadowing}
@@ -29,6 +29,7 @@ use Rattle.examples_link.proofs.WorldCauses.{at_first_include, first_reached, la
 use Rattle.examples_link.proofs.WorldTests.{Passes, conflict_of, fine, none_alike, none_lacks, one_list, unshadowed}
 use Rattle.examples_link.specs.Packages.{adding, exporting_c, gate_f, gate_g, gated_entry, including_lists, no_features, since_one, three, three_exporting}
 use Rattle.examples_link.specs.WorldCauses.{ExamplesOfIncludedCauses, both_export, both_import}
+use Rattle.wit_link_spec.specs.steps.Parts.{IncludeIsAccepted}
 
 -- ---- worlds that import a function each
 

@@ -18,15 +18,16 @@ use Rattle.wit_graph_data.specs.examples.Samples.{foo_bar, function_of, no_docs}
 use Rattle.wit_graph_theory.specs.examples.TestFacts.{none_in, none_some, only_one}
 use Rattle.wit_link_spec.specs.Addition.{Addition}
 use Rattle.wit_link_spec.specs.Cause as reason
-use Rattle.wit_link_spec.specs.Gates.{OptionalSpan, function_is_active}
+use Rattle.wit_link_spec.specs.Gates.{OptionalSpan}
 use Rattle.wit_link_spec.specs.Gates as asked
-use Rattle.wit_link_spec.specs.Reasons.{AType, AWorld, AdditionOverflows, AnInterface, IsActiveFunction, IsResolved, MayHoldBorrow, ReturnsBorrow}
+use Rattle.wit_link_spec.specs.Reasons.{AType, AWorld, AdditionOverflows, AnInterface, IsActiveFunction, IsResolved, ReturnsBorrow}
 use Rattle.wit_link_spec.specs.Reasons as part
 use Rattle.examples_link.proofs.HasImage.{image}
 use Rattle.examples_link.proofs.Matching.{no_memory, of_borrow, of_excluded, of_excluded_owner, of_overflow, of_unreleased, of_version}
 use Rattle.examples_link.specs.Causes.{ExamplesOfCauses, returning_under}
 use Rattle.examples_link.specs.Packages.{adding, adding_at, bare, feature_f, gate_f, gated, gated_owner, loose_interface, no_features, returning, since_one}
 use Rattle.wit_remap_spec.specs.steps.Parts.{IsBorrow}
+use Rattle.wit_link_spec.specs.steps.Parts.{MayHoldBorrow, function_is_active}
 
 -- ---- packages with an image
 

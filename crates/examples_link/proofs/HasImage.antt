@@ -33,12 +33,13 @@ use Rattle.wit_data.specs.declared.world.WorldItem.TheVariants as item
 use Rattle.wit_graph_theory.specs.facts.ListFacts.{contained_at}
 use Rattle.wit_graph_theory.specs.examples.TestFacts.{all_are, all_at, at_are, implied, implies, not_passed}
 use Rattle.wit_link_spec.specs.Addition.{Addition}
-use Rattle.wit_link_spec.specs.Gates.{HasEntry, HasOwnGate, IsAsked, OptionalSpan, asked_gates, function_is_active, include_is_active, interface_gates, interface_is_active, is_active, type_is_active, world_gates, world_is_active}
+use Rattle.wit_link_spec.specs.Gates.{HasEntry, HasOwnGate, IsAsked, OptionalSpan, asked_gates, interface_gates, interface_is_active, is_active, type_is_active, world_gates, world_is_active}
 use Rattle.wit_link_spec.specs.Gates as asked
 use Rattle.wit_link_spec.specs.Lookup.{find_interface, find_world, foreign_interface_id, foreign_type_id, is_foreign_type, named_items, owning_interface}
 use Rattle.wit_graph_data.specs.Named.{interface_type}
 use Rattle.wit_link_spec.specs.Reasons.{AnInterface, AType, AWorld, IsResolved, IsActiveFunction, IsExcluded, RefersTo, Thing, kind_references, owner_thing}
 use Rattle.wit_link_spec.specs.Reasons as reason
+use Rattle.wit_link_spec.specs.steps.Parts.{function_is_active, include_is_active}
 
 abbrev is_at_least : Ordering → Bool
 is_at_least Less = false

@@ -18,7 +18,7 @@ use Rattle.wit_link_spec.specs.Cause as reason
 use Rattle.wit_link_spec.specs.Gates as asked
 use Rattle.wit_link_spec.specs.Include.{EntryLists}
 use Rattle.wit_link_spec.specs.Reasons.{IsResolved, LacksVersion}
-use Rattle.wit_link_spec.specs.WorldReasons.{AtInclude, AtWorld, IncludeIsAccepted, IsCauseAtInclude, IsCauseAtWorld, WorldIsAccepted, written_no_getter_18, written_not_strongly_unique_17, mismatch_8, shadowing_7}
+use Rattle.wit_link_spec.specs.WorldReasons.{AtInclude, AtWorld, IsCauseAtInclude, IsCauseAtWorld, written_no_getter_18, written_not_strongly_unique_17, mismatch_8, shadowing_7}
 use Rattle.wit_link_spec.specs.WorldReasons as world_reason
 use Rattle.wit_link_spec.specs.facts.WorldCauseFacts.{includes_accepted}
 use Rattle.examples_link.proofs.AtWorlds.{HaveLists, fine_without, list_world, made, no_include, of_first, world_same, written}
@@ -28,6 +28,7 @@ use Rattle.examples_link.proofs.WorldCauses.{first_reached, label_same, other_fe
 use Rattle.examples_link.proofs.WorldTests.{IsPlain, fine, none_alike, plain_accepted}
 use Rattle.examples_link.specs.LaterWorlds.{ExamplesOfLaterWorlds, alike_unversioned, before_alike, include_of, including_unversioned, shadowing_first, two_gates, w_is_alike, w_of_alike}
 use Rattle.examples_link.specs.Packages.{gate_f, gate_g, loose_interface, since_one}
+use Rattle.wit_link_spec.specs.steps.Parts.{IncludeIsAccepted, WorldIsAccepted}
 
 -- ---- a world with which nothing is wrong
 

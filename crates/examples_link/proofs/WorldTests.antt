@@ -31,13 +31,14 @@ use Rattle.wit_graph_data.specs.declared.error_kind.ResolveErrorKind.TheVariants
 use Rattle.wit_link_spec.specs.Addition.{Addition}
 use Rattle.wit_link_spec.specs.Gates.{OptionalSpan}
 use Rattle.wit_link_spec.specs.Include.{EntryLists, IsListCalled, PartiallyLinked, lists_of}
-use Rattle.wit_link_spec.specs.WorldReasons.{IsFirstUnmatched, IsIncludeCause, IsShadowed, LabelIsTaken, StabilitiesAreApart, mismatch_8, rename_unmatched_16, renamed_key, shadowing_7, AtInclude, AtWorld, IncludeIsAccepted, IsCauseAtFinish, IsCauseAtInclude, WorldIsAccepted, of_finish, of_include, written_no_getter_18, written_not_strongly_unique_17, IsFinishCause, conflict_4, no_getter_18, not_strongly_unique_17}
+use Rattle.wit_link_spec.specs.WorldReasons.{IsFirstUnmatched, IsIncludeCause, IsShadowed, LabelIsTaken, StabilitiesAreApart, mismatch_8, rename_unmatched_16, renamed_key, shadowing_7, AtInclude, AtWorld, IsCauseAtFinish, IsCauseAtInclude, of_finish, of_include, written_no_getter_18, written_not_strongly_unique_17, IsFinishCause, conflict_4, no_getter_18, not_strongly_unique_17}
 use Rattle.wit_remap_spec.specs.Joined.{HasStability}
-use Rattle.wit_link_spec.specs.Added.{updated_include, unfinished_world, with_all_includes, with_worlds}
+use Rattle.wit_link_spec.specs.Added.{unfinished_world, with_worlds}
 use Rattle.wit_link_spec.specs.Reasons.{IsResolved}
 use Rattle.examples_link.proofs.Matching.{ClashAt, LonelySetterAt, clash_at, conflict_in, lonely_at, taken_of}
 use Rattle.examples_link.proofs.AtWorlds.{HaveLists, include_same, lists_are, world_same}
 use Rattle.wit_elaboration.specs.steps.Parts.{exported_keys}
+use Rattle.wit_link_spec.specs.steps.Parts.{updated_include, with_all_includes, IncludeIsAccepted, WorldIsAccepted}
 
 -- ---- labels that come
 

@@ -1,9 +1,10 @@
 -- Notes, and which of them are active and asked.
 use Rattle.std.specs.Prelude.{◌≡◌, true, false, [], ◌∷◌, None}
 use Rattle.wit_data.specs.declared.stability.Stability.TheVariants.{Unknown}
-use Rattle.wit_link_spec.specs.Gates.{asked_gates, interface_is_active, is_active, some_active}
+use Rattle.wit_link_spec.specs.Gates.{asked_gates, interface_is_active, is_active}
 use Rattle.wit_graph_data.specs.examples.Samples.{foo_bar}
 use Rattle.examples_link.specs.Packages.{all_features, feature_f, gate_f, gated, main_name, naming, no_features, since_one}
+use Rattle.wit_link_spec.specs.steps.Parts.{some_active}
 
 -- gates that let their items be active, and gates that are asked
 pub record ExamplesOfGates : Type 0 where

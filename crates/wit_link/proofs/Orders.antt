@@ -21,8 +21,9 @@ use Rattle.wit_data.specs.declared.unresolved.UnresolvedPackage.{UnresolvedPacka
 use Rattle.wit_link.proofs.NameOrders.{apart, keys-places, lookup-places, roots-all, roots-by_name}
 use Rattle.wit_names.specs.facts.PackageNameFacts.{own_name, same_name}
 use Rattle.wit_link_spec.specs.facts.RangeFacts.{range-below}
-use Rattle.wit_link.specs.GroupOrder.{IsGroupOrder, Unresolved, group_deps, group_uses, names_of}
+use Rattle.wit_link.specs.GroupOrder.{IsGroupOrder, Unresolved, group_uses, names_of}
 use Rattle.wit_link.specs.steps.GroupOrderSteps.{AreByName, IsOrdered, found_deps, indices_of_names}
+use Rattle.wit_link.specs.steps.Parts.{group_deps}
 
 module _ {X Y : Type 0} where
   -- what stands at a place, mapped

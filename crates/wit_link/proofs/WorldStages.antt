@@ -18,7 +18,7 @@ use Rattle.wit_link_spec.specs.Cause.{IsAdditionCause, IsReached}
 use Rattle.wit_link_spec.specs.Added.{added, with_parts, with_world, with_worlds}
 use Rattle.wit_link_spec.specs.facts.Linked.{updated_includes}
 use Rattle.wit_link_spec.specs.Reasons.{IsResolved}
-use Rattle.wit_link_spec.specs.WorldReasons.{AtWorld, WorldIsAccepted}
+use Rattle.wit_link_spec.specs.WorldReasons.{AtWorld}
 use Rattle.wit_link_spec.specs.facts.WorldCauseFacts.{cause_world}
 use Rattle.wit_link_laws.specs.laws.StageFacts.{IncludedAreThere, IncludesCanBe, WorldsCanBe}
 use Rattle.wit_link_include.specs.facts.AdditionFacts.{home, image_at, next_stage, reached_accepted, world_cause}
@@ -26,6 +26,7 @@ use Rattle.wit_link_include.specs.steps.Included as local
 use Rattle.wit_link_include.specs.facts.ReadyFacts.{can_be_added}
 use Rattle.wit_remap.specs.declared.worlds.UpdatedWorld.{UpdatedWorld}
 use Rattle.wit_link.specs.steps.Including.{ready_world, ready_worlds}
+use Rattle.wit_link_spec.specs.steps.Parts.{WorldIsAccepted}
 
 -- so many worlds are added, and no cause holds against them
 pub record IsAdding (a : Addition) (done : List UpdatedWorld) (g : Graph) : Type 0 where

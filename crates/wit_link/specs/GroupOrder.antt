@@ -31,14 +31,11 @@ HaveSpans unresolved = Each (λ (p : Unresolved). length p.0.foreign_dep_spans �
 abbrev pub names_of : List Unresolved → List PackageName
 names_of unresolved = map (λ (p : Unresolved). p.0.name) unresolved
 
--- the unresolved packages that a package names things of, in the order in which it does; one that isn't handed
--- in is passed over
-abbrev pub group_deps : List PackageName → UnresolvedPackage → List ℕ
-group_deps names u = filter_map (λ (e : PackageName × List ForeignItem). position (same_package e.0) names) u.foreign_deps
-
--- list i: the unresolved packages that unresolved package i depends on, itself where it names things of itself
+-- list i: the unresolved packages that unresolved package i names things of, in the order in which it does, itself where
+-- it names things of itself; one that isn't handed in is passed over
 abbrev pub group_uses : List Unresolved → List (List ℕ)
-group_uses unresolved = map (λ (p : Unresolved). group_deps (names_of unresolved) p.0) unresolved
+group_uses unresolved =
+    map (λ (p : Unresolved). filter_map (λ (e : PackageName × List ForeignItem). position (same_package e.0) (names_of unresolved)) p.0.foreign_deps) unresolved
 
 -- ---- the order
 

@@ -1,3 +1,4 @@
 pub mod Checked
 pub mod GroupOrderSteps
 pub mod Including
+pub mod Parts

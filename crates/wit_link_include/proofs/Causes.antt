@@ -18,9 +18,9 @@ use Rattle.wit_labels.specs.Setters.{HaveGetters, IsSetter, LacksGetterAt, gette
 use Rattle.wit_labels.specs.Strong.{AreStronglyUnique, Clashes}
 use Rattle.wit_link_spec.specs.CauseText.{clash_text, getter_text}
 use Rattle.wit_link_spec.specs.Include.{IsListCalled, lists_of}
-use Rattle.wit_link_spec.specs.Added.{with_setters_placed}
 use Rattle.wit_link_spec.specs.WorldReasons.{IsFinishCause, conflict_4, no_getter_18, not_strongly_unique_17}
 use Rattle.wit_link_include.specs.steps.Included.{IsLabelError, IsListError, LabelsAreAccepted, ListIsAccepted, alone, clash}
+use Rattle.wit_link_spec.specs.steps.Parts.{with_setters_placed}
 
 -- ---- labels
 

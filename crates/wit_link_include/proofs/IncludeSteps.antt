@@ -31,13 +31,13 @@ use Rattle.wit_graph_theory.specs.facts.Good.{IsGoodWorld}
 use Rattle.wit_remap_spec.specs.Image.{Maps, entry_image, item_image, key_image}
 use Rattle.wit_graph_theory.specs.facts.ListFacts.{Contains-map, Contains-map_cases, contained_at, found_at, from_map, place_of, same_at}
 use Rattle.wit_labels.specs.Rename.{renamed_label}
-use Rattle.wit_link_spec.specs.CauseText.{rename_text}
 use Rattle.wit_link_spec.specs.Gates.{OptionalSpan}
-use Rattle.wit_link_spec.specs.Include.{EntryLists, IsListCalled, PartiallyLinked, belongs_to, copy_maps, interface_copy, is_other_package, is_owned_within, joined_entries, lists_of, with_copies, with_entry_lists, with_world_included}
+use Rattle.wit_link_spec.specs.Include.{EntryLists, IsListCalled, PartiallyLinked, belongs_to, copy_maps, is_other_package, is_owned_within, joined_entries, lists_of, with_copies, with_world_included}
 use Rattle.wit_remap_spec.specs.Joined.{include_stability, Disagree, HasStability}
 use Rattle.wit_link_spec.specs.WorldReasons.{IsFirstUnmatched, IsIncludeCause, IsShadowed, mismatch_8, rename_unmatched_16, renamed_key, shadowing_7}
 use Rattle.wit_link_laws.specs.laws.StageFacts.{CanInclude}
 use Rattle.wit_link_include.specs.steps.Included.{StayApart, AreRenamed, ComeOnce, HaveOwnKeys, IsCauseOfInclude, IsJoinCause, JoinIsAccepted, StandsWith, before_includes, item_shadowing_7, stability_mismatch_8, with_one}
+use Rattle.wit_link_spec.specs.steps.Parts.{interface_copy, with_entry_lists, rename_text}
 
 -- ---- a list of a good world
 

@@ -23,11 +23,12 @@ use Rattle.wit_graph_data.specs.declared.error_kind.ResolveErrorKind.{ResolveErr
 use Rattle.wit_graph_data.specs.declared.error_kind.ResolveErrorKind.TheVariants.{ItemShadowing}
 use Rattle.wit_graph_theory.specs.facts.ListFacts.{Contains-map, contained_at, from_map, old_or_new, place_of}
 use Rattle.wit_link_spec.specs.Gates.{OptionalSpan}
-use Rattle.wit_link_spec.specs.Include.{has_key, joined_entries, new_item}
+use Rattle.wit_link_spec.specs.Include.{joined_entries, new_item}
 use Rattle.wit_remap_spec.specs.Joined.{include_stability, joined_entry, joined_item, Disagree}
 use Rattle.wit_link_spec.specs.WorldReasons.{IsShadowed}
 use Rattle.wit_link_include.specs.steps.Included.{ComeOnce, IsItemError, IsJoinCause, ItemsAgree, JoinIsAccepted, StabilitiesDiffer, StandsWith, item_shadowing_7, stability_mismatch_8}
 use Rattle.wit_link_include.proofs.Keys.{Lacks, has_key-has, has_key-lacks, key_there, lacks-head, lacks-tail, lookup-lacks, lookup-last, lookup-other, under_key}
+use Rattle.wit_link_spec.specs.steps.Parts.{has_key}
 
 -- ---- what a joined list has
 

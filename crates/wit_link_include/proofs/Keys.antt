@@ -13,7 +13,7 @@ use Rattle.wit_data.specs.declared.world.WorldKey.{WorldKey}
 use Rattle.wit_data.specs.declared.world.WorldKey.TheVariants as key
 use Rattle.wit_elaboration.specs.Entries as graph
 use Rattle.wit_graph_theory.specs.facts.ListFacts.{Contains-map, Contains-map_cases, contained_at, from_map, place_of}
-use Rattle.wit_link_spec.specs.Include.{has_key}
+use Rattle.wit_link_spec.specs.steps.Parts.{has_key}
 
 -- ---- the test of two keys
 

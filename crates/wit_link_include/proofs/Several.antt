@@ -14,14 +14,14 @@ use Rattle.wit_graph_data.specs.declared.graph.Graph.{Graph}
 use Rattle.wit_graph_data.specs.declared.error_kind.ResolveErrorKind.{ResolveErrorKind}
 use Rattle.wit_graph_data.specs.declared.error_kind.ResolveErrorKind.TheVariants.{OutOfMemory}
 use Rattle.wit_graph_theory.specs.facts.ListFacts.{same_at}
-use Rattle.wit_link_spec.specs.Include.{PartiallyLinked, lists_of, with_entry_lists}
-use Rattle.wit_link_spec.specs.Added.{with_finished}
+use Rattle.wit_link_spec.specs.Include.{PartiallyLinked, lists_of}
 use Rattle.wit_link_spec.specs.WorldReasons.{IsFinishCause}
 use Rattle.wit_remap.specs.Grown.{Grown}
 use Rattle.wit_remap.specs.facts.GrownFacts.{Begins-more, Begins-same, Grown-same, Grown-then}
 use Rattle.wit_link_include.specs.steps.Included.{CanBeAdded, CanBeIncluded, CanIncludeAll, HaveOwnKeys, IsAcceptedAt, IsCauseOfInclude, IsWorldCause, StopsAtInclude, as_finished, at_include, before_includes, with_including, with_one, with_several}
 use Rattle.wit_link_include.specs.facts.SeveralFacts.{several_worlds}
 use Rattle.wit_link_include.proofs.OwnKeys.{one_own}
+use Rattle.wit_link_spec.specs.steps.Parts.{with_finished, with_entry_lists}
 
 -- ---- the state of including
 

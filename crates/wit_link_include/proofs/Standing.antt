@@ -11,11 +11,12 @@ use Rattle.wit_data.specs.declared.types.TypeDef.{TypeDef}
 use Rattle.wit_data.specs.declared.world.World.{World}
 use Rattle.wit_graph_data.specs.declared.graph.Graph.{Graph}
 use Rattle.wit_graph_theory.specs.facts.ListFacts.{place_of}
-use Rattle.wit_link_spec.specs.Include.{belongs_to, is_copied, is_on_way, owner_belongs_to}
+use Rattle.wit_link_spec.specs.Include.{belongs_to, is_copied, owner_belongs_to}
 use Rattle.wit_link_include.specs.steps.Included.{numbered, places}
 use Rattle.wit_link_include.proofs.Members.{and_both}
 use Rattle.wit_link_include.proofs.RisingIds.{numbered-keys}
 use Rattle.wit_link_include.proofs.SelectedIndices.{place_from}
+use Rattle.wit_link_spec.specs.steps.Parts.{is_on_way}
 
 -- what goes with a world is there
 pub goes_there : (g : Graph) (world : World) (i : ℕ) → belongs_to g world i ≡ true → (interface : Interface) × (slice_get g.interfaces i ≡ Some interface)

@@ -11,11 +11,12 @@ use Rattle.wit_digraph.specs.facts.PostOrderFacts.{Reaches-from_post_order, post
 use Rattle.wit_digraph.specs.PostOrder.{post_order}
 use Rattle.wit_data.specs.declared.types.TypeDef.{TypeDef}
 use Rattle.wit_graph_theory.specs.facts.RowFacts.{Reaches-join, Reaches-self}
-use Rattle.wit_link_spec.specs.Include.{is_copied, is_on_way, is_owned_within, is_unnamed_type, named_types, owner_belongs_to}
+use Rattle.wit_link_spec.specs.Include.{is_copied, is_owned_within, is_unnamed_type, named_types, owner_belongs_to}
 use Rattle.wit_link_include.specs.steps.Included.{NamesBelonging, StayApart, is_open_in, known_of, leads, open_rows, roots_of, said}
 use Rattle.wit_link_include.specs.declared.origin.Origin.{Origin}
 use Rattle.wit_link_include.proofs.Members.{and_both, and_of, or_cases, or_left, or_right, same_truth}
 use Rattle.wit_link_include.proofs.OpenRows.{closed_leads, leads_from, leads_to, open_acyclic, open_edge, open_long, open_reaches, owned_at, rows, rows_long, there_at, unnamed_at}
+use Rattle.wit_link_spec.specs.steps.Parts.{is_on_way}
 
 module _ (o : Origin) (acyclic : IsAcyclic (rows o)) (apart : StayApart o.graph.now o.id o.world.now) (there : (t : ℕ) → Contains (roots_of o) t → t < length o.graph.now.types)
     (belonging : NamesBelonging o.graph.now o.id o.world.now) where

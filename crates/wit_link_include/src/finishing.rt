@@ -1,7 +1,6 @@
 //! A world is finished.
 ghost use Rattle.std.specs.Prelude.{◌≡◌, ◌⊎◌, IfErr, IfOk, OnOk, OnErr, length};
 ghost use Rattle.wit_graph_data.specs.Error.{NoCause};
-ghost use Rattle.wit_link_spec.specs.Added.{with_finished, with_setters_placed};
 ghost use Rattle.wit_link_spec.specs.WorldReasons.{IsFinishCause};
 ghost use Rattle.wit_elaboration.specs.Elaboration.{elaborated_world, IsConflictError, graph_uses};
 ghost use Rattle.wit_elaboration.specs.Imported.{HasTransitiveConflict};
@@ -9,6 +8,7 @@ ghost use Rattle.wit_elaboration.specs.Sound.{HasSoundEntries};
 ghost use Rattle.wit_graph_data.specs.declared.error_kind.ResolveErrorKind.TheVariants.{OutOfMemory};
 ghost use Rattle.wit_labels.specs.Setters.{setters_placed};
 ghost use Rattle.wit_digraph.specs.Relation.{IsAcyclic};
+ghost use Rattle.wit_link_spec.specs.steps.Parts.{with_setters_placed, with_finished};
 
 use crate::labels::check_labels;
 use std::alloc::{AllocError, Global};

@@ -1,10 +1,11 @@
 //! A world of a graph is included in one that comes next.
 ghost use Rattle.std.specs.Prelude.{◌≡◌, ◌⊎◌, ◌<◌, IfErr, IfOk, OnOk, codes, length};
 ghost use Rattle.wit_graph_data.specs.Error.{NoCause};
-ghost use Rattle.wit_link_spec.specs.Include.{is_other_package, lists_of, with_entry_lists};
+ghost use Rattle.wit_link_spec.specs.Include.{is_other_package, lists_of};
 ghost use Rattle.wit_graph_data.specs.declared.error_kind.ResolveErrorKind.TheVariants.{OutOfMemory};
 ghost use Rattle.wit_link_include.specs.steps.Included.{CanBeIncluded, ComeOnce, HaveOwnKeys, IsCauseOfInclude, IsJoinCause, JoinIsAccepted, before_includes, copied_entries, with_joined, with_one};
 ghost use Rattle.wit_remap.specs.Grown.{Grown};
+ghost use Rattle.wit_link_spec.specs.steps.Parts.{with_entry_lists};
 
 use crate::copies::Copies;
 use crate::fresh_copies::add_copies;

@@ -22,7 +22,6 @@ use Rattle.wit_graph_data.specs.declared.error_kind.ResolveErrorKind.TheVariants
 use Rattle.wit_graph_theory.specs.facts.ListFacts.{below_or_same, contained_at, found_at, some_at}
 use Rattle.wit_link_spec.specs.Addition.{Addition}
 use Rattle.wit_link_spec.specs.Cause.{IsAdditionCause, interface_not_found_3, package_not_found_1, type_not_defined_13, world_not_found_2}
-use Rattle.wit_link_spec.specs.CauseText.{type_not_defined_text}
 use Rattle.wit_link_spec.specs.facts.ForeignFound.{named_into}
 use Rattle.wit_link_spec.specs.Gates.{OptionalSpan, interface_is_active, type_is_active}
 use Rattle.wit_link_spec.specs.Lookup.{foreign_interface_id, is_foreign_type}
@@ -30,6 +29,7 @@ use Rattle.wit_graph_data.specs.Named.{interface_type}
 use Rattle.wit_link_spec.specs.Reasons.{known_packages}
 use Rattle.wit_link_lookup.specs.steps.ForeignItems.{ArePackagesThere, AreTypesThere, IsHome, IsTypeThere, NamesItem, interface_in, item_in, named_is_active, not_found, world_in}
 use Rattle.wit_link_lookup.proofs.PackageItems.{IsItemAt}
+use Rattle.wit_link_spec.specs.steps.Parts.{type_not_defined_text}
 
 not_there : {X : Type 0} (o : Option X) → o ≡ None → is_some o ≡ true → ⊥
 not_there None none some = cc

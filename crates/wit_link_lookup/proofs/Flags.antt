@@ -22,12 +22,13 @@ use Rattle.wit_data.specs.declared.world.World.{World}
 use Rattle.wit_data.specs.declared.unresolved.AstItem.TheVariants as named
 use Rattle.wit_graph_data.specs.declared.features.Features.{Features}
 use Rattle.wit_graph_theory.specs.facts.ListFacts.{found_at, place_of}
-use Rattle.wit_link_spec.specs.Gates.{foreign_gates, foreign_items, interface_is_active, is_active, is_foreign_interface, is_foreign_world, some_active, type_is_active, world_is_active}
+use Rattle.wit_link_spec.specs.Gates.{foreign_gates, interface_is_active, is_active, is_foreign_interface, is_foreign_world, type_is_active, world_is_active}
 use Rattle.wit_link_spec.specs.facts.RangeFacts.{range-at, range-past}
 use Rattle.wit_link_spec.specs.declared.addition.Activity.{Activity}
 use Rattle.wit_link_lookup.specs.steps.FeatureSteps.{AreNamedFlags, HasFlag, IsMarked, is_marked, own_activity, own_interface_flag, own_world_flag, with_item}
 use Rattle.wit_link_lookup.proofs.ForeignGates.{named_ids, notes_none}
 use Rattle.wit_data.specs.steps.Parts.{IsNameOnlyInterface, IsNameOnlyWorld}
+use Rattle.wit_link_spec.specs.steps.Parts.{some_active, foreign_items}
 
 -- ---- flags by their places
 

@@ -14,7 +14,8 @@ use Rattle.wit_data.specs.declared.unresolved.AstItem.{AstItem}
 use Rattle.wit_names.specs.declared.package_name.PackageName.{PackageName}
 use Rattle.wit_data.specs.declared.stability.Stability.{Stability}
 use Rattle.wit_graph_theory.specs.facts.ListFacts.{contained_at, place_of}
-use Rattle.wit_link_spec.specs.Gates.{foreign_gates, foreign_items}
+use Rattle.wit_link_spec.specs.Gates.{foreign_gates}
+use Rattle.wit_link_spec.specs.steps.Parts.{foreign_items}
 
 -- what stands in two parts of a list stands there twice
 apart : (xs ys : List ℕ) (i : ℕ) → IsDistinct nat_eq (xs ++ ys) → Contains xs i → Contains ys i → ⊥

@@ -10,11 +10,12 @@ use Rattle.wit_data.specs.declared.stability.Stability.{Stability}
 use Rattle.wit_data.specs.declared.types.TypeDef.{TypeDef}
 use Rattle.wit_data.specs.declared.world.World.{World}
 use Rattle.wit_graph_data.specs.declared.features.Features.{Features}
-use Rattle.wit_link_spec.specs.Gates.{foreign_gates, interface_is_active, is_active, some_active, type_is_active, world_is_active}
+use Rattle.wit_link_spec.specs.Gates.{foreign_gates, interface_is_active, is_active, type_is_active, world_is_active}
 use Rattle.wit_link_spec.specs.declared.addition.Activity.{Activity}
 use Rattle.wit_link_lookup.specs.steps.FeatureSteps.{IsCheckerReady}
 use Rattle.wit_link_lookup.specs.declared.checker.Checker.{Checker}
 use Rattle.wit_link_lookup.proofs.Flags.{flag_is}
+use Rattle.wit_link_spec.specs.steps.Parts.{some_active}
 
 -- nothing is active past the last thing
 past-last : {X : Type 0} (stability : X → Stability) (features : Features) (things : List X) (foreign : List Stability) (i n : ℕ) → n ≤ length things → length things ≤ i

@@ -28,14 +28,14 @@ use Rattle.wit_graph_data.specs.declared.error_kind.ResolveErrorKind.{ResolveErr
 use Rattle.wit_graph_data.specs.declared.error_kind.ResolveErrorKind.TheVariants.{Semantic}
 use Rattle.wit_graph_theory.specs.facts.ListFacts.{contained_at, found_at, place_of}
 use Rattle.wit_link_spec.specs.Cause.{IsAdditionCause, gate_unreleased_10, gate_without_version_9}
-use Rattle.wit_link_spec.specs.CauseText.{gate_unreleased_text, gate_without_version_text}
-use Rattle.wit_link_spec.specs.Gates.{IsAsked, OptionalSpan, asked_gates, foreign_gates, foreign_items, interface_gates, is_active, of_entry, of_function, of_include, of_interface, of_type, of_world, world_gates}
+use Rattle.wit_link_spec.specs.Gates.{IsAsked, OptionalSpan, asked_gates, foreign_gates, interface_gates, is_active, of_entry, of_function, of_include, of_interface, of_type, of_world, world_gates}
 use Rattle.wit_link_spec.specs.steps.Passed.{GatesAreMet}
 use Rattle.wit_link_lookup.specs.steps.FeatureSteps.{Asks, HasReached, IsAt, IsCheckerReady, IsMet, IsThere, MayRefuse, MeetsForeign, MeetsFunctions, MeetsItem, MeetsParts, seen}
 use Rattle.wit_link_lookup.specs.declared.checker.Checker.{Checker}
 use Rattle.wit_link_lookup.proofs.AskedGates.{take_member}
 use Rattle.wit_link_lookup.proofs.ForeignGates.{named_ids, named_ids-items, note_from, notes_alone}
 use Rattle.wit_data.specs.steps.Parts.{IsNameOnlyInterface, IsNameOnlyWorld}
+use Rattle.wit_link_spec.specs.steps.Parts.{gate_without_version_text, gate_unreleased_text, foreign_items}
 
 -- ---- refusals
 

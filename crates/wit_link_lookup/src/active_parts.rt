@@ -6,8 +6,9 @@ ghost use Rattle.wit_data.specs.Foreign.{ForeignItem};
 ghost use Rattle.wit_data.specs.Shape.{IsShaped};
 ghost use Rattle.wit_names.specs.declared.package_name.PackageName.{PackageName};
 ghost use Rattle.wit_link_spec.specs.steps.AdditionRefs.{activity_of, addition_of};
-ghost use Rattle.wit_link_spec.specs.Gates.{foreign_items, some_active, type_is_active};
+ghost use Rattle.wit_link_spec.specs.Gates.{type_is_active};
 ghost use Rattle.wit_link_lookup.specs.steps.FeatureSteps.{HasFlag, IsMarked, own_activity, own_interface_flag, own_world_flag, with_item};
+ghost use Rattle.wit_link_spec.specs.steps.Parts.{some_active, foreign_items};
 
 use std::alloc::{AllocError, Global};
 use wit_data::{

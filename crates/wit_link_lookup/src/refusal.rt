@@ -5,9 +5,9 @@ ghost use Rattle.wit_sources.specs.Span.{moved_by};
 ghost use Rattle.wit_graph_data.specs.declared.cause.Cause.TheVariants.{TypeNotDefined};
 ghost use Rattle.wit_graph_data.specs.declared.error_kind.ResolveErrorKind.TheVariants.{PackageNotFound, Semantic};
 ghost use Rattle.wit_link_spec.specs.steps.AdditionRefs.{addition_of};
-ghost use Rattle.wit_link_spec.specs.CauseText.{type_not_defined_text};
 ghost use Rattle.wit_link_spec.specs.Reasons.{known_packages};
 ghost use Rattle.wit_link_lookup.specs.steps.ForeignItems.{not_found};
+ghost use Rattle.wit_link_spec.specs.steps.Parts.{type_not_defined_text};
 
 use std::alloc::{AllocError, Global};
 use wit_data::{AstItem, Items, PackageName, Span, Text, TryClone};

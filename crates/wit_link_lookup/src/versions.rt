@@ -16,10 +16,10 @@ ghost use Rattle.wit_graph_data.specs.declared.cause.Cause.TheVariants as cause;
 ghost use Rattle.wit_graph_data.specs.declared.error_kind.ResolveErrorKind.TheVariants.{OutOfMemory, Semantic};
 ghost use Rattle.wit_link_spec.specs.steps.AdditionRefs.{activity_of, addition_of};
 ghost use Rattle.wit_link_spec.specs.Cause.{IsAdditionCause};
-ghost use Rattle.wit_link_spec.specs.CauseText.{gate_unreleased_text, gate_without_version_text};
-ghost use Rattle.wit_link_spec.specs.Gates.{asked_gates, foreign_items};
+ghost use Rattle.wit_link_spec.specs.Gates.{asked_gates};
 ghost use Rattle.wit_link_spec.specs.steps.Passed.{GatesAreMet};
 ghost use Rattle.wit_link_lookup.specs.steps.FeatureSteps.{Asks, AsksItem, HasReached, IsAt, IsCheckerReady, IsMet, IsThere, MayRefuse, MeetsForeign, MeetsFunctions, MeetsItem, MeetsParts};
+ghost use Rattle.wit_link_spec.specs.steps.Parts.{gate_without_version_text, gate_unreleased_text, foreign_items};
 
 use crate::checker::Checker;
 use crate::needs::flag_at;

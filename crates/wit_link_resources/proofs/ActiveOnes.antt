@@ -16,10 +16,11 @@ use Rattle.wit_data.specs.declared.world.WorldItem.TheVariants as item
 use Rattle.wit_graph_data.specs.declared.features.Features.{Features}
 use Rattle.wit_graph_theory.specs.facts.ListFacts.{get_at}
 use Rattle.wit_link_spec.specs.Addition.{Addition}
-use Rattle.wit_link_spec.specs.Gates.{function_is_active, interface_is_active, world_is_active}
+use Rattle.wit_link_spec.specs.Gates.{interface_is_active, world_is_active}
 use Rattle.wit_link_spec.specs.facts.RangeFacts.{in_range, range_below}
 use Rattle.wit_link_spec.specs.Reasons.{IsActiveFunction, of_interface, of_world}
 use Rattle.wit_link_resources.specs.steps.Active.{active_entries, active_functions, active_item, active_named, active_one, interface_functions, world_functions}
+use Rattle.wit_link_spec.specs.steps.Parts.{function_is_active}
 
 one_in : (features : Features) (f : Function) → function_is_active features f ≡ true → Contains (active_one features f) f
 one_in features f takes = subst (λ (b : Bool). Contains (if b then f ∷ [] else []) f) (sym takes) (Contains-here f [])

@@ -21,12 +21,13 @@ use Rattle.wit_remap_spec.specs.Kept.{cut_interface, cut_world}
 use Rattle.wit_graph_theory.specs.facts.ListFacts.{found_at, place_of, same_at, some_at}
 use Rattle.wit_link_spec.specs.Addition.{Addition, active, own_functions, own_interface, own_interfaces, own_world, own_worlds}
 use Rattle.wit_link_spec.specs.facts.ClosedCut.{member_of_first}
-use Rattle.wit_link_spec.specs.Gates.{function_is_active, interface_is_active, is_foreign_interface, is_foreign_world, item_is_active, world_is_active}
+use Rattle.wit_link_spec.specs.Gates.{interface_is_active, is_foreign_interface, is_foreign_world, item_is_active, world_is_active}
 use Rattle.wit_remap_spec.specs.Selected.{selected, selected_with_index}
 use Rattle.wit_remap_spec.specs.ValueRemap.{item_function, world_functions as functions_of}
 use Rattle.wit_link_resources.specs.steps.Active.{active_entries, active_functions, active_named, interface_functions, world_functions}
 use Rattle.wit_link_resources.proofs.Gathered.{gathered}
 use Rattle.wit_data.specs.steps.Parts.{IsNameOnlyInterface, IsNameOnlyWorld}
+use Rattle.wit_link_spec.specs.steps.Parts.{function_is_active}
 
 -- ---- what is named of other packages is bare
 

@@ -15,14 +15,14 @@ use Rattle.wit_graph_data.specs.declared.error_kind.ResolveErrorKind.TheVariants
 use Rattle.wit_graph_theory.specs.facts.ListFacts.{Contains-map, contained_at}
 use Rattle.wit_link_spec.specs.Addition.{Addition}
 use Rattle.wit_link_spec.specs.Cause.{IsAdditionCause, borrow_in_result_15, not_a_resource_14, offset_overflow_27}
-use Rattle.wit_link_spec.specs.CauseText.{not_a_resource_text}
 use Rattle.wit_remap_spec.specs.Borrows.{borrow_text}
 use Rattle.wit_link_spec.specs.Gates.{OptionalSpan, type_is_active, package_spans}
 use Rattle.wit_remap_spec.specs.Spans.{function_spans, interface_spans, item_spans, type_spans, world_spans}
 use Rattle.wit_link_spec.specs.Lookup.{foreign_type_id}
-use Rattle.wit_link_spec.specs.Reasons.{IsActiveFunction, MayHoldBorrow, of_interface, of_world}
+use Rattle.wit_link_spec.specs.Reasons.{IsActiveFunction, of_interface, of_world}
 use Rattle.wit_remap_spec.specs.Resources.{leads_to_resource}
 use Rattle.wit_link_resources.specs.steps.Borrows.{IsErrorAtSpan}
+use Rattle.wit_link_spec.specs.steps.Parts.{MayHoldBorrow, not_a_resource_text}
 
 module _ (a : Addition) where
   -- a place that would pass the end

@@ -7,10 +7,10 @@ ghost use Rattle.wit_data.specs.declared.types.Handle.TheVariants as handle;
 ghost use Rattle.wit_data.specs.declared.types.TypeDefKind.TheVariants as kinds;
 ghost use Rattle.wit_elaboration.specs.Valid.{IsValid};
 ghost use Rattle.wit_link_spec.specs.steps.AdditionRefs.{addition_of, new_ids_of};
-ghost use Rattle.wit_link_spec.specs.Reasons.{MayHoldBorrow};
 ghost use Rattle.wit_remap_spec.specs.Borrows.{HoldsBorrow};
 ghost use Rattle.wit_link_resources.specs.steps.Borrows.{AreFreeOfUnresolved, AreFreeTypes, IsBorrowThere};
 ghost use Rattle.wit_graph_data.specs.steps.Parts.{content_types};
+ghost use Rattle.wit_link_spec.specs.steps.Parts.{MayHoldBorrow};
 
 use indexmap::IndexSet;
 use std::alloc::{AllocError, Global};

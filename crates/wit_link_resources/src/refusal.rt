@@ -1,9 +1,9 @@
 //! The errors of resources that are none and of borrows that are returned.
 ghost use Rattle.std.specs.Prelude.{IfOk, string_bytes};
-ghost use Rattle.wit_link_spec.specs.CauseText.{not_a_resource_text};
 ghost use Rattle.wit_remap_spec.specs.Borrows.{borrow_text};
 ghost use Rattle.wit_graph_data.specs.declared.cause.Cause.TheVariants as cause;
 ghost use Rattle.wit_link_resources.specs.steps.Borrows.{IsErrorAtSpan};
+ghost use Rattle.wit_link_spec.specs.steps.Parts.{not_a_resource_text};
 
 use std::alloc::{AllocError, Global};
 use wit_data::{Function, Span, Text};

@@ -3,7 +3,6 @@
 -- values ask for, and, world by world, the copies of its includes and the world, elaborated.
 -- Source: `append` of wit-parser 0.263.0.
 use Rattle.std.specs.Prelude.{ℕ, List, [], ◌∷◌, ◌++◌, map, filter_map, fold, take, length, option_map}
-use Rattle.wit_sources.specs.Span.{moved_by}
 use Rattle.wit_data.specs.declared.interface.Interface.{Interface}
 use Rattle.wit_data.specs.declared.world.World.{World}
 use Rattle.wit_data.specs.declared.world.WorldInclude.{WorldInclude}
@@ -13,7 +12,7 @@ use Rattle.wit_graph_data.specs.declared.graph.Package.{Package}
 use Rattle.wit_remap_spec.specs.Image.{interface_image, world_image}
 use Rattle.wit_link_spec.specs.Addition.{Addition, active_includes, addition_maps, own_interface, own_interfaces, own_world, own_worlds, remap_of_addition, remapped_interface, remapped_world}
 use Rattle.wit_remap_spec.specs.Selected.{selected_with_index}
-use Rattle.wit_link_spec.specs.Include.{EntryLists, PartiallyLinked, lists_of, with_entry_lists, with_include_of}
+use Rattle.wit_link_spec.specs.Include.{EntryLists, PartiallyLinked, lists_of, with_include_of}
 use Rattle.wit_remap_spec.specs.ValueRemap.{types_behind}
 use Rattle.wit_labels.specs.Setters.{setters_placed}
 
@@ -40,41 +39,25 @@ with_parts a = record {
 
 -- ---- its worlds
 
--- an include of the package with the id and the span that it has in the graph
-abbrev pub updated_include : Addition → WorldInclude → WorldInclude
-updated_include a include = record include { id = remapped_world a include.id; span = moved_by a.offset include.span }
-
--- one include more of the world that comes next
-abbrev pub with_include : Addition → ℕ → PartiallyLinked → WorldInclude → PartiallyLinked
-with_include a into b include = with_include_of (length a.graph.packages) into include.names (remapped_world a include.id) b
-
 -- world w of the package with these includes, over a partially linked graph
 abbrev pub with_includes : Addition → ℕ → World → List WorldInclude → Graph → PartiallyLinked
-with_includes a w world includes g = fold (with_include a (length g.worlds)) (record { graph = g; lists = lists_of (world_image (addition_maps a) w world) }) includes
-
--- world w of the package with all its active includes, over a partially linked graph
-abbrev pub with_all_includes : Addition → ℕ → World → Graph → PartiallyLinked
-with_all_includes a w world g = with_includes a w world (active_includes a world) g
-
--- a world with its setters after their getters
-abbrev pub with_setters_placed : World → World
-with_setters_placed world = record world { imports = setters_placed world.imports; exports = setters_placed world.exports }
+with_includes a w world includes g =
+    fold (λ (b : PartiallyLinked) (i : WorldInclude). with_include_of (length a.graph.packages) (length g.worlds) i.names (remapped_world a i.id) b)
+    (record { graph = g; lists = lists_of (world_image (addition_maps a) w world) }) includes
 
 -- a world, finished: its setters after their getters, elaborated over the types and interfaces of a graph
 abbrev pub finished_world : Graph → World → World
-finished_world g world = elaborated_world g (with_setters_placed world)
-
--- the graph with a world behind its worlds, finished
-abbrev pub with_finished : Graph → World → Graph
-with_finished g world = record g { worlds = g.worlds ++ finished_world g world ∷ [] }
+finished_world g world = elaborated_world g (record world { imports = setters_placed world.imports; exports = setters_placed world.exports })
 
 -- world w of the package with these lists, before it is finished
 abbrev pub unfinished_world : Addition → ℕ → World → EntryLists → World
-unfinished_world a w world lists = with_entry_lists (world_image (addition_maps a) w world) lists
+unfinished_world a w world lists = record (world_image (addition_maps a) w world) { imports = lists.imports; exports = lists.exports }
 
--- the graph with one world more
+-- the graph with one world more behind its worlds, with all its active includes, finished
 abbrev pub with_world : Addition → Graph → ℕ × World → Graph
-with_world a g e = let b = with_all_includes a e.0 e.1 g in with_finished b.graph (unfinished_world a e.0 e.1 b.lists)
+with_world a g e =
+    let b = with_includes a e.0 e.1 (active_includes a e.1) g in
+    record b.graph { worlds = b.graph.worlds ++ finished_world b.graph (unfinished_world a e.0 e.1 b.lists) ∷ [] }
 
 -- the graph with the first so many of the package's worlds
 abbrev pub with_worlds : Addition → ℕ → Graph

@@ -3,7 +3,6 @@
 use Rattle.std.specs.Prelude.{ℕ, ◌+◌, ◌&&◌, Bool, not, List, ◌++◌, map, filter, length, Option, None, Some, unwrap_or, if◌then◌else◌, flat_map}
 use Rattle.wit_data.specs.declared.function.Function.{Function}
 use Rattle.wit_data.specs.declared.interface.Interface.{Interface}
-use Rattle.wit_data.specs.declared.types.TypeDef.{TypeDef}
 use Rattle.wit_data.specs.declared.unresolved.UnresolvedPackage.{UnresolvedPackage}
 use Rattle.wit_data.specs.declared.world.World.{World}
 use Rattle.wit_data.specs.declared.world.WorldInclude.{WorldInclude}
@@ -11,7 +10,7 @@ use Rattle.wit_graph_data.specs.declared.features.Features.{Features}
 use Rattle.wit_graph_data.specs.declared.graph.Graph.{Graph}
 use Rattle.wit_remap_spec.specs.Kept.{KeptIds, cut_interface, cut_world}
 use Rattle.wit_remap_spec.specs.Image.{Maps}
-use Rattle.wit_link_spec.specs.Gates.{is_foreign_interface, is_foreign_world, function_is_active, include_is_active, interface_is_active, item_is_active, type_is_active, world_is_active}
+use Rattle.wit_link_spec.specs.Gates.{is_foreign_interface, is_foreign_world, interface_is_active, item_is_active, type_is_active, world_is_active, is_active}
 use Rattle.wit_link_spec.specs.Lookup.{foreign_interface_id, foreign_type_id, foreign_world_id, is_foreign_type}
 use Rattle.wit_remap_spec.specs.ValueRemap.{ValueRemap, maps_with_owns, world_functions}
 use Rattle.wit_remap_spec.specs.Selected.{rank, selected, selected_with_index}
@@ -31,7 +30,7 @@ active a = record {
   types = type_is_active a.features a.unresolved.types;
   interfaces = interface_is_active a.features a.unresolved;
   worlds = world_is_active a.features a.unresolved;
-  functions = function_is_active a.features;
+  functions = λ (f : Function). is_active a.features f.stability;
   items = item_is_active a.features a.unresolved.types;
 }
 
@@ -47,10 +46,6 @@ own_interface a i = not (is_foreign_interface a.unresolved i) && interface_is_ac
 abbrev pub own_world : Addition → ℕ → Bool
 own_world a w = not (is_foreign_world a.unresolved w) && world_is_active a.features a.unresolved w
 
--- the own active types of the package
-abbrev pub own_types : Addition → List TypeDef
-own_types a = selected (own_type a) a.unresolved.types
-
 -- the own active interfaces of the package, with what is active of each
 abbrev pub own_interfaces : Addition → List Interface
 own_interfaces a = map (cut_interface (active a)) (selected (own_interface a) a.unresolved.interfaces)
@@ -61,7 +56,7 @@ own_worlds a = map (λ (e : ℕ × World). (e.0, cut_world (active a) e.1)) (sel
 
 -- the includes of a world that are active
 abbrev pub active_includes : Addition → World → List WorldInclude
-active_includes a world = filter (include_is_active a.features) world.includes
+active_includes a world = filter (λ (i : WorldInclude). is_active a.features i.stability) world.includes
 
 -- ---- where it goes
 
@@ -120,7 +115,7 @@ own_functions a =
 
 -- what comes into the graph, as values ask for `own`s
 abbrev pub remap_of_addition : Addition → ValueRemap
-remap_of_addition a = record { graph_types = a.graph.types; new_types = own_types a; new_functions = own_functions a; count = length a.unresolved.types; ids = maps_without_owns a }
+remap_of_addition a = record { graph_types = a.graph.types; new_types = selected (own_type a) a.unresolved.types; new_functions = own_functions a; count = length a.unresolved.types; ids = maps_without_owns a }
 
 -- what ids are remapped to
 abbrev pub addition_maps : Addition → Maps

@@ -10,11 +10,11 @@ use Rattle.wit_graph_data.specs.declared.error_kind.ResolveErrorKind.TheVariants
 use Rattle.wit_link_spec.specs.Addition.{Addition}
 use Rattle.wit_link_spec.specs.Gates.{OptionalSpan}
 use Rattle.wit_link_spec.specs.Reasons.{AdditionOverflows, ForeignTypeMissing, HasExcludedOwner, IsDuplicate, IsNoResource, IsUnreleased, LacksInterface, LacksPackage, LacksVersion, LacksWorld, RefersToExcluded, ReturnsBorrow}
-use Rattle.wit_link_spec.specs.WorldReasons.{IsCauseAtWorld, WorldIsAccepted}
+use Rattle.wit_link_spec.specs.WorldReasons.{IsCauseAtWorld}
 
 -- every world before world k is accepted
 abbrev pub IsReached : Addition → ℕ → Type 0
-IsReached a k = (i : ℕ) → i < k → WorldIsAccepted a i
+IsReached a k = (i : ℕ) → i < k → NoCause (IsCauseAtWorld a i)
 
 pub data IsAdditionCause (a : Addition) : ResolveErrorKind → Type 0 where
   package_not_found_1 : (span : OptionalSpan) (requested : PackageName) (known : List PackageName) → LacksPackage a span requested known → IsAdditionCause a (PackageNotFound span requested known)

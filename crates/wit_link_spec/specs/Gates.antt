@@ -4,7 +4,7 @@
 -- Source: the WIT page of the component model, "Feature gates"; `include_stability` of wit-parser 0.263.0.
 pub use Rattle.wit_sources.specs.Span.{OptionalSpan}
 use Rattle.wit_remap_spec.specs.Spans.{interface_spans, type_spans, world_spans}
-use Rattle.std.specs.Prelude.{◌≡◌, ◌⊎◌, ◌||◌, ℕ, suc, Bool, true, false, List, [], ◌∷◌, length, take, nat_eq, nat_lt, slice_get, Some, Contains, if◌then◌else◌, flat_map, bytes_eq, ◌++◌, map, option_to_list}
+use Rattle.std.specs.Prelude.{◌≡◌, ◌⊎◌, ◌||◌, ℕ, suc, Bool, true, false, List, [], ◌∷◌, length, take, nat_eq, nat_lt, slice_get, Some, Contains, if◌then◌else◌, flat_map, bytes_eq, ◌++◌, map}
 use Rattle.std.specs.List.{list_any, position_or_len}
 use Rattle.std.specs.Option.{option_map_or}
 use Rattle.wit_data.specs.Foreign.{ForeignItem, ForeignItems, interface_id, world_id, foreign_interfaces, foreign_worlds}
@@ -22,26 +22,15 @@ use Rattle.wit_data.specs.declared.world.WorldItem.{WorldItem}
 use Rattle.wit_data.specs.declared.stability.Stability.TheVariants.{Unknown, Stable, Unstable}
 use Rattle.wit_data.specs.declared.world.WorldItem.TheVariants as item
 use Rattle.wit_graph_data.specs.declared.features.Features.{Features}
-use Rattle.wit_data.specs.Kind.{KindPart, kind_parts}
-use Rattle.wit_data.specs.declared.function.Param.{Param}
-use Rattle.wit_data.specs.declared.types.TypeDefKind.{TypeDefKind}
 
 -- ---- notes
-
--- the feature is on
-abbrev pub is_on : Features → List ℕ → Bool
-is_on features feature = features.all || list_any (bytes_eq feature) features.names
 
 -- the note lets its item be active. A `@since` does: one that the package's version doesn't reach is a
 -- fault of its own, and no reason to leave the item out
 abbrev pub is_active : Features → Stability → Bool
 is_active features Unknown = true
 is_active features (Stable since deprecated) = true
-is_active features (Unstable feature deprecated) = is_on features feature
-
--- some gate lets the item be active
-abbrev pub some_active : Features → List Stability → Bool
-some_active features notes = list_any (is_active features) notes
+is_active features (Unstable feature deprecated) = features.all || list_any (bytes_eq feature) features.names
 
 -- of several notes those that are asked: in order, up to the first active one
 abbrev pub asked_gates : Features → List Stability → List Stability
@@ -49,13 +38,10 @@ asked_gates features notes = take (suc (position_or_len (is_active features) not
 
 -- ---- the gates of interfaces and worlds
 
--- what is named of other packages, one after another
-abbrev pub foreign_items : ForeignItems → List ForeignItem
-foreign_items deps = flat_map (λ (e : PackageName × List ForeignItem). e.1) deps
-
 -- the gates of a foreign item that has this id among those of its sort
 abbrev pub foreign_gates : (AstItem → List ℕ) → ForeignItems → ℕ → List Stability
-foreign_gates id deps i = flat_map (λ (named : ForeignItem). if list_any (nat_eq i) (id named.1.0) then named.1.1 else []) (foreign_items deps)
+foreign_gates id deps i =
+    flat_map (λ (named : ForeignItem). if list_any (nat_eq i) (id named.1.0) then named.1.1 else []) (flat_map (λ (e : PackageName × List ForeignItem). e.1) deps)
 
 -- is interface i of the package one of another package? So for worlds
 abbrev pub is_foreign_interface : UnresolvedPackage → ℕ → Bool
@@ -83,39 +69,20 @@ world_gates u w =
 abbrev pub type_is_active : Features → List TypeDef → ℕ → Bool
 type_is_active features types t = option_map_or (λ (def : TypeDef). is_active features def.stability) (slice_get types t) false
 
--- is interface i active?
+-- is interface i active? Where one of its gates is
 abbrev pub interface_is_active : Features → UnresolvedPackage → ℕ → Bool
-interface_is_active features u i = some_active features (interface_gates u i)
+interface_is_active features u i = list_any (is_active features) (interface_gates u i)
 
 -- is world w active?
 abbrev pub world_is_active : Features → UnresolvedPackage → ℕ → Bool
-world_is_active features u w = some_active features (world_gates u w)
+world_is_active features u w = list_any (is_active features) (world_gates u w)
 
--- a function of an active interface or world is active where its gate is
-abbrev pub function_is_active : Features → Function → Bool
-function_is_active features f = is_active features f.stability
-
--- an entry of an active world is active where its gate is; an entry that is a type has the gate of the type
+-- an entry of an active world is active where its gate is; an entry that is a type has the gate of the type. So of a
+-- function of an active interface, and of an include of an active world: each is active where its own gate is
 abbrev pub item_is_active : Features → List TypeDef → WorldItem → Bool
 item_is_active features types (item.Interface id stability docs span external_id) = is_active features stability
-item_is_active features types (item.Function function) = function_is_active features function
+item_is_active features types (item.Function function) = is_active features function.stability
 item_is_active features types (item.Type_ id span) = type_is_active features types id
-
--- an include of an active world is active where its gate is
-abbrev pub include_is_active : Features → WorldInclude → Bool
-include_is_active features i = is_active features i.stability
-
--- the package leaves out type t
-abbrev pub IsExcludedType : Features → UnresolvedPackage → ℕ → Type 0
-IsExcludedType features u t = type_is_active features u.types t ≡ false
-
--- the package leaves out interface i
-abbrev pub IsExcludedInterface : Features → UnresolvedPackage → ℕ → Type 0
-IsExcludedInterface features u i = interface_is_active features u i ≡ false
-
--- the package leaves out world w
-abbrev pub IsExcludedWorld : Features → UnresolvedPackage → ℕ → Type 0
-IsExcludedWorld features u w = world_is_active features u w ≡ false
 
 -- ---- what is asked
 

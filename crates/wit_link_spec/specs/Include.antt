@@ -5,7 +5,6 @@
 use Rattle.wit_remap_spec.specs.Joined.{joined_entry}
 use Rattle.std.specs.Prelude.{◌≡◌, ◌⊎◌, ℕ, ◌+◌, ◌&&◌, ◌||◌, Bool, not, true, false, List, [], ◌∷◌, ◌++◌, codes, map, filter, length, nat_eq, is_some, slice_get, Option, Some, if◌then◌else◌, flat_map}
 use Rattle.std.specs.List.{list_any}
-use Rattle.std.specs.Map.{lookup}
 use Rattle.std.specs.Option.{option_eq, option_map_or}
 use Rattle.wit_digraph.specs.PostOrder.{post_order}
 use Rattle.wit_data.specs.Entries.{Entry, interfaces_in_worlds, is_unnamed}
@@ -13,7 +12,6 @@ use Rattle.wit_data.specs.Kind.{function_references, type_references}
 use Rattle.wit_data.specs.declared.function.Function.{Function}
 use Rattle.wit_data.specs.declared.world.IncludeName.{IncludeName}
 use Rattle.wit_data.specs.declared.interface.Interface.{Interface}
-use Rattle.wit_data.specs.declared.stability.Stability.{Stability}
 use Rattle.wit_data.specs.declared.types.TypeDef.{TypeDef}
 use Rattle.wit_data.specs.declared.types.TypeOwner.{TypeOwner}
 use Rattle.wit_data.specs.declared.world.World.{World}
@@ -25,7 +23,7 @@ use Rattle.wit_data.specs.declared.world.WorldItem.TheVariants as item
 use Rattle.wit_data.specs.declared.world.WorldKey.TheVariants as key
 use Rattle.wit_elaboration.specs.Entries.{same_key}
 use Rattle.wit_graph_data.specs.declared.graph.Graph.{Graph}
-use Rattle.wit_remap_spec.specs.Image.{Maps, entry_image, include_maps, interface_image, type_image}
+use Rattle.wit_remap_spec.specs.Image.{Maps, entry_image, interface_image, type_image}
 use Rattle.wit_remap_spec.specs.Selected.{rank, selected}
 use Rattle.wit_labels.specs.Rename.{renamed_label}
 
@@ -36,10 +34,6 @@ pub record EntryLists : Type 0 where
 
 abbrev pub lists_of : World → EntryLists
 lists_of world = record { imports = world.imports; exports = world.exports }
-
--- a world with these lists
-abbrev pub with_entry_lists : World → EntryLists → World
-with_entry_lists world lists = record world { imports = lists.imports; exports = lists.exports }
 
 -- `import` and `export`, with the lists that they mean
 abbrev pub IsListCalled : List ℕ → EntryLists → List Entry → Type 0
@@ -91,25 +85,29 @@ named_types g world = flat_map (post_order (type_references g.types)) (flat_map 
 abbrev pub is_unnamed_type : Graph → ℕ → Bool
 is_unnamed_type g t = option_map_or (λ (def : TypeDef). not (is_some def.name)) (slice_get g.types t) false
 
--- is type t on a way from what an entry of world w names to a type that belongs to the world? It is reached from the
--- one, and the other from it
-abbrev pub is_on_way : Graph → ℕ → World → ℕ → Bool
-is_on_way g w world t = list_any (nat_eq t) (named_types g world) && list_any (is_owned_within g w world) (post_order (type_references g.types) t)
-
--- does an include of world w copy type t? It belongs to the world, or has no name and is on such a way
+-- does an include of world w copy type t? It belongs to the world; or it has no name and is on a way from what an entry
+-- names to a type that belongs to the world: it is reached from the one, and the other from it
 abbrev pub is_copied : Graph → ℕ → World → ℕ → Bool
-is_copied g w world t = is_owned_within g w world t || (is_unnamed_type g t && is_on_way g w world t)
+is_copied g w world t =
+    is_owned_within g w world t
+    || (is_unnamed_type g t && (list_any (nat_eq t) (named_types g world) && list_any (is_owned_within g w world) (post_order (type_references g.types) t)))
 
--- what things are remapped to: what is copied to its copy, behind what is there in the order of the ids; all else stays
+-- what a type is remapped to: one that is copied to its copy, behind what is there in the order of the ids; all else stays
 abbrev pub type_copy : Graph → ℕ → World → ℕ → ℕ
 type_copy g w world t = if is_copied g w world t then length g.types + rank (is_copied g w world) t else t
 
-abbrev pub interface_copy : Graph → World → ℕ → ℕ
-interface_copy g world i = if belongs_to g world i then length g.interfaces + rank (belongs_to g world) i else i
-
--- the maps of an include of world `from` into world `into` of package `home`, under these renamings
+-- the maps of an include of world `from` into world `into` of package `home`, under these renamings: what is copied goes
+-- to its copy, values plainly (no `own` is made), labels are renamed
 abbrev pub copy_maps : Graph → ℕ → World → List IncludeName → ℕ → ℕ → Maps
-copy_maps g from world names into home = include_maps (type_copy g from world) (interface_copy g world) (renamed_label names) from into home
+copy_maps g from world names into home = record {
+  types = type_copy g from world;
+  values = type_copy g from world;
+  interfaces = λ i. if belongs_to g world i then length g.interfaces + rank (belongs_to g world) i else i;
+  worlds = λ w. if nat_eq w from then into else w;
+  home = λ p. Some home;
+  labels = λ w name. if nat_eq w from then renamed_label names name else name;
+  offset = 0;
+}
 
 -- the graph with the copies at its ends
 abbrev pub with_copies : Graph → ℕ → World → Maps → Graph
@@ -117,10 +115,6 @@ with_copies g from world m = record g {
   types = g.types ++ map (type_image m) (selected (is_copied g from world) g.types);
   interfaces = g.interfaces ++ map (interface_image m) (selected (belongs_to g world) g.interfaces);
 }
-
--- does a list have an entry under this key?
-abbrev pub has_key : List Entry → WorldKey → Bool
-has_key entries k = list_any (λ (e : Entry). same_key k e.0) entries
 
 -- an entry that comes anew: under the key of an interface a `@since` of another package is dropped
 abbrev pub new_item : Bool → WorldKey → WorldItem → WorldItem
@@ -130,7 +124,7 @@ new_item other k held = held
 -- a list with brought entries added to it: those that were there stay in front
 abbrev pub joined_entries : Bool → List Entry → List Entry → List Entry
 joined_entries other current brought =
-    map (joined_entry other brought) current ++ map (λ (e : Entry). (e.0, new_item other e.0 e.1)) (filter (λ (e : Entry). not (has_key current e.0)) brought)
+    map (joined_entry other brought) current ++ map (λ (e : Entry). (e.0, new_item other e.0 e.1)) (filter (λ (e : Entry). not (list_any (λ (there : Entry). same_key e.0 there.0) current)) brought)
 
 -- ---- the include
 

@@ -8,7 +8,7 @@ use Rattle.wit_values.specs.Version.{Parts, version_cmp}
 use Rattle.wit_digraph.specs.Relation.{Reaches}
 use Rattle.wit_data.specs.Each.{SomeAt}
 use Rattle.wit_data.specs.Foreign.{ForeignItem}
-use Rattle.wit_names.specs.PackageName.{same_package}
+use Rattle.wit_names.specs.PackageName.{same_package, package_name_text}
 use Rattle.wit_data.specs.Kind.{function_references, named_option, named_type, referred}
 use Rattle.wit_sources.specs.Span.{moved_by}
 use Rattle.wit_data.specs.Stability.{IsStable}
@@ -25,7 +25,6 @@ use Rattle.wit_data.specs.declared.world.World.{World}
 use Rattle.wit_data.specs.declared.world.WorldInclude.{WorldInclude}
 use Rattle.wit_data.specs.declared.world.WorldKey.{WorldKey}
 use Rattle.wit_data.specs.declared.stability.Stability.TheVariants.{Stable}
-use Rattle.wit_data.specs.declared.types.Handle.TheVariants.{Borrow}
 use Rattle.wit_data.specs.declared.types.TypeDefKind.TheVariants as kind
 use Rattle.wit_data.specs.declared.types.TypeOwner.TheVariants as owner
 use Rattle.wit_data.specs.declared.unresolved.AstItem.TheVariants as named
@@ -33,12 +32,13 @@ use Rattle.wit_data.specs.declared.world.WorldItem.TheVariants as item
 use Rattle.wit_graph_data.specs.Queries.{type_contents}
 use Rattle.wit_graph_data.specs.declared.graph.Graph.{Graph}
 use Rattle.wit_link_spec.specs.Addition.{Addition}
-use Rattle.wit_link_spec.specs.CauseText.{excluded_owner_text, excluded_text, gate_unreleased_text, gate_without_version_text, not_a_resource_text, type_not_defined_text}
+use Rattle.wit_link_spec.specs.CauseText.{excluded_text}
 use Rattle.wit_remap_spec.specs.Borrows.{borrow_text, HoldsBorrow}
-use Rattle.wit_link_spec.specs.Gates.{OptionalSpan, HasEntry, IsAsked, IsExcludedInterface, IsExcludedType, IsExcludedWorld, function_is_active, include_is_active, interface_is_active, is_active, type_is_active, world_is_active, package_spans}
+use Rattle.wit_link_spec.specs.Gates.{OptionalSpan, HasEntry, IsAsked, interface_is_active, is_active, type_is_active, world_is_active, package_spans}
 use Rattle.wit_link_spec.specs.Lookup.{find_interface, find_world, foreign_interface_id, foreign_type_id, is_foreign_type, named_items}
 use Rattle.wit_graph_data.specs.Named.{interface_type}
 use Rattle.wit_remap_spec.specs.Resources.{leads_to_resource}
+use Rattle.semver.specs.Identifiers.{parts_text}
 
 -- does the graph have a package of this name?
 abbrev pub HasPackage : Graph → PackageName → Type 0
@@ -102,7 +102,7 @@ pub record LacksVersion (a : Addition) (span : OptionalSpan) (message : List ℕ
   pub stable : IsStable note
   pub no_version : a.unresolved.name.version ≡ None
   pub span_is : span ≡ moved_by a.offset place
-  pub message_is : message ≡ gate_without_version_text a.unresolved.name
+  pub message_is : message ≡ codes "package [" ++ (package_name_text a.unresolved.name ++ codes "] contains a feature gate with a version specifier, so it must have a version")
 
 -- 10: a `@since` is asked, and the package's version is below it
 pub record IsUnreleased (a : Addition) (span : OptionalSpan) (message : List ℕ) : Type 0 where
@@ -114,7 +114,8 @@ pub record IsUnreleased (a : Addition) (span : OptionalSpan) (message : List ℕ
   pub has_version : a.unresolved.name.version ≡ Some version
   pub below : version_cmp version since ≡ Less
   pub span_is : span ≡ moved_by a.offset place
-  pub message_is : message ≡ gate_unreleased_text since a.unresolved.name version
+  pub message_is : message
+      ≡ codes "feature gate cannot reference unreleased version " ++ (parts_text since ++ (codes " of package [" ++ (package_name_text a.unresolved.name ++ (codes "] (current version " ++ (parts_text version ++ codes ")")))))
 
 -- ---- 11, 12: what is active needs what is left out
 
@@ -132,9 +133,9 @@ word_of (AWorld w) = codes "world"
 
 -- the package leaves the thing out
 abbrev pub IsExcluded : Addition → Thing → Type 0
-IsExcluded a (AType t) = IsExcludedType a.features a.unresolved t
-IsExcluded a (AnInterface i) = IsExcludedInterface a.features a.unresolved i
-IsExcluded a (AWorld w) = IsExcludedWorld a.features a.unresolved w
+IsExcluded a (AType t) = type_is_active a.features a.unresolved.types t ≡ false
+IsExcluded a (AnInterface i) = interface_is_active a.features a.unresolved i ≡ false
+IsExcluded a (AWorld w) = world_is_active a.features a.unresolved w ≡ false
 
 -- the types that a type refers to, each with the span: that of the field, or of the type
 abbrev pub kind_references : TypeDefKind → OptionalSpan → List (ℕ × OptionalSpan)
@@ -144,9 +145,9 @@ kind_references other span = map (λ (t : ℕ). (t, span)) (referred other)
 -- a function of the package that is active: of an interface or of a world
 pub data IsActiveFunction (a : Addition) : Function → Type 0 where
   of_interface : (i : ℕ) (interface : Interface) (name : List ℕ) (f : Function) → slice_get a.unresolved.interfaces i ≡ Some interface → interface_is_active a.features a.unresolved i ≡ true
-      → Contains interface.functions (name, f) → function_is_active a.features f ≡ true → IsActiveFunction a f
+      → Contains interface.functions (name, f) → is_active a.features f.stability ≡ true → IsActiveFunction a f
   of_world : (w : ℕ) (world : World) (k : WorldKey) (f : Function) → slice_get a.unresolved.worlds w ≡ Some world → world_is_active a.features a.unresolved w ≡ true
-      → HasEntry world (k, item.Function f) → function_is_active a.features f ≡ true → IsActiveFunction a f
+      → HasEntry world (k, item.Function f) → is_active a.features f.stability ≡ true → IsActiveFunction a f
 
 -- what is active refers to a thing, at a span
 pub data RefersTo (a : Addition) : Thing → OptionalSpan → Type 0 where
@@ -164,7 +165,7 @@ pub data RefersTo (a : Addition) : Thing → OptionalSpan → Type 0 where
       → HasEntry world (k, item.Interface i note docs place external_id) → is_active a.features note ≡ true → RefersTo a (AnInterface i) place
   -- an include to its world
   of_include : (w : ℕ) (world : World) (i : WorldInclude) → slice_get a.unresolved.worlds w ≡ Some world → world_is_active a.features a.unresolved w ≡ true
-      → Contains world.includes i → include_is_active a.features i ≡ true → RefersTo a (AWorld i.id) i.span
+      → Contains world.includes i → is_active a.features i.stability ≡ true → RefersTo a (AWorld i.id) i.span
 
 -- 11: what is active refers to what is left out
 pub record RefersToExcluded (a : Addition) (span : OptionalSpan) (message : List ℕ) : Type 0 where
@@ -192,7 +193,7 @@ pub record HasExcludedOwner (a : Addition) (span : OptionalSpan) (message : List
   pub owner : owner_thing def.owner ≡ thing ∷ []
   pub excluded : IsExcluded a thing
   pub span_is : span ≡ moved_by a.offset def.span
-  pub message_is : message ≡ excluded_owner_text (word_of thing)
+  pub message_is : message ≡ excluded_text (word_of thing) ++ (codes "; this type is not gated by a feature but its " ++ (word_of thing ++ codes " is"))
 
 -- ---- 13, 14: foreign types that aren't there, or aren't resources
 
@@ -212,7 +213,7 @@ pub record ForeignTypeMissing (a : Addition) (span : OptionalSpan) (message : Li
   pub found : foreign_interface_id a.graph a.unresolved i ≡ Some i'
   pub absent : interface_type a.graph name i' ≡ None
   pub span_is : SomeAt a.unresolved.unknown_type_spans t (λ (s : OptionalSpan). span ≡ moved_by a.offset s)
-  pub message_is : message ≡ type_not_defined_text name
+  pub message_is : message ≡ codes "type `" ++ (name ++ codes "` not defined in interface")
 
 -- 14: a type that has to be a resource doesn't lead to one by aliases
 pub record IsNoResource (a : Addition) (span : OptionalSpan) (message : List ℕ) : Type 0 where
@@ -224,15 +225,9 @@ pub record IsNoResource (a : Addition) (span : OptionalSpan) (message : List ℕ
   pub found : foreign_type_id a.graph a.unresolved t ≡ Some t'
   pub no_resource : leads_to_resource a.graph.types t' ≡ false
   pub span_is : span ≡ moved_by a.offset place
-  pub message_is : message ≡ not_a_resource_text
+  pub message_is : message ≡ codes "type used in a handle must be a resource"
 
 -- ---- 15: a borrow in a result
-
--- the values of type t of the package hold a borrow: one of the package, or in a foreign type one of the graph
-abbrev pub MayHoldBorrow : Addition → ℕ → Type 0
-MayHoldBorrow a t =
-    HoldsBorrow a.unresolved.types t
-    ⊎ ((s : ℕ) × (s' : ℕ) × Reaches (type_contents a.unresolved.types) t s × (type_is_active a.features a.unresolved.types s ≡ true) × (foreign_type_id a.graph a.unresolved s ≡ Some s') × HoldsBorrow a.graph.types s')
 
 -- 15: the result of a function that is active holds a borrow
 pub record ReturnsBorrow (a : Addition) (span : OptionalSpan) (message : List ℕ) : Type 0 where
@@ -240,7 +235,9 @@ pub record ReturnsBorrow (a : Addition) (span : OptionalSpan) (message : List �
   pub t : ℕ
   pub active : IsActiveFunction a f
   pub result_is : Contains (named_option f.result_) t
-  pub holds : MayHoldBorrow a t
+  -- one of the package, or in a foreign type one of the graph
+  pub holds : HoldsBorrow a.unresolved.types t
+      ⊎ ((s : ℕ) × (s' : ℕ) × Reaches (type_contents a.unresolved.types) t s × (type_is_active a.features a.unresolved.types s ≡ true) × (foreign_type_id a.graph a.unresolved s ≡ Some s') × HoldsBorrow a.graph.types s')
   pub span_is : span ≡ moved_by a.offset f.span
   pub message_is : message ≡ borrow_text f.name
 

@@ -4,7 +4,7 @@
 -- world that lists no include, as it is written.
 -- Source: `append`, `process_world_includes` and `resolve_include` of wit-parser 0.263.0; what holds without an image is
 -- a rule of this project.
-use Rattle.std.specs.Prelude.{◌≡◌, ◌<◌, ℕ, List, [], take, slice_get, length, None, Some, ◌≢◌, ◌∷◌, ◌++◌, map, Option, Contains, is_some, true}
+use Rattle.std.specs.Prelude.{◌≡◌, ◌<◌, ℕ, List, [], take, slice_get, length, None, Some, ◌∷◌, ◌++◌, map, Contains, is_some, true, codes}
 use Rattle.wit_sources.specs.Span.{moved_by}
 use Rattle.wit_data.specs.declared.function.Function.{Function}
 use Rattle.wit_data.specs.declared.world.World.{World}
@@ -15,20 +15,18 @@ use Rattle.wit_graph_data.specs.declared.error_kind.ResolveErrorKind.{ResolveErr
 use Rattle.wit_graph_data.specs.declared.error_kind.ResolveErrorKind.TheVariants.{Semantic, ItemShadowing, StabilityMismatch, InvalidTransitiveDependency}
 use Rattle.wit_labels.specs.Setters.{getter_label, IsSetter, setters_placed}
 use Rattle.wit_link_spec.specs.Addition.{Addition, active_includes, own_worlds, remapped_world}
-use Rattle.wit_link_spec.specs.CauseText.{clash_text, getter_text, rename_text}
+use Rattle.wit_link_spec.specs.CauseText.{clash_text, getter_text}
 use Rattle.wit_link_spec.specs.Gates.{OptionalSpan}
 use Rattle.wit_link_spec.specs.Include.{PartiallyLinked, IsListCalled, is_other_package, lists_of}
 use Rattle.wit_remap_spec.specs.Joined.{include_stability, Disagree, HasStability}
-use Rattle.wit_link_spec.specs.Added.{updated_include, unfinished_world, with_all_includes, with_includes, with_worlds}
+use Rattle.wit_link_spec.specs.Added.{unfinished_world, with_includes, with_worlds}
 use Rattle.wit_link_spec.specs.Reasons.{IsResolved}
 use Rattle.std.specs.Map.{keys_of}
 use Rattle.wit_data.specs.Each.{Each}
 use Rattle.wit_data.specs.Entries.{Entry}
-use Rattle.wit_data.specs.declared.stability.Docs.{Docs}
 use Rattle.wit_data.specs.declared.world.IncludeName.{IncludeName}
 use Rattle.wit_data.specs.declared.stability.Stability.{Stability}
 use Rattle.wit_data.specs.declared.world.WorldKey.{WorldKey}
-use Rattle.wit_data.specs.declared.stability.Stability.TheVariants.{Unknown}
 use Rattle.wit_data.specs.declared.world.WorldItem.TheVariants as item
 use Rattle.wit_data.specs.declared.world.WorldKey.TheVariants as key
 use Rattle.wit_labels.specs.Rename.{renamed_label, renamed_label_by}
@@ -127,7 +125,7 @@ pub record IsFirstUnmatched (world : World) (names : List IncludeName) (name : I
 pub data IsIncludeCause (home : ℕ) (b : PartiallyLinked) (include : WorldInclude) (old : World) : ResolveErrorKind → Type 0 where
   shadowing_7 : (word name : List ℕ) → LabelIsTaken b include old word name → IsIncludeCause home b include old (ItemShadowing include.span word name)
   mismatch_8 : (brings has : Stability) → StabilitiesAreApart home b old brings has → IsIncludeCause home b include old (StabilityMismatch include.span brings has)
-  rename_unmatched_16 : (name : IncludeName) → IsFirstUnmatched old include.names name → IsIncludeCause home b include old (Semantic include.span (rename_text name.name) cause.RenameUnmatched)
+  rename_unmatched_16 : (name : IncludeName) → IsFirstUnmatched old include.names name → IsIncludeCause home b include old (Semantic include.span (codes "no import or export kebab-name `" ++ (name.name ++ codes "`. Note that an ID does not support renaming")) cause.RenameUnmatched)
 
 -- ---- a world, and an include of it
 
@@ -149,14 +147,11 @@ pub record AtInclude (a : Addition) (k j : ℕ) : Type 0 where
 
 -- ---- 7, 8, 16: of an include
 
--- include j of world k, as it is when its turn comes, is refused for this
+-- include j of world k, as it is when its turn comes, with the id and the span that it has in the graph, is refused for
+-- this
 pub record IsCauseAtInclude (a : Addition) (k j : ℕ) (error : ResolveErrorKind) : Type 0 where
   pub at : AtInclude a k j
-  pub cause : IsIncludeCause (length a.graph.packages) at.before (updated_include a at.include) at.old error
-
--- include j of world k is accepted: no cause holds against it
-abbrev pub IncludeIsAccepted : Addition → ℕ → ℕ → Type 0
-IncludeIsAccepted a k j = NoCause (IsCauseAtInclude a k j)
+  pub cause : IsIncludeCause (length a.graph.packages) at.before (record at.include { id = remapped_world a at.include.id; span = moved_by a.offset at.include.span }) at.old error
 
 -- ---- 4, 17, 18: of a world with its includes
 
@@ -164,7 +159,7 @@ IncludeIsAccepted a k j = NoCause (IsCauseAtInclude a k j)
 pub record IsCauseAtFinish (a : Addition) (k : ℕ) (error : ResolveErrorKind) : Type 0 where
   pub at : AtWorld a k
   pub whole : PartiallyLinked
-  pub whole_is : whole ≡ with_all_includes a at.id at.world (with_worlds a k)
+  pub whole_is : whole ≡ with_includes a at.id at.world (active_includes a at.world) (with_worlds a k)
   pub cause : IsFinishCause whole.graph (unfinished_world a at.id at.world whole.lists) error
 
 -- ---- 17, 18: of a world as it is written
@@ -195,11 +190,7 @@ pub record WrittenSetterIsAlone (a : Addition) (k : ℕ) (span : OptionalSpan) (
 -- the causes of world k: where the package has an image, those of its first include that is refused, and, where all are
 -- accepted, those of the world as it is finished; image or not, those of a world that lists no include, as it is written
 pub data IsCauseAtWorld (a : Addition) (k : ℕ) : ResolveErrorKind → Type 0 where
-  of_include : (j : ℕ) (error : ResolveErrorKind) → IsResolved a → ((i : ℕ) → i < j → IncludeIsAccepted a k i) → IsCauseAtInclude a k j error → IsCauseAtWorld a k error
-  of_finish : (error : ResolveErrorKind) → IsResolved a → ((j : ℕ) → IncludeIsAccepted a k j) → IsCauseAtFinish a k error → IsCauseAtWorld a k error
+  of_include : (j : ℕ) (error : ResolveErrorKind) → IsResolved a → ((i : ℕ) → i < j → NoCause (IsCauseAtInclude a k i)) → IsCauseAtInclude a k j error → IsCauseAtWorld a k error
+  of_finish : (error : ResolveErrorKind) → IsResolved a → ((j : ℕ) → NoCause (IsCauseAtInclude a k j)) → IsCauseAtFinish a k error → IsCauseAtWorld a k error
   written_not_strongly_unique_17 : (message : List ℕ) → WrittenLabelsClash a k message → IsCauseAtWorld a k (Semantic None message cause.NotStronglyUnique)
   written_no_getter_18 : (span : OptionalSpan) (message : List ℕ) → WrittenSetterIsAlone a k span message → IsCauseAtWorld a k (Semantic span message cause.NoGetter)
-
--- world k is accepted: no cause holds against it
-abbrev pub WorldIsAccepted : Addition → ℕ → Type 0
-WorldIsAccepted a k = NoCause (IsCauseAtWorld a k)

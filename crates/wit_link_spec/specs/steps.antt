@@ -1,3 +1,4 @@
 pub mod AdditionRefs
 pub mod NewThings
+pub mod Parts
 pub mod Passed

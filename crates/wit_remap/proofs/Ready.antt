@@ -19,7 +19,7 @@ use Rattle.wit_remap_spec.specs.Image.{Maps, interface_image, type_image, world_
 use Rattle.wit_link_spec.specs.steps.AdditionRefs.{new_ids_of}
 use Rattle.wit_link_spec.specs.Addition.{Addition, active, addition_maps, own_interface, own_type, own_world, remap_of_addition}
 use Rattle.wit_remap_spec.specs.Selected.{selected, selected_with_index}
-use Rattle.wit_link_spec.specs.Gates.{include_is_active, interface_is_active, world_is_active}
+use Rattle.wit_link_spec.specs.Gates.{interface_is_active, world_is_active}
 use Rattle.wit_link_spec.specs.Added.{with_parts}
 use Rattle.wit_link_spec.specs.facts.RankFacts.{selected_with_index-from}
 use Rattle.wit_link_spec.specs.Reasons.{AdditionOverflows, IsResolved}
@@ -35,6 +35,7 @@ use Rattle.wit_remap.proofs.KeysApart.{world_keys_apart}
 use Rattle.wit_remap.proofs.NamesApart.{keys_all, keys_named, names_all, names_differ, names_some}
 use Rattle.wit_remap.proofs.SpansFit.{interfaces_fit, types_fit, worlds_fit}
 use Rattle.wit_remap_spec.specs.steps.Parts.{owns}
+use Rattle.wit_link_spec.specs.steps.Parts.{include_is_active}
 
 module _ (a : Addition) (valid : IsValid a.graph) (shaped : IsShaped a.unresolved) (image : IsResolved a) where
   interface_names_apart : IsDistinct bytes_eq (keys_of (interfaces_at (addition_maps a) (selected_with_index (own_interface a) a.unresolved.interfaces)))

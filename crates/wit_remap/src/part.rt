@@ -1,11 +1,12 @@
 //! What of a package is active, and what of that is its own.
 ghost use Rattle.std.specs.Prelude.{◌≡◌, IfOk, drop, filter, slice_get};
 ghost use Rattle.std.specs.Slice.Iter.{iter_rest};
-ghost use Rattle.wit_link_spec.specs.Gates.{include_is_active, is_active};
+ghost use Rattle.wit_link_spec.specs.Gates.{is_active};
 ghost use Rattle.wit_remap_spec.specs.Selected.{selected, selected_with_index};
 ghost use Rattle.wit_link_spec.specs.steps.NewThings.{is_from, is_new};
 ghost use Rattle.wit_remap_spec.specs.Kept.{cut_interface};
 ghost use Rattle.wit_remap.specs.steps.Parts.{kept_of};
+ghost use Rattle.wit_link_spec.specs.steps.Parts.{include_is_active};
 
 use std::alloc::{AllocError, Global};
 use wit_data::{Id, Interface, Items, Stability, Table, TypeId, WorldInclude, WorldItem, WorldKey};

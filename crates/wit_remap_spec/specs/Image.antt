@@ -2,7 +2,7 @@
 -- functions, of total maps: an id that isn't selected goes anywhere, and nothing is said of it.
 -- Source: `update_typedef`, `update_ty`, `update_interface`, `update_function` and `update_world` of
 -- wit-parser 0.263.0.
-use Rattle.std.specs.Prelude.{ℕ, List, [], map, Option, option_map, nat_eq, Some, if◌then◌else◌}
+use Rattle.std.specs.Prelude.{ℕ, List, [], map, Option, option_map}
 use Rattle.wit_data.specs.Entries.{Entry}
 use Rattle.wit_data.specs.Kind.{map_kind, map_type}
 use Rattle.wit_sources.specs.Span.{moved_by}
@@ -122,16 +122,3 @@ world_image m w world = record world {
 }
 
 -- ---- includes
-
--- the maps of an include of world `from` into world `into` of package `home`: copies for what is copied,
--- plain values (no `own` is made), labels renamed
-abbrev pub include_maps : (ℕ → ℕ) → (ℕ → ℕ) → (List ℕ → List ℕ) → ℕ → ℕ → ℕ → Maps
-include_maps types interfaces renamed from into home = record {
-  types = types;
-  values = types;
-  interfaces = interfaces;
-  worlds = λ w. if nat_eq w from then into else w;
-  home = λ p. Some home;
-  labels = λ w name. if nat_eq w from then renamed name else name;
-  offset = 0;
-}

@@ -17,7 +17,7 @@ use Rattle.wit_graph_theory.specs.facts.ListFacts.{found_at, same_at, some_at}
 use Rattle.wit_link.specs.GroupOrder.{Unresolved}
 use Rattle.wit_link_spec.specs.Addition.{Addition, active_includes, addition_maps, own_worlds, remapped_world}
 use Rattle.wit_link_spec.specs.Include.{PartiallyLinked, lists_of, with_copies, with_world_included}
-use Rattle.wit_link_spec.specs.Added.{added, new_package, with_all_includes, with_include, with_parts, with_world}
+use Rattle.wit_link_spec.specs.Added.{added, new_package, with_parts, with_world}
 use Rattle.wit_link_spec.specs.facts.Linked.{linked_world}
 use Rattle.wit_remap_spec.specs.Image.{Maps, world_image}
 use Rattle.wit_link.specs.Appending.{AreAdded, addition}
@@ -37,6 +37,7 @@ use Rattle.wit_resolve_graph.specs.declared.command.Command.{Command}
 use Rattle.wit_resolve_graph.specs.declared.command.Command.TheVariants.{AddFeature, PushGroups, Merge, Importize, Exportize, Semver}
 use Rattle.wit_resolve_graph.specs.declared.command.Reply.{Reply}
 use Rattle.wit_resolve_graph.specs.declared.command.Reply.TheVariants as reply
+use Rattle.wit_link_spec.specs.steps.Parts.{with_include, with_all_includes}
 
 nothing_more : {X : Type 0} (xs : List X) → (more : List X) × (xs ≡ xs ++ more)
 nothing_more xs = ([], sym (append-nil xs))

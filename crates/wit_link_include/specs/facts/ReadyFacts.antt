@@ -21,7 +21,7 @@ use Rattle.wit_link_spec.specs.Addition.{Addition, active_includes, remapped_wor
 use Rattle.wit_link_spec.specs.Cause.{IsReached}
 use Rattle.wit_link_spec.specs.facts.Linked.{IncludeIsReached}
 use Rattle.wit_link_spec.specs.Include.{PartiallyLinked}
-use Rattle.wit_link_spec.specs.Added.{updated_include, with_parts, with_worlds}
+use Rattle.wit_link_spec.specs.Added.{with_parts, with_worlds}
 use Rattle.wit_link_spec.specs.facts.Linked.{updated_includes}
 use Rattle.wit_link_spec.specs.Reasons.{IsResolved}
 use Rattle.wit_link_spec.specs.WorldReasons.{AtWorld}
@@ -30,6 +30,7 @@ use Rattle.wit_link_laws.specs.laws.StageFacts.{CanBeLinked, IncludedAreThere, I
 use Rattle.wit_link_include.specs.steps.Included as local
 use Rattle.wit_link_include.specs.facts.AdditionFacts.{begun_same, home, image_at, include_reached, stage_is}
 use Rattle.wit_link_include.specs.facts.SeveralFacts.{several_worlds}
+use Rattle.wit_link_spec.specs.steps.Parts.{updated_include}
 
 -- where setters stand says nothing of keys of interfaces
 each_of : (P : Entry → Type 0) (xs : List Entry) → ((i : ℕ) (x : Entry) → slice_get xs i ≡ Some x → P x) → AllByRecursion P xs

@@ -25,15 +25,14 @@ use Rattle.wit_graph_data.specs.declared.cause.Cause.TheVariants as cause
 use Rattle.wit_graph_data.specs.declared.graph.Graph.{Graph}
 use Rattle.wit_graph_data.specs.declared.error_kind.ResolveErrorKind.{ResolveErrorKind}
 use Rattle.wit_graph_data.specs.declared.error_kind.ResolveErrorKind.TheVariants.{ItemShadowing, Semantic, StabilityMismatch}
-use Rattle.wit_remap_spec.specs.Image.{entry_image, Maps, include_maps, interface_image, type_image}
+use Rattle.wit_remap_spec.specs.Image.{entry_image, Maps, interface_image, type_image}
 use Rattle.wit_labels.specs.Groups.{begins_group, rest_of}
 use Rattle.wit_labels.specs.Setters.{IsSetter, getter_label}
 use Rattle.wit_labels.specs.Strong.{Clashes}
 use Rattle.wit_link_spec.specs.CauseText.{clash_text, getter_text}
 use Rattle.wit_link_spec.specs.Gates.{OptionalSpan}
-use Rattle.wit_link_spec.specs.Include.{EntryLists, PartiallyLinked, joined_entries, lists_of, with_entry_lists, with_include_of, belongs_to, entry_mentions, is_owned_within, is_unnamed_type, named_types, owner_belongs_to}
+use Rattle.wit_link_spec.specs.Include.{EntryLists, PartiallyLinked, joined_entries, lists_of, with_include_of, belongs_to, entry_mentions, is_owned_within, is_unnamed_type, named_types, owner_belongs_to}
 use Rattle.wit_remap_spec.specs.Joined.{include_stability, Disagree}
-use Rattle.wit_link_spec.specs.Added.{with_finished}
 use Rattle.wit_link_spec.specs.WorldReasons.{IsFinishCause, IsIncludeCause, IsRenamed, IsShadowed}
 use Rattle.wit_link_laws.specs.laws.StageFacts.{CanBeLinked, CanInclude, IsPartiallyLinked}
 use Rattle.wit_link_include.specs.declared.copies.Copies.{Copies}
@@ -44,6 +43,8 @@ use Rattle.wit_digraph.specs.PostOrder.{post_order}
 use Rattle.wit_labels.specs.Rename.{renamed_label}
 use Rattle.wit_remap_spec.specs.Selected.{selected, selected_with_index}
 use Rattle.wit_link_include.specs.declared.origin.Origin.{Origin}
+use Rattle.wit_link_spec.specs.steps.Parts.{with_finished, with_entry_lists}
+use Rattle.wit_remap_spec.specs.steps.Parts.{include_maps}
 
 -- Where copies go by tables, and what the types that a world names lead to.
 

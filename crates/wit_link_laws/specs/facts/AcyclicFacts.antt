@@ -30,7 +30,7 @@ use Rattle.wit_graph_theory.specs.facts.Covered.{IsCovered}
 use Rattle.wit_graph_theory.specs.facts.TypesAcyclic.{types_acyclic}
 use Rattle.wit_graph_theory.specs.facts.GraphSource.{good_items}
 use Rattle.wit_graph_theory.specs.facts.UsesAcyclic.{uses_acyclic}
-use Rattle.wit_link_spec.specs.Addition.{Addition, addition_maps, own_interface, own_interfaces, own_type, own_types, remapped_interface, remapped_type, remap_of_addition}
+use Rattle.wit_link_spec.specs.Addition.{Addition, addition_maps, own_interface, own_interfaces, own_type, remapped_interface, remapped_type, remap_of_addition}
 use Rattle.wit_link_spec.specs.facts.ActivePart.{part}
 use Rattle.wit_link_spec.specs.facts.ClosedCut.{closed_part}
 use Rattle.wit_link_spec.specs.Gates.{interface_is_active, is_foreign_interface, type_is_active}
@@ -43,6 +43,7 @@ use Rattle.wit_link_laws.specs.facts.Parts.{HasParts}
 use Rattle.wit_link_laws.specs.facts.PartsStand.{own_interface_at, own_type_at}
 use Rattle.wit_link_laws.specs.facts.SourcesGood.{sources, sources_good}
 use Rattle.wit_remap_spec.specs.steps.Parts.{owns}
+use Rattle.wit_link_spec.specs.steps.Parts.{own_types}
 
 -- ---- what goes behind the old things is the package's own
 

@@ -20,7 +20,7 @@ use Rattle.wit_remap_spec.specs.Image.{interface_image, type_image}
 use Rattle.wit_graph_theory.specs.facts.ListFacts.{at_map, at_new, from_map, in_row, old_or_new, same_at}
 use Rattle.wit_graph_theory.specs.facts.UnnamedOnceCarried.{named_not}
 use Rattle.wit_graph_theory.specs.facts.RowFacts.{Reaches-join, Reaches-self, Reaches-use}
-use Rattle.wit_link_spec.specs.Include.{belongs_to, interface_copy, is_copied, is_on_way, is_owned_within, is_unnamed_type, owner_belongs_to, type_copy}
+use Rattle.wit_link_spec.specs.Include.{belongs_to, is_copied, is_owned_within, is_unnamed_type, owner_belongs_to, type_copy}
 use Rattle.wit_link_spec.specs.facts.RankFacts.{rank-injective, selected-at, selected_with_index-from}
 use Rattle.wit_remap_spec.specs.Selected.{rank, selected, selected_with_index}
 use Rattle.wit_link_laws.specs.facts.CopiedPart.{active_by_mentioned, belonging_mentioned, goes_parts, is_mentioned, mentioned_by_active}
@@ -29,6 +29,7 @@ use Rattle.wit_link_laws.specs.facts.Among.{owner_of_own}
 use Rattle.wit_link_laws.specs.facts.Mentioned.{in_rows, mentioned_with, owned_is}
 use Rattle.wit_link_laws.specs.facts.PartiallyLinked.{IsSoundSoFar}
 use Rattle.wit_link_laws.specs.facts.Truth.{and_both, and_parts, one_passes, or_cases, or_left, or_right, passing}
+use Rattle.wit_link_spec.specs.steps.Parts.{is_on_way, interface_copy}
 
 goes_to : (b : Bool) (x y : ℕ) → b ≡ true → (if b then x else y) ≡ x
 goes_to true x y h = refl

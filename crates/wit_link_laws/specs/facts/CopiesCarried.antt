@@ -28,7 +28,7 @@ use Rattle.wit_remap_spec.specs.Image.{entry_image, interface_image, item_image,
 use Rattle.wit_graph_theory.specs.facts.ListFacts.{Contains-map, found_at, from_map, place_of, same_at, some_at}
 use Rattle.wit_graph_theory.specs.Operations.{include_source}
 use Rattle.wit_graph_theory.specs.steps.Sources.{Carries, InterfaceStands, Source, Stands, WorldStands}
-use Rattle.wit_link_spec.specs.Include.{belongs_to, interface_copy, is_copied, owner_belongs_to, type_copy}
+use Rattle.wit_link_spec.specs.Include.{belongs_to, is_copied, owner_belongs_to, type_copy}
 use Rattle.wit_remap_spec.specs.Joined.{joined_entry, joined_item}
 use Rattle.wit_link_spec.specs.WorldReasons.{IsShadowed, renamed_key}
 use Rattle.wit_link_laws.specs.facts.Copies.{copy_at, interface_copy_at, interface_stays, left_owner, left_refers, named_copied, named_left, old_interface_at, old_type_at, type_stays}
@@ -39,6 +39,7 @@ use Rattle.wit_link_laws.specs.facts.ListedTypes.{ListsType, lists_type, type_li
 use Rattle.wit_link_laws.specs.facts.Mentioned.{owned_is}
 use Rattle.wit_link_laws.specs.facts.PartiallyLinked.{IsSoundSoFar}
 use Rattle.wit_link_laws.specs.facts.Truth.{or_cases}
+use Rattle.wit_link_spec.specs.steps.Parts.{interface_copy}
 
 -- nothing is shadowed
 pub record IsUnshadowed (g : Graph) (i : Including g) : Type 0 where

@@ -11,11 +11,12 @@ use Rattle.wit_elaboration.specs.Valid.{IsValid}
 use Rattle.wit_graph_data.specs.declared.graph.Graph.{Graph}
 use Rattle.wit_graph_theory.specs.facts.GoodIsValid.{good_things}
 use Rattle.wit_graph_theory.specs.facts.UnnamedOnceFrom.{StandsOnceOnly-from_once}
-use Rattle.wit_link_spec.specs.Include.{entry_mentions, is_on_way, is_owned_within, is_unnamed_type, named_types}
+use Rattle.wit_link_spec.specs.Include.{entry_mentions, is_owned_within, is_unnamed_type, named_types}
 use Rattle.wit_link_laws.specs.facts.Mentioned.{entry_mentioned, in_rows, mentioned_with}
 use Rattle.wit_link_laws.specs.facts.PartiallyLinked.{IsSoundSoFar}
 use Rattle.wit_link_laws.specs.facts.Truth.{and_both, and_parts, one_passes, or_cases, or_left, or_right, passing}
 use Rattle.wit_link_laws.specs.laws.IncludingLaws.{CopiesAreExact, IsOnWay}
+use Rattle.wit_link_spec.specs.steps.Parts.{is_on_way}
 
 -- a valid graph is partially linked
 valid_stands : (g : Graph) → IsValid g → IsSoundSoFar g

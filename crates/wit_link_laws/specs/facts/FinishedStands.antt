@@ -33,7 +33,6 @@ use Rattle.wit_graph_theory.specs.steps.UnnamedOnce.{Holds, Origin, StandsOnceOn
 use Rattle.wit_graph_theory.specs.facts.UnnamedOnceCarried.{StandsOnceOnly-of_covered, named_not}
 use Rattle.wit_graph_theory.specs.facts.UnnamedOnceFrom.{cut_has_one_place}
 use Rattle.wit_graph_theory.specs.steps.Sources.{Carries, IsGoodSource, Source}
-use Rattle.wit_link_spec.specs.Added.{with_setters_placed}
 use Rattle.wit_labels.specs.Setters.{setters_placed}
 use Rattle.wit_link_laws.specs.facts.ListedTypes.{lists_type}
 use Rattle.wit_link_laws.specs.facts.PartiallyLinked.{IsSoundSoFar}
@@ -41,6 +40,7 @@ use Rattle.wit_link_laws.specs.facts.PlacedFacts.{placed_in, placed_into}
 use Rattle.wit_link_laws.specs.facts.PlacedWorlds.{exported_named, exports_distinct, imports_distinct, placed_in_order, used_named}
 use Rattle.wit_link_laws.specs.facts.Remains.{beside, export_remains, import_remains, interface_remains, type_remains, world_remains}
 use Rattle.wit_remap_spec.specs.steps.Parts.{identity}
+use Rattle.wit_link_spec.specs.steps.Parts.{with_setters_placed}
 
 -- world `host` at place `into` becomes `done`, its elaboration, and all else stays
 module _ (laws : LawsOfElaboration) (g : Graph) (stands : IsSoundSoFar g) (into : ℕ) (host : World) (host_at : slice_get g.worlds into ≡ Some host) (done : World)

@@ -11,12 +11,13 @@ use Rattle.wit_data.specs.declared.world.World.{World}
 use Rattle.wit_graph_data.specs.declared.graph.Graph.{Graph}
 use Rattle.wit_remap_spec.specs.Image.{interface_image, type_image}
 use Rattle.wit_graph_theory.specs.facts.ListFacts.{SomeAt-old, get_at, same_at, some_at}
-use Rattle.wit_link_spec.specs.Addition.{Addition, addition_maps, own_interfaces, own_types, own_worlds, remap_of_addition}
-use Rattle.wit_link_spec.specs.Added.{new_package, with_all_includes, with_parts, with_world, with_worlds}
+use Rattle.wit_link_spec.specs.Addition.{Addition, addition_maps, own_interfaces, own_worlds, remap_of_addition}
+use Rattle.wit_link_spec.specs.Added.{new_package, with_parts, with_world, with_worlds}
 use Rattle.wit_link_spec.specs.facts.Linked.{linked_world}
 use Rattle.wit_link_laws.specs.facts.StageGrows.{IsCopy, each_joined}
 use Rattle.wit_link_laws.specs.facts.Stages.{whole_more, with_worlds_next}
 use Rattle.wit_remap_spec.specs.steps.Parts.{owns}
+use Rattle.wit_link_spec.specs.steps.Parts.{own_types, with_all_includes}
 
 -- a world has its name, and is of the new package
 abbrev pub IsCalled : Addition → ℕ × World → World → Type 0

@@ -25,7 +25,7 @@ use Rattle.wit_graph_theory.specs.facts.RowFacts.{post_order_shorter}
 use Rattle.wit_graph_theory.specs.steps.Sources.{OwnerIsActive}
 use Rattle.wit_graph_theory.specs.facts.TypesAcyclic.{types_acyclic}
 use Rattle.wit_graph_theory.specs.facts.UsesAcyclic.{uses_acyclic}
-use Rattle.wit_link_spec.specs.Include.{belongs_to, interface_copy, is_copied, owner_belongs_to, type_copy}
+use Rattle.wit_link_spec.specs.Include.{belongs_to, is_copied, owner_belongs_to, type_copy}
 use Rattle.wit_remap_spec.specs.Selected.{selected}
 use Rattle.wit_link_laws.specs.facts.Copies.{behind_copied, behind_goes, copy_at, interface_copy_at, owned_copied}
 use Rattle.wit_link_laws.specs.facts.CopiedPart.{belonging_types, copied_part}
@@ -34,6 +34,7 @@ use Rattle.wit_link_laws.specs.facts.IncludedCovered.{included_covered, included
 use Rattle.wit_link_laws.specs.facts.IncludedWorld.{Including, IsIncluded, maps}
 use Rattle.wit_link_laws.specs.facts.Mentioned.{owned_is}
 use Rattle.wit_link_laws.specs.facts.PartiallyLinked.{IsSoundSoFar}
+use Rattle.wit_link_spec.specs.steps.Parts.{interface_copy}
 
 module _ (g : Graph) (stands : IsSoundSoFar g) (i : Including g) (new : Graph) (are : IsIncluded g i new) where
   -- what stood in the graph stands in front

@@ -22,7 +22,7 @@ use Rattle.wit_remap_spec.specs.Image.{entry_image}
 use Rattle.wit_graph_theory.specs.facts.ImagesCome.{entry_image_comes, interface_image_comes}
 use Rattle.wit_graph_theory.specs.facts.ListFacts.{at_map, contained_at, place_of}
 use Rattle.wit_graph_theory.specs.steps.Sources.{Carries, IsCarriedType, IsGoodSource, Source}
-use Rattle.wit_link_spec.specs.Include.{belongs_to, interface_copy, new_item}
+use Rattle.wit_link_spec.specs.Include.{belongs_to, new_item}
 use Rattle.wit_remap_spec.specs.Joined.{joined_entry, joined_item}
 use Rattle.wit_link_laws.specs.facts.Copies.{copied_mentioned, interface_from, type_from, world_from}
 use Rattle.wit_link_laws.specs.facts.CopiedPart.{belonging_functions, belonging_types, copied_part, has_name, mentioned_by_active, part_good}
@@ -36,6 +36,7 @@ use Rattle.wit_link_laws.specs.facts.PartiallyLinked.{IsSoundSoFar}
 use Rattle.wit_link_laws.specs.facts.Remains.{beside, export_no_type, export_remains, image_no_type, import_remains, interface_remains, type_remains, world_remains}
 use Rattle.wit_link_laws.specs.facts.Truth.{or_left}
 use Rattle.wit_remap_spec.specs.steps.Parts.{identity}
+use Rattle.wit_link_spec.specs.steps.Parts.{interface_copy}
 
 -- ---- what is there comes
 

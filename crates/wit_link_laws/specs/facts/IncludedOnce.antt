@@ -25,7 +25,7 @@ use Rattle.wit_graph_theory.specs.facts.ListFacts.{contained_at, get_at, place_o
 use Rattle.wit_graph_theory.specs.steps.UnnamedOnce.{Holds, Origin, StandsOnceOnly, StayApart}
 use Rattle.wit_graph_theory.specs.facts.UnnamedOnceCarried.{StandsOnceOnly-of_covered, named_not}
 use Rattle.wit_graph_theory.specs.facts.UnnamedOnceFrom.{cut_has_one_place, unnamed_cut}
-use Rattle.wit_link_spec.specs.Include.{belongs_to, interface_copy, new_item}
+use Rattle.wit_link_spec.specs.Include.{belongs_to, new_item}
 use Rattle.wit_remap_spec.specs.Joined.{joined_entry, joined_item}
 use Rattle.wit_link_laws.specs.facts.Copies.{interface_remapped, interface_stays, interfaces_apart, old_interface_at, world_from}
 use Rattle.wit_link_laws.specs.facts.CopiedPart.{copied_part, goes_parts, has_name, named_is}
@@ -37,6 +37,7 @@ use Rattle.wit_link_laws.specs.facts.JoinedFacts.{from_brought, joined_cases}
 use Rattle.wit_link_laws.specs.facts.JoinedItems.{joined_one, new_interface}
 use Rattle.wit_link_laws.specs.facts.PartiallyLinked.{IsSoundSoFar}
 use Rattle.wit_link_laws.specs.facts.Truth.{or_cases}
+use Rattle.wit_link_spec.specs.steps.Parts.{interface_copy}
 
 -- the interface of an import is there
 pub held_within : (interfaces : List Interface) (types : List TypeDef) (w : ℕ) (k : WorldKey) (held : WorldItem) (f : ℕ) → IsImport interfaces types w k held → item_interface held ≡ f ∷ [] → f < length interfaces

@@ -11,7 +11,7 @@ use Rattle.wit_elaboration.specs.Valid.{IsValid}
 use Rattle.wit_graph_theory.specs.facts.ListFacts.{contained_at, get_at, place_of}
 use Rattle.wit_link_spec.specs.Addition.{Addition, active_includes, own_world, own_worlds, remapped_world}
 use Rattle.wit_link_spec.specs.facts.ClosedCut.{kept_world}
-use Rattle.wit_link_spec.specs.Gates.{include_is_active, is_foreign_world, world_is_active}
+use Rattle.wit_link_spec.specs.Gates.{is_foreign_world, world_is_active}
 use Rattle.wit_link_spec.specs.Added.{with_worlds}
 use Rattle.wit_link_spec.specs.facts.RankFacts.{rank-strict}
 use Rattle.wit_link_spec.specs.Reasons.{IsResolved, of_include}
@@ -20,6 +20,7 @@ use Rattle.wit_link_laws.specs.facts.Grown.{grown}
 use Rattle.wit_link_spec.specs.facts.OwnThingFacts.{own_world_from}
 use Rattle.wit_link_laws.specs.laws.StageFacts.{IncludedAreThere}
 use Rattle.wit_link_laws.specs.facts.StageGrows.{begun_more}
+use Rattle.wit_link_spec.specs.steps.Parts.{include_is_active}
 
 both : (foreign active : Bool) → foreign ≡ false → active ≡ true → not foreign && active ≡ true
 both false true h k = refl

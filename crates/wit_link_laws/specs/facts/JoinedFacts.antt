@@ -17,7 +17,7 @@ use Rattle.wit_graph_data.specs.declared.graph.Graph.{Graph}
 use Rattle.wit_graph_theory.specs.facts.CutIsGood.{distinct_kept}
 use Rattle.wit_remap_spec.specs.Image.{entry_image, key_image}
 use Rattle.wit_graph_theory.specs.facts.ListFacts.{Contains-map, Contains-map_cases, at_map, contained_at, from_map, place_of}
-use Rattle.wit_link_spec.specs.Include.{has_key, joined_entries, new_item}
+use Rattle.wit_link_spec.specs.Include.{joined_entries, new_item}
 use Rattle.wit_remap_spec.specs.Joined.{joined_entry}
 use Rattle.wit_link_spec.specs.WorldReasons.{IsShadowed, renamed_key}
 use Rattle.wit_labels.specs.Rename.{renamed_label}
@@ -26,6 +26,7 @@ use Rattle.wit_link_laws.specs.facts.IncludedWorld.{Including, brought, maps}
 use Rattle.wit_link_laws.specs.facts.KeysApart.{joined_apart, split_at}
 use Rattle.wit_link_laws.specs.facts.PartiallyLinked.{IsSoundSoFar}
 use Rattle.wit_link_laws.specs.facts.Truth.{one_passes, passing}
+use Rattle.wit_link_spec.specs.steps.Parts.{has_key}
 
 -- a key of a list is found there
 pub has_key-from : (es : List Entry) (e : Entry) → Contains es e → has_key es e.0 ≡ true

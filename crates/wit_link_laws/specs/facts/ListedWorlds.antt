@@ -29,13 +29,13 @@ use Rattle.wit_link_spec.specs.facts.ApartFacts.{KeyIsActive, keys_apart}
 use Rattle.wit_link_spec.specs.facts.ClosedCut.{closed_part}
 use Rattle.wit_link_spec.specs.Gates.{interface_is_active}
 use Rattle.wit_link_spec.specs.facts.OwnThingFacts.{own_world_from}
-use Rattle.wit_link_spec.specs.Added.{with_setters_placed}
 use Rattle.wit_link_spec.specs.facts.RankFacts.{selected_with_index-at}
 use Rattle.wit_link_spec.specs.Reasons.{IsResolved}
 use Rattle.wit_link_laws.specs.facts.NamedAliases.{aliases_named, interface_within, named_goes}
 use Rattle.wit_link_laws.specs.facts.Parts.{HasParts}
 use Rattle.wit_link_laws.specs.facts.PartsStand.{type_stands}
 use Rattle.wit_link_laws.specs.facts.PlacedFacts.{placed_distinct, placed_in}
+use Rattle.wit_link_spec.specs.steps.Parts.{with_setters_placed}
 
 -- ---- which worlds
 

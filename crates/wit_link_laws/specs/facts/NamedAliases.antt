@@ -19,7 +19,7 @@ use Rattle.wit_remap_spec.specs.Image.{name_image, owner_image, type_image}
 use Rattle.wit_graph_theory.specs.facts.ListFacts.{found_at, from_map, old_or_new, place_of, some_at}
 use Rattle.wit_graph_theory.specs.facts.ReferredFacts.{alias_image}
 use Rattle.wit_graph_theory.specs.steps.Sources.{InterfaceStands, Stands}
-use Rattle.wit_link_spec.specs.Addition.{Addition, addition_maps, own_types, remapped_interface, remapped_type, remap_of_addition}
+use Rattle.wit_link_spec.specs.Addition.{Addition, addition_maps, remapped_interface, remapped_type, remap_of_addition}
 use Rattle.wit_link_spec.specs.facts.ActivePart.{part}
 use Rattle.wit_link_spec.specs.facts.ApartFacts.{active_there}
 use Rattle.wit_link_spec.specs.facts.ClosedCut.{closed_part, references_kept}
@@ -32,6 +32,7 @@ use Rattle.wit_link_laws.specs.facts.Parts.{HasParts}
 use Rattle.wit_link_laws.specs.facts.PartsStand.{interface_stands, old_interface_at, old_type_at, type_stands}
 use Rattle.wit_link_laws.specs.facts.SourcesGood.{package_source}
 use Rattle.wit_remap_spec.specs.steps.Parts.{owns}
+use Rattle.wit_link_spec.specs.steps.Parts.{own_types}
 
 module _ (a : Addition) (valid : IsValid a.graph) (shaped : IsShaped a.unresolved) (image : IsResolved a) (types : List TypeDef) (interfaces : List Interface) (are : HasParts a types interfaces) where
   -- ---- interfaces

@@ -4,8 +4,9 @@ use Rattle.std.specs.Prelude.{◌≡◌, List, ◌++◌, map}
 use Rattle.wit_data.specs.declared.interface.Interface.{Interface}
 use Rattle.wit_data.specs.declared.types.TypeDef.{TypeDef}
 use Rattle.wit_remap_spec.specs.Image.{interface_image, type_image}
-use Rattle.wit_link_spec.specs.Addition.{Addition, addition_maps, own_interfaces, own_types, remap_of_addition}
+use Rattle.wit_link_spec.specs.Addition.{Addition, addition_maps, own_interfaces, remap_of_addition}
 use Rattle.wit_remap_spec.specs.steps.Parts.{owns}
+use Rattle.wit_link_spec.specs.steps.Parts.{own_types}
 
 -- those of the graph, and behind them the images of the package's own and the `own`s that values ask for
 pub record HasParts (a : Addition) (types : List TypeDef) (interfaces : List Interface) : Type 0 where

@@ -22,7 +22,7 @@ use Rattle.wit_graph_theory.specs.facts.ImagesCome.{interface_image_stands}
 use Rattle.wit_remap_spec.specs.Image.{interface_image, name_image, owner_image, type_image}
 use Rattle.wit_graph_theory.specs.facts.ListFacts.{at_map, at_new, found_at, place_of, some_at}
 use Rattle.wit_graph_theory.specs.steps.Sources.{InterfaceStands, IsOwnOf, Stands}
-use Rattle.wit_link_spec.specs.Addition.{Addition, addition_maps, maps_without_owns, own_interface, own_interfaces, own_type, own_types, remapped_interface, remapped_type, remap_of_addition}
+use Rattle.wit_link_spec.specs.Addition.{Addition, addition_maps, maps_without_owns, own_interface, own_interfaces, own_type, remapped_interface, remapped_type, remap_of_addition}
 use Rattle.wit_remap_spec.specs.Selected.{rank, selected}
 use Rattle.wit_link_spec.specs.facts.ActivePart.{part}
 use Rattle.wit_link_spec.specs.Gates.{interface_is_active, is_foreign_interface, type_is_active}
@@ -37,6 +37,7 @@ use Rattle.wit_link_laws.specs.facts.Parts.{HasParts}
 use Rattle.wit_link_laws.specs.facts.SourcesGood.{package_source}
 use Rattle.wit_link_laws.specs.facts.ValueRemapFacts.{leads_named, new_stands, own_stands, value_stands}
 use Rattle.wit_remap_spec.specs.steps.Parts.{types_without_owns, value_id, owns}
+use Rattle.wit_link_spec.specs.steps.Parts.{own_types}
 
 module _ (a : Addition) (valid : IsValid a.graph) (shaped : IsShaped a.unresolved) (image : IsResolved a) (types : List TypeDef) (interfaces : List Interface) (are : HasParts a types interfaces) where
   -- an own type stands as its image at its place

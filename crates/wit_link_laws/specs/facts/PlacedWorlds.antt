@@ -20,11 +20,11 @@ use Rattle.wit_elaboration.specs.facts.SoundFacts.{HasSoundEntries-of_world, lis
 use Rattle.wit_graph_data.specs.declared.graph.Graph.{Graph}
 use Rattle.wit_graph_theory.specs.facts.ListFacts.{contained_at, place_of}
 use Rattle.wit_graph_theory.specs.facts.NamedUses.{IsUsed_named}
-use Rattle.wit_link_spec.specs.Added.{with_setters_placed}
 use Rattle.wit_labels.specs.Setters.{setters_placed}
 use Rattle.wit_link_laws.specs.facts.PartiallyLinked.{IsSoundSoFar}
 use Rattle.wit_link_laws.specs.facts.PlacedFacts.{placed_distinct, placed_in}
 use Rattle.wit_elaboration.specs.steps.Parts.{exported_keys}
+use Rattle.wit_link_spec.specs.steps.Parts.{with_setters_placed}
 
 pub named_export : (interfaces : List Interface) (k : WorldKey) (held : WorldItem) (j : ℕ) → Contains (key_interface k) j → IsExport interfaces k held → IsNamed interfaces j
 named_export interfaces (key.Name name) held j has is = absurd (Contains-nil has)

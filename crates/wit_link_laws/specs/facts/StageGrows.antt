@@ -15,9 +15,10 @@ use Rattle.wit_graph_theory.specs.facts.OptionFacts.{none_there}
 use Rattle.wit_link_spec.specs.Addition.{Addition, remapped_world}
 use Rattle.wit_remap_spec.specs.Selected.{selected, selected_with_index}
 use Rattle.wit_link_spec.specs.Include.{PartiallyLinked, belongs_to, copy_maps, is_copied, with_world_included}
-use Rattle.wit_link_spec.specs.Added.{with_include, with_includes}
+use Rattle.wit_link_spec.specs.Added.{with_includes}
 use Rattle.wit_link_spec.specs.facts.RankFacts.{selected_with_index-from}
 use Rattle.wit_link_laws.specs.facts.CopiedPart.{goes_parts}
+use Rattle.wit_link_spec.specs.steps.Parts.{with_include}
 
 -- a copied interface: it has no name, and is of this package
 abbrev pub IsCopy : ℕ → Interface → Type 0

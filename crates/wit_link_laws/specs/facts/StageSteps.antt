@@ -15,7 +15,7 @@ use Rattle.wit_graph_data.specs.declared.graph.Graph.{Graph}
 use Rattle.wit_graph_theory.specs.facts.LawsOfElaboration.{LawsOfElaboration}
 use Rattle.wit_link_spec.specs.Addition.{Addition, remapped_world}
 use Rattle.wit_link_spec.specs.Include.{PartiallyLinked, with_world_included}
-use Rattle.wit_link_spec.specs.Added.{unfinished_world, with_include, with_setters_placed}
+use Rattle.wit_link_spec.specs.Added.{unfinished_world}
 use Rattle.wit_link_spec.specs.facts.Linked.{linked_world}
 use Rattle.wit_link_spec.specs.WorldReasons.{IsShadowed, renamed_key}
 use Rattle.wit_labels.specs.Setters.{setters_placed}
@@ -25,6 +25,7 @@ use Rattle.wit_link_laws.specs.facts.FinishedStands.{finished_stands}
 use Rattle.wit_link_laws.specs.facts.IncludedOnce.{included_stands}
 use Rattle.wit_link_laws.specs.facts.IncludedWorld.{Including, IsIncluded}
 use Rattle.wit_link_laws.specs.facts.PartiallyLinked.{IsSoundSoFar}
+use Rattle.wit_link_spec.specs.steps.Parts.{with_include, with_setters_placed}
 
 -- ---- lists
 

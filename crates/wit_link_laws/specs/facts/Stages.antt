@@ -24,10 +24,10 @@ use Rattle.wit_graph_theory.specs.facts.LawsOfElaboration.{LawsOfElaboration}
 use Rattle.wit_graph_theory.specs.facts.ListFacts.{at_map, get_at}
 use Rattle.wit_link_spec.specs.Addition.{Addition, active_includes, addition_maps, own_worlds, remapped_world}
 use Rattle.wit_link_spec.specs.Include.{IsListCalled, PartiallyLinked, lists_of}
-use Rattle.wit_link_spec.specs.Added.{unfinished_world, with_all_includes, with_include, with_includes, with_parts, with_setters_placed, with_world, with_worlds}
+use Rattle.wit_link_spec.specs.Added.{unfinished_world, with_includes, with_parts, with_world, with_worlds}
 use Rattle.wit_link_spec.specs.facts.Linked.{linked_world}
 use Rattle.wit_link_spec.specs.Reasons.{IsResolved}
-use Rattle.wit_link_spec.specs.WorldReasons.{conflict_4, IsShadowed, renamed_key, shadowing_7, IncludeIsAccepted, WorldIsAccepted, of_finish}
+use Rattle.wit_link_spec.specs.WorldReasons.{conflict_4, IsShadowed, renamed_key, shadowing_7, of_finish}
 use Rattle.wit_link_spec.specs.facts.WorldCauseFacts.{includes_accepted}
 use Rattle.wit_labels.specs.Setters.{setters_placed}
 use Rattle.wit_link_laws.specs.facts.ListedStage.{listed_images}
@@ -37,6 +37,7 @@ use Rattle.wit_link_laws.specs.facts.CanonicalStays.{canonical_longer}
 use Rattle.wit_link_laws.specs.facts.PartiallyLinked.{IsSoundSoFar}
 use Rattle.wit_link_laws.specs.facts.PlacedWorlds.{placed_in_order}
 use Rattle.wit_link_spec.specs.facts.DropFacts.{drop_at}
+use Rattle.wit_link_spec.specs.steps.Parts.{with_include, with_all_includes, with_setters_placed, IncludeIsAccepted, WorldIsAccepted}
 
 -- the stage before world k
 abbrev pub stage : Addition → ℕ → Graph

@@ -11,7 +11,7 @@ use Rattle.wit_graph_data.specs.declared.graph.Graph.{Graph}
 use Rattle.wit_graph_theory.specs.facts.CarriedImages.{image_carried, itself_carried}
 use Rattle.wit_graph_theory.specs.facts.Covered.{IsOwnMade, TypeComes}
 use Rattle.wit_remap_spec.specs.Image.{type_image}
-use Rattle.wit_link_spec.specs.Addition.{Addition, addition_maps, own_types, remap_of_addition}
+use Rattle.wit_link_spec.specs.Addition.{Addition, addition_maps, remap_of_addition}
 use Rattle.wit_link_spec.specs.Lookup.{is_foreign_type}
 use Rattle.wit_link_spec.specs.facts.OwnThingFacts.{own_type_from}
 use Rattle.wit_link_spec.specs.facts.PositionFacts.{needs_active}
@@ -19,6 +19,7 @@ use Rattle.wit_link_spec.specs.Reasons.{IsResolved}
 use Rattle.wit_link_laws.specs.facts.Parts.{HasParts}
 use Rattle.wit_link_laws.specs.facts.SourcesGood.{sources}
 use Rattle.wit_link_laws.specs.facts.ValueRemapFacts.{behind_from}
+use Rattle.wit_link_spec.specs.steps.Parts.{own_types}
 
 module _ (a : Addition) (valid : IsValid a.graph) (shaped : IsShaped a.unresolved) (image : IsResolved a) (g : Graph) (are : HasParts a g.types g.interfaces) where
   -- a type of the graph comes as itself

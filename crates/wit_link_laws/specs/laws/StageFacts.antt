@@ -17,10 +17,11 @@ use Rattle.wit_link_spec.specs.Addition.{Addition, active_includes, own_worlds, 
 use Rattle.wit_link_spec.specs.Cause.{IsReached}
 use Rattle.wit_link_spec.specs.facts.Linked.{IncludeIsReached}
 use Rattle.wit_link_spec.specs.Include.{PartiallyLinked, is_owned_within, named_types}
-use Rattle.wit_link_spec.specs.Added.{added, with_all_includes, with_includes, with_worlds}
+use Rattle.wit_link_spec.specs.Added.{added, with_includes, with_worlds}
 use Rattle.wit_link_spec.specs.Reasons.{HasPackage, IsResolved}
-use Rattle.wit_link_spec.specs.WorldReasons.{AtInclude, AtWorld, IncludeIsAccepted}
+use Rattle.wit_link_spec.specs.WorldReasons.{AtInclude, AtWorld}
 use Rattle.wit_labels.specs.Setters.{setters_placed}
+use Rattle.wit_link_spec.specs.steps.Parts.{with_all_includes, IncludeIsAccepted}
 
 -- a partially linked graph: no interface uses itself, no type refers to itself, ids are in range, and interfaces list and use
 -- types of their own

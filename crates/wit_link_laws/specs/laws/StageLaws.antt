@@ -6,7 +6,7 @@ use Rattle.wit_data.specs.declared.world.World.{World}
 use Rattle.wit_graph_theory.specs.facts.LawsOfElaboration.{LawsOfElaboration}
 use Rattle.wit_link_spec.specs.Addition.{Addition, active_includes, own_worlds, remapped_world}
 use Rattle.wit_link_spec.specs.Include.{PartiallyLinked}
-use Rattle.wit_link_spec.specs.Added.{unfinished_world, with_all_includes, with_includes, with_worlds}
+use Rattle.wit_link_spec.specs.Added.{unfinished_world, with_includes, with_worlds}
 use Rattle.wit_link_laws.specs.facts.CopiedPart.{belonging_mentioned}
 use Rattle.wit_link_laws.specs.facts.ListedStage.{listed_images}
 use Rattle.wit_link_laws.specs.laws.StageFacts.{CanBeLinked, CanInclude, IncludesCanBe, IsPartiallyLinked, WorldsCanBe}
@@ -17,6 +17,7 @@ use Rattle.wit_link_laws.specs.facts.ValidFacts.{stage_stands}
 use Rattle.wit_link_laws.specs.facts.Mentioned.{apart}
 use Rattle.wit_link_laws.specs.facts.PartiallyLinked.{IsSoundSoFar}
 use Rattle.wit_link_laws.specs.facts.PlacedWorlds.{placed_listed}
+use Rattle.wit_link_spec.specs.steps.Parts.{with_all_includes}
 
 module _ (a : Addition) (before : List World) (k : ℕ) (e : ℕ × World) (b : PartiallyLinked) (stands : IsSoundSoFar (staged a before k e b)) where
   on_its_way : IsPartiallyLinked b.graph

@@ -31,12 +31,13 @@ use Rattle.wit_graph_data.specs.declared.error_kind.ResolveErrorKind.TheVariants
 use Rattle.wit_link_spec.specs.Addition.{Addition}
 use Rattle.wit_link_spec.specs.steps.AdditionRefs.{activity_of, addition_of}
 use Rattle.wit_link_spec.specs.Cause.{IsAdditionCause}
-use Rattle.wit_link_spec.specs.Gates.{HasOwnGate, IsAsked, OptionalSpan, asked_gates, function_is_active, include_is_active, interface_is_active, is_active, is_foreign_interface, is_foreign_world, some_active, type_is_active, world_is_active}
+use Rattle.wit_link_spec.specs.Gates.{HasOwnGate, IsAsked, OptionalSpan, asked_gates, interface_is_active, is_active, is_foreign_interface, is_foreign_world, type_is_active, world_is_active}
 use Rattle.wit_link_spec.specs.Reasons.{AType, AWorld, AnInterface, IsActiveFunction, IsExcluded, RefersTo, Thing, kind_references, owner_thing}
 use Rattle.wit_link_spec.specs.declared.addition.Activity.{Activity}
 use Rattle.wit_link_lookup.specs.declared.checker.Checker.{Checker}
 use Rattle.wit_link_lookup.specs.declared.needs.Needed.{Needed}
 use Rattle.wit_link_lookup.specs.declared.needs.Needed.TheVariants as needed
+use Rattle.wit_link_spec.specs.steps.Parts.{some_active, function_is_active, include_is_active}
 
 -- ---- what is active
 

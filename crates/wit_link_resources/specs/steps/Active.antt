@@ -11,7 +11,8 @@ use Rattle.wit_data.specs.declared.world.WorldItem.{WorldItem}
 use Rattle.wit_data.specs.declared.world.WorldItem.TheVariants as item
 use Rattle.wit_graph_data.specs.declared.features.Features.{Features}
 use Rattle.wit_link_spec.specs.Addition.{Addition}
-use Rattle.wit_link_spec.specs.Gates.{function_is_active, interface_is_active, world_is_active}
+use Rattle.wit_link_spec.specs.Gates.{interface_is_active, world_is_active}
+use Rattle.wit_link_spec.specs.steps.Parts.{function_is_active}
 
 -- a function, where it is active
 abbrev pub active_one : Features → Function → List Function

@@ -12,9 +12,9 @@ use Rattle.wit_graph_data.specs.declared.error_kind.ResolveErrorKind.TheVariants
 use Rattle.wit_link_spec.specs.Addition.{Addition}
 use Rattle.wit_link_spec.specs.Gates.{OptionalSpan, type_is_active}
 use Rattle.wit_link_spec.specs.Lookup.{foreign_type_id}
-use Rattle.wit_link_spec.specs.Reasons.{MayHoldBorrow}
 use Rattle.wit_remap_spec.specs.Borrows.{HoldsBorrow}
 use Rattle.wit_remap_spec.specs.steps.Parts.{IsBorrow}
+use Rattle.wit_link_spec.specs.steps.Parts.{MayHoldBorrow}
 
 -- these are no bad ones, and use each other alone
 pub record AreFree (rows : List (List ℕ)) (Bad : ℕ → Type 0) (ids : List ℕ) : Type 0 where

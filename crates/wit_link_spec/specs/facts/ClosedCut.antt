@@ -31,9 +31,10 @@ use Rattle.wit_graph_theory.specs.Cut.{IsClosedCut, ItemIsKept, OwnerIsKept}
 use Rattle.wit_graph_theory.specs.facts.ListFacts.{Contains-map, contained_at, found_at, place_of, same_at, some_at}
 use Rattle.wit_link_spec.specs.Addition.{Addition, own_world}
 use Rattle.wit_link_spec.specs.facts.ActivePart.{part}
-use Rattle.wit_link_spec.specs.Gates.{HasEntry, OptionalSpan, foreign_gates, function_is_active, interface_is_active, is_active, is_foreign_interface, is_foreign_world, item_is_active, some_active, type_is_active, world_is_active}
+use Rattle.wit_link_spec.specs.Gates.{HasEntry, OptionalSpan, foreign_gates, interface_is_active, is_active, is_foreign_interface, is_foreign_world, item_is_active, type_is_active, world_is_active}
 use Rattle.wit_link_spec.specs.Reasons.{IsResolved, IsActiveFunction, IsExcluded, RefersTo, Thing, AType, AnInterface, AWorld, kind_references, of_entry, of_foreign_type, of_function, of_interface, of_type, of_world, owner_thing}
 use Rattle.wit_data.specs.steps.Parts.{IsNameOnlyWorld}
+use Rattle.wit_link_spec.specs.steps.Parts.{some_active, function_is_active}
 
 -- what a test that is true of nothing where nothing is there tells
 pub there_where : {X : Type 0} (f : X → Bool) (o : Option X) → option_map_or f o false ≡ true → (x : X) × (o ≡ Some x) × (f x ≡ true)

@@ -6,13 +6,14 @@ use Rattle.wit_data.specs.declared.types.TypeDef.{TypeDef}
 use Rattle.wit_data.specs.declared.world.World.{World}
 use Rattle.wit_remap_spec.specs.Kept.{cut_interface, cut_world}
 use Rattle.wit_graph_theory.specs.facts.ListFacts.{from_map}
-use Rattle.wit_link_spec.specs.Addition.{Addition, own_interface, own_interfaces, own_type, own_types, own_world, own_worlds, remapped_interface, remapped_type, remapped_world}
+use Rattle.wit_link_spec.specs.Addition.{Addition, own_interface, own_interfaces, own_type, own_world, own_worlds, remapped_interface, remapped_type, remapped_world}
 use Rattle.wit_remap_spec.specs.Selected.{rank, selected, selected_with_index}
 use Rattle.wit_link_spec.specs.facts.ActivePart.{part}
 use Rattle.wit_link_spec.specs.Gates.{interface_is_active, is_foreign_interface, is_foreign_world, type_is_active, world_is_active}
 use Rattle.wit_link_spec.specs.Lookup.{is_foreign_type}
 use Rattle.wit_link_spec.specs.facts.RankFacts.{selected_with_index-from}
 use Rattle.wit_link_spec.specs.facts.Standing.{own_interface_remapped, own_type_remapped, own_world_remapped}
+use Rattle.wit_link_spec.specs.steps.Parts.{own_types}
 
 pub own_part : (foreign active : Bool) → not foreign && active ≡ true → (foreign ≡ false) × (active ≡ true)
 own_part true active h = cc

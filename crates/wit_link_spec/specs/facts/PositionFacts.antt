@@ -20,7 +20,7 @@ use Rattle.wit_data.specs.declared.world.WorldItem.TheVariants as item
 use Rattle.wit_elaboration.specs.facts.Filters.{Contains-filter}
 use Rattle.wit_graph_theory.specs.Cut.{ItemIsKept}
 use Rattle.wit_graph_theory.specs.facts.ListFacts.{Contains-map_cases, place_of}
-use Rattle.wit_link_spec.specs.Addition.{Addition, own_functions, own_interfaces, own_types, own_worlds, remap_of_addition, remapped_type}
+use Rattle.wit_link_spec.specs.Addition.{Addition, own_functions, own_interfaces, own_worlds, remap_of_addition, remapped_type}
 use Rattle.wit_link_spec.specs.facts.ActivePart.{part}
 use Rattle.wit_link_spec.specs.facts.ClosedCut.{closed_part, references_kept}
 use Rattle.wit_link_spec.specs.Gates.{type_is_active}
@@ -29,6 +29,7 @@ use Rattle.wit_link_spec.specs.Reasons.{IsResolved}
 use Rattle.wit_remap_spec.specs.Resources.{is_value, leads_to_resource}
 use Rattle.wit_remap_spec.specs.ValueRemap.{ValueRemap, item_function, needs_own, positions, world_functions}
 use Rattle.wit_remap_spec.specs.steps.Parts.{value_positions, types_without_owns}
+use Rattle.wit_link_spec.specs.steps.Parts.{own_types}
 
 -- a value position of a function is a reference of it
 signature_referred : (f : Function) (t : ℕ) → Contains (signature_types f) t → Contains (function_references f) t

@@ -3,7 +3,8 @@ use Rattle.std.proofs.Common.{ℕ, zero, suc, ◌<◌, arith}
 use Rattle.wit_graph_data.specs.declared.error_kind.ResolveErrorKind.{ResolveErrorKind}
 use Rattle.wit_link_spec.specs.Addition.{Addition}
 use Rattle.wit_link_spec.specs.Reasons.{IsResolved}
-use Rattle.wit_link_spec.specs.WorldReasons.{AtWorld, IncludeIsAccepted, IsCauseAtWorld, WorldIsAccepted, of_finish, of_include, written_no_getter_18, written_not_strongly_unique_17}
+use Rattle.wit_link_spec.specs.WorldReasons.{AtWorld, IsCauseAtWorld, of_finish, of_include, written_no_getter_18, written_not_strongly_unique_17}
+use Rattle.wit_link_spec.specs.steps.Parts.{IncludeIsAccepted, WorldIsAccepted}
 
 -- a cause of world k is of a world that is there
 pub cause_world : (a : Addition) (k : ℕ) (error : ResolveErrorKind) → IsCauseAtWorld a k error → AtWorld a k

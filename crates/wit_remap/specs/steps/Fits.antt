@@ -13,7 +13,7 @@ use Rattle.wit_data.specs.declared.world.World.{World}
 use Rattle.wit_data.specs.declared.world.WorldInclude.{WorldInclude}
 use Rattle.wit_data.specs.declared.world.WorldItem.{WorldItem}
 use Rattle.wit_data.specs.declared.world.WorldItem.TheVariants as item
-use Rattle.wit_link_spec.specs.Gates.{OptionalSpan, include_is_active}
+use Rattle.wit_link_spec.specs.Gates.{OptionalSpan}
 use Rattle.std.specs.List.{IsDistinct}
 use Rattle.std.specs.Map.{keys_of, lookup}
 use Rattle.wit_names.specs.PackageName.{same_package}
@@ -31,6 +31,7 @@ use Rattle.wit_remap.specs.steps.Parts.{kept_of}
 use Rattle.wit_remap.specs.declared.part.Part.{Part}
 use Rattle.wit_remap.specs.declared.worlds.UpdatedWorld.{UpdatedWorld}
 use Rattle.wit_remap_spec.specs.steps.Parts.{kind_spans}
+use Rattle.wit_link_spec.specs.steps.Parts.{include_is_active}
 
 -- the span, moved, still ends within the last position
 abbrev pub Fits : ℕ → OptionalSpan → Type 0

@@ -4,9 +4,10 @@ use Rattle.wit_data.specs.declared.world.WorldItem.{WorldItem}
 use Rattle.wit_data.specs.declared.world.WorldItem.TheVariants as item
 use Rattle.wit_graph_data.specs.declared.features.Features.{Features}
 use Rattle.wit_remap_spec.specs.Kept.{KeptIds}
-use Rattle.wit_link_spec.specs.Gates.{function_is_active, is_active}
+use Rattle.wit_link_spec.specs.Gates.{is_active}
 use Rattle.wit_link_spec.specs.declared.addition.Activity.{Activity}
 use Rattle.wit_remap.specs.declared.part.Part.{Part}
+use Rattle.wit_link_spec.specs.steps.Parts.{function_is_active}
 
 -- the flag at an index
 abbrev pub flag : List Bool → ℕ → Bool

@@ -1,6 +1,6 @@
 -- Parts of the definitions under names of their own, for contracts of inner functions and for proofs. Each is what stands
 -- in a definition in its place, so none has to be believed.
-use Rattle.std.specs.Prelude.{option_map, ℕ, List, ◌++◌, codes, ◌+◌, map, filter, length, if◌then◌else◌, ◌≡◌, flat_map, option_to_list}
+use Rattle.std.specs.Prelude.{option_map, ℕ, List, ◌++◌, codes, ◌+◌, map, filter, length, if◌then◌else◌, ◌≡◌, flat_map, option_to_list, nat_eq, Some}
 use Rattle.wit_data.specs.Kind.{map_handle, map_kind, map_type, referred_in, KindPart, kind_parts}
 use Rattle.wit_sources.specs.Span.{moved_by, OptionalSpan}
 use Rattle.wit_data.specs.declared.types.Case.{Case}
@@ -108,3 +108,16 @@ IsBorrow types t = SomeAt types t (λ (def : TypeDef). (r : ℕ) × (def.kind �
 -- those of the fields, cases and flags of a kind
 abbrev pub kind_spans : TypeDefKind → List OptionalSpan
 kind_spans k = flat_map (λ (p : KindPart). option_to_list p.span) (kind_parts k)
+
+-- the maps of an include of world `from` into world `into` of package `home`: copies for what is copied,
+-- plain values (no `own` is made), labels renamed
+abbrev pub include_maps : (ℕ → ℕ) → (ℕ → ℕ) → (List ℕ → List ℕ) → ℕ → ℕ → ℕ → Maps
+include_maps types interfaces renamed from into home = record {
+  types = types;
+  values = types;
+  interfaces = interfaces;
+  worlds = λ w. if nat_eq w from then into else w;
+  home = λ p. Some home;
+  labels = λ w name. if nat_eq w from then renamed name else name;
+  offset = 0;
+}

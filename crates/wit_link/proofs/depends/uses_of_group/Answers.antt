@@ -2,10 +2,11 @@ use Rattle.std.proofs.Common.{◌≡◌, ◌∙◌, ◌++◌, ◌∷◌, [], Lis
 use Rattle.std.proofs.lemmas.Option.{slice_get_read}
 use Rattle.std.proofs.lemmas.List.{take_all}
 use Rattle.wit_values.specs.facts.Lists.{map-next}
-use Rattle.wit_link.specs.GroupOrder.{Unresolved, group_deps, names_of}
+use Rattle.wit_link.specs.GroupOrder.{Unresolved, names_of}
 use Rattle.wit_link.specs.steps.GroupOrderSteps.{found_deps}
 use Rattle.wit_link.proofs.Orders.{found_deps-are}
 use Rattle.wit_link.proofs.depends.uses_of_group.Goals as goal
+use Rattle.wit_link.specs.steps.Parts.{group_deps}
 
 pub loop-entry-preserved : goal.loop-entry-preserved
 loop-entry-preserved c =

@@ -3,9 +3,9 @@ use Rattle.std.specs.Map.{keys_of, lookup}
 use Rattle.wit_data.specs.declared.world.IncludeName.{IncludeName}
 use Rattle.wit_data.specs.declared.world.World.{World}
 use Rattle.wit_graph_data.specs.declared.graph.Graph.{Graph}
-use Rattle.wit_remap_spec.specs.Image.{Maps, include_maps}
+use Rattle.wit_remap_spec.specs.Image.{Maps}
 use Rattle.wit_labels.specs.Rename.{renamed_label}
-use Rattle.wit_link_spec.specs.Include.{belongs_to, copy_maps, interface_copy, is_copied, type_copy}
+use Rattle.wit_link_spec.specs.Include.{belongs_to, copy_maps, is_copied, type_copy}
 use Rattle.wit_remap.specs.Grown.{Grown}
 use Rattle.wit_remap.specs.facts.GrownFacts.{Grown-same}
 use Rattle.wit_link_include.specs.steps.Included.{NamesBelonging, NamesThere, goes, numbered, places, with_images}
@@ -14,6 +14,8 @@ use Rattle.wit_graph_theory.specs.facts.ListFacts.{get_at}
 use Rattle.wit_link_include.proofs.Standing.{copied_there, goes_there, keys_there}
 use Rattle.wit_link_include.proofs.SelectedIndices.{goes_where, told_where}
 use Rattle.wit_link_include.proofs.fresh_copies.add_copies.Goals as goal
+use Rattle.wit_link_spec.specs.steps.Parts.{interface_copy}
+use Rattle.wit_remap_spec.specs.steps.Parts.{include_maps}
 
 -- ---- the tables, of one graph
 

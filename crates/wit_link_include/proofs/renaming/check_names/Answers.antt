@@ -1,12 +1,12 @@
 use Rattle.std.proofs.Common.{rules, ◌≡◌, true, false, inr, length, ap, arith}
 use Rattle.std.specs.List.{list_any}
 use Rattle.std.specs.Str.{bytes_eq}
-use Rattle.wit_link_spec.specs.CauseText.{rename_text}
 use Rattle.wit_graph_data.specs.declared.cause.Cause.TheVariants as cause
 use Rattle.wit_graph_data.specs.declared.error_kind.ResolveErrorKind.TheVariants.{Semantic}
 use Rattle.wit_link_include.proofs.Steps.{lent_at}
 use Rattle.wit_link_include.proofs.Words.{first-unmatched, is-renamed, not-renamed, renamed-all, renamed-next}
 use Rattle.wit_link_include.proofs.renaming.check_names.Goals as goal
+use Rattle.wit_link_spec.specs.steps.Parts.{rename_text}
 
 pub returns-then-not-contains-clause-cause : goal.returns-then-not-contains-clause-cause
 returns-then-not-contains-clause-cause c =

@@ -3,10 +3,10 @@ use Rattle.std.proofs.lemmas.List.{length_push, take_all}
 use Rattle.std.proofs.lemmas.Map.Iter.{iter_end, iter_turn}
 use Rattle.wit_values.specs.Names.{deref_named}
 use Rattle.wit_data.specs.Foreign.{ForeignItem}
-use Rattle.wit_link_spec.specs.Gates.{some_active}
 use Rattle.wit_link_lookup.specs.steps.FeatureSteps.{IsMarked}
 use Rattle.wit_link_lookup.proofs.Flags.{flag-stays, is-added, is-skipped, items-next}
 use Rattle.wit_link_lookup.proofs.active_parts.mark_items.Goals as goal
+use Rattle.wit_link_spec.specs.steps.Parts.{some_active}
 
 pub loop-item-preserved-then-not-some_active : goal.loop-item-preserved-then-not-some_active
 loop-item-preserved-then-not-some_active c =

@@ -4,10 +4,10 @@ use Rattle.std.proofs.lemmas.Map.Iter.{iter_end, iter_turn}
 use Rattle.std.specs.Map.Iter.{deref_pair}
 use Rattle.wit_data.specs.Foreign.{ForeignItem}
 use Rattle.wit_names.specs.declared.package_name.PackageName.{PackageName}
-use Rattle.wit_link_spec.specs.Gates.{foreign_items}
 use Rattle.wit_link_lookup.specs.steps.FeatureSteps.{IsMarked}
 use Rattle.wit_link_lookup.proofs.Flags.{flag-stays, packages-next}
 use Rattle.wit_link_lookup.proofs.active_parts.mark_packages.Goals as goal
+use Rattle.wit_link_spec.specs.steps.Parts.{foreign_items}
 
 pub mark_items-requires : goal.mark_items-requires
 mark_items-requires c =

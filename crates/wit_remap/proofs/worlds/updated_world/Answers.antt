@@ -4,12 +4,12 @@ use Rattle.std.specs.Map.{keys_of}
 use Rattle.wit_data.specs.Entries.{Entry}
 use Rattle.wit_data.specs.facts.WorldKeyFacts.{same_key}
 use Rattle.wit_remap_spec.specs.Image.{entry_image}
-use Rattle.wit_link_spec.specs.Gates.{include_is_active}
 use Rattle.wit_remap.specs.steps.Fits.{EntriesFit, Fits, ItemFits}
 use Rattle.wit_remap.specs.steps.Movers.{maps_of}
 use Rattle.wit_remap.specs.steps.Parts.{kept_of}
 use Rattle.wit_remap.proofs.Kept.{Each-filter}
 use Rattle.wit_remap.proofs.worlds.updated_world.Goals as goal
+use Rattle.wit_link_spec.specs.steps.Parts.{include_is_active}
 
 pub updated_entries-requires-clause-fits : goal.updated_entries-requires-clause-fits
 updated_entries-requires-clause-fits c =

@@ -1,7 +1,7 @@
 use Rattle.std.proofs.Common.{rules, ◌∙◌, ap, filter}
 use Rattle.std.proofs.lemmas.Fn.{filter_same}
-use Rattle.wit_link_spec.specs.Gates.{include_is_active}
 use Rattle.wit_remap.proofs.part.Part.cut_includes.Goals as goal
+use Rattle.wit_link_spec.specs.steps.Parts.{include_is_active}
 
 pub returns : goal.returns
 returns c =

@@ -1,0 +1,12 @@
+-- Parts of the definitions under names of their own, for contracts of inner functions and for proofs. Each is what stands
+-- in a definition in its place, so none has to be believed.
+use Rattle.std.specs.Prelude.{ℕ, List, position, filter_map}
+use Rattle.wit_data.specs.Foreign.{ForeignItem}
+use Rattle.wit_names.specs.PackageName.{same_package}
+use Rattle.wit_names.specs.declared.package_name.PackageName.{PackageName}
+use Rattle.wit_data.specs.declared.unresolved.UnresolvedPackage.{UnresolvedPackage}
+
+-- the unresolved packages that a package names things of, in the order in which it does; one that isn't handed
+-- in is passed over
+abbrev pub group_deps : List PackageName → UnresolvedPackage → List ℕ
+group_deps names u = filter_map (λ (e : PackageName × List ForeignItem). position (same_package e.0) names) u.foreign_deps

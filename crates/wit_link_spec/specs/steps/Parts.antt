@@ -1,0 +1,130 @@
+-- Parts of the definitions under names of their own, for contracts of inner functions and for proofs. Each is what stands
+-- in a definition in its place, so none has to be believed.
+use Rattle.std.specs.Prelude.{◌≡◌, ◌⊎◌, ℕ, true, Some, List, ◌++◌, codes, Bool, flat_map, ◌+◌, ◌&&◌, length, nat_eq, if◌then◌else◌, [], ◌∷◌}
+use Rattle.wit_digraph.specs.Relation.{Reaches}
+use Rattle.wit_graph_data.specs.Queries.{type_contents}
+use Rattle.wit_link_spec.specs.Addition.{Addition, own_type, active_includes, remapped_world}
+use Rattle.wit_remap_spec.specs.Borrows.{HoldsBorrow}
+use Rattle.wit_link_spec.specs.Gates.{type_is_active, is_active}
+use Rattle.wit_link_spec.specs.Lookup.{foreign_type_id}
+use Rattle.semver.specs.Identifiers.{parts_text}
+use Rattle.wit_values.specs.Version.{Parts}
+use Rattle.wit_names.specs.PackageName.{package_name_text}
+use Rattle.wit_names.specs.declared.package_name.PackageName.{PackageName}
+use Rattle.wit_link_spec.specs.CauseText.{excluded_text}
+use Rattle.std.specs.List.{list_any}
+use Rattle.wit_data.specs.Foreign.{ForeignItem, ForeignItems}
+use Rattle.wit_data.specs.declared.function.Function.{Function}
+use Rattle.wit_data.specs.declared.stability.Stability.{Stability}
+use Rattle.wit_data.specs.declared.world.WorldInclude.{WorldInclude}
+use Rattle.wit_graph_data.specs.declared.features.Features.{Features}
+use Rattle.wit_data.specs.declared.types.TypeDef.{TypeDef}
+use Rattle.wit_remap_spec.specs.Selected.{selected, rank}
+use Rattle.wit_digraph.specs.PostOrder.{post_order}
+use Rattle.wit_data.specs.Entries.{Entry}
+use Rattle.wit_data.specs.Kind.{type_references}
+use Rattle.wit_data.specs.declared.world.World.{World}
+use Rattle.wit_data.specs.declared.world.WorldKey.{WorldKey}
+use Rattle.wit_elaboration.specs.Entries.{same_key}
+use Rattle.wit_graph_data.specs.declared.graph.Graph.{Graph}
+use Rattle.wit_link_spec.specs.Include.{belongs_to, is_owned_within, named_types, PartiallyLinked, with_include_of, EntryLists}
+use Rattle.wit_sources.specs.Span.{moved_by}
+use Rattle.wit_labels.specs.Setters.{setters_placed}
+use Rattle.wit_link_spec.specs.Added.{with_includes, finished_world}
+use Rattle.wit_graph_data.specs.Error.{NoCause}
+use Rattle.wit_link_spec.specs.WorldReasons.{IsCauseAtInclude, IsCauseAtWorld}
+
+-- the values of type t of the package hold a borrow: one of the package, or in a foreign type one of the graph
+abbrev pub MayHoldBorrow : Addition → ℕ → Type 0
+MayHoldBorrow a t =
+    HoldsBorrow a.unresolved.types t
+    ⊎ ((s : ℕ) × (s' : ℕ) × Reaches (type_contents a.unresolved.types) t s × (type_is_active a.features a.unresolved.types s ≡ true) × (foreign_type_id a.graph a.unresolved s ≡ Some s') × HoldsBorrow a.graph.types s')
+
+-- 9: a `@since` in a package without a version
+abbrev pub gate_without_version_text : PackageName → List ℕ
+gate_without_version_text name = codes "package [" ++ (package_name_text name ++ codes "] contains a feature gate with a version specifier, so it must have a version")
+
+-- 10: a `@since` past the package's version
+abbrev pub gate_unreleased_text : Parts → PackageName → Parts → List ℕ
+gate_unreleased_text since name version =
+    codes "feature gate cannot reference unreleased version " ++ (parts_text since ++ (codes " of package [" ++ (package_name_text name ++ (codes "] (current version " ++ (parts_text version ++ codes ")")))))
+
+-- 12: a type whose owner is left out; sort is `interface` or `world`
+abbrev pub excluded_owner_text : List ℕ → List ℕ
+excluded_owner_text sort = excluded_text sort ++ (codes "; this type is not gated by a feature but its " ++ (sort ++ codes " is"))
+
+-- 13: a type that its interface doesn't have
+abbrev pub type_not_defined_text : List ℕ → List ℕ
+type_not_defined_text name = codes "type `" ++ (name ++ codes "` not defined in interface")
+
+-- 14: a handle of what is no resource
+abbrev pub not_a_resource_text : List ℕ
+not_a_resource_text = codes "type used in a handle must be a resource"
+
+-- some gate lets the item be active
+abbrev pub some_active : Features → List Stability → Bool
+some_active features notes = list_any (is_active features) notes
+
+-- what is named of other packages, one after another
+abbrev pub foreign_items : ForeignItems → List ForeignItem
+foreign_items deps = flat_map (λ (e : PackageName × List ForeignItem). e.1) deps
+
+-- a function of an active interface or world is active where its gate is
+abbrev pub function_is_active : Features → Function → Bool
+function_is_active features f = is_active features f.stability
+
+-- an include of an active world is active where its gate is
+abbrev pub include_is_active : Features → WorldInclude → Bool
+include_is_active features i = is_active features i.stability
+
+-- the own active types of the package
+abbrev pub own_types : Addition → List TypeDef
+own_types a = selected (own_type a) a.unresolved.types
+
+-- is type t on a way from what an entry of world w names to a type that belongs to the world? It is reached from the
+-- one, and the other from it
+abbrev pub is_on_way : Graph → ℕ → World → ℕ → Bool
+is_on_way g w world t = list_any (nat_eq t) (named_types g world) && list_any (is_owned_within g w world) (post_order (type_references g.types) t)
+
+abbrev pub interface_copy : Graph → World → ℕ → ℕ
+interface_copy g world i = if belongs_to g world i then length g.interfaces + rank (belongs_to g world) i else i
+
+-- does a list have an entry under this key?
+abbrev pub has_key : List Entry → WorldKey → Bool
+has_key entries k = list_any (λ (e : Entry). same_key k e.0) entries
+
+-- an include of the package with the id and the span that it has in the graph
+abbrev pub updated_include : Addition → WorldInclude → WorldInclude
+updated_include a include = record include { id = remapped_world a include.id; span = moved_by a.offset include.span }
+
+-- one include more of the world that comes next
+abbrev pub with_include : Addition → ℕ → PartiallyLinked → WorldInclude → PartiallyLinked
+with_include a into b include = with_include_of (length a.graph.packages) into include.names (remapped_world a include.id) b
+
+-- world w of the package with all its active includes, over a partially linked graph
+abbrev pub with_all_includes : Addition → ℕ → World → Graph → PartiallyLinked
+with_all_includes a w world g = with_includes a w world (active_includes a world) g
+
+-- a world with its setters after their getters
+abbrev pub with_setters_placed : World → World
+with_setters_placed world = record world { imports = setters_placed world.imports; exports = setters_placed world.exports }
+
+-- the graph with a world behind its worlds, finished
+abbrev pub with_finished : Graph → World → Graph
+with_finished g world = record g { worlds = g.worlds ++ finished_world g world ∷ [] }
+
+-- a world with these lists
+abbrev pub with_entry_lists : World → EntryLists → World
+with_entry_lists world lists = record world { imports = lists.imports; exports = lists.exports }
+
+-- 16: a renaming of nothing
+abbrev pub rename_text : List ℕ → List ℕ
+rename_text name = codes "no import or export kebab-name `" ++ (name ++ codes "`. Note that an ID does not support renaming")
+
+-- include j of world k is accepted: no cause holds against it
+abbrev pub IncludeIsAccepted : Addition → ℕ → ℕ → Type 0
+IncludeIsAccepted a k j = NoCause (IsCauseAtInclude a k j)
+
+-- world k is accepted: no cause holds against it
+abbrev pub WorldIsAccepted : Addition → ℕ → Type 0
+WorldIsAccepted a k = NoCause (IsCauseAtWorld a k)
