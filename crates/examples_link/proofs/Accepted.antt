@@ -15,7 +15,6 @@ use Rattle.wit_data.specs.declared.world.WorldItem.TheVariants as item
 use Rattle.wit_elaboration.specs.examples.Examples.{empty_graph}
 use Rattle.wit_graph_theory.specs.examples.TestFacts.{all_are, all_at, at_are, is_empty, not_passed, nothing_in}
 use Rattle.wit_link_spec.specs.Addition.{Addition, own_worlds}
-use Rattle.wit_link_spec.specs.Cause.{AdditionIsAccepted}
 use Rattle.wit_link_spec.specs.Cause as reason
 use Rattle.wit_link_spec.specs.Gates.{OptionalSpan, package_spans}
 use Rattle.wit_link_spec.specs.Reasons.{AdditionOverflows, IsActiveFunction, IsResolved}
@@ -28,7 +27,7 @@ use Rattle.examples_link.proofs.WorldTests.{IsPlain, fine, plain_accepted}
 use Rattle.examples_link.specs.IncludedWorlds.{including}
 use Rattle.examples_link.specs.Packages.{adding, first_package, include_with, no_features}
 use Rattle.examples_link.specs.Pushes.{add_using}
-use Rattle.wit_link_spec.specs.steps.Parts.{IncludeIsAccepted}
+use Rattle.wit_link_spec.specs.steps.Parts.{IncludeIsAccepted, AdditionIsAccepted}
 
 -- ---- tests
 

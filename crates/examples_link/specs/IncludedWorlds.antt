@@ -17,9 +17,9 @@ use Rattle.wit_graph_data.specs.examples.Samples.{foo_bar, foo_bar_of, function_
 use Rattle.wit_graph_data.specs.declared.graph.Graph.{Graph}
 use Rattle.wit_labels.specs.examples.Examples.{named_as}
 use Rattle.wit_link_spec.specs.Addition.{Addition}
-use Rattle.wit_link_spec.specs.Cause.{AdditionIsAccepted}
 use Rattle.wit_link_spec.specs.Added.{added}
 use Rattle.examples_link.specs.Packages.{adding, bare, include_with, loose_world, main_name, no_features}
+use Rattle.wit_link_spec.specs.steps.Parts.{AdditionIsAccepted}
 
 -- ---- the included world
 

@@ -10,11 +10,11 @@ use Rattle.wit_elaboration.specs.examples.Examples.{empty_graph}
 use Rattle.wit_graph_data.specs.declared.graph.Graph.{Graph}
 use Rattle.wit_graph_data.specs.examples.Samples.{entry_of, foo_bar, interface_of, no_docs, sample, type_in, unnamed, world_of}
 use Rattle.wit_link_spec.specs.Addition.{Addition}
-use Rattle.wit_link_spec.specs.Cause.{AdditionIsAccepted}
 use Rattle.wit_link_spec.specs.Added.{added}
 use Rattle.wit_link_spec.specs.Gates.{package_spans}
 use Rattle.examples_link.specs.Packages.{adding, bare, feature_f, first_package, gate_f, gated, including_package, loose_interface, loose_world, main_name, naming_type, no_features}
 use Rattle.examples_link.specs.Values.{field_of, with_resource}
+use Rattle.wit_link_spec.specs.steps.Parts.{AdditionIsAccepted}
 
 -- ---- a package that uses another
 

@@ -17,10 +17,10 @@ use Rattle.wit_graph_data.specs.declared.cause.Cause.TheVariants as cause
 use Rattle.wit_graph_data.specs.declared.error_kind.ResolveErrorKind.TheVariants.{Semantic}
 use Rattle.wit_remap_spec.specs.FunctionMismatch.{FunctionMismatch, HaveFunctionMismatch, kinds_differ, parameter_counts_differ, parameter_names_differ, parameter_types_differ, result_counts_differ, results_differ}
 use Rattle.wit_graph_theory.specs.examples.TestFacts.{none_some}
-use Rattle.wit_merge_spec.specs.Cause.{EntriesDiffer, StructuresDiffer, IsMergeCause}
+use Rattle.wit_merge_spec.specs.Cause.{EntriesDiffer, IsMergeCause}
 use Rattle.wit_merge_spec.specs.Cause as reason
 use Rattle.wit_merge_spec.specs.Matches.{GraphMerge, TypePair, type_pairs}
-use Rattle.wit_merge_spec.specs.MismatchText.{linked, part_links, side_word, type_link}
+use Rattle.wit_merge_spec.specs.MismatchText.{linked, part_links, side_word}
 use Rattle.wit_merge_spec.specs.facts.DifferenceFacts.{first_here}
 use Rattle.wit_merge_spec.specs.Structure.{Feature, here, named, names, structure, structure_within, variant}
 use Rattle.wit_data.specs.declared.kind.Variant.TheVariants as variants
@@ -28,6 +28,7 @@ use Rattle.examples_merge.proofs.Passing.{differs_in_nothing}
 use Rattle.examples_merge.specs.Graphs.{merge_of_graphs, record_x, resource_t, taking}
 use Rattle.examples_merge.specs.Refusals.{ExamplesOfMismatches, holding, importing, naming, returning, taking_x}
 use Rattle.wit_remap_spec.specs.steps.Parts.{function_mismatch_text}
+use Rattle.wit_merge_spec.specs.steps.Parts.{StructuresDiffer, type_link}
 
 -- a function of one name in which two interfaces disagree
 pub disagreeing : (from into : Interface) (f g : Function) (text : List ℕ) → f.name ≡ g.name → Contains from.functions (g.name, g) → Contains into.functions (f.name, f) → FunctionMismatch g f text

@@ -35,7 +35,7 @@ use Rattle.wit_graph_theory.specs.examples.TestFacts.{all_are, all_at, all_uses,
 use Rattle.wit_link_spec.specs.Gates.{OptionalSpan}
 use Rattle.wit_remap_spec.specs.Borrows.{HoldsBorrow}
 use Rattle.wit_remap_spec.specs.Joined.{Disagree, HasStability}
-use Rattle.wit_merge_spec.specs.Cause.{EntriesDiffer, ItemsDiffer, StructuresDiffer, same_sort, AreJoined, HasNoMismatch, IsMergeCause, MergeIsAccepted, MergeOverflows, MergeReturnsBorrow, StabilitiesMismatch, graph_spans}
+use Rattle.wit_merge_spec.specs.Cause.{EntriesDiffer, ItemsDiffer, same_sort, AreJoined, HasNoMismatch, IsMergeCause, MergeIsAccepted, MergeOverflows, MergeReturnsBorrow, StabilitiesMismatch}
 use Rattle.wit_merge_spec.specs.Cause as merging
 use Rattle.wit_merge_spec.specs.Matches.{FirstDiffers, GraphMerge, Pair, TypePair, counterpart_interface, counterpart_item, counterpart_type, counterpart_world, matched_interface, matched_world, type_pairs}
 use Rattle.wit_merge_spec.specs.MismatchText.{side_word}
@@ -44,6 +44,7 @@ use Rattle.wit_merge_spec.specs.facts.DifferenceFacts.{same_no_first}
 use Rattle.wit_merge_spec.specs.Structure.{Feature, structure}
 use Rattle.wit_merge_laws.specs.facts.InterfacesStand.{option_is, option_so}
 use Rattle.wit_elaboration.specs.steps.Parts.{exported_interfaces, graph_package_uses}
+use Rattle.wit_merge_spec.specs.steps.Parts.{StructuresDiffer, graph_spans}
 
 -- ---- interfaces
 

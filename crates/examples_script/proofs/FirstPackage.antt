@@ -25,7 +25,7 @@ use Rattle.wit_graph_theory.specs.facts.OptionFacts.{some_same}
 use Rattle.wit_graph_theory.specs.examples.TestFacts.{none_in, none_some, not_passed, only_one}
 use Rattle.wit_link.specs.GroupOrder.{AreSorted, IsDefinedTwice, IsGroupOrder, IsSortCause, Unresolved, group_uses}
 use Rattle.wit_link_spec.specs.Addition.{Addition}
-use Rattle.wit_link_spec.specs.Cause.{AdditionIsAccepted, IsAdditionCause}
+use Rattle.wit_link_spec.specs.Cause.{IsAdditionCause}
 use Rattle.wit_link_spec.specs.Cause as reason
 use Rattle.wit_link_spec.specs.Gates.{IsAsked}
 use Rattle.wit_link_spec.specs.Gates as asked
@@ -37,6 +37,7 @@ use Rattle.wit_link_spec.specs.facts.WorldCauseFacts.{cause_world}
 use Rattle.wit_link.specs.Appending.{AreAdded, FilesPassTheEnd, IsGroupsCause, addition, files_end}
 use Rattle.wit_resolve_graph.specs.examples.Examples.{first_package}
 use Rattle.examples_script.specs.SourceExamples.{made_of}
+use Rattle.wit_link_spec.specs.steps.Parts.{AdditionIsAccepted}
 
 nowhere : {X : Type 0} (k : ℕ) (x : X) → slice_get [] k ≡ Some x → ⊥
 nowhere k x at = cc

@@ -14,7 +14,7 @@ use Rattle.wit_graph_data.specs.declared.error_kind.ResolveErrorKind.TheVariants
 use Rattle.wit_link.specs.GroupOrder.{AreSorted, IsSortCause, Unresolved}
 use Rattle.wit_link_resources.specs.steps.Leading.{AreRight}
 use Rattle.wit_link_spec.specs.Addition.{Addition}
-use Rattle.wit_link_spec.specs.Cause.{AdditionIsAccepted, IsAdditionCause}
+use Rattle.wit_link_spec.specs.Cause.{IsAdditionCause}
 use Rattle.wit_link_spec.specs.Added.{added}
 
 -- the addition of a package to a graph, under features, its spans moved by an offset
@@ -23,7 +23,7 @@ addition features g u offset = record { features = features; graph = g; unresolv
 
 -- the package is added: no cause holds against it, the graph is what comes of it, and its id is the next one
 pub record IsAdded (a : Addition) (new : Graph) (id : ℕ) : Type 0 where
-  pub accepted : AdditionIsAccepted a
+  pub accepted : NoCause (IsAdditionCause a)
   pub graph_is : new ≡ added a
   pub id_is : id ≡ length a.graph.packages
 

@@ -30,7 +30,3 @@ pub data IsAdditionCause (a : Addition) : ResolveErrorKind → Type 0 where
   borrow_in_result_15 : (span : OptionalSpan) (message : List ℕ) → ReturnsBorrow a span message → IsAdditionCause a (Semantic span message cause.BorrowInResult)
   offset_overflow_27 : AdditionOverflows a → IsAdditionCause a OffsetOverflow
   of_world : (k : ℕ) (error : ResolveErrorKind) → IsReached a k → IsCauseAtWorld a k error → IsAdditionCause a error
-
--- no cause holds against the addition
-abbrev pub AdditionIsAccepted : Addition → Type 0
-AdditionIsAccepted a = NoCause (IsAdditionCause a)

@@ -10,10 +10,11 @@ ghost use Rattle.wit_data.specs.declared.interface.Interface.{Interface};
 ghost use Rattle.wit_data.specs.declared.world.World.{World};
 ghost use Rattle.wit_remap_spec.specs.Selected.{selected_with_index};
 ghost use Rattle.wit_remap_spec.specs.ValueRemap.{item_function, world_functions};
-ghost use Rattle.wit_merge_spec.specs.Merged.{brought_functions, interface_functions, moved_functions};
+ghost use Rattle.wit_merge_spec.specs.Merged.{brought_functions, moved_functions};
 ghost use Rattle.wit_link_resources.specs.steps.Active.{seen};
 ghost use Rattle.wit_merge.specs.steps.Behind.{functions_of};
 ghost use Rattle.wit_merge_match.specs.steps.Matched.{AreMatches, merge_of_graphs, moves};
+ghost use Rattle.wit_merge_spec.specs.steps.Parts.{interface_functions};
 
 use crate::names::moves;
 use std::alloc::{AllocError, Global};

@@ -1,9 +1,10 @@
 //! The interfaces of two graphs as one.
 ghost use Rattle.std.specs.Prelude.{◌≡◌, ◌++◌, IfOk, OnOk, map};
 ghost use Rattle.wit_remap_spec.specs.Image.{function_image, interface_image};
-ghost use Rattle.wit_merge_spec.specs.Merged.{merge_maps, joined_graph, moved_interfaces};
+ghost use Rattle.wit_merge_spec.specs.Merged.{merge_maps, joined_graph};
 ghost use Rattle.wit_merge.specs.steps.UnionSteps.{FunctionMoves, FunctionsMove, brought_matched, functions_image, CanUnite, KnowsCounterparts, merging_of};
 ghost use Rattle.wit_values.specs.Table.{HasDistinctKeys};
+ghost use Rattle.wit_merge_spec.specs.steps.Parts.{moved_interfaces};
 
 use crate::merge_plan::MergePlan;
 use crate::names::push_moved;

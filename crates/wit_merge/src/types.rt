@@ -15,8 +15,9 @@ use wit_remap::Update;
 /// One that moves takes its place; to one that stays the stability of the other is joined.
 impl Part for TypeDef {
     ghost use Rattle.wit_remap_spec.specs.Image.{type_image};
-    ghost use Rattle.wit_merge_spec.specs.Merged.{with_type, merge_maps};
+    ghost use Rattle.wit_merge_spec.specs.Merged.{merge_maps};
     ghost use Rattle.wit_merge.specs.steps.UnionSteps.{TypeMoves};
+    ghost use Rattle.wit_merge_spec.specs.steps.Parts.{with_type};
 
     ghost can_move = { TypeMoves };
 

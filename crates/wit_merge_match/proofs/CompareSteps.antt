@@ -11,11 +11,12 @@ use Rattle.wit_data.specs.Kind.{type_references, variant_of}
 use Rattle.wit_merge_match.specs.steps.ComparisonSteps.{AreSides, AreThere, DifferHere, from_held, from_structure, id_of, into_held, into_structure, kind_at, matched_by, structure_of}
 use Rattle.wit_merge_spec.specs.facts.DifferenceFacts.{first_front, first_here}
 use Rattle.wit_merge_match.specs.steps.Kinds.{HeadsDiffer, ending_text}
-use Rattle.wit_merge_spec.specs.Structure.{Content, Feature, FirstDifference, absent, difference_text, head_features, held_features, here, is_named, kind_features, named, part_features, primitive, structure, variant}
+use Rattle.wit_merge_spec.specs.Structure.{Content, Feature, FirstDifference, absent, difference_text, head_features, held_features, here, is_named, kind_features, named, primitive, structure, variant}
 use Rattle.wit_merge_match.specs.declared.comparison.Sides.{Sides}
 use Rattle.wit_merge_match.specs.declared.heads.Ending.{Ending}
 use Rattle.wit_merge_match.specs.declared.heads.Ending.TheVariants.{Kinds, Types}
 use Rattle.wit_merge_match.proofs.WalkSteps.{structure_is}
+use Rattle.wit_merge_spec.specs.steps.Parts.{part_features}
 
 content_same : (a b : Content) → here a ≡ here b → a ≡ b
 content_same a b same = ap (λ (f : Feature). f.content) same

@@ -6,9 +6,10 @@ use Rattle.std.specs.Option.{option_map_or}
 use Rattle.wit_data.specs.declared.interface.Interface.{Interface}
 use Rattle.wit_data.specs.declared.world.World.{World}
 use Rattle.wit_graph_data.specs.declared.graph.Package.{Package}
-use Rattle.wit_merge_spec.specs.Matches.{GraphMerge, common_entries, common_types, counterpart_interface, counterpart_world, in_package_order, interface_pairs, type_pairs, world_pairs}
+use Rattle.wit_merge_spec.specs.Matches.{GraphMerge, counterpart_interface, counterpart_world, in_package_order, interface_pairs, type_pairs, world_pairs}
 use Rattle.wit_merge_spec.specs.MismatchText.{part_links}
 use Rattle.wit_merge_match.specs.steps.Structures.{interface_part, world_part}
+use Rattle.wit_merge_spec.specs.steps.Parts.{common_types, common_entries}
 
 -- what the first ones lack, and there are no others, all lack
 pub none_past : {X : Type 0} (found : List (Option X)) (n : ℕ) → length found ≤ n → ((k : ℕ) → k < n → get_or found k None ≡ None) → (i : ℕ) → get_or found i None ≡ None

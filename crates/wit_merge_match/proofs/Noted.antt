@@ -7,9 +7,10 @@ use Rattle.wit_data.specs.declared.world.World.{World}
 use Rattle.wit_elaboration.specs.Entries.{Entry}
 use Rattle.wit_graph_data.specs.declared.graph.Graph.{Graph}
 use Rattle.wit_graph_theory.specs.facts.PackagesAcyclic.{length-numbered, numbered_into}
-use Rattle.wit_merge_spec.specs.Matches.{WorldLabel, interface_at_label, labels_of_world}
+use Rattle.wit_merge_spec.specs.Matches.{WorldLabel, interface_at_label}
 use Rattle.wit_merge_match.specs.steps.Matched.{AreLabelled}
 use Rattle.wit_link_spec.specs.facts.DropFacts.{drop_at}
+use Rattle.wit_merge_spec.specs.steps.Parts.{labels_of_world}
 
 -- what some things give, from a place on
 from_place : {X Y : Type 0} (f : X → List Y) (xs : List X) (k n : ℕ) (x : X) → n ≡ suc k → slice_get xs k ≡ Some x → flat_map f (drop k xs) ≡ f x ++ flat_map f (drop n xs)

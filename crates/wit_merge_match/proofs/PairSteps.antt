@@ -19,10 +19,10 @@ use Rattle.wit_data.specs.declared.world.WorldKey.TheVariants as key
 use Rattle.wit_graph_data.specs.Queries.{topological_packages}
 use Rattle.wit_graph_data.specs.declared.graph.Package.{Package}
 use Rattle.wit_digraph.specs.facts.MemberFacts.{Contains-cons_cases, Contains-nil}
-use Rattle.wit_merge_spec.specs.Cause.{StructuresDiffer}
-use Rattle.wit_merge_spec.specs.Matches.{GraphMerge, TypePair, common_entries, common_types, counterpart_item, entry_pairs, in_package_order, interface_pairs, item_pairs, matched_interface, matched_world, paired, type_pairs, world_pairs}
-use Rattle.wit_merge_spec.specs.MismatchText.{entry_link, linked, type_link}
+use Rattle.wit_merge_spec.specs.Matches.{GraphMerge, TypePair, counterpart_item, entry_pairs, in_package_order, interface_pairs, item_pairs, matched_interface, matched_world, paired, type_pairs, world_pairs}
+use Rattle.wit_merge_spec.specs.MismatchText.{entry_link, linked}
 use Rattle.wit_merge_match.specs.steps.Structures.{FirstMismatch, NoneDiffer, common_pair, interface_part, of_package, package_interface_pairs, package_world_pairs, side_pairs, unnamed_pairs, world_part}
+use Rattle.wit_merge_spec.specs.steps.Parts.{common_types, common_entries, StructuresDiffer, type_link}
 
 module _ (m : GraphMerge) where
   -- ---- end to end

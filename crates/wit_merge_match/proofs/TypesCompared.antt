@@ -21,9 +21,8 @@ use Rattle.wit_elaboration.specs.facts.FreshEntries.{same_key-true}
 use Rattle.wit_elaboration.specs.Entries.{same_key}
 use Rattle.wit_graph_theory.specs.facts.ListFacts.{found_at, place_of}
 use Rattle.wit_graph_theory.specs.facts.OptionFacts.{some_parts}
-use Rattle.wit_merge_spec.specs.Cause.{StructuresDiffer}
 use Rattle.wit_merge_spec.specs.Matches.{GraphMerge, TypePair, counterpart_interface, counterpart_item, counterpart_key, counterpart_type, counterpart_world, matched_interface, matched_world, paired}
-use Rattle.wit_merge_spec.specs.MismatchText.{linked, type_link}
+use Rattle.wit_merge_spec.specs.MismatchText.{linked}
 use Rattle.wit_merge_match.specs.steps.ComparisonSteps.{IsSound, from_structure, into_structure, matched_by}
 use Rattle.wit_merge_spec.specs.facts.DifferenceFacts.{same_no_first}
 use Rattle.wit_merge_spec.specs.Structure.{DifferInStructure}
@@ -32,6 +31,7 @@ use Rattle.wit_merge_match.specs.declared.comparison.Sides.{Sides}
 use Rattle.wit_merge_match.specs.Differing.{merging_of}
 use Rattle.wit_merge_match.specs.steps.Structures.{AreComparable, FirstMismatch, IsOf, IsThere, ListsThere, NoneDiffer, TypesThere}
 use Rattle.wit_merge_match.specs.declared.matched_graphs.MatchedGraphs.{MatchedGraphs}
+use Rattle.wit_merge_spec.specs.steps.Parts.{StructuresDiffer, type_link}
 
 -- ---- what a comparison tells of two types
 

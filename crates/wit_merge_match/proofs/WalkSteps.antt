@@ -18,10 +18,11 @@ use Rattle.wit_data.specs.declared.types.Type_.TheVariants as type
 use Rattle.wit_merge_match.specs.steps.ComparisonSteps.{AreAtParts, AreSides, AreThere, IsAtPart, frame_step, from_held, from_structure, into_held, into_structure, kind_at, matched_by, path_of}
 use Rattle.wit_merge_spec.specs.facts.DifferenceFacts.{first_behind, first_front, first_within}
 use Rattle.wit_merge_match.specs.steps.Kinds.{step_at, steps_of}
-use Rattle.wit_merge_spec.specs.Structure.{Content, Feature, FirstDifference, absent, head_features, held_features, here, is_named, kind_features, named, names, part_features, structure, within}
+use Rattle.wit_merge_spec.specs.Structure.{Content, Feature, FirstDifference, absent, head_features, held_features, here, is_named, kind_features, named, names, structure, within}
 use Rattle.wit_merge_spec.specs.facts.StructureFacts.{part_refers, structure_at}
 use Rattle.wit_merge_match.specs.declared.comparison.Sides.{Sides}
 use Rattle.wit_merge_match.specs.declared.frames.Frame.{Frame}
+use Rattle.wit_merge_spec.specs.steps.Parts.{part_features}
 
 -- ---- lists
 

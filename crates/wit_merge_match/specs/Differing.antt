@@ -11,9 +11,10 @@ use Rattle.wit_graph_data.specs.declared.graph.Package.{Package}
 use Rattle.wit_remap_spec.specs.FunctionMismatch.{HaveFunctionMismatch}
 use Rattle.wit_merge_spec.specs.Cause.{EntriesDiffer, ItemsDiffer}
 use Rattle.wit_merge_spec.specs.Matches.{GraphMerge, counterpart_interface, counterpart_item, counterpart_world}
-use Rattle.wit_merge_spec.specs.MismatchText.{absent_text, entry_link, linked, other_interface_text, part_links, side_word}
+use Rattle.wit_merge_spec.specs.MismatchText.{entry_link, linked, part_links, side_word}
 use Rattle.wit_merge_match.specs.steps.Matched.{AreMatches, merge_of_graphs}
 use Rattle.wit_merge_match.specs.declared.matched_graphs.MatchedGraphs.{MatchedGraphs}
+use Rattle.wit_merge_spec.specs.steps.Parts.{absent_text, other_interface_text}
 
 -- the other graph goes into the graph, and its spans move by this offset
 abbrev pub merge_of_graphs_by : Graph → Graph → ℕ → GraphMerge

@@ -1,7 +1,8 @@
 //! The messages of mismatches: what differs, and where.
 ghost use Rattle.std.specs.Prelude.{◌≡◌, ◌∷◌, [], IfOk, string_bytes};
 ghost use Rattle.wit_graph_data.specs.IdText.{key_text};
-ghost use Rattle.wit_merge_spec.specs.MismatchText.{absent_text, entry_count_text, entry_link, linked, part_links, type_link};
+ghost use Rattle.wit_merge_spec.specs.MismatchText.{entry_link, linked, part_links};
+ghost use Rattle.wit_merge_spec.specs.steps.Parts.{type_link, entry_count_text, absent_text};
 
 use std::alloc::{AllocError, Global};
 use wit_data::{PackageName, WorldKey};

@@ -14,7 +14,6 @@ use Rattle.wit_names.specs.declared.package_name.PackageName.{PackageName}
 use Rattle.wit_data.specs.declared.stability.Stability.{Stability}
 use Rattle.wit_graph_data.specs.Error.{NoCause}
 use Rattle.wit_graph_data.specs.declared.cause.Cause.TheVariants as cause
-use Rattle.wit_graph_data.specs.declared.graph.Graph.{Graph}
 use Rattle.wit_graph_data.specs.declared.error_kind.ResolveErrorKind.{ResolveErrorKind}
 use Rattle.wit_graph_data.specs.declared.error_kind.ResolveErrorKind.TheVariants.{InvalidTransitiveDependency, PackageCycle, StabilityMismatch, Semantic, OffsetOverflow}
 use Rattle.wit_elaboration.specs.AllElaborated.{DependsOnItself, HasWorldInConflict, UsesItself}
@@ -31,19 +30,13 @@ use Rattle.wit_data.specs.declared.world.WorldItem.TheVariants as item
 use Rattle.wit_graph_data.specs.IdText.{key_text}
 use Rattle.wit_graph_data.specs.declared.graph.Package.{Package}
 use Rattle.wit_remap_spec.specs.FunctionMismatch.{HaveFunctionMismatch}
-use Rattle.wit_merge_spec.specs.MismatchText.{absent_text, entry_count_text, entry_link, linked, other_interface_text, other_sort_text, part_links, side_word}
+use Rattle.wit_merge_spec.specs.MismatchText.{entry_link, linked, part_links, side_word}
 use Rattle.wit_merge_spec.specs.Structure.{DifferInStructure}
 
 -- What has to agree of the things that a merge makes one (24), and what a mismatch says: of functions of one name
 -- in matched interfaces, of the entries of matched worlds, and of matched types. Of several mismatches any may be told,
 -- but of types the first alone.
 -- Source: `build_function`, `build_world` and `match_world_item` of wit-parser 0.263.0.
-
--- ---- types
-
--- how type t of the incoming graph and type t' of the graph, which are matched, differ in structure, the end of a message
-abbrev pub StructuresDiffer : GraphMerge → ℕ → ℕ → List ℕ → Type 0
-StructuresDiffer m = DifferInStructure m.other.types m.graph.types (counterpart_type m)
 
 -- ---- worlds
 
@@ -57,9 +50,9 @@ same_sort from into = false
 -- an item that comes in and the one under its key differ
 pub data ItemsDiffer (m : GraphMerge) (from into : WorldItem) : List ℕ → Type 0 where
   -- they aren't of one sort
-  sorts : same_sort from into ≡ false → ItemsDiffer m from into other_sort_text
+  sorts : same_sort from into ≡ false → ItemsDiffer m from into (codes "world items do not have the same type")
   -- interfaces, of which the first isn't matched with the second
-  interfaces : (i i' : ℕ) → item_interface from ≡ i ∷ [] → item_interface into ≡ i' ∷ [] → counterpart_interface m i ≢ Some i' → ItemsDiffer m from into other_interface_text
+  interfaces : (i i' : ℕ) → item_interface from ≡ i ∷ [] → item_interface into ≡ i' ∷ [] → counterpart_interface m i ≢ Some i' → ItemsDiffer m from into (codes "interfaces are not the same")
   -- matched interfaces without a name that disagree in a function; of those with a name that is told once, of the graphs
   unnamed : (text : List ℕ) (p : Pair (counterpart_interface m) m.other.interfaces m.graph.interfaces) → item_interface from ≡ p.x ∷ [] → item_interface into ≡ p.x' ∷ [] → p.from.name ≡ None
       → HaveFunctionMismatch p.from p.into text → ItemsDiffer m from into text
@@ -67,9 +60,9 @@ pub data ItemsDiffer (m : GraphMerge) (from into : WorldItem) : List ℕ → Typ
 -- the imports or the exports of matched worlds differ; word is `import` or `export`
 pub data EntriesDiffer (m : GraphMerge) (word : List ℕ) (from into : List Entry) : List ℕ → Type 0 where
   -- they aren't as many
-  count : length from ≢ length into → EntriesDiffer m word from into (entry_count_text word)
+  count : length from ≢ length into → EntriesDiffer m word from into (codes "world contains different number of " ++ (word ++ codes "s than expected"))
   -- there is none under the key of an entry
-  absent : (e : Entry) → Contains from e → counterpart_item m into e.0 ≡ None → EntriesDiffer m word from into (absent_text word (key_text m.other.packages m.other.interfaces e.0))
+  absent : (e : Entry) → Contains from e → counterpart_item m into e.0 ≡ None → EntriesDiffer m word from into (word ++ (codes " `" ++ (key_text m.other.packages m.other.interfaces e.0 ++ codes "` not found in target world")))
   -- there is one, and it differs
   apart : (e : Entry) (there : WorldItem) (text : List ℕ) → Contains from e → counterpart_item m into e.0 ≡ Some there → ItemsDiffer m e.1 there text
       → EntriesDiffer m word from into (linked (entry_link word (key_text m.other.packages m.other.interfaces e.0) ∷ []) text)
@@ -83,7 +76,7 @@ pub data GraphsDiffer (m : GraphMerge) : List ℕ → Type 0 where
   worlds : (p : Pair (counterpart_world m) m.other.worlds m.graph.worlds) (home : ℕ) (there : Package) (exported : Bool) (text : List ℕ) → p.from.package ≡ Some home
       → slice_get m.other.packages home ≡ Some there → EntriesDiffer m (side_word exported) (entries_of exported p.from) (entries_of exported p.into) text
       → GraphsDiffer m (linked (part_links there.name (codes "world") p.from.name) text)
-  types : (message : List ℕ) → FirstDiffers (StructuresDiffer m) (type_pairs m) message → GraphsDiffer m message
+  types : (message : List ℕ) → FirstDiffers (DifferInStructure m.other.types m.graph.types (counterpart_type m)) (type_pairs m) message → GraphsDiffer m message
 
 -- nothing differs that has to agree, so no mismatch (24) is told, and there is a union
 abbrev pub HasNoMismatch : GraphMerge → Type 0
@@ -118,15 +111,11 @@ pub record MergeReturnsBorrow (m : GraphMerge) (message : List ℕ) : Type 0 whe
 
 -- ---- 27: a position that is too large
 
--- all the spans of a graph
-abbrev pub graph_spans : Graph → List OptionalSpan
-graph_spans g = flat_map type_spans g.types ++ (flat_map interface_spans g.interfaces ++ flat_map world_spans g.worlds)
-
 -- 27: a span of the incoming graph would end past 4294967295, whether it moves or not
 pub record MergeOverflows (m : GraphMerge) : Type 0 where
   pub from : ℕ
   pub to : ℕ
-  pub known : Contains (graph_spans m.other) (Some (from, to))
+  pub known : Contains (flat_map type_spans m.other.types ++ (flat_map interface_spans m.other.interfaces ++ flat_map world_spans m.other.worlds)) (Some (from, to))
   pub past : 2 ^ 32 ≤ to + m.offset
 
 -- why the two graphs of a merge can't be made one

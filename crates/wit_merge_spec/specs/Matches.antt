@@ -25,7 +25,7 @@ use Rattle.wit_graph_data.specs.Queries.{topological_packages}
 use Rattle.wit_graph_data.specs.declared.graph.Graph.{Graph}
 use Rattle.wit_graph_data.specs.declared.graph.Package.{Package}
 use Rattle.wit_graph_data.specs.Named.{interface_type}
-use Rattle.wit_merge_spec.specs.MismatchText.{entry_link, linked, part_links, type_link}
+use Rattle.wit_merge_spec.specs.MismatchText.{entry_link, linked, part_links}
 
 -- a graph, another one that goes into it, and an offset by which the spans of that move
 pub record GraphMerge : Type 0 where
@@ -65,13 +65,11 @@ abbrev pub interface_at_label : ℕ → Bool → WorldKey → WorldItem → List
 interface_at_label w exported (key.Name label) (item.Interface i stability docs span external_id) = (i, record { world = w; exported = exported; label = label }) ∷ []
 interface_at_label w exported k held = []
 
--- the interfaces under labels of world w, each with its label
-abbrev pub labels_of_world : ℕ → World → List (ℕ × WorldLabel)
-labels_of_world w world = flat_map (λ (e : Entry). interface_at_label w false e.0 e.1) world.imports ++ flat_map (λ (e : Entry). interface_at_label w true e.0 e.1) world.exports
-
--- the interfaces under labels of all worlds, each with its label
+-- the interfaces under labels of all worlds, each with its label; in each world those of imports first
 abbrev pub world_labels : List World → List (ℕ × WorldLabel)
-world_labels worlds = flat_map (λ (e : ℕ × World). labels_of_world e.0 e.1) (enumerate_from 0 worlds)
+world_labels worlds =
+    flat_map (λ (e : ℕ × World).
+    flat_map (λ (i : Entry). interface_at_label e.0 false i.0 i.1) e.1.imports ++ flat_map (λ (i : Entry). interface_at_label e.0 true i.0 i.1) e.1.exports) (enumerate_from 0 worlds)
 
 -- the interface without a name that an item is
 abbrev pub unnamed_item : List Interface → WorldItem → Option ℕ
@@ -147,17 +145,15 @@ pub record TypePair : Type 0 where
 
 -- two types of this name, behind these links
 abbrev pub paired : List (List ℕ) → List ℕ → ℕ → ℕ → TypePair
-paired links name t t' = record { from = t; into = t'; links = links ++ (type_link name ∷ []) }
+paired links name t t' = record { from = t; into = t'; links = links ++ ((codes "mismatch in type `" ++ (name ++ codes "`")) ∷ []) }
 
 -- ---- of interfaces
 
--- the types of one name of two interfaces, in the order of the incoming one
-abbrev pub common_types : List (List ℕ) → Interface → Interface → List TypePair
-common_types links from into = flat_map (λ (e : List ℕ × ℕ). option_map_or (λ t'. paired links e.0 e.1 t' ∷ []) (lookup (bytes_eq e.0) into.types) []) from.types
-
--- those of interface i and of the one that is matched with it
+-- the types of one name of interface i and of the one that is matched with it, in the order of the incoming one
 abbrev pub interface_pairs : GraphMerge → List (List ℕ) → ℕ → List TypePair
-interface_pairs m links i = option_map_or (λ (from : Interface). option_map_or (common_types links from) (matched_interface m i) []) (slice_get m.other.interfaces i) []
+interface_pairs m links i =
+    option_map_or (λ (from : Interface). option_map_or (λ (into : Interface).
+    flat_map (λ (e : List ℕ × ℕ). option_map_or (λ t'. paired links e.0 e.1 t' ∷ []) (lookup (bytes_eq e.0) into.types) []) from.types) (matched_interface m i) []) (slice_get m.other.interfaces i) []
 
 -- ---- of worlds
 
@@ -173,13 +169,11 @@ abbrev pub entry_pairs : GraphMerge → List (List ℕ) → List ℕ → List En
 entry_pairs m links word into (key.Name label, held) = option_map_or (item_pairs m (links ++ (entry_link word label ∷ [])) label held) (counterpart_item m into (key.Name label)) []
 entry_pairs m links word into (key.Interface i, held) = []
 
--- those of two worlds, imports before exports
-abbrev pub common_entries : GraphMerge → List (List ℕ) → World → World → List TypePair
-common_entries m links from into = flat_map (entry_pairs m links (codes "import") into.imports) from.imports ++ flat_map (entry_pairs m links (codes "export") into.exports) from.exports
-
--- those of world w and of the one that is matched with it
+-- those of world w and of the one that is matched with it, imports before exports
 abbrev pub world_pairs : GraphMerge → List (List ℕ) → ℕ → List TypePair
-world_pairs m links w = option_map_or (λ (from : World). option_map_or (common_entries m links from) (matched_world m w) []) (slice_get m.other.worlds w) []
+world_pairs m links w =
+    option_map_or (λ (from : World). option_map_or (λ (into : World).
+    flat_map (entry_pairs m links (codes "import") into.imports) from.imports ++ flat_map (entry_pairs m links (codes "export") into.exports) from.exports) (matched_world m w) []) (slice_get m.other.worlds w) []
 
 -- ---- of graphs
 

@@ -43,20 +43,11 @@ moves_world m w = not (is_some (counterpart_world m w))
 abbrev pub moves_package : GraphMerge → ℕ → Bool
 moves_package m p = not (is_some (counterpart_package m p))
 
--- the things that move, in their order; worlds with their places
-abbrev pub moved_types : GraphMerge → List TypeDef
-moved_types m = selected (moves_type m) m.other.types
-
-abbrev pub moved_interfaces : GraphMerge → List Interface
-moved_interfaces m = selected (moves_interface m) m.other.interfaces
-
+-- the worlds that move, with their places, in their order
 abbrev pub moved_worlds : GraphMerge → List (ℕ × World)
 moved_worlds m = selected_with_index (moves_world m) m.other.worlds
 
--- of a matched interface, the types that move, and the functions whose names its counterpart doesn't have
-abbrev pub brought_types : GraphMerge → Interface → List (List ℕ × ℕ)
-brought_types m from = filter (λ (e : List ℕ × ℕ). moves_type m e.1) from.types
-
+-- of a matched interface the functions whose names its counterpart doesn't have
 abbrev pub brought_functions : Interface → Interface → List (List ℕ × Function)
 brought_functions from into = filter (λ (e : List ℕ × Function). not (is_some (lookup (bytes_eq e.0) into.functions))) from.functions
 
@@ -89,20 +80,18 @@ merge_maps_without_owns m = record {
 
 -- ---- the functions that move
 
--- those that an interface brings: all of one that moves, of a matched one those that its counterpart doesn't have
-abbrev pub interface_functions : GraphMerge → ℕ → Interface → List Function
-interface_functions m i from = map (λ (e : List ℕ × Function). e.1) (option_map_or (brought_functions from) (matched_interface m i) from.functions)
-
--- the functions that move: what interfaces bring, and those of the worlds that move
+-- the functions that move: all of an interface that moves, of a matched one those that its counterpart doesn't have, and
+-- those of the worlds that move
 abbrev pub moved_functions : GraphMerge → List Function
 moved_functions m =
-    flat_map (λ (e : ℕ × Interface). interface_functions m e.0 e.1) (enumerate_from 0 m.other.interfaces) ++ flat_map (λ (e : ℕ × World). world_functions e.1) (moved_worlds m)
+    flat_map (λ (e : ℕ × Interface). map (λ (f : List ℕ × Function). f.1) (option_map_or (brought_functions e.1) (matched_interface m e.0) e.1.functions)) (enumerate_from 0 m.other.interfaces)
+    ++ flat_map (λ (e : ℕ × World). world_functions e.1) (moved_worlds m)
 
 -- ---- where values become an `own`
 
 -- what comes into the graph, as values ask for `own`s. A matched type is what it is in the graph
 abbrev pub remap_of_merge : GraphMerge → ValueRemap
-remap_of_merge m = record { graph_types = m.graph.types; new_types = moved_types m; new_functions = moved_functions m; count = length m.other.types; ids = merge_maps_without_owns m }
+remap_of_merge m = record { graph_types = m.graph.types; new_types = selected (moves_type m) m.other.types; new_functions = moved_functions m; count = length m.other.types; ids = merge_maps_without_owns m }
 
 -- what ids are remapped to, with values at their `own`s
 abbrev pub merge_maps : GraphMerge → Maps
@@ -129,20 +118,17 @@ merge_remap m = record {
 
 -- ---- types
 
--- a type, with the stability of another joined to it
-abbrev pub with_type : TypeDef → TypeDef → TypeDef
-with_type from into = record into { stability = joined_stability from.stability into.stability }
-
--- a type of the graph, by its place and what it is: with what is matched with it, if something is
+-- a type of the graph, by its place and what it is: with the stability of what is matched with it joined to its own, if
+-- something is
 abbrev pub joined_type : GraphMerge → ℕ × TypeDef → TypeDef
-joined_type m e = option_map_or (λ (p : ℕ × TypeDef). with_type p.1 e.1) (counterpart_of (counterpart_type m) m.other.types e.0) e.1
+joined_type m e = option_map_or (λ (p : ℕ × TypeDef). record e.1 { stability = joined_stability p.1.stability e.1.stability }) (counterpart_of (counterpart_type m) m.other.types e.0) e.1
 
 -- ---- interfaces
 
--- an interface, with what another brings behind what it has
+-- an interface, with the types of another that move and the functions that it doesn't have behind its own
 abbrev pub with_interface : GraphMerge → Interface → Interface → Interface
 with_interface m from into = record into {
-  types = into.types ++ map (λ (e : List ℕ × ℕ). (e.0, merged_type m e.1)) (brought_types m from);
+  types = into.types ++ map (λ (e : List ℕ × ℕ). (e.0, merged_type m e.1)) (filter (λ (e : List ℕ × ℕ). moves_type m e.1) from.types);
   functions = into.functions ++ map (λ (e : List ℕ × Function). (e.0, function_image (merge_maps m) e.1)) (brought_functions from into);
   stability = joined_stability from.stability into.stability;
 }
@@ -201,7 +187,7 @@ package_image m home = record home {
 abbrev pub joined_graph : GraphMerge → Graph
 joined_graph m = record {
   types = map (joined_type m) (enumerate_from 0 m.graph.types) ++ types_behind (remap_of_merge m);
-  interfaces = map (joined_interface m) (enumerate_from 0 m.graph.interfaces) ++ map (interface_image (merge_maps m)) (moved_interfaces m);
+  interfaces = map (joined_interface m) (enumerate_from 0 m.graph.interfaces) ++ map (interface_image (merge_maps m)) (selected (moves_interface m) m.other.interfaces);
   worlds = map (joined_world m) (enumerate_from 0 m.graph.worlds) ++ map (λ (e : ℕ × World). world_image (merge_maps m) e.0 e.1) (moved_worlds m);
   packages = map (joined_package m) (enumerate_from 0 m.graph.packages) ++ map (package_image m) (selected (moves_package m) m.other.packages);
   package_names = m.graph.package_names ++ map (λ (e : PackageName × ℕ). (e.0, merged_package m e.1)) (filter (λ (e : PackageName × ℕ). moves_package m e.1) m.other.package_names);

@@ -21,29 +21,9 @@ part_links home sort name = (codes "failed to merge package `" ++ (package_name_
 abbrev pub entry_link : List ℕ → List ℕ → List ℕ
 entry_link word k = word ++ (codes " `" ++ (k ++ codes "` didn't match target world"))
 
--- in a type
-abbrev pub type_link : List ℕ → List ℕ
-type_link name = codes "mismatch in type `" ++ (name ++ codes "`")
-
 -- `import` or `export`
 abbrev pub side_word : Bool → List ℕ
 side_word false = codes "import"
 side_word true = codes "export"
 
 -- ---- what differs in worlds
-
--- not as many entries; word is `import` or `export`
-abbrev pub entry_count_text : List ℕ → List ℕ
-entry_count_text word = codes "world contains different number of " ++ (word ++ codes "s than expected")
-
--- no such entry, by what names its key in the incoming graph; word is `import` or `export`
-abbrev pub absent_text : List ℕ → List ℕ → List ℕ
-absent_text word k = word ++ (codes " `" ++ (k ++ codes "` not found in target world"))
-
--- interfaces that aren't matched
-abbrev pub other_interface_text : List ℕ
-other_interface_text = codes "interfaces are not the same"
-
--- items of two sorts
-abbrev pub other_sort_text : List ℕ
-other_sort_text = codes "world items do not have the same type"

@@ -46,19 +46,16 @@ head_features k = here (variant (variant_of k)) ∷ here (names (map (λ (p : Ki
 abbrev pub is_named : List TypeDef → ℕ → Bool
 is_named types t = option_map_or (λ (def : TypeDef). is_some def.name) (slice_get types t) false
 
--- the features of what a part holds, where `inner` has those of types without a name
+-- the features of what a part holds: a type with a name alone, of one without a name those that `inner` has
 abbrev pub held_features : List TypeDef → (ℕ → Option ℕ) → (ℕ → List Feature) → Option Type_ → List Feature
 held_features types matched inner None = here absent ∷ []
 held_features types matched inner (Some (type.Id t)) = if is_named types t then here (named (matched t)) ∷ [] else inner t
 held_features types matched inner (Some ty) = here (primitive ty) ∷ []
 
--- the features of a part
-abbrev pub part_features : List TypeDef → (ℕ → Option ℕ) → (ℕ → List Feature) → KindPart → List Feature
-part_features types matched inner p = map (within p.step) (held_features types matched inner p.ty)
-
--- the features of a kind with its parts
+-- the features of a kind with those of its parts, each one step further in
 abbrev pub kind_features : List TypeDef → (ℕ → Option ℕ) → (ℕ → List Feature) → TypeDefKind → List Feature
-kind_features types matched inner k = head_features k ++ flat_map (part_features types matched inner) (kind_parts k)
+kind_features types matched inner k =
+    head_features k ++ flat_map (λ (p : KindPart). map (within p.step) (held_features types matched inner p.ty)) (kind_parts k)
 
 -- the structure of type t along paths of at most `members` types
 unfoldable pub structure_within : List TypeDef → (ℕ → Option ℕ) → ℕ → ℕ → List Feature

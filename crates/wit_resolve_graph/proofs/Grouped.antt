@@ -27,7 +27,7 @@ use Rattle.wit_graph_data.specs.declared.error_kind.ResolveErrorKind.TheVariants
 use Rattle.wit_graph_theory.specs.facts.ListFacts.{at_map, contained_at, from_map, place_of, some_at}
 use Rattle.wit_link.specs.GroupOrder.{AreSorted, IsGroupOrder, IsSortCause, Unresolved, group_uses, names_of}
 use Rattle.wit_link_spec.specs.Addition.{own_worlds}
-use Rattle.wit_link_spec.specs.Cause.{AdditionIsAccepted, duplicate_5}
+use Rattle.wit_link_spec.specs.Cause.{duplicate_5}
 use Rattle.wit_link_spec.specs.Added.{added, with_parts}
 use Rattle.wit_link.specs.Appending.{AreAdded, CanAppend, FilesPassTheEnd, IsAdded, IsGroupsCause, IsOneRefused, IsAdditionsCause, addition, files_end, packages_of}
 use Rattle.wit_remap.specs.Grown.{Begins}
@@ -39,6 +39,7 @@ use Rattle.wit_resolve_graph.proofs.OneOrder.{Differ, one_place, one_sorted}
 use Rattle.wit_resolve_graph.proofs.RunsKeep.{keeps_pushes, keeps_worlds}
 use Rattle.wit_resolve_graph.proofs.FilesAfter.{files_after, files_stay}
 use Rattle.wit_link.specs.steps.Parts.{group_deps}
+use Rattle.wit_link_spec.specs.steps.Parts.{AdditionIsAccepted}
 
 abbrev Group : Type 0
 Group = UnresolvedPackageGroup

@@ -5,10 +5,11 @@ use Rattle.wit_graph_data.specs.declared.error_kind.ResolveErrorKind.{ResolveErr
 use Rattle.wit_graph_data.specs.declared.error_kind.ResolveErrorKind.TheVariants.{OffsetOverflow, OutOfMemory}
 use Rattle.wit_remap.specs.declared.remap.Remap.{Remap}
 use Rattle.wit_merge.specs.Remapped.{remap_of}
-use Rattle.wit_merge_spec.specs.Cause.{IsMergeCause, MergeIsAccepted}
+use Rattle.wit_merge_spec.specs.Cause.{IsMergeCause}
 use Rattle.wit_merge_spec.specs.Matches.{GraphMerge}
 use Rattle.wit_merge_spec.specs.Merged.{merge_remap, merged}
 use Rattle.wit_resolve_graph.specs.State.{State}
+use Rattle.wit_graph_data.specs.Error.{NoCause}
 
 -- the graph of another state goes into that of a state; its spans move to the end of the sources, as its files do
 abbrev pub merge_of : State → State → GraphMerge
@@ -23,7 +24,7 @@ FilesPass old other _ = ⊥
 -- the features and the rule of tracks stay, and the answer is where its things went
 pub record Merges (old other : State) (remap : Remap) (new : State) : Type 0 where
   pub fits : old.source_map.end + other.source_map.end < 2 ^ 32
-  pub accepted : MergeIsAccepted (merge_of old other)
+  pub accepted : NoCause (IsMergeCause (merge_of old other))
   pub graph : new.graph ≡ merged (merge_of old other)
   pub features : new.features ≡ old.features
   pub rule : new.track_rule ≡ old.track_rule

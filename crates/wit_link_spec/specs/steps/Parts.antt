@@ -33,6 +33,7 @@ use Rattle.wit_labels.specs.Setters.{setters_placed}
 use Rattle.wit_link_spec.specs.Added.{with_includes, finished_world}
 use Rattle.wit_graph_data.specs.Error.{NoCause}
 use Rattle.wit_link_spec.specs.WorldReasons.{IsCauseAtInclude, IsCauseAtWorld}
+use Rattle.wit_link_spec.specs.Cause.{IsAdditionCause}
 
 -- the values of type t of the package hold a borrow: one of the package, or in a foreign type one of the graph
 abbrev pub MayHoldBorrow : Addition → ℕ → Type 0
@@ -128,3 +129,7 @@ IncludeIsAccepted a k j = NoCause (IsCauseAtInclude a k j)
 -- world k is accepted: no cause holds against it
 abbrev pub WorldIsAccepted : Addition → ℕ → Type 0
 WorldIsAccepted a k = NoCause (IsCauseAtWorld a k)
+
+-- no cause holds against the addition
+abbrev pub AdditionIsAccepted : Addition → Type 0
+AdditionIsAccepted a = NoCause (IsAdditionCause a)

@@ -22,7 +22,7 @@ use Rattle.wit_graph_data.specs.declared.graph.Package.{Package}
 use Rattle.wit_remap_spec.specs.FunctionMismatch.{HaveFunctionMismatch}
 use Rattle.wit_graph_theory.specs.facts.ListFacts.{found_at}
 use Rattle.wit_graph_theory.specs.facts.OptionFacts.{some_same, some_whole}
-use Rattle.wit_merge_spec.specs.Cause.{EntriesDiffer, GraphsDiffer, ItemsDiffer, StructuresDiffer, same_sort, HasNoMismatch}
+use Rattle.wit_merge_spec.specs.Cause.{EntriesDiffer, GraphsDiffer, ItemsDiffer, same_sort, HasNoMismatch}
 use Rattle.wit_merge_spec.specs.Cause as differ
 use Rattle.wit_merge_spec.specs.Matches.{FirstDiffers, GraphMerge, Pair, TypePair, counterpart_interface, counterpart_item, counterpart_key, counterpart_type, counterpart_world, type_pairs}
 use Rattle.wit_merge_spec.specs.MismatchText.{side_word}
@@ -37,6 +37,7 @@ use Rattle.wit_merge_laws.specs.facts.MatchedTypes.{no_difference}
 use Rattle.wit_merge_laws.specs.facts.PairsMatched.{pair_matched}
 use Rattle.wit_merge_laws.specs.facts.StructureBack.{differ_back}
 use Rattle.wit_merge_laws.specs.facts.WorldsStand.{entry, entry_there}
+use Rattle.wit_merge_spec.specs.steps.Parts.{StructuresDiffer}
 
 sorts_back : (x y : WorldItem) → same_sort x y ≡ same_sort y x
 sorts_back (item.Interface i stability docs span external_id) (item.Interface i' stability' docs' span' external_id') = refl

@@ -40,12 +40,13 @@ use Rattle.wit_graph_theory.specs.facts.OptionFacts.{some_parts, some_there, som
 use Rattle.wit_graph_theory.specs.facts.PackagesAcyclic.{numbered_into}
 use Rattle.wit_graph_data.specs.Named.{interface_type}
 use Rattle.wit_link_spec.specs.facts.Standing.{listed_is}
-use Rattle.wit_merge_spec.specs.Matches.{GraphMerge, WorldLabel, counterpart_at_label, counterpart_interface, counterpart_interface_by, counterpart_package, counterpart_type, counterpart_type_by, counterpart_world, interface_at_label, labels_of_world, matched_world, named_in_counterpart, unnamed_item, world_labels}
+use Rattle.wit_merge_spec.specs.Matches.{GraphMerge, WorldLabel, counterpart_at_label, counterpart_interface, counterpart_interface_by, counterpart_package, counterpart_type, counterpart_type_by, counterpart_world, interface_at_label, matched_world, named_in_counterpart, unnamed_item, world_labels}
 use Rattle.wit_merge_laws.specs.facts.MatchFacts.{label_match, named_is, no_name, package_is, stands_at, world_is, world_type_is}
 use Rattle.wit_merge_laws.specs.facts.MatchedOnce.{in_own_table, lists_distinct, one_under, world_in_table}
 use Rattle.wit_merge_laws.specs.laws.MergingLaws.{merge_of_graphs}
 use Rattle.wit_merge_laws.specs.facts.OnceStand.{world_label_key}
 use Rattle.wit_merge_laws.specs.facts.WorldsStand.{entry, listed_by}
+use Rattle.wit_merge_spec.specs.steps.Parts.{labels_of_world}
 
 -- ---- look-ups
 

@@ -36,8 +36,9 @@ use Rattle.wit_graph_theory.specs.facts.OptionFacts.{none_there, some_parts, som
 use Rattle.wit_graph_theory.specs.facts.PackagesAcyclic.{numbered_from}
 use Rattle.wit_graph_data.specs.Named.{interface_type}
 use Rattle.wit_link_spec.specs.facts.Standing.{listed_is}
-use Rattle.wit_merge_spec.specs.Matches.{GraphMerge, WorldLabel, counterpart_at_label, counterpart_interface, counterpart_interface_by, counterpart_package, counterpart_type, counterpart_type_by, counterpart_world, interface_at_label, labels_of_world, matched_world, named_in_counterpart, unnamed_item, world_labels}
+use Rattle.wit_merge_spec.specs.Matches.{GraphMerge, WorldLabel, counterpart_at_label, counterpart_interface, counterpart_interface_by, counterpart_package, counterpart_type, counterpart_type_by, counterpart_world, interface_at_label, matched_world, named_in_counterpart, unnamed_item, world_labels}
 use Rattle.wit_merge_spec.specs.Merged.{merge_maps, merged_package}
+use Rattle.wit_merge_spec.specs.steps.Parts.{labels_of_world}
 
 -- ---- options
 

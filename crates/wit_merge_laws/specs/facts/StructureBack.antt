@@ -12,7 +12,8 @@ use Rattle.wit_data.specs.declared.types.Type_.{Type_}
 use Rattle.wit_data.specs.declared.types.Type_.TheVariants as type
 use Rattle.wit_graph_theory.specs.facts.ListFacts.{Contains-map_cases}
 use Rattle.wit_data.specs.Kind.{fixed_length, kind_parts, KindPart, variant_of}
-use Rattle.wit_merge_spec.specs.Structure.{Content, DifferInStructure, Feature, FirstDifference, absent, fixed, head_features, held_features, here, is_named, kind_features, named, names, part_features, primitive, structure, structure_within, variant, within}
+use Rattle.wit_merge_spec.specs.Structure.{Content, DifferInStructure, Feature, FirstDifference, absent, fixed, head_features, held_features, here, is_named, kind_features, named, names, primitive, structure, structure_within, variant, within}
+use Rattle.wit_merge_spec.specs.steps.Parts.{part_features}
 
 -- ---- what stands for a type with a name
 

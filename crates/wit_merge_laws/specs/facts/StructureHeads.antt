@@ -16,9 +16,10 @@ use Rattle.wit_data.specs.declared.kind.Variant.{Variant}
 use Rattle.wit_data.specs.declared.types.TypeDefKind.TheVariants as kind
 use Rattle.wit_data.specs.declared.types.Type_.TheVariants as type
 use Rattle.wit_data.specs.facts.KindFacts.{all_variants, variant_number, variant_numbered}
-use Rattle.wit_merge_spec.specs.Structure.{Feature, fixed, held_features, here, kind_features, names, part_features, structure, variant, within}
+use Rattle.wit_merge_spec.specs.Structure.{Feature, fixed, held_features, here, kind_features, names, structure, variant, within}
 use Rattle.wit_merge_spec.specs.facts.StructureFacts.{structure_at}
 use Rattle.wit_data.specs.declared.kind.Variant.TheVariants as variants
+use Rattle.wit_merge_spec.specs.steps.Parts.{part_features}
 
 -- ---- variants
 

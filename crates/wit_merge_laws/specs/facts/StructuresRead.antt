@@ -18,11 +18,12 @@ use Rattle.wit_data.specs.declared.types.Type_.{Type_}
 use Rattle.wit_data.specs.declared.kind.Variant.{Variant}
 use Rattle.wit_data.specs.declared.types.TypeDefKind.TheVariants as kind
 use Rattle.wit_data.specs.declared.types.Type_.TheVariants as type
-use Rattle.wit_merge_spec.specs.Structure.{Content, Feature, FirstDifference, absent, fixed, head_features, held_features, here, is_named, kind_features, named, names, part_features, primitive, structure, variant, within}
+use Rattle.wit_merge_spec.specs.Structure.{Content, Feature, FirstDifference, absent, fixed, head_features, held_features, here, is_named, kind_features, named, names, primitive, structure, variant, within}
 use Rattle.wit_merge_spec.specs.facts.StructureFacts.{part_refers, structure_at}
 use Rattle.wit_data.specs.declared.kind.Variant.TheVariants as variants
 use Rattle.wit_merge_laws.specs.facts.FeaturesTold.{front_of}
 use Rattle.wit_graph_theory.specs.facts.ListFacts.{get_at}
+use Rattle.wit_merge_spec.specs.steps.Parts.{part_features}
 
 -- ---- lists that are read alike
 

@@ -12,7 +12,8 @@ use Rattle.wit_data.specs.declared.types.TypeDef.{TypeDef}
 use Rattle.wit_data.specs.declared.types.TypeDefKind.{TypeDefKind}
 use Rattle.wit_data.specs.declared.types.Type_.{Type_}
 use Rattle.wit_data.specs.declared.types.Type_.TheVariants as type
-use Rattle.wit_merge_spec.specs.Structure.{Feature, head_features, held_features, here, is_named, kind_features, named, part_features, structure, structure_within, within}
+use Rattle.wit_merge_spec.specs.Structure.{Feature, head_features, held_features, here, is_named, kind_features, named, structure, structure_within, within}
+use Rattle.wit_merge_spec.specs.steps.Parts.{part_features}
 
 -- what a part of a kind names is what the kind refers to
 pub part_refers : (k : TypeDefKind) (p : KindPart) (t : ℕ) → Contains (kind_parts k) p → Contains (named_option p.ty) t → Contains (referred k) t

@@ -5,12 +5,13 @@ use Rattle.std.specs.Option.{option_map_or}
 use Rattle.wit_data.specs.declared.function.Function.{Function}
 use Rattle.wit_data.specs.declared.interface.Interface.{Interface}
 use Rattle.wit_merge_spec.specs.Matches.{GraphMerge}
-use Rattle.wit_merge_spec.specs.Merged.{brought_functions, interface_functions}
+use Rattle.wit_merge_spec.specs.Merged.{brought_functions}
 use Rattle.wit_link_resources.specs.steps.Active.{seen}
 use Rattle.wit_merge_match.specs.steps.Matched.{merge_of_graphs}
 use Rattle.wit_merge.proofs.Left.{left-more}
 use Rattle.wit_merge.proofs.Numbered.{first_behind}
 use Rattle.wit_merge.proofs.functions.push_interfaces.Goals as goal
+use Rattle.wit_merge_spec.specs.steps.Parts.{interface_functions}
 
 pub loop-index-preserved : goal.loop-index-preserved
 loop-index-preserved c =

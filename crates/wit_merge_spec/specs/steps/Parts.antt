@@ -1,0 +1,80 @@
+-- Parts of the definitions under names of their own, for contracts of inner functions and for proofs. Each is what stands
+-- in a definition in its place, so none has to be believed.
+use Rattle.std.specs.Prelude.{ℕ, true, false, List, [], ◌∷◌, ◌++◌, codes, flat_map, bytes_eq, map, filter, ◌+◌, Option}
+use Rattle.std.specs.Map.{lookup}
+use Rattle.std.specs.Option.{option_map_or}
+use Rattle.wit_data.specs.Entries.{Entry}
+use Rattle.wit_data.specs.declared.interface.Interface.{Interface}
+use Rattle.wit_data.specs.declared.world.World.{World}
+use Rattle.wit_merge_spec.specs.Matches.{paired, interface_at_label, TypePair, entry_pairs, WorldLabel, GraphMerge, matched_interface, counterpart_type}
+use Rattle.wit_data.specs.declared.function.Function.{Function}
+use Rattle.wit_data.specs.declared.types.TypeDef.{TypeDef}
+use Rattle.wit_remap_spec.specs.Joined.{joined_stability}
+use Rattle.wit_remap_spec.specs.Selected.{selected}
+use Rattle.wit_merge_spec.specs.Merged.{brought_functions, moves_interface, moves_type}
+use Rattle.wit_graph_data.specs.declared.graph.Graph.{Graph}
+use Rattle.wit_remap_spec.specs.Spans.{interface_spans, type_spans, world_spans}
+use Rattle.wit_sources.specs.Span.{OptionalSpan}
+use Rattle.wit_merge_spec.specs.Structure.{DifferInStructure, Feature, within, held_features}
+use Rattle.wit_data.specs.Kind.{KindPart}
+
+-- the interfaces under labels of world w, each with its label
+abbrev pub labels_of_world : ℕ → World → List (ℕ × WorldLabel)
+labels_of_world w world = flat_map (λ (e : Entry). interface_at_label w false e.0 e.1) world.imports ++ flat_map (λ (e : Entry). interface_at_label w true e.0 e.1) world.exports
+
+-- the types of one name of two interfaces, in the order of the incoming one
+abbrev pub common_types : List (List ℕ) → Interface → Interface → List TypePair
+common_types links from into = flat_map (λ (e : List ℕ × ℕ). option_map_or (λ t'. paired links e.0 e.1 t' ∷ []) (lookup (bytes_eq e.0) into.types) []) from.types
+
+-- those of two worlds, imports before exports
+abbrev pub common_entries : GraphMerge → List (List ℕ) → World → World → List TypePair
+common_entries m links from into = flat_map (entry_pairs m links (codes "import") into.imports) from.imports ++ flat_map (entry_pairs m links (codes "export") into.exports) from.exports
+
+abbrev pub moved_types : GraphMerge → List TypeDef
+moved_types m = selected (moves_type m) m.other.types
+
+abbrev pub moved_interfaces : GraphMerge → List Interface
+moved_interfaces m = selected (moves_interface m) m.other.interfaces
+
+abbrev pub brought_types : GraphMerge → Interface → List (List ℕ × ℕ)
+brought_types m from = filter (λ (e : List ℕ × ℕ). moves_type m e.1) from.types
+
+-- those that an interface brings: all of one that moves, of a matched one those that its counterpart doesn't have
+abbrev pub interface_functions : GraphMerge → ℕ → Interface → List Function
+interface_functions m i from = map (λ (e : List ℕ × Function). e.1) (option_map_or (brought_functions from) (matched_interface m i) from.functions)
+
+-- a type, with the stability of another joined to it
+abbrev pub with_type : TypeDef → TypeDef → TypeDef
+with_type from into = record into { stability = joined_stability from.stability into.stability }
+
+-- how type t of the incoming graph and type t' of the graph, which are matched, differ in structure, the end of a message
+abbrev pub StructuresDiffer : GraphMerge → ℕ → ℕ → List ℕ → Type 0
+StructuresDiffer m = DifferInStructure m.other.types m.graph.types (counterpart_type m)
+
+-- all the spans of a graph
+abbrev pub graph_spans : Graph → List OptionalSpan
+graph_spans g = flat_map type_spans g.types ++ (flat_map interface_spans g.interfaces ++ flat_map world_spans g.worlds)
+
+-- in a type
+abbrev pub type_link : List ℕ → List ℕ
+type_link name = codes "mismatch in type `" ++ (name ++ codes "`")
+
+-- not as many entries; word is `import` or `export`
+abbrev pub entry_count_text : List ℕ → List ℕ
+entry_count_text word = codes "world contains different number of " ++ (word ++ codes "s than expected")
+
+-- no such entry, by what names its key in the incoming graph; word is `import` or `export`
+abbrev pub absent_text : List ℕ → List ℕ → List ℕ
+absent_text word k = word ++ (codes " `" ++ (k ++ codes "` not found in target world"))
+
+-- interfaces that aren't matched
+abbrev pub other_interface_text : List ℕ
+other_interface_text = codes "interfaces are not the same"
+
+-- items of two sorts
+abbrev pub other_sort_text : List ℕ
+other_sort_text = codes "world items do not have the same type"
+
+-- the features of a part
+abbrev pub part_features : List TypeDef → (ℕ → Option ℕ) → (ℕ → List Feature) → KindPart → List Feature
+part_features types matched inner p = map (within p.step) (held_features types matched inner p.ty)
