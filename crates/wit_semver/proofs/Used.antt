@@ -4,8 +4,9 @@ use Rattle.std.proofs.lemmas.List.Elements.{Contains-append_cases}
 use Rattle.wit_digraph.specs.facts.MemberFacts.{Contains-cons_cases, Contains-nil}
 use Rattle.wit_data.specs.declared.interface.Interface.{Interface}
 use Rattle.wit_remap_spec.specs.FunctionMismatch.{HaveFunctionMismatch}
-use Rattle.wit_semver_spec.specs.SemverMerged.{Disagrees, LacksType, SemverMerge, disagreement_text, is_replaced, newest, semver_merge_text}
+use Rattle.wit_semver_spec.specs.SemverMerged.{Disagrees, LacksType, SemverMerge, is_replaced, newest, semver_merge_text}
 use Rattle.wit_semver.specs.steps.Replacing.{AreReplacements, LackTypes}
+use Rattle.wit_semver_spec.specs.steps.Parts.{disagreement_text}
 
 -- one type more, which lacks nothing
 pub none_lacks-next : (u : SemverMerge) (ids : List ℕ) (t : ℕ) (message : List ℕ) → ((message : List ℕ) → LackTypes u ids message → ⊥) → ((message : List ℕ) → LacksType u t message → ⊥) → LackTypes u (ids ++ t ∷ []) message → ⊥

@@ -2,7 +2,8 @@
 ghost use Rattle.std.specs.Prelude.{◌≡◌, IfErr, IfOk, None};
 ghost use Rattle.wit_graph_data.specs.declared.cause.Cause.TheVariants as cause;
 ghost use Rattle.wit_graph_data.specs.declared.error_kind.ResolveErrorKind.TheVariants.{OutOfMemory, Semantic};
-ghost use Rattle.wit_semver_spec.specs.SemverMerged.{disagreement_text, missing_text, semver_merge_text};
+ghost use Rattle.wit_semver_spec.specs.SemverMerged.{semver_merge_text};
+ghost use Rattle.wit_semver_spec.specs.steps.Parts.{missing_text, disagreement_text};
 
 use std::alloc::Global;
 use wit_data::{InterfaceId, Span, Text, WorldKey};

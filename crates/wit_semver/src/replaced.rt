@@ -4,8 +4,9 @@ ghost use Rattle.std.specs.Option.{option_map_or};
 ghost use Rattle.wit_elaboration.specs.Valid.{IsValid};
 ghost use Rattle.wit_elaboration.specs.Entries.{keyed_interfaces};
 ghost use Rattle.wit_data.specs.declared.world.World.{World};
-ghost use Rattle.wit_semver_spec.specs.SemverMerged.{is_below, versioned, semver_merge};
+ghost use Rattle.wit_semver_spec.specs.SemverMerged.{versioned, semver_merge};
 ghost use Rattle.wit_semver.specs.steps.Replacing.{AreReplacements, IsNewestTable, replacement, told};
+ghost use Rattle.wit_semver_spec.specs.steps.Parts.{is_below};
 
 use crate::newest::newest_by_track;
 use crate::tracks::{TrackKey, VersionedInterface, versioned};

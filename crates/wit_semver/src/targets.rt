@@ -3,8 +3,9 @@ ghost use Rattle.std.specs.Prelude.{◌≡◌, ◌⊎◌, ◌<◌, ℕ, List, Co
 ghost use Rattle.std.specs.Option.{option_copied};
 ghost use Rattle.wit_graph_data.specs.declared.cause.Cause.TheVariants as cause;
 ghost use Rattle.wit_graph_data.specs.declared.error_kind.ResolveErrorKind.TheVariants.{OutOfMemory, Semantic};
-ghost use Rattle.wit_semver_spec.specs.SemverMerged.{LacksType, interface_type, newest_type, target_name};
+ghost use Rattle.wit_semver_spec.specs.SemverMerged.{LacksType, newest_type, target_name};
 ghost use Rattle.wit_semver.specs.steps.Replacing.{IsFilled, IsSemverMergeReady, LackTypes, semver_merge_of};
+ghost use Rattle.wit_semver_spec.specs.steps.Parts.{interface_type};
 
 use crate::refusal::type_missing;
 use crate::semver_merge_plan::{SemverMergePlan, replacement_of};

@@ -31,10 +31,11 @@ use Rattle.wit_graph_theory.specs.facts.UnnamedOnceFrom.{StandsOnceOnly-from_onc
 use Rattle.wit_graph_theory.specs.laws.PackageCycles.{ListsUses}
 use Rattle.wit_graph_theory.specs.facts.PackagesAcyclic.{there_is}
 use Rattle.wit_transform.specs.facts.UnnamedOnceTransformed.{set_split}
-use Rattle.wit_semver_spec.specs.SemverMerged.{entry_types, is_replaced_entry, kept_imports, listed_world, rewritable_types, rewritten_types, types_of, SemverMerge, IsComplete}
+use Rattle.wit_semver_spec.specs.SemverMerged.{entry_types, kept_imports, rewritable_types, rewritten_types, SemverMerge, IsComplete}
 use Rattle.wit_semver_spec.specs.facts.Accepting.{new_uses, relisted_worlds}
 use Rattle.wit_semver_spec.specs.facts.KeptKeys.{named_lists_uses}
 use Rattle.wit_semver_spec.specs.facts.TypesAfter.{needs_after}
+use Rattle.wit_semver_spec.specs.steps.Parts.{is_replaced_entry, listed_world, types_of}
 
 instance_item : (held : WorldItem) (i : ℕ) → Contains (item_interface held) i → item_interface held ≡ i ∷ []
 instance_item (item.Interface id stability docs span external_id) i has = ap (λ (x : ℕ). x ∷ []) (one_of id i has)

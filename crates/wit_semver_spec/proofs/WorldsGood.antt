@@ -35,9 +35,10 @@ use Rattle.wit_graph_theory.specs.facts.UnnamedOnceFrom.{StandsOnceOnly-from_onc
 use Rattle.wit_elaboration.specs.AllElaborated.{all_elaborated, elaborated_world}
 use Rattle.wit_graph_theory.specs.facts.ElaboratedCome.{interface_without_span}
 use Rattle.wit_graph_theory.specs.facts.LawsOfElaboration.{LawsOfElaboration}
-use Rattle.wit_semver_spec.specs.SemverMerged.{is_replaced_entry, with_new_entries_at, SemverMerge, is_replaced, SemverMergeIsAccepted}
+use Rattle.wit_semver_spec.specs.SemverMerged.{with_new_entries_at, SemverMerge, is_replaced, SemverMergeIsAccepted}
 use Rattle.wit_semver_spec.specs.facts.Accepting.{Relisted, elaborates, in_order, new_aliases, new_exports, new_imports, new_types, new_uses, relisted_from, relisted_worlds, uses_acyclic}
 use Rattle.wit_semver_spec.specs.facts.TypesGood.{item_own_after}
+use Rattle.wit_semver_spec.specs.steps.Parts.{is_replaced_entry}
 
 abbrev entry : WorldKey → WorldItem → Entry
 entry k held = (k, held)

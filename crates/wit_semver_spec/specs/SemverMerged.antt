@@ -8,7 +8,6 @@
 -- Source: `merge_world_imports_based_on_semver` and `update_interface_dep_of_type` of wit-parser 0.263.0.
 use Rattle.std.specs.Prelude.{ℕ, Bool, not, ◌&&◌, List, [], ◌∷◌, ◌++◌, map, filter, find, nat_eq, Option, None, Some, slice_get, slice_set, option_and_then, if◌then◌else◌, flat_map, option_map, bytes_eq, false, ◌≡◌, true, codes, unwrap_or, Contains}
 use Rattle.std.specs.List.{enumerate_from, list_any}
-use Rattle.std.specs.Map.{lookup}
 use Rattle.std.specs.Option.{option_map_or}
 use Rattle.std.specs.Ordering.{is_lt}
 use Rattle.wit_values.specs.Version.{Parts, version_cmp}
@@ -34,6 +33,7 @@ use Rattle.wit_graph_data.specs.declared.graph.Package.{Package}
 use Rattle.wit_elaboration.specs.AllElaborated.{all_elaborated, DependsOnItself, HasWorldInConflict, RefersToItself, UsesItself}
 use Rattle.wit_elaboration.specs.Entries.{Entry, key_interface, keyed_interfaces}
 use Rattle.wit_remap_spec.specs.FunctionMismatch.{HaveFunctionMismatch}
+use Rattle.wit_graph_data.specs.Named.{interface_type}
 
 -- ---- tracks
 --
@@ -47,14 +47,11 @@ pub record Versioned : Type 0 where
   pub home : PackageName
   pub version : Parts
 
--- an interface of this name in a package of that name, where that has a version
-abbrev pub versioned_in : List ℕ → PackageName → Option Versioned
-versioned_in name home = option_map (λ version. record { name = name; home = home; version = version }) home.version
-
 -- the name, package and version of an interface; none where it has no name or its package no version
 abbrev pub versioned_of : List Package → Interface → Option Versioned
 versioned_of packages interface =
-    option_and_then (λ name. option_and_then (λ p. option_and_then (λ (home : Package). versioned_in name home.name) (slice_get packages p)) interface.package) interface.name
+    option_and_then (λ name. option_and_then (λ p. option_and_then (λ (home : Package).
+    option_map (λ version. record { name = name; home = home.name; version = version }) home.name.version) (slice_get packages p)) interface.package) interface.name
 
 -- the name, package and version of interface i
 abbrev pub versioned : Graph → ℕ → Option Versioned
@@ -68,10 +65,6 @@ track_package rule v = record v.home { version = Some (track_by rule v.version) 
 abbrev pub have_one_track : TrackRule → Versioned → Versioned → Bool
 have_one_track rule v w = same_package (track_package rule v) (track_package rule w) && bytes_eq v.name w.name
 
--- the first is of a smaller version
-abbrev pub is_below : Versioned → Versioned → Bool
-is_below v w = is_lt (version_cmp v.version w.version)
-
 -- what a test tells of two interfaces, where both are of packages with versions
 abbrev pub both : (Versioned → Versioned → Bool) → Option Versioned → Option Versioned → Bool
 both test None other = false
@@ -83,7 +76,7 @@ are_on_one_track rule g i j = both (have_one_track rule) (versioned g i) (versio
 
 -- is interface j on the track of i, and of a greater version?
 abbrev pub is_older_than : TrackRule → Graph → ℕ → ℕ → Bool
-is_older_than rule g i j = both (λ v w. have_one_track rule v w && is_below v w) (versioned g i) (versioned g j)
+is_older_than rule g i j = both (λ v w. have_one_track rule v w && is_lt (version_cmp v.version w.version)) (versioned g i) (versioned g j)
 
 -- ---- which imports are replaced
 
@@ -111,17 +104,9 @@ is_replaced u i = list_any (nat_eq i) (imported u) && list_any (is_older_than u.
 abbrev pub newest : SemverMerge → ℕ → ℕ
 newest u i = unwrap_or (find (λ j. are_on_one_track u.rule u.graph i j && not (is_replaced u j)) (imported u)) i
 
--- the entry stands under the key of a replaced interface
-abbrev pub is_replaced_entry : SemverMerge → Entry → Bool
-is_replaced_entry u e = list_any (is_replaced u) (key_interface e.0)
-
--- the imports that stay
+-- the imports that stay: all but those under the keys of replaced interfaces
 abbrev pub kept_imports : SemverMerge → List Entry
-kept_imports u = filter (λ e. not (is_replaced_entry u e)) u.world.imports
-
--- the world as it is listed then. Its exports stay, of whatever version: whoever calls them asks for that version
-abbrev pub listed_world : SemverMerge → World
-listed_world u = record u.world { imports = kept_imports u }
+kept_imports u = filter (λ (e : Entry). not (list_any (is_replaced u) (key_interface e.0))) u.world.imports
 
 -- ---- what aliases name
 --
@@ -137,13 +122,9 @@ listed_world u = record u.world { imports = kept_imports u }
 -- interfaces that the world lists are rewritten, and no others: a valid world lists all that it reaches, so these are all
 -- that lead it there, and what else the graph has other worlds use, which keep their versions.
 
--- the types of an interface
-abbrev pub types_of : Interface → List ℕ
-types_of interface = map (λ (e : List ℕ × ℕ). e.1) interface.types
-
 -- the types of an entry: those of its interface, or the type that it is
 abbrev pub entry_types : List Interface → Entry → List ℕ
-entry_types interfaces (k, item.Interface i stability docs span external_id) = option_map_or types_of (slice_get interfaces i) []
+entry_types interfaces (k, item.Interface i stability docs span external_id) = option_map_or (λ (interface : Interface). map (λ (e : List ℕ × ℕ). e.1) interface.types) (slice_get interfaces i) []
 entry_types interfaces (k, item.Function f) = []
 entry_types interfaces (k, item.Type_ t span) = t ∷ []
 
@@ -155,41 +136,30 @@ rewritable_types u = flat_map (entry_types u.graph.interfaces) (kept_imports u +
 abbrev pub replaced_use : SemverMerge → ℕ → Option ℕ
 replaced_use u t = option_and_then (λ f. if is_replaced u f then Some f else None) (type_interface_dep u.graph.types t)
 
--- the name of type t
-abbrev pub name_of : List TypeDef → ℕ → Option (List ℕ)
-name_of types t = option_and_then (λ (def : TypeDef). def.name) (slice_get types t)
-
 -- the name of the type that type t names as an alias
 abbrev pub target_name : List TypeDef → ℕ → Option (List ℕ)
-target_name types t = option_and_then (λ (def : TypeDef). option_and_then (name_of types) (alias_target def.kind)) (slice_get types t)
-
--- the type of this name in interface i
-abbrev pub interface_type : List Interface → ℕ → List ℕ → Option ℕ
-interface_type interfaces i name = option_and_then (λ (interface : Interface). lookup (bytes_eq name) interface.types) (slice_get interfaces i)
+target_name types t =
+    option_and_then (λ (def : TypeDef). option_and_then (λ s. option_and_then (λ (named : TypeDef). named.name) (slice_get types s)) (alias_target def.kind)) (slice_get types t)
 
 -- where type t uses a replaced interface, the newest's type of the name of what t names: names are what two versions have
 -- in common
 abbrev pub newest_type : SemverMerge → ℕ → Option ℕ
-newest_type u t = option_and_then (λ f. option_and_then (interface_type u.graph.interfaces (newest u f)) (target_name u.graph.types t)) (replaced_use u t)
+newest_type u t = option_and_then (λ f. option_and_then (λ name. interface_type u.graph name (newest u f)) (target_name u.graph.types t)) (replaced_use u t)
 
 -- what type t comes to name, where it may be rewritten
 abbrev pub new_target : SemverMerge → ℕ → Option ℕ
 new_target u t = if list_any (nat_eq t) (rewritable_types u) then newest_type u t else None
 
--- an alias of another type, or the type as it was
-abbrev pub retargeted : TypeDef → Option ℕ → TypeDef
-retargeted def None = def
-retargeted def (Some t) = record def { kind = kind.Type_ (type.Id t) }
-
--- the types, each naming what it comes to name
+-- the types: one that comes to name another type as an alias of it, each other as it was
 abbrev pub rewritten_types : SemverMerge → List TypeDef
-rewritten_types u = map (λ (e : ℕ × TypeDef). retargeted e.1 (new_target u e.0)) (enumerate_from 0 u.graph.types)
+rewritten_types u = map (λ (e : ℕ × TypeDef). option_map_or (λ t. record e.1 { kind = kind.Type_ (type.Id t) }) (new_target u e.0) e.1) (enumerate_from 0 u.graph.types)
 
 -- ---- the graph
 
--- the graph with the world so listed, at its place, and its uses following
+-- the graph with the world at its place listing the imports that stay, and its uses following. Its exports stay, of
+-- whatever version: whoever calls them asks for that version
 abbrev pub with_new_entries_at : SemverMerge → ℕ → Graph
-with_new_entries_at u w = record u.graph { types = rewritten_types u; worlds = slice_set u.graph.worlds w (listed_world u) }
+with_new_entries_at u w = record u.graph { types = rewritten_types u; worlds = slice_set u.graph.worlds w (record u.world { imports = kept_imports u }) }
 
 -- the graph with its new entries in world w, and the aliases rewritten; as it was where there is no such world
 abbrev pub with_new_entries : TrackRule → Graph → ℕ → Graph
@@ -220,22 +190,14 @@ semver_merge_text g old new reason =
     ++ (key_text g.packages g.interfaces (key.Interface new)
     ++ (codes "`, was this semver-compatible update not semver compatible?: " ++ reason))))
 
--- a type that the newest lacks
-abbrev pub missing_text : List ℕ → List ℕ
-missing_text name = codes "type `" ++ (name ++ codes "` is missing")
-
--- functions of one name that disagree
-abbrev pub disagreement_text : List ℕ → List ℕ
-disagreement_text mismatch = codes "failed to merge interfaces: " ++ mismatch
-
 -- 25: type t uses a replaced interface, and the newest has no type of the name of what t names
 pub record LacksType (u : SemverMerge) (t : ℕ) (message : List ℕ) : Type 0 where
   pub f : ℕ
   pub name : List ℕ
   pub uses : replaced_use u t ≡ Some f
   pub named : target_name u.graph.types t ≡ Some name
-  pub absent : interface_type u.graph.interfaces (newest u f) name ≡ None
-  pub message_is : message ≡ semver_merge_text u.graph f (newest u f) (missing_text name)
+  pub absent : interface_type u.graph name (newest u f) ≡ None
+  pub message_is : message ≡ semver_merge_text u.graph f (newest u f) (codes "type `" ++ (name ++ codes "` is missing"))
 
 -- 25: interface f is replaced, and disagrees with the newest in a function that both have
 pub record Disagrees (u : SemverMerge) (f : ℕ) (message : List ℕ) : Type 0 where
@@ -246,7 +208,7 @@ pub record Disagrees (u : SemverMerge) (f : ℕ) (message : List ℕ) : Type 0 w
   pub old_is : slice_get u.graph.interfaces f ≡ Some old
   pub new_is : slice_get u.graph.interfaces (newest u f) ≡ Some new
   pub have : HaveFunctionMismatch old new mismatch
-  pub message_is : message ≡ semver_merge_text u.graph f (newest u f) (disagreement_text mismatch)
+  pub message_is : message ≡ semver_merge_text u.graph f (newest u f) (codes "failed to merge interfaces: " ++ mismatch)
 
 -- no type is missing: there is a graph with new entries
 abbrev pub IsComplete : SemverMerge → Type 0

@@ -28,10 +28,11 @@ use Rattle.wit_graph_theory.specs.facts.ListFacts.{Contains-map, from_row, in_ro
 use Rattle.wit_graph_theory.specs.facts.OptionFacts.{some_same}
 use Rattle.wit_graph_theory.specs.laws.PackageCycles.{ListsKey, ListsUses}
 use Rattle.wit_graph_theory.specs.facts.PackagesAcyclic.{is_there}
-use Rattle.wit_semver_spec.specs.SemverMerged.{entry_types, is_replaced_entry, kept_imports, listed_world, rewritable_types, rewritten_types, types_of, SemverMerge, imported, is_replaced, newest, IsComplete}
+use Rattle.wit_semver_spec.specs.SemverMerged.{entry_types, kept_imports, rewritable_types, rewritten_types, SemverMerge, imported, is_replaced, newest, IsComplete}
 use Rattle.wit_semver_spec.specs.facts.Greatest.{both_true, newest_stays}
 use Rattle.wit_semver_spec.specs.facts.TypesAfter.{needs_after}
 use Rattle.wit_elaboration.specs.steps.Parts.{type_role, exported_keys, exported_interfaces}
+use Rattle.wit_semver_spec.specs.steps.Parts.{is_replaced_entry, listed_world, types_of}
 
 -- ---- entries
 

@@ -26,11 +26,12 @@ use Rattle.wit_graph_theory.specs.facts.ListFacts.{found_at, place_of, same_at}
 use Rattle.wit_elaboration.specs.AllElaborated.{elaborated_world}
 use Rattle.wit_graph_theory.specs.facts.LawsOfElaboration.{LawsOfElaboration}
 use Rattle.wit_graph_theory.specs.facts.OptionFacts.{some_parts}
-use Rattle.wit_semver_spec.specs.SemverMerged.{listed_world, semver_merged, with_new_entries_at, SemverMerge, Versioned, are_on_one_track, have_one_track, is_below, is_replaced, versioned, versioned_in, versioned_of}
+use Rattle.wit_semver_spec.specs.SemverMerged.{semver_merged, with_new_entries_at, SemverMerge, Versioned, are_on_one_track, have_one_track, is_replaced, versioned, versioned_of}
 use Rattle.wit_semver_spec.specs.facts.Accepting.{complete, elaborates, in_order, listed_there, merged_is, new_types, new_uses, rewritten_is, uses_acyclic}
 use Rattle.wit_semver_spec.specs.facts.Greatest.{both_from, both_into, both_true, stays_from, track_from, track_into}
 use Rattle.wit_semver_spec.specs.facts.KeptKeys.{IsKept, kept_holds, kept_root, kept_test, passed}
 use Rattle.wit_semver_spec.specs.laws.TrackLaws.{IsSemverMerged}
+use Rattle.wit_semver_spec.specs.steps.Parts.{versioned_in, is_below, listed_world}
 
 module _ (laws : LawsOfElaboration) (rule : TrackRule) (g : Graph) (w : ℕ) (old new : World) (merged : IsSemverMerged rule g w old new) where
   abbrev pub u : SemverMerge

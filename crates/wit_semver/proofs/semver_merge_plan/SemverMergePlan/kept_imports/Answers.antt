@@ -5,11 +5,11 @@ use Rattle.std.proofs.lemmas.Map.Iter.{iter_turn}
 use Rattle.std.specs.Map.Iter.{deref_pair}
 use Rattle.wit_data.specs.contracts.world.WorldKeyPartialEq.TheImpl.{eq-value}
 use Rattle.wit_elaboration.specs.Entries.{Entry}
-use Rattle.wit_semver_spec.specs.SemverMerged.{is_replaced_entry}
 use Rattle.wit_transform.specs.facts.Looked.{filter-next_kept, filter-next_left}
 use Rattle.wit_semver.specs.steps.Replacing.{semver_merge_of}
 use Rattle.wit_semver.proofs.KeptTold.{staying_is_new, stays_is}
 use Rattle.wit_semver.proofs.semver_merge_plan.SemverMergePlan.kept_imports.Goals as goal
+use Rattle.wit_semver_spec.specs.steps.Parts.{is_replaced_entry}
 
 pub push_copy-requires : goal.push_copy-requires
 push_copy-requires c =
