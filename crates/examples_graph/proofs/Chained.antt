@@ -14,11 +14,12 @@ use Rattle.wit_graph_data.specs.declared.error_kind.ResolveErrorKind.TheVariants
 use Rattle.wit_graph_data.specs.declared.graph.Package.{Package}
 use Rattle.wit_graph_theory.specs.facts.OptionFacts.{some_same}
 use Rattle.wit_graph_theory.specs.examples.TestFacts.{one_of_two, only_one}
-use Rattle.wit_transform.specs.Transformed.{ExportizeCause, HasNameTaken, export_conflict, exportized_name_taken, not_exported, type_exported_text, exportized}
+use Rattle.wit_transform.specs.Transformed.{ExportizeCause, HasNameTaken, export_conflict, exportized_name_taken, not_exported, exportized}
 use Rattle.wit_transform.specs.examples.TransformExamples.{a, b}
 use Rattle.examples_graph.proofs.TakenNames.{not_taken}
 use Rattle.examples_graph.specs.TransformCauses.{ExamplesOfConflictsBesideTypes, chain_with_k, ends_and, k}
 use Rattle.wit_elaboration.specs.steps.Parts.{exported_keys}
+use Rattle.wit_transform.specs.steps.Parts.{type_exported_text}
 
 abbrev c : Entry
 c = entry_of 2

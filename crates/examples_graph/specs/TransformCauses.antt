@@ -16,8 +16,9 @@ use Rattle.wit_graph_data.specs.declared.cause.Cause.TheVariants.{NameTaken, Typ
 use Rattle.wit_graph_data.specs.declared.graph.Graph.{Graph}
 use Rattle.wit_graph_data.specs.declared.error_kind.ResolveErrorKind.{ResolveErrorKind}
 use Rattle.wit_graph_data.specs.declared.error_kind.ResolveErrorKind.TheVariants.{InvalidTransitiveDependency, Semantic}
-use Rattle.wit_transform.specs.Transformed.{IsExportizeCause, IsImportizeCause, type_exported_text, exportized, importized, transformed}
+use Rattle.wit_transform.specs.Transformed.{IsExportizeCause, IsImportizeCause, exportized, importized, transformed}
 use Rattle.wit_transform.specs.examples.TransformExamples.{a, b, chain}
+use Rattle.wit_transform.specs.steps.Parts.{type_exported_text}
 
 -- ---- names that are taken
 

@@ -32,12 +32,13 @@ use Rattle.wit_resolve_graph.specs.Merging.{merge_of}
 use Rattle.wit_resolve_graph.specs.laws.RunLaws.{Keeps, KeepsType, RunsKeep}
 use Rattle.wit_resolve_graph.specs.State.{State}
 use Rattle.wit_resolve_graph.specs.Step.{Step, answers_at}
-use Rattle.wit_transform.specs.Transformed.{WorldLists, exportized, importized, put_last, transformed, transformed_at, transformed_world, with_renamed}
+use Rattle.wit_transform.specs.Transformed.{WorldLists, exportized, importized, transformed, transformed_at, with_renamed}
 use Rattle.wit_resolve_graph.specs.declared.command.Command.{Command}
 use Rattle.wit_resolve_graph.specs.declared.command.Command.TheVariants.{AddFeature, PushGroups, Merge, Importize, Exportize, Semver}
 use Rattle.wit_resolve_graph.specs.declared.command.Reply.{Reply}
 use Rattle.wit_resolve_graph.specs.declared.command.Reply.TheVariants as reply
 use Rattle.wit_link_spec.specs.steps.Parts.{with_include, with_all_includes}
+use Rattle.wit_transform.specs.steps.Parts.{put_last, transformed_world}
 
 nothing_more : {X : Type 0} (xs : List X) → (more : List X) × (xs ≡ xs ++ more)
 nothing_more xs = ([], sym (append-nil xs))

@@ -15,9 +15,10 @@ use Rattle.wit_elaboration.specs.Elaboration.{graph_uses}
 use Rattle.wit_elaboration.specs.Entries.{Entry}
 use Rattle.wit_elaboration.specs.Imported.{HasTransitiveConflict, IsEntryInConflict}
 use Rattle.wit_graph_data.specs.examples.Samples.{entry_of, foo_bar_of, world_of}
-use Rattle.wit_transform.specs.Transformed.{ExportizeCause, HasNameTaken, ImportizeCause, NameIsTakenIn, export_conflict, exportized_name_taken, importized_name_taken, label_clash, not_exported, exportized, importized}
+use Rattle.wit_transform.specs.Transformed.{ExportizeCause, HasNameTaken, ImportizeCause, export_conflict, exportized_name_taken, importized_name_taken, label_clash, not_exported, exportized, importized}
 use Rattle.wit_transform.specs.examples.TransformExamples.{ExamplesOfRefusedTransformations, ExamplesOfTransformations, a, b, chain, clashing, first_and_last, function_t, two, type_t}
 use Rattle.wit_elaboration.specs.steps.Parts.{exported_keys}
+use Rattle.wit_transform.specs.steps.Parts.{NameIsTakenIn}
 
 first_table : List Package → List (List ℕ × ℕ)
 first_table [] = []

@@ -31,9 +31,10 @@ use Rattle.wit_transform.specs.facts.Distinct.{entry_of_key, key_of_entry}
 use Rattle.wit_transform.specs.facts.ListsFrom.{answered_from, answered_into}
 use Rattle.wit_transform.proofs.NamedInterfaces.{import_uses}
 use Rattle.wit_transform.specs.facts.TransformedWorlds.{in_order, is_elaborated, listed}
-use Rattle.wit_transform.specs.Transformed.{IsExportizeCause, imports_at, WorldLists, entries_by_answer, exportized, importized, transformed, transformed_at, transformed_world, type_entries}
+use Rattle.wit_transform.specs.Transformed.{IsExportizeCause, imports_at, WorldLists, entries_by_answer, exportized, importized, transformed, transformed_at, type_entries}
 use Rattle.wit_transform.specs.laws.TransformLaws.{AreFormerExports, ExportizedImportsNothing, ImportizedExportsNothing, ImportizedThenExportized, IsBehind}
 use Rattle.wit_elaboration.specs.steps.Parts.{exported_interfaces}
+use Rattle.wit_transform.specs.steps.Parts.{transformed_world}
 
 inside : {X : Type 0} (x y : X) → Some x ≡ Some y → x ≡ y
 inside x y h = cc

@@ -38,8 +38,9 @@ use Rattle.wit_transform.specs.facts.Looked.{differs, is_other}
 use Rattle.wit_transform.proofs.NamedInterfaces.{done_named, fewer_acyclic}
 use Rattle.wit_transform.specs.facts.UnnamedOnceTransformed.{set_split, unnamed_once_transformed}
 use Rattle.wit_transform.specs.facts.TransformedWorlds.{done, done_is_canonical, done_is_good, types_stay}
-use Rattle.wit_transform.specs.Transformed.{NameIsTakenIn, WorldLists, put_last, transformed_at, with_renamed}
+use Rattle.wit_transform.specs.Transformed.{WorldLists, transformed_at, with_renamed}
 use Rattle.wit_graph_data.specs.steps.Parts.{package_needs}
+use Rattle.wit_transform.specs.steps.Parts.{put_last, NameIsTakenIn}
 
 some_and : (P Q : ℕ → Type 0) (o : Option ℕ) → ((q : ℕ) → P q → Q q) → IsSomeAnd o P → IsSomeAnd o Q
 some_and P Q None weaker h = absurd h

@@ -1,6 +1,6 @@
 -- Turned worlds: a world whose exports become its imports, or whose imports become its exports.
 -- Source: `importize` and `exportize` of wit-parser 0.263.0.
-use Rattle.std.specs.Prelude.{ℕ, ◌≡◌, Bool, true, false, not, List, [], ◌∷◌, ◌++◌, Option, Some, None, codes, filter, filter_map, map, nat_eq, slice_get, slice_set, take, Contains, if◌then◌else◌, zip, ◌≢◌, ◌<◌, length, IsSomeAnd}
+use Rattle.std.specs.Prelude.{ℕ, ◌≡◌, Bool, true, false, not, List, [], ◌∷◌, ◌++◌, Option, Some, None, codes, filter, filter_map, map, nat_eq, slice_get, slice_set, take, Contains, if◌then◌else◌, zip, ◌≢◌, ◌<◌, length, IsSomeAnd, unwrap_or}
 use Rattle.std.specs.Map.{keys_of}
 use Rattle.std.specs.Option.{option_map_or}
 use Rattle.wit_data.specs.declared.world.World.{World}
@@ -29,11 +29,6 @@ pub record WorldLists : Type 0 where
   pub imports : List Entry
   pub exports : List Entry
 
--- the new name: the one that is given, be it empty, or else the old one with a suffix
-abbrev pub new_name : List ℕ → Option (List ℕ) → List ℕ → List ℕ
-new_name suffix (Some out) name = out
-new_name suffix None name = name ++ suffix
-
 -- ---- exports become imports
 
 -- is the item a type?
@@ -50,10 +45,11 @@ type_entries entries = filter (λ (e : Entry). is_type e.1) entries
 abbrev pub AreUnderLabels : List Entry → Type 0
 AreUnderLabels entries = (k : WorldKey) → Contains (keys_of entries) k → (label : List ℕ) × (k ≡ key.Name label)
 
--- of the imports the types alone stay, and behind them stand all exports
+-- the new name is the one that is given, be it empty, or else the old one with a suffix; of the imports the types alone
+-- stay, and behind them stand all exports
 abbrev pub importized : Option (List ℕ) → World → WorldLists
 importized out world = record {
-  name = new_name (codes "-importized") out world.name;
+  name = unwrap_or out (world.name ++ codes "-importized");
   imports = type_entries world.imports ++ world.exports;
   exports = [];
 }
@@ -67,35 +63,23 @@ entries_by_answer answer entries answers = filter_map (λ (p : Entry × Bool). i
 -- the imports for which true was answered become the exports, the others stay; the former exports are dropped
 abbrev pub exportized : List Bool → Option (List ℕ) → World → WorldLists
 exportized answers out world = record {
-  name = new_name (codes "-exportized") out world.name;
+  name = unwrap_or out (world.name ++ codes "-exportized");
   imports = entries_by_answer false world.imports answers;
   exports = entries_by_answer true world.imports answers;
 }
 
 -- ---- the transformed graph
 
--- a table of worlds with world w last, under its new name
-abbrev pub put_last : List (List ℕ × ℕ) → ℕ → List ℕ → List (List ℕ × ℕ)
-put_last table w name = filter (λ (e : List ℕ × ℕ). not (nat_eq e.1 w)) table ++ (name, w) ∷ []
-
--- the packages, of which this one has world w so in its table
+-- the packages, of which this one has world w last in its table, under its new name
 abbrev pub with_renamed : List Package → Option ℕ → ℕ → List ℕ → List Package
 with_renamed packages None w name = packages
 with_renamed packages (Some p) w name =
-    option_map_or (λ (home : Package). slice_set packages p (record home { worlds = put_last home.worlds w name })) (slice_get packages p) packages
-
--- the world under its new name, with its new lists, before it is elaborated
-abbrev pub listed_world : World → WorldLists → World
-listed_world world lists = record world { name = lists.name; imports = lists.imports; exports = lists.exports }
-
--- the world under its new name, with its new lists elaborated
-abbrev pub transformed_world : Graph → World → WorldLists → World
-transformed_world g world lists = elaborated_world g (listed_world world lists)
+    option_map_or (λ (home : Package). slice_set packages p (record home { worlds = filter (λ (e : List ℕ × ℕ). not (nat_eq e.1 w)) home.worlds ++ (name, w) ∷ [] })) (slice_get packages p) packages
 
 -- the graph with world w transformed: the world under its new name, elaborated, and last in the table of its package
 abbrev pub transformed_at : Graph → ℕ → World → WorldLists → Graph
 transformed_at g w world lists = record g {
-  worlds = slice_set g.worlds w (transformed_world g world lists);
+  worlds = slice_set g.worlds w (elaborated_world g (record world { name = lists.name; imports = lists.imports; exports = lists.exports }));
   packages = with_renamed g.packages world.package w lists.name;
 }
 
@@ -103,37 +87,17 @@ transformed_at g w world lists = record g {
 abbrev pub transformed : Graph → ℕ → (World → WorldLists) → Graph
 transformed g w lists = option_map_or (λ (world : World). transformed_at g w world (lists world)) (slice_get g.worlds w) g
 
--- ---- parts of it
-
--- the graph with this world in the place of world w, and last in the table of its package
-abbrev pub with_world : Graph → ℕ → World → Graph
-with_world g w world = record g { worlds = slice_set g.worlds w world; packages = with_renamed g.packages world.package w world.name }
-
 -- Why a transformation of a world is refused. After a refusal by 19, 20 or 21 there is no transformed world, so no
 -- conflict (4) is a reason beside these. Of what the new exports refuse the first is told; else, of several reasons any
 -- may be told.
 -- Source: wit-parser 0.263.0; that a taken name and an exported type are refused, and their texts, are rules
 -- of this project.
 
--- ---- texts
-
--- 19: an export has the label of an import that stays
-abbrev pub label_clash_text : List ℕ → List ℕ
-label_clash_text label = codes "world export `" ++ (label ++ codes "` conflicts with import of same name")
-
 -- 20: the package has another world of the new name
 abbrev pub name_taken_text : List ℕ → PackageName → List ℕ
 name_taken_text name home = codes "world `" ++ (name ++ (codes "` is already defined in package `" ++ (package_name_text home ++ codes "`")))
 
--- 21: a type would be exported
-abbrev pub type_exported_text : List ℕ → List ℕ
-type_exported_text label = codes "type import `" ++ (label ++ codes "` cannot be exported")
-
 -- ---- what holds against a transformation
-
--- an export has the label of a type among the imports
-abbrev pub HasClash : World → List ℕ → Type 0
-HasClash world label = Contains (keys_of world.exports) (key.Name label) × Contains (keys_of (type_entries world.imports)) (key.Name label)
 
 -- the first label of some exports that other entries have too
 pub record IsFirstCommon (entries exports : List Entry) (label : List ℕ) : Type 0 where
@@ -143,13 +107,9 @@ pub record IsFirstCommon (entries exports : List Entry) (label : List ℕ) : Typ
   pub common : Contains (keys_of entries) (key.Name label)
   pub first : (earlier : List ℕ) → Contains (keys_of (take index exports)) (key.Name earlier) → Contains (keys_of entries) (key.Name earlier) → ⊥
 
--- the package of world w has another world of this name
-abbrev pub NameIsTakenIn : Package → ℕ → List ℕ → Type 0
-NameIsTakenIn home w name = (v : ℕ) × Contains home.worlds (name, v) × (v ≢ w)
-
 -- the package of world w is `home`, and has another world of this name
 abbrev pub HasNameTaken : Graph → ℕ → World → List ℕ → Package → Type 0
-HasNameTaken g w world name home = (p : ℕ) × (world.package ≡ Some p) × (slice_get g.packages p ≡ Some home) × NameIsTakenIn home w name
+HasNameTaken g w world name home = (p : ℕ) × (world.package ≡ Some p) × (slice_get g.packages p ≡ Some home) × ((v : ℕ) × Contains home.worlds (name, v) × (v ≢ w))
 
 -- ---- what exports are refused for
 
@@ -161,7 +121,7 @@ first_refusal (Some error ∷ rest) = Some error
 
 -- 21: a type would be exported
 abbrev pub type_refusal : WorldKey → WorldItem → Option ResolveErrorKind
-type_refusal (key.Name label) held = if is_type held then Some (Semantic None (type_exported_text label) TypeExported) else None
+type_refusal (key.Name label) held = if is_type held then Some (Semantic None (codes "type import `" ++ (label ++ codes "` cannot be exported")) TypeExported) else None
 type_refusal (key.Interface i) held = None
 
 -- why an entry can't be an export: the first of these refusals
@@ -177,7 +137,7 @@ export_refusal exports = first_refusal (map (λ (e : Entry). entry_refusal e.0 e
 -- why exports of a world can't become its imports
 pub data ImportizeCause (g : Graph) (w : ℕ) (world : World) (lists : WorldLists) (error : ResolveErrorKind) : Type 0 where
   -- 19: an export has the label of a type import
-  label_clash : (label : List ℕ) → HasClash world label → error ≡ Semantic None (label_clash_text label) LabelClash → ImportizeCause g w world lists error
+  label_clash : (label : List ℕ) → Contains (keys_of world.exports) (key.Name label) × Contains (keys_of (type_entries world.imports)) (key.Name label) → error ≡ Semantic None (codes "world export `" ++ (label ++ codes "` conflicts with import of same name")) LabelClash → ImportizeCause g w world lists error
   -- 20: the new name is another world's of the package
   importized_name_taken : (home : Package) → HasNameTaken g w world lists.name home → error ≡ Semantic None (name_taken_text lists.name home.name) NameTaken → ImportizeCause g w world lists error
 
@@ -209,12 +169,6 @@ HasPackageAt g w = SomeAt g.worlds w (λ (world : World). IsSomeAnd world.packag
 -- no other world of world w's package has this name
 abbrev pub NameIsFreeAt : Graph → ℕ → List ℕ → Type 0
 NameIsFreeAt g w name = (world : World) (home : Package) → slice_get g.worlds w ≡ Some world → HasNameTaken g w world name home → ⊥
-
--- another world of the package has the new name of world w, and the error says so
-abbrev pub HasNameTakenAt : Graph → ℕ → List ℕ → Option (List ℕ) → ResolveErrorKind → Type 0
-HasNameTakenAt g w suffix out error =
-    (world : World) × (home : Package) × (slice_get g.worlds w ≡ Some world) × HasNameTaken g w world (new_name suffix out world.name) home
-    × (error ≡ Semantic None (name_taken_text (new_name suffix out world.name) home.name) NameTaken)
 
 -- these exports of world w are in conflict, and the error says so
 abbrev pub ExportsAreInConflict : Graph → ℕ → List Entry → ResolveErrorKind → Type 0

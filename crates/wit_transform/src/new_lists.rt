@@ -6,7 +6,8 @@ ghost use Rattle.wit_graph_data.specs.declared.cause.Cause.TheVariants as cause;
 ghost use Rattle.wit_graph_data.specs.declared.error_kind.ResolveErrorKind.TheVariants.{OutOfMemory, Semantic};
 ghost use Rattle.wit_data.specs.declared.world.WorldKey.{WorldKey};
 ghost use Rattle.wit_data.specs.declared.world.WorldKey.TheVariants as key;
-ghost use Rattle.wit_transform.specs.Transformed.{HasClash, IsFirstCommon, entry_refusal, export_refusal, label_clash_text, name_taken_text, type_exported_text, type_refusal, AreUnderLabels, entries_by_answer, is_type, type_entries};
+ghost use Rattle.wit_transform.specs.Transformed.{IsFirstCommon, entry_refusal, export_refusal, name_taken_text, type_refusal, AreUnderLabels, entries_by_answer, is_type, type_entries};
+ghost use Rattle.wit_transform.specs.steps.Parts.{label_clash_text, type_exported_text, HasClash};
 
 use std::alloc::{AllocError, Global};
 use wit_data::{Items, Span, Table, Text, World, WorldItem, WorldKey};

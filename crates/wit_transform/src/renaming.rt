@@ -2,7 +2,7 @@
 ghost use Rattle.std.specs.Prelude.{◌≡◌, ◌↔◌, Contains, IfOk, IsTrue, OnErr, OnOk, nat_eq, not, string_bytes};
 ghost use Rattle.std.specs.Option.{option_map};
 ghost use Rattle.wit_data.specs.Each.{Each};
-ghost use Rattle.wit_transform.specs.Transformed.{NameIsTakenIn, new_name, put_last};
+ghost use Rattle.wit_transform.specs.steps.Parts.{new_name, put_last, NameIsTakenIn};
 
 use std::alloc::{AllocError, Global};
 use wit_data::{Text, WorldId};

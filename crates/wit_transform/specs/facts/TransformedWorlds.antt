@@ -30,7 +30,8 @@ use Rattle.wit_graph_theory.specs.facts.ListFacts.{Contains-map, contained_at, p
 use Rattle.wit_graph_theory.specs.facts.NamedUses.{IsUsed_named}
 use Rattle.wit_graph_theory.specs.facts.LawsOfElaboration.{LawsOfElaboration}
 use Rattle.wit_transform.specs.facts.ListsFrom.{ComesFrom}
-use Rattle.wit_transform.specs.Transformed.{WorldLists, is_type, listed_world, transformed_world}
+use Rattle.wit_transform.specs.Transformed.{WorldLists, is_type}
+use Rattle.wit_transform.specs.steps.Parts.{listed_world, transformed_world}
 
 abbrev entry : WorldKey → WorldItem → Entry
 entry k held = (k, held)

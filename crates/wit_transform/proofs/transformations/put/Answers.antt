@@ -4,8 +4,8 @@ use Rattle.wit_data.specs.Each.{Each}
 use Rattle.wit_data.specs.declared.world.World.{World}
 use Rattle.wit_graph_data.specs.declared.graph.Package.{Package}
 use Rattle.wit_transform.proofs.TableSteps.{free_at_home, has_package, holds_at, home_is_there, listed_under_name, named_once, on_err, set_same}
-use Rattle.wit_transform.specs.Transformed.{NameIsTakenIn}
 use Rattle.wit_transform.proofs.transformations.put.Goals as goal
+use Rattle.wit_transform.specs.steps.Parts.{NameIsTakenIn}
 
 pub home_of-requires : goal.home_of-requires
 home_of-requires c =
