@@ -107,19 +107,19 @@ pub causes : ExamplesOfCauses
 unfolding digits
 causes = record {
   no_version = reason.gate_without_version_9 _ _ (record {
-    note = since_one;
+    since = _;
+    deprecated = _;
     place = None;
     asked = asked.of_interface 0 _ _ refl (0, lit< tt, refl);
-    stable = tt;
     no_version = refl;
     span_is = refl;
     message_is = refl;
   });
   lacks_version = reason.gate_without_version_9 _ _ (record {
-    note = since_one;
+    since = _;
+    deprecated = _;
     place = None;
     asked = asked.of_interface 1 _ _ refl (0, lit< tt, refl);
-    stable = tt;
     no_version = refl;
     span_is = refl;
     message_is = refl;

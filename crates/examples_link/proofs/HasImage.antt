@@ -15,7 +15,6 @@ use Rattle.wit_data.specs.Foreign.{ForeignItem}
 use Rattle.wit_names.specs.facts.PackageNameFacts.{same_name}
 use Rattle.wit_names.specs.PackageName.{same_package}
 use Rattle.wit_data.specs.Kind.{function_references}
-use Rattle.wit_data.specs.Stability.{IsStable}
 use Rattle.wit_data.specs.declared.unresolved.AstItem.{AstItem}
 use Rattle.wit_data.specs.declared.function.Function.{Function}
 use Rattle.wit_data.specs.declared.interface.Interface.{Interface}
@@ -149,10 +148,8 @@ module _ (a : Addition) where
     met _ _ (asked.of_entry w world e note place at active has noted) = note_of e.1 note place (entry_passes w world e at active has) noted
     met _ _ (asked.of_include w world i at active inside) = (and_parts _ _ (included_passes w world i at active inside)).0
 
-    unversioned : (note : Stability) → IsStable note → a.unresolved.name.version ≡ None → is_met note ≡ true → ⊥
-    unversioned Unknown stable none on = stable
-    unversioned (Unstable feature deprecated) stable none on = stable
-    unversioned (Stable since deprecated) stable none on = false≢true (subst (λ (v : Option Parts). reaches since v ≡ true) none on)
+    unversioned : (since : Parts) → a.unresolved.name.version ≡ None → reaches since a.unresolved.name.version ≡ true → ⊥
+    unversioned since none on = false≢true (subst (λ (v : Option Parts). reaches since v ≡ true) none on)
 
     below : (since version : Parts) → a.unresolved.name.version ≡ Some version → version_cmp version since ≡ Less → reaches since a.unresolved.name.version ≡ true → ⊥
     below since version has less on =
@@ -222,7 +219,7 @@ module _ (a : Addition) where
           let there : is_some (find_interface a.graph a.unresolved.name home requested) ≡ true =
           implied _ _ (all_are (λ (e : ℕ × PackageName × ForeignItem). is_found e.1 e.2.0 e.2.1.0) (named_items a.unresolved.foreign_deps) p.items (c.at, home, (requested, (named.Interface c.i, c.notes))) c.names) c.active in
           false≢true (subst (λ (o : Option ℕ). is_some o ≡ true) c.absent there);
-      version = λ span message c. unversioned c.note c.stable c.no_version (met c.note c.place c.asked);
+      version = λ span message c. unversioned c.since c.no_version (met (Stable c.since c.deprecated) c.place c.asked);
       released = λ span message c. below c.since c.version c.has_version c.below (met (Stable c.since c.deprecated) c.place c.asked);
       references = λ span message c. kept c.thing (referred_passes c.thing c.place c.refers) c.excluded;
       owners = λ span message c. kept c.thing (owner_passes c.t c.def c.thing c.is c.active c.owner) c.excluded;

@@ -13,7 +13,6 @@ use Rattle.wit_graph_data.specs.examples.Samples.{no_docs}
 use Rattle.wit_graph_theory.specs.examples.TestFacts.{only_one}
 use Rattle.wit_labels.specs.examples.Examples.{function_entry}
 use Rattle.wit_link_spec.specs.Addition.{Addition, active_includes, own_worlds}
-use Rattle.wit_link_spec.specs.Cause.{IsReached}
 use Rattle.wit_link_spec.specs.Cause as reason
 use Rattle.wit_link_spec.specs.Gates as asked
 use Rattle.wit_link_spec.specs.Include.{EntryLists}
@@ -28,7 +27,7 @@ use Rattle.examples_link.proofs.WorldCauses.{first_reached, label_same, other_fe
 use Rattle.examples_link.proofs.WorldTests.{IsPlain, fine, none_alike, plain_accepted}
 use Rattle.examples_link.specs.LaterWorlds.{ExamplesOfLaterWorlds, alike_unversioned, before_alike, include_of, including_unversioned, shadowing_first, two_gates, w_is_alike, w_of_alike}
 use Rattle.examples_link.specs.Packages.{gate_f, gate_g, loose_interface, since_one}
-use Rattle.wit_link_spec.specs.steps.Parts.{IncludeIsAccepted, WorldIsAccepted}
+use Rattle.wit_link_spec.specs.steps.Parts.{IncludeIsAccepted, WorldIsAccepted, IsReached}
 
 -- ---- a world with which nothing is wrong
 
@@ -136,7 +135,7 @@ first_told (suc k) reached c =
 -- ---- no image
 
 lacks_version : LacksVersion including_unversioned None (codes "package [foo:main] contains a feature gate with a version specifier, so it must have a version")
-lacks_version = record { note = since_one; place = None; asked = asked.of_interface 1 _ _ refl (0, lit< tt, refl); stable = tt; no_version = refl; span_is = refl; message_is = refl }
+lacks_version = record { since = _; deprecated = _; place = None; asked = asked.of_interface 1 _ _ refl (0, lit< tt, refl); no_version = refl; span_is = refl; message_is = refl }
 
 abbrev unmade_world : AtWorld including_unversioned 0
 unmade_world = record { id = 1; world = _; is = refl }
@@ -154,7 +153,7 @@ abbrev unmade : Addition
 unmade = shadowing_first (loose_interface (codes "i") [] since_one ∷ [])
 
 unversioned_too : LacksVersion unmade None (codes "package [foo:bar] contains a feature gate with a version specifier, so it must have a version")
-unversioned_too = record { note = since_one; place = None; asked = asked.of_interface 0 _ _ refl (0, lit< tt, refl); stable = tt; no_version = refl; span_is = refl; message_is = refl }
+unversioned_too = record { since = _; deprecated = _; place = None; asked = asked.of_interface 0 _ _ refl (0, lit< tt, refl); no_version = refl; span_is = refl; message_is = refl }
 
 no_image : IsResolved unmade → ⊥
 no_image has = has.version None (codes "package [foo:bar] contains a feature gate with a version specifier, so it must have a version") unversioned_too

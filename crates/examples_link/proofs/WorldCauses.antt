@@ -23,7 +23,6 @@ use Rattle.wit_graph_theory.specs.examples.TestFacts.{feature_of, none_in, one_o
 use Rattle.wit_labels.specs.examples.Examples.{function_entry, named_as}
 use Rattle.wit_labels.specs.Rename.{renamed_label_by}
 use Rattle.wit_link_spec.specs.Addition.{Addition}
-use Rattle.wit_link_spec.specs.Cause.{IsReached}
 use Rattle.wit_link_spec.specs.Cause as reason
 use Rattle.wit_link_spec.specs.Gates.{OptionalSpan}
 use Rattle.wit_link_spec.specs.Gates as asked
@@ -35,8 +34,9 @@ use Rattle.examples_link.proofs.AtWorlds.{fine_without, include_same, list_world
 use Rattle.examples_link.proofs.HasImage.{image}
 use Rattle.examples_link.proofs.Matching.{ClashAt, LonelySetterAt, apart_of, of_alike, of_conflict, of_getter, of_mismatch, of_rename, of_shadowing, unmatched_of}
 use Rattle.examples_link.proofs.WorldTests.{conflict_of, none_alike, none_lacks, one_list, unshadowed}
-use Rattle.examples_link.specs.Packages.{adding, all_features, exporting_with, gate_f, gate_g, gated_entry, including_package, no_features, since_one, since_package, three, with_world}
+use Rattle.examples_link.specs.Packages.{adding, all_features, exporting_with, gate_f, gate_g, gated_entry, including_package, no_features, since_package, three, with_world}
 use Rattle.examples_link.specs.WorldCauses.{ExamplesOfWorldCauses, importing}
+use Rattle.wit_link_spec.specs.steps.Parts.{IsReached}
 
 -- the first world is reached
 pub first_reached : (a : Addition) → IsReached a 0
@@ -151,7 +151,7 @@ renames span message x =
 -- ---- no image
 
 lacks_version : LacksVersion (adding all_features (with_world gate_g (codes "f")) since_package) None (codes "package [foo:main] contains a feature gate with a version specifier, so it must have a version")
-lacks_version = record { note = since_one; place = None; asked = asked.of_interface 1 _ _ refl (0, lit< tt, refl); stable = tt; no_version = refl; span_is = refl; message_is = refl }
+lacks_version = record { since = _; deprecated = _; place = None; asked = asked.of_interface 1 _ _ refl (0, lit< tt, refl); no_version = refl; span_is = refl; message_is = refl }
 
 -- ---- labels of a world that includes nothing
 

@@ -14,7 +14,7 @@ use Rattle.wit_graph_data.specs.declared.error_kind.ResolveErrorKind.{ResolveErr
 use Rattle.wit_graph_data.specs.declared.error_kind.ResolveErrorKind.TheVariants.{OutOfMemory}
 use Rattle.wit_graph_theory.specs.facts.ListFacts.{from_map}
 use Rattle.wit_link_spec.specs.Addition.{Addition, own_worlds}
-use Rattle.wit_link_spec.specs.Cause.{IsAdditionCause, IsReached}
+use Rattle.wit_link_spec.specs.Cause.{IsAdditionCause}
 use Rattle.wit_link_spec.specs.Added.{added, with_parts, with_world, with_worlds}
 use Rattle.wit_link_spec.specs.facts.Linked.{updated_includes}
 use Rattle.wit_link_spec.specs.Reasons.{IsResolved}
@@ -26,7 +26,7 @@ use Rattle.wit_link_include.specs.steps.Included as local
 use Rattle.wit_link_include.specs.facts.ReadyFacts.{can_be_added}
 use Rattle.wit_remap.specs.declared.worlds.UpdatedWorld.{UpdatedWorld}
 use Rattle.wit_link.specs.steps.Including.{ready_world, ready_worlds}
-use Rattle.wit_link_spec.specs.steps.Parts.{WorldIsAccepted}
+use Rattle.wit_link_spec.specs.steps.Parts.{WorldIsAccepted, IsReached}
 
 -- so many worlds are added, and no cause holds against them
 pub record IsAdding (a : Addition) (done : List UpdatedWorld) (g : Graph) : Type 0 where

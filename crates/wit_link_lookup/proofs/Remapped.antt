@@ -11,7 +11,7 @@ use Rattle.wit_data.specs.Shape.{IsShaped}
 use Rattle.wit_data.specs.declared.unresolved.AstItem.{AstItem}
 use Rattle.wit_names.specs.declared.package_name.PackageName.{PackageName}
 use Rattle.wit_graph_theory.specs.facts.ListFacts.{place_of}
-use Rattle.wit_link_spec.specs.Addition.{Addition, active_interface_id, active_type_id, active_world_id, own_type}
+use Rattle.wit_link_spec.specs.Addition.{Addition, own_type}
 use Rattle.wit_remap_spec.specs.Selected.{rank}
 use Rattle.wit_link_spec.specs.Gates.{interface_is_active, type_is_active, world_is_active}
 use Rattle.wit_link_spec.specs.Lookup.{find_interface, find_package, find_world, foreign_type_id, is_foreign_type, named_items, naming_item}
@@ -23,6 +23,7 @@ use Rattle.wit_link_spec.specs.steps.AdditionRefs.{activity_of}
 use Rattle.wit_link_lookup.specs.steps.ForeignItems.{AreThere, Lookup, NamedItem, assigned_ids, first_among, found_among, goes, has_new_id, item_in, named_is_active}
 use Rattle.wit_link_lookup.specs.declared.foreign.Found.{Found}
 use Rattle.wit_link_lookup.proofs.NamedItems.{ids_named}
+use Rattle.wit_link_spec.specs.steps.Parts.{active_type_id, active_interface_id, active_world_id}
 
 -- what a thing is remapped to, when what is of other packages and is active is found, and nothing else is
 goes_there : (active foreign : Bool) (found : Option ℕ) (next : ℕ) → (active ≡ true → foreign ≡ true → found ≡ None → ⊥) → (foreign ≡ false → found ≡ None)

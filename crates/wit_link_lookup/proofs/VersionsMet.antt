@@ -13,14 +13,13 @@ use Rattle.wit_sources.specs.Span.{moved_by}
 use Rattle.wit_data.specs.Each.{Each, EachAt}
 use Rattle.wit_data.specs.Entries.{Entry}
 use Rattle.wit_data.specs.Foreign.{AreFirst, ForeignItem, ForeignItems, IsNameOnly, foreign_interfaces, foreign_worlds, interface_id, world_id}
-use Rattle.wit_data.specs.Stability.{IsStable}
 use Rattle.wit_data.specs.declared.unresolved.AstItem.{AstItem}
 use Rattle.wit_data.specs.declared.interface.Interface.{Interface}
 use Rattle.wit_names.specs.declared.package_name.PackageName.{PackageName}
 use Rattle.wit_data.specs.declared.stability.Stability.{Stability}
 use Rattle.wit_data.specs.declared.types.TypeDef.{TypeDef}
 use Rattle.wit_data.specs.declared.world.World.{World}
-use Rattle.wit_data.specs.declared.stability.Stability.TheVariants.{Unknown, Stable, Unstable}
+use Rattle.wit_data.specs.declared.stability.Stability.TheVariants.{Stable}
 use Rattle.wit_data.specs.declared.unresolved.AstItem.TheVariants as named
 use Rattle.wit_graph_data.specs.declared.cause.Cause.TheVariants as cause
 use Rattle.wit_graph_data.specs.declared.features.Features.{Features}
@@ -50,10 +49,10 @@ pub told-lacking : (checker : Checker) (since : Parts) (deprecated : Option Part
     → kind ≡ Semantic (moved_by checker.addition.offset place) (gate_without_version_text checker.addition.unresolved.now.name) cause.GateWithoutVersion → MayRefuse checker kind
 told-lacking checker since deprecated place kind asked none is =
     inr (subst (IsAdditionCause (seen checker)) (sym is) (gate_without_version_9 (moved_by checker.addition.offset place) (gate_without_version_text checker.addition.unresolved.now.name) (record {
-      note = Stable since deprecated;
+      since = since;
+      deprecated = deprecated;
       place = place;
       asked = asked;
-      stable = tt;
       no_version = none;
       span_is = refl;
       message_is = refl;
@@ -231,15 +230,11 @@ all-met checker ready met note place (of_include w world i at active has) =
     let there = place_of world.includes i has in
     parts.includes there.0 i there.1
 
--- no version to meet it, and it is a `@since`
-unmet : (checker : Checker) (note : Stability) → IsStable note → checker.addition.unresolved.now.name.version ≡ None → IsMet checker note → ⊥
-unmet checker Unknown stable none met = stable
-unmet checker (Stable since deprecated) stable none met = subst (λ (v : Option Parts). HasReached v since) none met
-unmet checker (Unstable feature deprecated) stable none met = stable
-
 pub gates-met : (checker : Checker) → IsCheckerReady checker → AreMet checker → GatesAreMet (seen checker)
 gates-met checker ready met = record {
-  version = λ span message lacks. unmet checker lacks.note lacks.stable lacks.no_version (all-met checker ready met lacks.note lacks.place lacks.asked);
+  version = λ span message lacks.
+      let reached : HasReached checker.addition.unresolved.now.name.version lacks.since = all-met checker ready met (Stable lacks.since lacks.deprecated) lacks.place lacks.asked in
+      subst (λ (v : Option Parts). HasReached v lacks.since) lacks.no_version reached;
   released = λ span message below.
       let reached : HasReached checker.addition.unresolved.now.name.version below.since = all-met checker ready met (Stable below.since below.deprecated) below.place below.asked in
       subst (λ (v : Option Parts). HasReached v below.since) below.has_version reached below.below;

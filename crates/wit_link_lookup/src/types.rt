@@ -3,7 +3,7 @@ ghost use Rattle.std.specs.Prelude.{◌≡◌, ◌⊎◌, ◌<◌, ◌+◌, IfEr
 ghost use Rattle.std.specs.List.{range_with_len};
 ghost use Rattle.wit_graph_data.specs.declared.error_kind.ResolveErrorKind.TheVariants.{OutOfMemory};
 ghost use Rattle.wit_data.specs.Shape.{IsShaped};
-ghost use Rattle.wit_link_spec.specs.Addition.{active_type_id, own_type};
+ghost use Rattle.wit_link_spec.specs.Addition.{own_type};
 ghost use Rattle.wit_remap_spec.specs.Selected.{rank};
 ghost use Rattle.wit_link_spec.specs.steps.AdditionRefs.{activity_of, addition_of};
 ghost use Rattle.wit_link_spec.specs.Cause.{IsAdditionCause};
@@ -11,6 +11,7 @@ ghost use Rattle.wit_link_spec.specs.Gates.{type_is_active};
 ghost use Rattle.wit_link_spec.specs.Lookup.{foreign_type_id, named_items};
 ghost use Rattle.wit_graph_data.specs.Named.{interface_type};
 ghost use Rattle.wit_link_lookup.specs.steps.ForeignItems.{AreTypesThere, IsTypeThere, found_among};
+ghost use Rattle.wit_link_spec.specs.steps.Parts.{active_type_id};
 
 use crate::foreign::Found;
 use crate::new_ids::assign_id;

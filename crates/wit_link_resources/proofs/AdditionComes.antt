@@ -13,7 +13,7 @@ use Rattle.wit_data.specs.declared.function.Function.{Function}
 use Rattle.wit_data.specs.declared.types.TypeDef.{TypeDef}
 use Rattle.wit_elaboration.specs.Valid.{IsValid}
 use Rattle.wit_graph_theory.specs.facts.ListFacts.{from_map}
-use Rattle.wit_link_spec.specs.Addition.{Addition, active_type_id, own_functions, own_type, remap_of_addition}
+use Rattle.wit_link_spec.specs.Addition.{Addition, own_functions, own_type, remap_of_addition}
 use Rattle.wit_link_spec.specs.facts.ClosedCut.{there_where}
 use Rattle.wit_link_spec.specs.facts.NewFacts.{foreign_type_id-below, new_types}
 use Rattle.wit_link_spec.specs.facts.PositionFacts.{position_active}
@@ -31,6 +31,7 @@ use Rattle.wit_link_resources.specs.facts.IncomingLeads.{positions_same}
 use Rattle.wit_link_resources.proofs.OwnFunctions.{active_own}
 use Rattle.wit_link_resources.proofs.Where.{both, foreign_back, goes_there, nowhere, own_active, taken_is_active, target_active}
 use Rattle.wit_remap_spec.specs.steps.Parts.{value_positions}
+use Rattle.wit_link_spec.specs.steps.Parts.{active_type_id}
 
 module _ (a : Addition) (valid : IsValid a.graph) (shaped : IsShaped a.unresolved) (image : IsResolved a) where
   abbrev types : List TypeDef

@@ -9,14 +9,14 @@ use Rattle.wit_data.specs.declared.types.TypeDefKind.{TypeDefKind}
 use Rattle.wit_data.specs.declared.types.TypeDefKind.TheVariants as kind
 use Rattle.wit_graph_data.specs.Queries.{type_contents}
 use Rattle.wit_graph_theory.specs.facts.ListFacts.{found_at, same_at, some_at}
-use Rattle.wit_link_spec.specs.Addition.{Addition, active_type_id}
+use Rattle.wit_link_spec.specs.Addition.{Addition}
 use Rattle.wit_link_spec.specs.Lookup.{is_foreign_type}
 use Rattle.wit_remap_spec.specs.Borrows.{HoldsBorrow}
 use Rattle.wit_link_resources.specs.steps.Borrows.{IsBorrowThere}
 use Rattle.wit_link_resources.proofs.Searching.{ReachesBad}
 use Rattle.wit_link_resources.proofs.Where.{foreign_back, found_is_foreign, found_on}
 use Rattle.wit_remap_spec.specs.steps.Parts.{IsBorrow}
-use Rattle.wit_link_spec.specs.steps.Parts.{MayHoldBorrow}
+use Rattle.wit_link_spec.specs.steps.Parts.{MayHoldBorrow, active_type_id}
 
 -- the kind is a borrow
 abbrev pub IsBorrowKind : TypeDefKind → Type 0

@@ -20,7 +20,7 @@ use Rattle.wit_data.specs.declared.types.Type_.TheVariants as type
 use Rattle.wit_data.specs.declared.types.TypeOwner.TheVariants as owner
 use Rattle.wit_elaboration.specs.Valid.{IsValid}
 use Rattle.wit_graph_theory.specs.facts.ListFacts.{contained_at, found_at, get_at, place_of}
-use Rattle.wit_link_spec.specs.Addition.{Addition, active_type_id, own_type, remapped_type}
+use Rattle.wit_link_spec.specs.Addition.{Addition, own_type, remapped_type}
 use Rattle.wit_remap_spec.specs.Selected.{rank}
 use Rattle.wit_link_spec.specs.facts.ClosedCut.{references_kept, there_where}
 use Rattle.wit_link_spec.specs.facts.ForeignFound.{find-passes, named_at}
@@ -29,6 +29,7 @@ use Rattle.wit_link_spec.specs.Lookup.{find_interface, foreign_interface_id, for
 use Rattle.wit_graph_data.specs.Named.{interface_type}
 use Rattle.wit_link_spec.specs.Reasons.{IsResolved}
 use Rattle.wit_link_spec.specs.facts.Standing.{foreign_interface_remapped, foreign_type}
+use Rattle.wit_link_spec.specs.steps.Parts.{active_type_id}
 
 -- ---- by cases
 

@@ -60,39 +60,23 @@ active_includes a world = filter (λ (i : WorldInclude). is_active a.features i.
 
 -- ---- where it goes
 
--- what a type is remapped to: nowhere if it isn't active; one of another package to that of the graph which it names,
--- if that is there; one of its own to the next id
-abbrev pub active_type_id : Addition → ℕ → Option ℕ
-active_type_id a t =
-    if type_is_active a.features a.unresolved.types t
-    then (if is_foreign_type a.unresolved t then foreign_type_id a.graph a.unresolved t else Some (length a.graph.types + rank (own_type a) t))
-    else None
+-- the id in the graph of a thing that has this id in the package: of an active one of another package that of what it
+-- names, where that is found; of an active one of its own the next id; what has none keeps its id
+abbrev pub remapped : Bool → Bool → Option ℕ → ℕ → ℕ → ℕ
+remapped active foreign found next id = unwrap_or (if active then (if foreign then found else Some next) else None) id
 
--- the id of interface i of the package in the graph: of an active foreign one where it is found, of an own active one
--- the next id
-abbrev pub active_interface_id : Addition → ℕ → Option ℕ
-active_interface_id a i =
-    if interface_is_active a.features a.unresolved i
-    then (if is_foreign_interface a.unresolved i then foreign_interface_id a.graph a.unresolved i else Some (length a.graph.interfaces + rank (own_interface a) i))
-    else None
-
--- the id of world w of the package in the graph: of an active foreign one where it is found, of an own active one the
--- next id
-abbrev pub active_world_id : Addition → ℕ → Option ℕ
-active_world_id a w =
-    if world_is_active a.features a.unresolved w
-    then (if is_foreign_world a.unresolved w then foreign_world_id a.graph a.unresolved w else Some (length a.graph.worlds + rank (own_world a) w))
-    else None
-
--- the id that an image has in place of an id; one that isn't remapped stays
 abbrev pub remapped_type : Addition → ℕ → ℕ
-remapped_type a t = unwrap_or (active_type_id a t) t
+remapped_type a t =
+    remapped (type_is_active a.features a.unresolved.types t) (is_foreign_type a.unresolved t) (foreign_type_id a.graph a.unresolved t) (length a.graph.types + rank (own_type a) t) t
 
 abbrev pub remapped_interface : Addition → ℕ → ℕ
-remapped_interface a i = unwrap_or (active_interface_id a i) i
+remapped_interface a i =
+    remapped (interface_is_active a.features a.unresolved i) (is_foreign_interface a.unresolved i) (foreign_interface_id a.graph a.unresolved i)
+    (length a.graph.interfaces + rank (own_interface a) i) i
 
 abbrev pub remapped_world : Addition → ℕ → ℕ
-remapped_world a w = unwrap_or (active_world_id a w) w
+remapped_world a w =
+    remapped (world_is_active a.features a.unresolved w) (is_foreign_world a.unresolved w) (foreign_world_id a.graph a.unresolved w) (length a.graph.worlds + rank (own_world a) w) w
 
 -- what ids are remapped to, all of them plainly
 abbrev pub maps_without_owns : Addition → Maps

@@ -12,10 +12,6 @@ use Rattle.wit_link_spec.specs.Gates.{OptionalSpan}
 use Rattle.wit_link_spec.specs.Reasons.{AdditionOverflows, ForeignTypeMissing, HasExcludedOwner, IsDuplicate, IsNoResource, IsUnreleased, LacksInterface, LacksPackage, LacksVersion, LacksWorld, RefersToExcluded, ReturnsBorrow}
 use Rattle.wit_link_spec.specs.WorldReasons.{IsCauseAtWorld}
 
--- every world before world k is accepted
-abbrev pub IsReached : Addition → ℕ → Type 0
-IsReached a k = (i : ℕ) → i < k → NoCause (IsCauseAtWorld a i)
-
 pub data IsAdditionCause (a : Addition) : ResolveErrorKind → Type 0 where
   package_not_found_1 : (span : OptionalSpan) (requested : PackageName) (known : List PackageName) → LacksPackage a span requested known → IsAdditionCause a (PackageNotFound span requested known)
   world_not_found_2 : (span : OptionalSpan) (requested : List ℕ) (home : PackageName) → LacksWorld a span requested home → IsAdditionCause a (WorldNotFound span requested home)
@@ -29,4 +25,5 @@ pub data IsAdditionCause (a : Addition) : ResolveErrorKind → Type 0 where
   not_a_resource_14 : (span : OptionalSpan) (message : List ℕ) → IsNoResource a span message → IsAdditionCause a (Semantic span message cause.NotAResource)
   borrow_in_result_15 : (span : OptionalSpan) (message : List ℕ) → ReturnsBorrow a span message → IsAdditionCause a (Semantic span message cause.BorrowInResult)
   offset_overflow_27 : AdditionOverflows a → IsAdditionCause a OffsetOverflow
-  of_world : (k : ℕ) (error : ResolveErrorKind) → IsReached a k → IsCauseAtWorld a k error → IsAdditionCause a error
+  -- that of the first world that has one
+  of_world : (k : ℕ) (error : ResolveErrorKind) → ((i : ℕ) → i < k → NoCause (IsCauseAtWorld a i)) → IsCauseAtWorld a k error → IsAdditionCause a error

@@ -11,7 +11,6 @@ use Rattle.wit_data.specs.Foreign.{ForeignItem}
 use Rattle.wit_names.specs.PackageName.{same_package, package_name_text}
 use Rattle.wit_data.specs.Kind.{function_references, named_option, named_type, referred}
 use Rattle.wit_sources.specs.Span.{moved_by}
-use Rattle.wit_data.specs.Stability.{IsStable}
 use Rattle.wit_data.specs.declared.stability.Docs.{Docs}
 use Rattle.wit_data.specs.declared.types.Field.{Field}
 use Rattle.wit_data.specs.declared.function.Function.{Function}
@@ -96,10 +95,10 @@ pub record LacksInterface (a : Addition) (span : OptionalSpan) (requested : List
 
 -- 9: a `@since` is asked, and the package has no version
 pub record LacksVersion (a : Addition) (span : OptionalSpan) (message : List ℕ) : Type 0 where
-  pub note : Stability
+  pub since : Parts
+  pub deprecated : Option Parts
   pub place : OptionalSpan
-  pub asked : IsAsked a.features a.unresolved note place
-  pub stable : IsStable note
+  pub asked : IsAsked a.features a.unresolved (Stable since deprecated) place
   pub no_version : a.unresolved.name.version ≡ None
   pub span_is : span ≡ moved_by a.offset place
   pub message_is : message ≡ codes "package [" ++ (package_name_text a.unresolved.name ++ codes "] contains a feature gate with a version specifier, so it must have a version")

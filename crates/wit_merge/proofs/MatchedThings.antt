@@ -13,7 +13,7 @@ use Rattle.wit_data.specs.declared.world.WorldKey.TheVariants as key
 use Rattle.wit_elaboration.specs.Valid.{IsValid}
 use Rattle.wit_remap_spec.specs.Image.{entry_image, item_image}
 use Rattle.wit_remap_spec.specs.Joined.{joined_entry, joined_item}
-use Rattle.wit_merge_spec.specs.Merged.{is_under_id, merge_maps, merged_interface, moves_interface}
+use Rattle.wit_merge_spec.specs.Merged.{is_under_id, merge_maps, merged_interface}
 use Rattle.wit_merge_spec.specs.Matches.{GraphMerge, counterpart_interface}
 use Rattle.wit_merge_laws.specs.facts.InterfacesStand.{moved_interface_remapped}
 use Rattle.wit_merge_laws.specs.facts.ListedStand.{interfaces_apart}
@@ -22,6 +22,7 @@ use Rattle.wit_merge_laws.specs.facts.TypesStand.{matched_some}
 use Rattle.wit_merge.specs.steps.UnionSteps.{KeyWithin, KnowsCounterparts, entry_joined, stability_joined, stability_of, stability_under, CanUnite, first_from, merging_of}
 use Rattle.wit_merge.specs.declared.merge_plan.MergePlan.{MergePlan}
 use Rattle.wit_merge.proofs.CounterpartSteps.{is_matched, none_matched}
+use Rattle.wit_merge_spec.specs.steps.Parts.{moves_interface}
 
 -- two items, where the first stands under the key of the second
 item_joined : (from : Option WorldItem) (held : WorldItem) → option_map_or (λ (d : WorldItem). joined_item false d held) from held ≡ stability_joined (option_and_then stability_of from) held

@@ -13,7 +13,7 @@ use Rattle.wit_link_spec.specs.facts.RankFacts.{rank-agree, selected-agree}
 use Rattle.wit_remap_spec.specs.Selected.{rank, selected}
 use Rattle.wit_link_spec.specs.steps.NewThings.{is_from, is_new}
 use Rattle.wit_merge_spec.specs.Matches.{GraphMerge, counterpart_type}
-use Rattle.wit_merge_spec.specs.Merged.{merged_type, moved_functions, moves_type, remap_of_merge}
+use Rattle.wit_merge_spec.specs.Merged.{merged_type, moved_functions, remap_of_merge}
 use Rattle.wit_merge_laws.specs.facts.MatchFacts.{type_is}
 use Rattle.wit_merge_match.specs.steps.Matched.{merge_remap_of}
 use Rattle.wit_link_resources.specs.steps.IncomingTypes.{CanCome, IsRemapOf, IsRemapped}
@@ -22,6 +22,7 @@ use Rattle.wit_link_resources.specs.facts.Leads.{target_there}
 use Rattle.wit_merge.proofs.Positions.{position_there}
 use Rattle.wit_data.specs.Kind.{signature_types}
 use Rattle.wit_remap_spec.specs.steps.Parts.{value_positions}
+use Rattle.wit_merge_spec.specs.steps.Parts.{moves_type}
 
 module _ (m : GraphMerge) (valid : IsValid m.graph) (valid_other : IsValid m.other) where
   abbrev types : List TypeDef

@@ -28,7 +28,7 @@ use Rattle.wit_graph_theory.specs.facts.GoodIsValid.{good_things}
 use Rattle.wit_graph_theory.specs.facts.GraphSource.{mapped_is_good}
 use Rattle.wit_graph_theory.specs.facts.ListFacts.{found_at, place_of}
 use Rattle.wit_graph_theory.specs.steps.Sources.{IsGoodSource, OwnerIsActive, Source}
-use Rattle.wit_merge_spec.specs.Merged.{joined_graph, joined_package, merged, with_interface, with_package, moves_package}
+use Rattle.wit_merge_spec.specs.Merged.{joined_graph, merged, with_interface, with_package}
 use Rattle.wit_merge_spec.specs.Matches.{GraphMerge, counterpart_interface, counterpart_interface_by, counterpart_package, counterpart_world, named_in_counterpart}
 use Rattle.wit_merge_laws.specs.facts.InterfacesStand.{counterpart_is, old_interface_at, with_counterpart}
 use Rattle.wit_merge_laws.specs.facts.JoinedGood.{joined_good}
@@ -39,6 +39,7 @@ use Rattle.wit_merge.specs.steps.UnionSteps.{EntryWithin, FunctionsMove, Interfa
 use Rattle.wit_merge.specs.declared.merge_plan.MergePlan.{MergePlan}
 use Rattle.wit_merge.proofs.Agrees.{of_any}
 use Rattle.wit_remap_spec.specs.steps.Parts.{identity}
+use Rattle.wit_merge_spec.specs.steps.Parts.{joined_package, moves_package}
 
 -- what is said of a package is said of one that is there
 home_there : {X : Type 0} (packages : List X) (home : Option ℕ) (P : ℕ → X → Type 0) → IsSomeAnd home (λ p. SomeAt packages p (P p)) → (p : ℕ) × (home ≡ Some p) × (p < length packages)

@@ -5,12 +5,13 @@ use Rattle.wit_elaboration.specs.facts.Filters.{Contains-filter}
 use Rattle.wit_merge_match.specs.steps.Matched.{moves}
 use Rattle.wit_remap.specs.steps.Movers.{goes}
 use Rattle.wit_merge_spec.specs.Matches.{GraphMerge, counterpart_interface, counterpart_type, counterpart_world}
-use Rattle.wit_merge_spec.specs.Merged.{merged_interface, merged_type, merged_world, moves_interface, moves_type, moves_world}
+use Rattle.wit_merge_spec.specs.Merged.{merged_interface, merged_type, merged_world}
 use Rattle.wit_merge.specs.steps.UnionSteps.{moved_names, CanUnite, merging_of}
 use Rattle.wit_merge.specs.declared.merge_plan.MergePlan.{MergePlan}
 use Rattle.wit_merge.proofs.Agrees.{interfaces_go, types_go, worlds_go}
 use Rattle.wit_merge.proofs.SameImages.{each_same}
 use Rattle.wit_merge.proofs.UnitedIs.{moves_is}
+use Rattle.wit_merge_spec.specs.steps.Parts.{moves_type, moves_interface, moves_world}
 
 abbrev pub Table : Type 0
 Table = List (List ℕ × ℕ)

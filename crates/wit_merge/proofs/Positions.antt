@@ -18,10 +18,10 @@ use Rattle.wit_remap_spec.specs.Selected.{selected_with_index}
 use Rattle.wit_remap_spec.specs.Resources.{is_value}
 use Rattle.wit_remap_spec.specs.ValueRemap.{positions}
 use Rattle.wit_merge_spec.specs.Matches.{GraphMerge}
-use Rattle.wit_merge_spec.specs.Merged.{moved_functions, moves_type, remap_of_merge}
+use Rattle.wit_merge_spec.specs.Merged.{moved_functions, remap_of_merge}
 use Rattle.wit_merge_laws.specs.facts.FunctionsThere.{moved_refers}
 use Rattle.wit_remap_spec.specs.steps.Parts.{value_positions}
-use Rattle.wit_merge_spec.specs.steps.Parts.{moved_types}
+use Rattle.wit_merge_spec.specs.steps.Parts.{moved_types, moves_type}
 
 -- a value position of a function is a reference of it
 signature_referred : (f : Function) (t : ℕ) → Contains (signature_types f) t → Contains (function_references f) t

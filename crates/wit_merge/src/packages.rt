@@ -2,9 +2,10 @@
 ghost use Rattle.std.specs.Prelude.{◌≡◌, ◌++◌, IfOk, OnOk, map};
 ghost use Rattle.wit_values.specs.Table.{HasDistinctKeys};
 ghost use Rattle.wit_remap_spec.specs.Selected.{selected};
-ghost use Rattle.wit_merge_spec.specs.Merged.{joined_graph, moves_package, package_image};
+ghost use Rattle.wit_merge_spec.specs.Merged.{joined_graph, package_image};
 ghost use Rattle.wit_merge.specs.steps.Behind.{new_names};
 ghost use Rattle.wit_merge.specs.steps.UnionSteps.{moved_names, CanUnite, KnowsCounterparts, merging_of};
+ghost use Rattle.wit_merge_spec.specs.steps.Parts.{moves_package};
 
 use crate::merge_plan::MergePlan;
 use crate::names::{moves, push_moved};

@@ -32,10 +32,10 @@ use Rattle.wit_remap_spec.specs.Joined.{joined_entry, joined_item, joined_stabil
 use Rattle.wit_link_spec.specs.facts.ForeignFound.{find-passes}
 use Rattle.wit_remap_spec.specs.Image.{entry_image, function_image, item_image}
 use Rattle.wit_merge_spec.specs.Matches.{GraphMerge, counterpart_interface, counterpart_item, counterpart_of, counterpart_package, counterpart_type, counterpart_world}
-use Rattle.wit_merge_spec.specs.Merged.{brought_functions, is_under_id, merge_maps, merged_interface, merged_type, merged_world, moves_interface, moves_world, with_entries, with_interface, with_package, with_world}
+use Rattle.wit_merge_spec.specs.Merged.{brought_functions, is_under_id, merge_maps, merged_interface, merged_type, merged_world, with_entries, with_interface, with_package, with_world}
 use Rattle.wit_merge_spec.specs.steps.Leaving.{LeavesGraph}
 use Rattle.wit_merge_match.specs.steps.Leaving.{EntriesLeave, InterfaceLeaves, LeavesAt, PackageLeaves, TypeLeaves, WorldLeaves, interface_stability}
-use Rattle.wit_merge_spec.specs.steps.Parts.{brought_types, with_type}
+use Rattle.wit_merge_spec.specs.steps.Parts.{brought_types, with_type, moves_interface, moves_world}
 
 -- ---- loops
 

@@ -10,7 +10,6 @@ use Rattle.wit_data.specs.Entries.{Entry}
 use Rattle.wit_data.specs.declared.function.Function.{Function}
 use Rattle.wit_data.specs.declared.interface.Interface.{Interface}
 use Rattle.wit_names.specs.declared.package_name.PackageName.{PackageName}
-use Rattle.wit_data.specs.declared.types.TypeDef.{TypeDef}
 use Rattle.wit_data.specs.declared.world.World.{World}
 use Rattle.wit_data.specs.declared.world.WorldKey.{WorldKey}
 use Rattle.wit_data.specs.declared.world.WorldKey.TheVariants as key
@@ -31,21 +30,12 @@ use Rattle.std.specs.Map.{lookup}
 -- ---- what moves
 
 -- what isn't matched moves
-abbrev pub moves_type : GraphMerge → ℕ → Bool
-moves_type m t = not (is_some (counterpart_type m t))
-
-abbrev pub moves_interface : GraphMerge → ℕ → Bool
-moves_interface m i = not (is_some (counterpart_interface m i))
-
-abbrev pub moves_world : GraphMerge → ℕ → Bool
-moves_world m w = not (is_some (counterpart_world m w))
-
-abbrev pub moves_package : GraphMerge → ℕ → Bool
-moves_package m p = not (is_some (counterpart_package m p))
+abbrev pub moves : (ℕ → Option ℕ) → ℕ → Bool
+moves found i = not (is_some (found i))
 
 -- the worlds that move, with their places, in their order
 abbrev pub moved_worlds : GraphMerge → List (ℕ × World)
-moved_worlds m = selected_with_index (moves_world m) m.other.worlds
+moved_worlds m = selected_with_index (moves (counterpart_world m)) m.other.worlds
 
 -- of a matched interface the functions whose names its counterpart doesn't have
 abbrev pub brought_functions : Interface → Interface → List (List ℕ × Function)
@@ -55,16 +45,16 @@ brought_functions from into = filter (λ (e : List ℕ × Function). not (is_som
 
 -- a matched thing to its counterpart, another to the next id
 abbrev pub merged_type : GraphMerge → ℕ → ℕ
-merged_type m t = unwrap_or (counterpart_type m t) (length m.graph.types + rank (moves_type m) t)
+merged_type m t = unwrap_or (counterpart_type m t) (length m.graph.types + rank (moves (counterpart_type m)) t)
 
 abbrev pub merged_interface : GraphMerge → ℕ → ℕ
-merged_interface m i = unwrap_or (counterpart_interface m i) (length m.graph.interfaces + rank (moves_interface m) i)
+merged_interface m i = unwrap_or (counterpart_interface m i) (length m.graph.interfaces + rank (moves (counterpart_interface m)) i)
 
 abbrev pub merged_world : GraphMerge → ℕ → ℕ
-merged_world m w = unwrap_or (counterpart_world m w) (length m.graph.worlds + rank (moves_world m) w)
+merged_world m w = unwrap_or (counterpart_world m w) (length m.graph.worlds + rank (moves (counterpart_world m)) w)
 
 abbrev pub merged_package : GraphMerge → ℕ → ℕ
-merged_package m p = unwrap_or (counterpart_package m p) (length m.graph.packages + rank (moves_package m) p)
+merged_package m p = unwrap_or (counterpart_package m p) (length m.graph.packages + rank (moves (counterpart_package m)) p)
 
 -- what ids are remapped to before values ask for `own`s
 abbrev pub merge_maps_without_owns : GraphMerge → Maps
@@ -91,7 +81,7 @@ moved_functions m =
 
 -- what comes into the graph, as values ask for `own`s. A matched type is what it is in the graph
 abbrev pub remap_of_merge : GraphMerge → ValueRemap
-remap_of_merge m = record { graph_types = m.graph.types; new_types = selected (moves_type m) m.other.types; new_functions = moved_functions m; count = length m.other.types; ids = merge_maps_without_owns m }
+remap_of_merge m = record { graph_types = m.graph.types; new_types = selected (moves (counterpart_type m)) m.other.types; new_functions = moved_functions m; count = length m.other.types; ids = merge_maps_without_owns m }
 
 -- what ids are remapped to, with values at their `own`s
 abbrev pub merge_maps : GraphMerge → Maps
@@ -116,26 +106,22 @@ merge_remap m = record {
   packages = map (merged_package m) (range_with_len 0 (length m.other.packages));
 }
 
--- ---- types
+-- ---- what is joined
 
--- a type of the graph, by its place and what it is: with the stability of what is matched with it joined to its own, if
--- something is
-abbrev pub joined_type : GraphMerge → ℕ × TypeDef → TypeDef
-joined_type m e = option_map_or (λ (p : ℕ × TypeDef). record e.1 { stability = joined_stability p.1.stability e.1.stability }) (counterpart_of (counterpart_type m) m.other.types e.0) e.1
+-- things, each with what its counterpart among the others brings it, if it has one
+abbrev pub joined_each : {X : Type 0} → (ℕ → Option ℕ) → List X → (ℕ × X → X → X) → List X → List X
+joined_each {X} found others join ours =
+    map (λ (e : ℕ × X). option_map_or (λ (p : ℕ × X). join p e.1) (counterpart_of found others e.0) e.1) (enumerate_from 0 ours)
 
 -- ---- interfaces
 
 -- an interface, with the types of another that move and the functions that it doesn't have behind its own
 abbrev pub with_interface : GraphMerge → Interface → Interface → Interface
 with_interface m from into = record into {
-  types = into.types ++ map (λ (e : List ℕ × ℕ). (e.0, merged_type m e.1)) (filter (λ (e : List ℕ × ℕ). moves_type m e.1) from.types);
+  types = into.types ++ map (λ (e : List ℕ × ℕ). (e.0, merged_type m e.1)) (filter (λ (e : List ℕ × ℕ). moves (counterpart_type m) e.1) from.types);
   functions = into.functions ++ map (λ (e : List ℕ × Function). (e.0, function_image (merge_maps m) e.1)) (brought_functions from into);
   stability = joined_stability from.stability into.stability;
 }
-
--- an interface of the graph, by its id and what it is: with what its counterpart brings, if it has one
-abbrev pub joined_interface : GraphMerge → ℕ × Interface → Interface
-joined_interface m e = option_map_or (λ (p : ℕ × Interface). with_interface m p.1 e.1) (counterpart_of (counterpart_interface m) m.other.interfaces e.0) e.1
 
 -- ---- worlds
 
@@ -157,24 +143,14 @@ with_world m p into = record into {
   stability = joined_stability p.1.stability into.stability;
 }
 
--- a world of the graph, by its id and what it is: with the stabilities of its counterpart joined to its own, if it
--- has one
-abbrev pub joined_world : GraphMerge → ℕ × World → World
-joined_world m e = option_map_or (λ (p : ℕ × World). with_world m p e.1) (counterpart_of (counterpart_world m) m.other.worlds e.0) e.1
-
 -- ---- packages
 
 -- a package, with the interfaces and worlds of another that move behind its own
 abbrev pub with_package : GraphMerge → Package → Package → Package
 with_package m from into = record into {
-  interfaces = into.interfaces ++ map (λ (e : List ℕ × ℕ). (e.0, merged_interface m e.1)) (filter (λ (e : List ℕ × ℕ). moves_interface m e.1) from.interfaces);
-  worlds = into.worlds ++ map (λ (e : List ℕ × ℕ). (e.0, merged_world m e.1)) (filter (λ (e : List ℕ × ℕ). moves_world m e.1) from.worlds);
+  interfaces = into.interfaces ++ map (λ (e : List ℕ × ℕ). (e.0, merged_interface m e.1)) (filter (λ (e : List ℕ × ℕ). moves (counterpart_interface m) e.1) from.interfaces);
+  worlds = into.worlds ++ map (λ (e : List ℕ × ℕ). (e.0, merged_world m e.1)) (filter (λ (e : List ℕ × ℕ). moves (counterpart_world m) e.1) from.worlds);
 }
-
--- a package of the graph, by its id and what it is: with the interfaces and worlds that its counterpart brings, if it
--- has one
-abbrev pub joined_package : GraphMerge → ℕ × Package → Package
-joined_package m e = option_map_or (λ (p : ℕ × Package). with_package m p.1 e.1) (counterpart_of (counterpart_package m) m.other.packages e.0) e.1
 
 -- a package that moves, with what its tables list at the new ids
 abbrev pub package_image : GraphMerge → Package → Package
@@ -183,14 +159,15 @@ package_image m home = record home {
   worlds = map (λ (e : List ℕ × ℕ). (e.0, merged_world m e.1)) home.worlds;
 }
 
--- the two graphs as one, with the lists of worlds as they were listed
+-- the two graphs as one, with the lists of worlds as they were listed: a type has the stability of its counterpart joined
+-- to its own
 abbrev pub joined_graph : GraphMerge → Graph
 joined_graph m = record {
-  types = map (joined_type m) (enumerate_from 0 m.graph.types) ++ types_behind (remap_of_merge m);
-  interfaces = map (joined_interface m) (enumerate_from 0 m.graph.interfaces) ++ map (interface_image (merge_maps m)) (selected (moves_interface m) m.other.interfaces);
-  worlds = map (joined_world m) (enumerate_from 0 m.graph.worlds) ++ map (λ (e : ℕ × World). world_image (merge_maps m) e.0 e.1) (moved_worlds m);
-  packages = map (joined_package m) (enumerate_from 0 m.graph.packages) ++ map (package_image m) (selected (moves_package m) m.other.packages);
-  package_names = m.graph.package_names ++ map (λ (e : PackageName × ℕ). (e.0, merged_package m e.1)) (filter (λ (e : PackageName × ℕ). moves_package m e.1) m.other.package_names);
+  types = joined_each (counterpart_type m) m.other.types (λ p into. record into { stability = joined_stability p.1.stability into.stability }) m.graph.types ++ types_behind (remap_of_merge m);
+  interfaces = joined_each (counterpart_interface m) m.other.interfaces (λ p into. with_interface m p.1 into) m.graph.interfaces ++ map (interface_image (merge_maps m)) (selected (moves (counterpart_interface m)) m.other.interfaces);
+  worlds = joined_each (counterpart_world m) m.other.worlds (with_world m) m.graph.worlds ++ map (λ (e : ℕ × World). world_image (merge_maps m) e.0 e.1) (moved_worlds m);
+  packages = joined_each (counterpart_package m) m.other.packages (λ p into. with_package m p.1 into) m.graph.packages ++ map (package_image m) (selected (moves (counterpart_package m)) m.other.packages);
+  package_names = m.graph.package_names ++ map (λ (e : PackageName × ℕ). (e.0, merged_package m e.1)) (filter (λ (e : PackageName × ℕ). moves (counterpart_package m) e.1) m.other.package_names);
 }
 
 -- the two graphs as one, with every world elaborated

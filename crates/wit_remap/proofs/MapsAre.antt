@@ -5,7 +5,7 @@ use Rattle.wit_data.specs.Shape.{IsShaped}
 use Rattle.wit_data.specs.declared.world.WorldItem.{WorldItem}
 use Rattle.wit_data.specs.declared.world.WorldItem.TheVariants as item
 use Rattle.wit_link_spec.specs.steps.AdditionRefs.{activity_of, new_ids_of, values_of}
-use Rattle.wit_link_spec.specs.Addition.{Addition, active, active_interface_id, active_type_id, active_world_id, addition_maps, remapped_interface, remapped_type, remapped_world, remap_of_addition}
+use Rattle.wit_link_spec.specs.Addition.{Addition, active, addition_maps, remapped_interface, remapped_type, remapped_world, remap_of_addition}
 use Rattle.wit_remap_spec.specs.Selected.{rank}
 use Rattle.wit_link_spec.specs.Gates.{interface_is_active, item_is_active, type_is_active, world_is_active}
 use Rattle.wit_link_spec.specs.facts.PositionFacts.{needs_active}
@@ -16,7 +16,7 @@ use Rattle.wit_remap.specs.steps.Movers.{goes, maps_with}
 use Rattle.wit_remap.specs.steps.Parts.{flag, has_item, kept_with}
 use Rattle.wit_remap.proofs.Places.{flag-is, goes-is, values-are}
 use Rattle.wit_remap_spec.specs.steps.Parts.{value_id}
-use Rattle.wit_link_spec.specs.steps.Parts.{function_is_active, own_types}
+use Rattle.wit_link_spec.specs.steps.Parts.{function_is_active, own_types, active_type_id, active_interface_id, active_world_id}
 
 off : {X : Type 0} (b : Bool) (x y : X) → b ≡ false → (if b then x else y) ≡ y
 off true x y h = cc

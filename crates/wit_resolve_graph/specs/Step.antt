@@ -9,7 +9,6 @@ use Rattle.wit_data.specs.Shape.{IsGroupShaped}
 use Rattle.wit_names.specs.PackageName.{same_package}
 use Rattle.wit_names.specs.declared.package_name.PackageName.{PackageName}
 use Rattle.wit_data.specs.declared.unresolved.UnresolvedPackageGroup.{UnresolvedPackageGroup}
-use Rattle.wit_data.specs.declared.world.WorldKey.{WorldKey}
 use Rattle.wit_graph_data.specs.Error.{NoCause}
 use Rattle.wit_graph_data.specs.declared.features.Features.{Features}
 use Rattle.wit_graph_data.specs.declared.graph.Graph.{Graph}
@@ -28,6 +27,7 @@ use Rattle.wit_resolve_graph.specs.declared.command.Command.{Command}
 use Rattle.wit_resolve_graph.specs.declared.command.Command.TheVariants.{AddFeature, Exportize, Importize, Merge, PushGroups, Semver, SetAllFeatures, SetTrackRule}
 use Rattle.wit_resolve_graph.specs.declared.command.Reply.{Reply}
 use Rattle.wit_resolve_graph.specs.declared.command.Reply.TheVariants.{Done, Pushed, Merged, NoWorld, Refused}
+use Rattle.std.specs.Option.{option_map_or}
 
 -- ---- features
 
@@ -85,29 +85,17 @@ pub record RefusesTransform (old : State) (home : PackageName) (world : List ℕ
   pub cause : (error ≡ OutOfMemory) ⊎ IsCauseOf w error
   pub same : new ≡ old
 
--- what names a key is listed; without a list all are
-abbrev pub is_listed_key : Graph → Option (List (List ℕ)) → WorldKey → Bool
-is_listed_key g None k = true
-is_listed_key g (Some keys) k = list_any (bytes_eq (key_text g.packages g.interfaces k)) keys
-
--- for each of some entries, whether what names its key is listed
-abbrev pub listed_answers : Graph → Option (List (List ℕ)) → List Entry → List Bool
-listed_answers g keys entries = map (λ (e : Entry). is_listed_key g keys e.0) entries
-
--- for each import of world w, whether what names its key is listed
+-- for each import of world w, whether what names its key is listed; without a list all are
 abbrev pub answers_at : State → Option (List (List ℕ)) → ℕ → List Bool
-answers_at state keys w = listed_answers state.graph keys (imports_at state.graph w)
+answers_at state keys w =
+    map (λ (e : Entry). option_map_or (λ (listed : List (List ℕ)). list_any (bytes_eq (key_text state.graph.packages state.graph.interfaces e.0)) listed) keys true) (imports_at state.graph w)
 
 -- ---- steps
-
--- the answer of a command that takes memory and changes nothing of the sources, where memory is refused
-abbrev pub LacksMemory : State → ResolveErrorKind → State → Type 0
-LacksMemory old error new = (error ≡ OutOfMemory) × (new ≡ old)
 
 -- from old, the command may be answered so and lead to new
 abbrev pub Step : State → Command → Reply → State → Type 0
 Step old (AddFeature name) Done new = new ≡ record old { features = with_feature old.features name }
-Step old (AddFeature name) (Refused error) new = LacksMemory old error new
+Step old (AddFeature name) (Refused error) new = (error ≡ OutOfMemory) × (new ≡ old)
 Step old (AddFeature name) _ new = ⊥
 Step old (SetAllFeatures all) Done new = new ≡ record old { features = record old.features { all = all } }
 Step old (SetAllFeatures all) _ new = ⊥

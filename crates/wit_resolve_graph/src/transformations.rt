@@ -5,9 +5,10 @@ ghost use Rattle.std.specs.Option.{option_map};
 ghost use Rattle.std.specs.Str.{bytes_eq};
 ghost use Rattle.wit_graph_data.specs.declared.error_kind.ResolveErrorKind.{ResolveErrorKind};
 ghost use Rattle.wit_graph_data.specs.declared.error_kind.ResolveErrorKind.TheVariants.{OutOfMemory};
-ghost use Rattle.wit_resolve_graph.specs.Step.{Step, answers_at, is_listed_key, listed_answers};
+ghost use Rattle.wit_resolve_graph.specs.Step.{Step, answers_at};
 ghost use Rattle.wit_resolve_graph.specs.declared.command.Command.TheVariants as command;
 ghost use Rattle.wit_transform.specs.Transformed.{IsExportizeCause, exportized, transformed};
+ghost use Rattle.wit_resolve_graph.specs.steps.Parts.{is_listed_key, listed_answers};
 
 use crate::command::Reply;
 use crate::resolve::Resolve;

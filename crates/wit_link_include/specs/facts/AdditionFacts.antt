@@ -20,7 +20,7 @@ use Rattle.wit_graph_theory.specs.facts.ListFacts.{Contains-map, Contains-map_ca
 use Rattle.wit_labels.specs.Setters.{getter_label}
 use Rattle.wit_labels.specs.Strong.{Clashes}
 use Rattle.wit_link_spec.specs.Addition.{Addition, active_includes, addition_maps, own_worlds, remapped_world}
-use Rattle.wit_link_spec.specs.Cause.{IsAdditionCause, IsReached, of_world}
+use Rattle.wit_link_spec.specs.Cause.{IsAdditionCause, of_world}
 use Rattle.wit_link_spec.specs.WorldReasons.{IsFinishCause, LabelsClash, SetterIsAlone, no_getter_18, not_strongly_unique_17, IsIncludeCause, AtWorld, IsCauseAtFinish, IsCauseAtInclude, of_finish, of_include, written_no_getter_18, written_not_strongly_unique_17}
 use Rattle.wit_link_spec.specs.Include.{IsListCalled, PartiallyLinked, lists_of, with_include_of}
 use Rattle.wit_link_spec.specs.Added.{with_includes, with_parts, with_world, with_worlds}
@@ -28,7 +28,7 @@ use Rattle.wit_link_spec.specs.facts.Linked.{updated_includes}
 use Rattle.wit_link_spec.specs.Reasons.{IsResolved}
 use Rattle.wit_link_include.specs.steps.Included as local
 use Rattle.wit_link_include.specs.facts.SeveralFacts.{one_worlds}
-use Rattle.wit_link_spec.specs.steps.Parts.{include_is_active, updated_include, with_include, with_all_includes, with_finished, with_entry_lists, IncludeIsAccepted, WorldIsAccepted}
+use Rattle.wit_link_spec.specs.steps.Parts.{include_is_active, updated_include, with_include, with_all_includes, with_finished, with_entry_lists, IncludeIsAccepted, WorldIsAccepted, IsReached}
 
 take_map : {X Y : Type 0} (f : X → Y) (j : ℕ) (xs : List X) → take j (map f xs) ≡ map f (take j xs)
 take_map f zero [] = refl

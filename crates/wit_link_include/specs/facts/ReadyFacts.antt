@@ -18,7 +18,6 @@ use Rattle.wit_graph_theory.specs.facts.ListFacts.{contained_at, from_map, place
 use Rattle.wit_labels.specs.Setters.{setters_placed}
 use Rattle.wit_link_laws.specs.facts.PlacedFacts.{placed_into}
 use Rattle.wit_link_spec.specs.Addition.{Addition, active_includes, remapped_world}
-use Rattle.wit_link_spec.specs.Cause.{IsReached}
 use Rattle.wit_link_spec.specs.facts.Linked.{IncludeIsReached}
 use Rattle.wit_link_spec.specs.Include.{PartiallyLinked}
 use Rattle.wit_link_spec.specs.Added.{with_parts, with_worlds}
@@ -30,7 +29,7 @@ use Rattle.wit_link_laws.specs.laws.StageFacts.{CanBeLinked, IncludedAreThere, I
 use Rattle.wit_link_include.specs.steps.Included as local
 use Rattle.wit_link_include.specs.facts.AdditionFacts.{begun_same, home, image_at, include_reached, stage_is}
 use Rattle.wit_link_include.specs.facts.SeveralFacts.{several_worlds}
-use Rattle.wit_link_spec.specs.steps.Parts.{updated_include}
+use Rattle.wit_link_spec.specs.steps.Parts.{updated_include, IsReached}
 
 -- where setters stand says nothing of keys of interfaces
 each_of : (P : Entry → Type 0) (xs : List Entry) → ((i : ℕ) (x : Entry) → slice_get xs i ≡ Some x → P x) → AllByRecursion P xs

@@ -17,7 +17,6 @@ use Rattle.wit_graph_theory.specs.facts.LawsOfElaboration.{LawsOfElaboration}
 use Rattle.wit_graph_theory.specs.facts.ListFacts.{get_at}
 use Rattle.wit_graph_theory.specs.facts.UnnamedOnceFacts.{StandOnce-from_entries}
 use Rattle.wit_link_spec.specs.Addition.{Addition, addition_maps, own_interfaces, own_worlds, remap_of_addition}
-use Rattle.wit_link_spec.specs.Cause.{IsReached}
 use Rattle.wit_link_spec.specs.Added.{added, with_parts, with_world, with_worlds}
 use Rattle.wit_link_spec.specs.Reasons.{HasPackage, IsResolved}
 use Rattle.wit_link_laws.specs.facts.Grown.{IsGrown, grown}
@@ -31,7 +30,7 @@ use Rattle.wit_link_laws.specs.facts.WorldTables.{new_table, new_worlds_distinct
 use Rattle.wit_link_laws.specs.facts.CanonicalStays.{canonical_longer}
 use Rattle.wit_link_laws.specs.facts.PartiallyLinked.{IsSoundSoFar}
 use Rattle.wit_remap_spec.specs.steps.Parts.{owns}
-use Rattle.wit_link_spec.specs.steps.Parts.{own_types}
+use Rattle.wit_link_spec.specs.steps.Parts.{own_types, IsReached}
 
 module _ (laws : LawsOfElaboration) (a : Addition) (valid : IsValid a.graph) (shaped : IsShaped a.unresolved) (image : IsResolved a) where
   -- ---- each stage is partially linked

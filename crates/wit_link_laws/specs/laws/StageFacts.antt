@@ -14,14 +14,13 @@ use Rattle.wit_elaboration.specs.Valid.{IsValid}
 use Rattle.wit_graph_data.specs.declared.graph.Graph.{Graph}
 use Rattle.wit_graph_theory.specs.facts.Good.{IsGoodInterface, IsGoodWorld}
 use Rattle.wit_link_spec.specs.Addition.{Addition, active_includes, own_worlds, remapped_world}
-use Rattle.wit_link_spec.specs.Cause.{IsReached}
 use Rattle.wit_link_spec.specs.facts.Linked.{IncludeIsReached}
 use Rattle.wit_link_spec.specs.Include.{PartiallyLinked, is_owned_within, named_types}
 use Rattle.wit_link_spec.specs.Added.{added, with_includes, with_worlds}
 use Rattle.wit_link_spec.specs.Reasons.{HasPackage, IsResolved}
 use Rattle.wit_link_spec.specs.WorldReasons.{AtInclude, AtWorld}
 use Rattle.wit_labels.specs.Setters.{setters_placed}
-use Rattle.wit_link_spec.specs.steps.Parts.{with_all_includes, IncludeIsAccepted}
+use Rattle.wit_link_spec.specs.steps.Parts.{with_all_includes, IncludeIsAccepted, IsReached}
 
 -- a partially linked graph: no interface uses itself, no type refers to itself, ids are in range, and interfaces list and use
 -- types of their own

@@ -1,11 +1,12 @@
 -- What stands at a place of the lists that the steps of an addition hand on.
 use Rattle.std.proofs.Common.{◌≡◌, ◌<◌, ℕ, Bool, Option, Some, length, slice_get, ap}
 use Rattle.wit_link_spec.specs.steps.AdditionRefs.{activity_of, new_ids_of}
-use Rattle.wit_link_spec.specs.Addition.{Addition, active_type_id}
+use Rattle.wit_link_spec.specs.Addition.{Addition}
 use Rattle.wit_link_spec.specs.Gates.{interface_is_active, type_is_active, world_is_active}
 use Rattle.wit_link_spec.specs.facts.RangeFacts.{range-inside, range-read}
 use Rattle.wit_link_spec.specs.declared.addition.Activity.{Activity}
 use Rattle.wit_link_spec.specs.declared.addition.NewIds.{NewIds}
+use Rattle.wit_link_spec.specs.steps.Parts.{active_type_id}
 
 -- a thing of the package has a flag, which tells whether it is active
 module _ (a : Addition) (activity : Activity) (is : activity ≡ activity_of a) where

@@ -4,10 +4,9 @@ use Rattle.wit_data.specs.declared.world.World.{World}
 use Rattle.wit_data.specs.declared.world.WorldInclude.{WorldInclude}
 use Rattle.wit_link_spec.specs.Addition.{Addition, active_includes}
 use Rattle.wit_link_spec.specs.Include.{PartiallyLinked}
-use Rattle.wit_link_spec.specs.Cause.{IsReached}
 use Rattle.wit_link_spec.specs.Added.{finished_world, unfinished_world}
 use Rattle.wit_link_spec.specs.Reasons.{IsResolved}
-use Rattle.wit_link_spec.specs.steps.Parts.{updated_include, IncludeIsAccepted}
+use Rattle.wit_link_spec.specs.steps.Parts.{updated_include, IncludeIsAccepted, IsReached}
 
 -- the active includes of a world, with the ids and the spans that they have in the graph
 abbrev pub updated_includes : Addition → World → List WorldInclude

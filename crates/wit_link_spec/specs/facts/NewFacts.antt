@@ -19,7 +19,7 @@ use Rattle.wit_elaboration.specs.Valid.{IsValid}
 use Rattle.wit_graph_data.specs.declared.graph.Package.{Package}
 use Rattle.wit_graph_theory.specs.facts.ListFacts.{found_at, place_of}
 use Rattle.wit_link_spec.specs.steps.AdditionRefs.{new_ids_of}
-use Rattle.wit_link_spec.specs.Addition.{Addition, active_interface_id, active_type_id, active_world_id, own_interface, own_type, own_world}
+use Rattle.wit_link_spec.specs.Addition.{Addition, own_interface, own_type, own_world}
 use Rattle.wit_remap_spec.specs.Selected.{rank}
 use Rattle.wit_link_spec.specs.facts.ClosedCut.{closed_part}
 use Rattle.wit_link_spec.specs.Gates.{foreign_gates, interface_is_active, is_active, is_foreign_interface, is_foreign_world, type_is_active, world_is_active}
@@ -29,7 +29,7 @@ use Rattle.wit_link_spec.specs.facts.RangeFacts.{range-at, range-past}
 use Rattle.wit_link_spec.specs.Reasons.{IsResolved}
 use Rattle.wit_link_spec.specs.facts.Standing.{find_is, listed_is}
 use Rattle.wit_link_spec.specs.steps.NewThings.{is_from, is_new}
-use Rattle.wit_link_spec.specs.steps.Parts.{some_active}
+use Rattle.wit_link_spec.specs.steps.Parts.{some_active, active_type_id, active_interface_id, active_world_id}
 
 -- ---- what is found is in the graph
 

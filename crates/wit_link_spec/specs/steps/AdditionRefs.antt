@@ -5,9 +5,10 @@ use Rattle.wit_link_spec.specs.declared.addition.Activity.{Activity}
 use Rattle.wit_link_spec.specs.declared.addition.AdditionRef.{AdditionRef}
 use Rattle.wit_link_spec.specs.declared.addition.NewIds.{NewIds}
 use Rattle.wit_link_spec.specs.declared.addition.Values.{Values}
-use Rattle.wit_link_spec.specs.Addition.{Addition, active_interface_id, active_type_id, active_world_id, remap_of_addition}
+use Rattle.wit_link_spec.specs.Addition.{Addition, remap_of_addition}
 use Rattle.wit_link_spec.specs.Gates.{interface_is_active, type_is_active, world_is_active}
 use Rattle.wit_remap_spec.specs.steps.Parts.{value_id, owns}
+use Rattle.wit_link_spec.specs.steps.Parts.{active_type_id, active_interface_id, active_world_id}
 
 -- the addition of a package that is being added
 abbrev pub addition_of : AdditionRef → Addition

@@ -1,12 +1,12 @@
 -- Parts of the definitions under names of their own, for contracts of inner functions and for proofs. Each is what stands
 -- in a definition in its place, so none has to be believed.
-use Rattle.std.specs.Prelude.{◌≡◌, ◌⊎◌, ℕ, true, Some, List, ◌++◌, codes, Bool, flat_map, ◌+◌, ◌&&◌, length, nat_eq, if◌then◌else◌, [], ◌∷◌}
+use Rattle.std.specs.Prelude.{◌≡◌, ◌⊎◌, ℕ, true, Some, List, ◌++◌, codes, Bool, flat_map, ◌+◌, ◌&&◌, length, nat_eq, if◌then◌else◌, [], ◌∷◌, Option, None, ◌<◌}
 use Rattle.wit_digraph.specs.Relation.{Reaches}
 use Rattle.wit_graph_data.specs.Queries.{type_contents}
-use Rattle.wit_link_spec.specs.Addition.{Addition, own_type, active_includes, remapped_world}
+use Rattle.wit_link_spec.specs.Addition.{Addition, own_type, active_includes, remapped_world, own_world, own_interface}
 use Rattle.wit_remap_spec.specs.Borrows.{HoldsBorrow}
-use Rattle.wit_link_spec.specs.Gates.{type_is_active, is_active}
-use Rattle.wit_link_spec.specs.Lookup.{foreign_type_id}
+use Rattle.wit_link_spec.specs.Gates.{type_is_active, is_active, is_foreign_interface, is_foreign_world, interface_is_active, world_is_active}
+use Rattle.wit_link_spec.specs.Lookup.{foreign_type_id, foreign_interface_id, foreign_world_id, is_foreign_type}
 use Rattle.semver.specs.Identifiers.{parts_text}
 use Rattle.wit_values.specs.Version.{Parts}
 use Rattle.wit_names.specs.PackageName.{package_name_text}
@@ -133,3 +133,31 @@ WorldIsAccepted a k = NoCause (IsCauseAtWorld a k)
 -- no cause holds against the addition
 abbrev pub AdditionIsAccepted : Addition → Type 0
 AdditionIsAccepted a = NoCause (IsAdditionCause a)
+
+-- what a type is remapped to: nowhere if it isn't active; one of another package to that of the graph which it names,
+-- if that is there; one of its own to the next id
+abbrev pub active_type_id : Addition → ℕ → Option ℕ
+active_type_id a t =
+    if type_is_active a.features a.unresolved.types t
+    then (if is_foreign_type a.unresolved t then foreign_type_id a.graph a.unresolved t else Some (length a.graph.types + rank (own_type a) t))
+    else None
+
+-- the id of interface i of the package in the graph: of an active foreign one where it is found, of an own active one
+-- the next id
+abbrev pub active_interface_id : Addition → ℕ → Option ℕ
+active_interface_id a i =
+    if interface_is_active a.features a.unresolved i
+    then (if is_foreign_interface a.unresolved i then foreign_interface_id a.graph a.unresolved i else Some (length a.graph.interfaces + rank (own_interface a) i))
+    else None
+
+-- the id of world w of the package in the graph: of an active foreign one where it is found, of an own active one the
+-- next id
+abbrev pub active_world_id : Addition → ℕ → Option ℕ
+active_world_id a w =
+    if world_is_active a.features a.unresolved w
+    then (if is_foreign_world a.unresolved w then foreign_world_id a.graph a.unresolved w else Some (length a.graph.worlds + rank (own_world a) w))
+    else None
+
+-- every world before world k is accepted
+abbrev pub IsReached : Addition → ℕ → Type 0
+IsReached a k = (i : ℕ) → i < k → NoCause (IsCauseAtWorld a i)

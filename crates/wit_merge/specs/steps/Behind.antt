@@ -22,10 +22,10 @@ use Rattle.wit_remap_spec.specs.Borrows.{borrow_text, HoldsBorrow}
 use Rattle.wit_remap_spec.specs.Selected.{selected}
 use Rattle.wit_remap_spec.specs.ValueRemap.{types_behind, world_functions}
 use Rattle.wit_merge_spec.specs.Matches.{GraphMerge}
-use Rattle.wit_merge_spec.specs.Merged.{merge_maps, merged_package, moves_package, package_image, remap_of_merge}
+use Rattle.wit_merge_spec.specs.Merged.{merge_maps, merged_package, package_image, remap_of_merge}
 use Rattle.wit_merge_spec.specs.steps.Leaving.{new_worlds}
 use Rattle.wit_merge.specs.declared.coming.Coming.{Coming}
-use Rattle.wit_merge_spec.specs.steps.Parts.{moved_interfaces}
+use Rattle.wit_merge_spec.specs.steps.Parts.{moved_interfaces, moves_package}
 
 -- the names of packages that move, with where these go
 abbrev pub new_names : GraphMerge → List (PackageName × ℕ)

@@ -34,7 +34,7 @@ use Rattle.wit_remap_spec.specs.Resources.{own_of}
 use Rattle.wit_remap_spec.specs.ValueRemap.{needs_own}
 use Rattle.wit_merge_spec.specs.Structure.{held_features, structure}
 use Rattle.wit_merge_spec.specs.facts.StructureFacts.{part_refers}
-use Rattle.wit_merge_spec.specs.Merged.{joined_graph, joined_type, merge_maps, merged_type, moves_type, remap_of_merge}
+use Rattle.wit_merge_spec.specs.Merged.{joined_graph, merge_maps, merged_type, remap_of_merge}
 use Rattle.wit_merge_spec.specs.Matches.{GraphMerge, counterpart_type}
 use Rattle.wit_merge_spec.specs.Cause.{HasNoMismatch}
 use Rattle.wit_merge_laws.specs.laws.BorrowLaws.{MergesMakeNoBorrow}
@@ -46,6 +46,7 @@ use Rattle.wit_link_laws.specs.facts.ValueRemapFacts.{value_plain}
 use Rattle.wit_merge_laws.specs.facts.TypesStand.{joined_keeps, matched_some, new_type_at, old_type_at, own_at}
 use Rattle.wit_graph_data.specs.steps.Parts.{content_types}
 use Rattle.wit_remap_spec.specs.steps.Parts.{value_image, kind_image, value_id, IsBorrow}
+use Rattle.wit_merge_spec.specs.steps.Parts.{joined_type, moves_type}
 
 -- ---- kinds
 

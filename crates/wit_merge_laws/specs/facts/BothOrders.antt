@@ -13,7 +13,7 @@ use Rattle.wit_graph_data.specs.declared.graph.Graph.{Graph}
 use Rattle.wit_graph_theory.specs.facts.ListFacts.{from_row}
 use Rattle.wit_graph_theory.specs.facts.NamedUses.{used_is_named}
 use Rattle.wit_merge_spec.specs.Matches.{GraphMerge, counterpart_interface, counterpart_world}
-use Rattle.wit_merge_spec.specs.Merged.{merged_interface, moves_interface, joined_graph}
+use Rattle.wit_merge_spec.specs.Merged.{merged_interface, joined_graph}
 use Rattle.wit_merge_spec.specs.Cause.{HasNoMismatch}
 use Rattle.wit_merge_laws.specs.facts.InterfacesStand.{moved_interface_remapped}
 use Rattle.wit_merge_laws.specs.facts.ListedStand.{interfaces_apart}
@@ -22,6 +22,7 @@ use Rattle.wit_merge_laws.specs.laws.MergingLaws.{merge_of_graphs}
 use Rattle.wit_merge_laws.specs.facts.TypesStand.{matched_some}
 use Rattle.wit_merge_laws.specs.facts.UsesFrom.{use_from}
 use Rattle.wit_merge_laws.specs.facts.UsesInto.{AliasesMatched, use_goes, use_stays}
+use Rattle.wit_merge_spec.specs.steps.Parts.{moves_interface}
 
 -- two valid graphs that agree, whichever goes into the other
 pub record InBothOrders (g h : Graph) (offset back : ℕ) : Type 0 where

@@ -12,7 +12,7 @@ use Rattle.wit_graph_theory.specs.facts.LawsOfElaboration.{LawsOfElaboration}
 use Rattle.wit_remap_spec.specs.Selected.{rank, selected}
 use Rattle.wit_link_spec.specs.facts.RankFacts.{rank-kept}
 use Rattle.wit_merge_spec.specs.Matches.{GraphMerge, WorldLabel, counterpart_at_label, counterpart_interface, counterpart_interface_by, counterpart_package, counterpart_type, counterpart_type_by, counterpart_world, matched_world, named_in_counterpart}
-use Rattle.wit_merge_spec.specs.Merged.{merged_interface, merged_package, merged_world, moves_package, package_image, merged}
+use Rattle.wit_merge_spec.specs.Merged.{merged_interface, merged_package, merged_world, package_image, merged}
 use Rattle.wit_merge_laws.specs.facts.NoCycles.{are_one, can_elaborate}
 use Rattle.wit_merge_laws.specs.facts.NothingFacts.{map_same, nothing, unnumbered}
 use Rattle.wit_merge_laws.specs.facts.OrderFree.{merging_is_order_free}
@@ -20,6 +20,7 @@ use Rattle.wit_merge_laws.specs.facts.WholeFacts.{all_pass}
 use Rattle.wit_merge_laws.specs.laws.CopyLaws.{EmptyBecomesAlike, KeepsIds}
 use Rattle.wit_merge_laws.specs.laws.MergingLaws.{merge_of_graphs}
 use Rattle.wit_merge_laws.specs.laws.OrderLaws.{AreAlike}
+use Rattle.wit_merge_spec.specs.steps.Parts.{moves_package}
 
 -- ---- names, labels and keys
 

@@ -24,7 +24,7 @@ use Rattle.wit_graph_theory.specs.facts.ListFacts.{contained_at, place_of}
 use Rattle.wit_graph_theory.specs.facts.NamedUses.{used_is_named}
 use Rattle.wit_remap_spec.specs.Image.{world_image}
 use Rattle.wit_merge_spec.specs.Matches.{GraphMerge, counterpart_world}
-use Rattle.wit_merge_spec.specs.Merged.{joined_graph, joined_world, merge_maps, merged_interface, merged_world, moves_world}
+use Rattle.wit_merge_spec.specs.Merged.{joined_graph, merge_maps, merged_interface, merged_world}
 use Rattle.wit_merge_laws.specs.facts.BothOrders.{Corresponds, InBothOrders, flip, of_graph, of_other, one_like, other_way, reaches_like, user_there, uses_like}
 use Rattle.wit_merge_laws.specs.facts.JoinedGood.{UnionCanElaborate, aliases}
 use Rattle.wit_merge_laws.specs.facts.ListedStand.{WorldFrom, new_world_at, old_world_at, world_at_from}
@@ -40,6 +40,7 @@ use Rattle.wit_merge_laws.specs.facts.UsesListed.{KeepsEntries, held_one, key_in
 use Rattle.wit_merge_laws.specs.facts.WorldsStand.{entry, entry_there}
 use Rattle.wit_merge_laws.specs.laws.MergingLaws.{merge_of_graphs}
 use Rattle.wit_elaboration.specs.steps.Parts.{exported_keys, exported_interfaces}
+use Rattle.wit_merge_spec.specs.steps.Parts.{joined_world, moves_world}
 
 -- ---- what entries hold
 

@@ -21,8 +21,8 @@ use Rattle.wit_graph_theory.specs.facts.PackagesAcyclic.{numbered_from}
 use Rattle.wit_link_spec.specs.facts.RankFacts.{selected_with_index-from}
 use Rattle.wit_remap_spec.specs.ValueRemap.{item_function, world_functions}
 use Rattle.wit_merge_spec.specs.Matches.{GraphMerge, matched_interface}
-use Rattle.wit_merge_spec.specs.Merged.{brought_functions, moved_functions, moved_worlds, moves_world}
-use Rattle.wit_merge_spec.specs.steps.Parts.{interface_functions}
+use Rattle.wit_merge_spec.specs.Merged.{brought_functions, moved_functions, moved_worlds}
+use Rattle.wit_merge_spec.specs.steps.Parts.{interface_functions, moves_world}
 
 module _ (m : GraphMerge) (valid : IsValid m.other) where
   abbrev RefersThere : Function → Type 0

@@ -25,7 +25,7 @@ use Rattle.wit_remap_spec.specs.Borrows.{borrow_text}
 use Rattle.wit_remap_spec.specs.ValueRemap.{item_function, world_functions}
 use Rattle.wit_merge_spec.specs.Cause.{MergeReturnsBorrow}
 use Rattle.wit_merge_spec.specs.Matches.{GraphMerge, counterpart_interface, matched_interface}
-use Rattle.wit_merge_spec.specs.Merged.{brought_functions, joined_graph, joined_interface, joined_world, merge_maps, moved_functions, moved_worlds, moves_interface, with_interface}
+use Rattle.wit_merge_spec.specs.Merged.{brought_functions, joined_graph, merge_maps, moved_functions, moved_worlds, with_interface}
 use Rattle.wit_merge_spec.specs.steps.Leaving.{LeavesGraph, new_functions, new_worlds}
 use Rattle.wit_merge_laws.specs.facts.GrownUses.{interfaces_are, more_interfaces}
 use Rattle.wit_merge_laws.specs.facts.InterfacesStand.{old_interface_at, with_counterpart}
@@ -33,7 +33,7 @@ use Rattle.wit_merge_laws.specs.facts.JoinedGood.{in_order}
 use Rattle.wit_merge_laws.specs.facts.MatchFacts.{interface_is}
 use Rattle.wit_merge_laws.specs.facts.TypesStand.{matched_some}
 use Rattle.wit_merge_laws.specs.laws.GrowingLaws.{BorrowsCome, FunctionsCome, NewWorldsAreSound, ReturnsNewBorrow}
-use Rattle.wit_merge_spec.specs.steps.Parts.{interface_functions}
+use Rattle.wit_merge_spec.specs.steps.Parts.{interface_functions, joined_interface, joined_world, moves_interface}
 
 -- ---- lists
 

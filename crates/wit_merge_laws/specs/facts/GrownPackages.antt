@@ -42,7 +42,7 @@ use Rattle.wit_remap_spec.specs.Selected.{rank, selected}
 use Rattle.wit_link_spec.specs.facts.RankFacts.{rank-injective}
 use Rattle.wit_merge_spec.specs.Cause.{HasNoMismatch}
 use Rattle.wit_merge_spec.specs.Matches.{GraphMerge, counterpart_interface, counterpart_package, counterpart_type_by, counterpart_world}
-use Rattle.wit_merge_spec.specs.Merged.{joined_graph, merge_maps, merged_interface, merged_package, merged_type, merged_world, moves_interface, moves_package, moves_type, moves_world, package_image}
+use Rattle.wit_merge_spec.specs.Merged.{joined_graph, merge_maps, merged_interface, merged_package, merged_type, merged_world, package_image}
 use Rattle.wit_merge_spec.specs.steps.Leaving.{LeavesGraph, new_worlds}
 use Rattle.wit_merge_laws.specs.facts.GrownUses.{interfaces_are, more_interfaces, more_types, new_use, types_are, valid_items}
 use Rattle.wit_merge_laws.specs.facts.InterfacesStand.{moved_interface_remapped, new_interface_at, old_interface_at, with_counterpart}
@@ -54,6 +54,7 @@ use Rattle.wit_merge_laws.specs.facts.TypesStand.{matched_some, moved_next}
 use Rattle.wit_merge_laws.specs.facts.UsesInto.{needs_back}
 use Rattle.wit_graph_data.specs.steps.Parts.{entry_interfaces, package_needs}
 use Rattle.wit_elaboration.specs.steps.Parts.{graph_package_uses}
+use Rattle.wit_merge_spec.specs.steps.Parts.{moves_type, moves_interface, moves_world, moves_package}
 
 -- functions that agree on the elements give the same lists
 flat_map_agrees : {X Y : Type 0} (f g : X → List Y) (xs : List X) → ((i : ℕ) (x : X) → slice_get xs i ≡ Some x → f x ≡ g x) → flat_map f xs ≡ flat_map g xs

@@ -26,13 +26,13 @@ use Rattle.wit_remap_spec.specs.Selected.{selected}
 use Rattle.wit_remap_spec.specs.ValueRemap.{types_behind}
 use Rattle.wit_merge_spec.specs.Cause.{HasNoMismatch}
 use Rattle.wit_merge_spec.specs.Matches.{GraphMerge}
-use Rattle.wit_merge_spec.specs.Merged.{joined_graph, merge_maps, merged_interface, moves_package, package_image, remap_of_merge}
+use Rattle.wit_merge_spec.specs.Merged.{joined_graph, merge_maps, merged_interface, package_image, remap_of_merge}
 use Rattle.wit_merge_spec.specs.steps.Leaving.{LeavesGraph, grown_graph, new_worlds}
 use Rattle.wit_merge_laws.specs.facts.JoinedGood.{aliases}
 use Rattle.wit_merge_laws.specs.facts.ListedStand.{interfaces_apart}
 use Rattle.wit_merge_laws.specs.facts.UsesFrom.{UseOfOther, use_from}
 use Rattle.wit_merge_laws.specs.laws.GrowingLaws.{JoinedIsGrown, UsesGrow}
-use Rattle.wit_merge_spec.specs.steps.Parts.{moved_interfaces}
+use Rattle.wit_merge_spec.specs.steps.Parts.{moved_interfaces, moves_package}
 
 -- ---- what comes stands behind what was there
 

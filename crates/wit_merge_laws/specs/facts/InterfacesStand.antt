@@ -37,14 +37,14 @@ use Rattle.wit_graph_data.specs.Named.{interface_type}
 use Rattle.wit_link_spec.specs.facts.RankFacts.{selected-at, selected_with_index-from}
 use Rattle.wit_remap_spec.specs.Selected.{rank, selected_with_index}
 use Rattle.wit_link_laws.specs.facts.KeysApart.{joined_apart}
-use Rattle.wit_merge_spec.specs.Merged.{joined_graph, joined_interface, with_interface, brought_functions, merge_maps, merged_interface, merged_type, moves_interface, moves_type}
+use Rattle.wit_merge_spec.specs.Merged.{joined_graph, with_interface, brought_functions, merge_maps, merged_interface, merged_type}
 use Rattle.wit_merge_spec.specs.Matches.{GraphMerge, counterpart_interface, counterpart_of, counterpart_type, counterpart_type_by}
 use Rattle.wit_merge_laws.specs.facts.MatchFacts.{goes_to, interface_is}
 use Rattle.wit_merge_laws.specs.facts.MatchedOnce.{interface_once}
 use Rattle.wit_merge_laws.specs.facts.TypesStand.{matched_some, moved_next}
 use Rattle.wit_merge_laws.specs.facts.WholeFacts.{interface_at, types_within}
 use Rattle.wit_remap_spec.specs.steps.Parts.{identity}
-use Rattle.wit_merge_spec.specs.steps.Parts.{moved_interfaces, brought_types}
+use Rattle.wit_merge_spec.specs.steps.Parts.{moved_interfaces, brought_types, joined_interface, moves_type, moves_interface}
 
 -- ---- counterparts
 

@@ -13,10 +13,10 @@ use Rattle.wit_graph_data.specs.declared.graph.Package.{Package}
 use Rattle.wit_elaboration.specs.AllElaborated.{elaborated_world}
 use Rattle.wit_graph_theory.specs.facts.ListFacts.{at_map, some_at}
 use Rattle.wit_graph_theory.specs.facts.PackagesAcyclic.{numbered_into}
-use Rattle.wit_merge_spec.specs.Merged.{joined_graph, joined_interface, joined_package, joined_type, joined_world, merged, with_interface, with_package, with_world}
+use Rattle.wit_merge_spec.specs.Merged.{joined_graph, merged, with_interface, with_package, with_world}
 use Rattle.wit_merge_spec.specs.Matches.{GraphMerge, counterpart_interface, counterpart_of, counterpart_package, counterpart_type, counterpart_world}
 use Rattle.wit_merge_spec.specs.facts.Unchanged.{SameHome, SameInterface, SamePackage, SameType}
-use Rattle.wit_merge_spec.specs.steps.Parts.{with_type}
+use Rattle.wit_merge_spec.specs.steps.Parts.{with_type, joined_type, joined_interface, joined_world, joined_package}
 
 -- what stands in front of a numbered list that is changed
 front_at : {X : Type 0} (f : ℕ × X → X) (xs ys : List X) (i : ℕ) (x : X) → slice_get xs i ≡ Some x → slice_get (map f (enumerate_from 0 xs) ++ ys) i ≡ Some (f (i, x))

@@ -23,7 +23,7 @@ use Rattle.wit_graph_theory.specs.facts.ListFacts.{Contains-map_cases, found_at,
 use Rattle.wit_graph_theory.specs.facts.OptionFacts.{some_same}
 use Rattle.wit_remap_spec.specs.Joined.{joined_entry, joined_item}
 use Rattle.wit_merge_spec.specs.Cause.{same_sort, HasNoMismatch}
-use Rattle.wit_merge_spec.specs.Merged.{is_under_id, joined_graph, joined_world, merged, with_world, merge_maps, merged_world, moves_world}
+use Rattle.wit_merge_spec.specs.Merged.{is_under_id, joined_graph, merged, with_world, merge_maps, merged_world}
 use Rattle.wit_merge_spec.specs.Matches.{GraphMerge, counterpart_of, counterpart_world}
 use Rattle.wit_merge_laws.specs.facts.JoinedGood.{UnionCanElaborate}
 use Rattle.wit_merge_laws.specs.facts.LabelsStay.{no_label}
@@ -35,6 +35,7 @@ use Rattle.wit_merge_laws.specs.facts.NamesCome.{label_key}
 use Rattle.wit_merge_laws.specs.facts.UnitedWorlds.{entries_from}
 use Rattle.wit_merge_laws.specs.facts.UsesListed.{image_entry}
 use Rattle.wit_merge_laws.specs.facts.WorldsStand.{entry, entry_there}
+use Rattle.wit_merge_spec.specs.steps.Parts.{joined_world, moves_world}
 
 -- ---- sorts
 

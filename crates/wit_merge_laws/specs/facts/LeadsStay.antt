@@ -21,7 +21,7 @@ use Rattle.wit_remap_spec.specs.Image.{type_image}
 use Rattle.wit_graph_theory.specs.facts.ListFacts.{from_row, in_row}
 use Rattle.wit_graph_theory.specs.facts.ReferredFacts.{alias_image}
 use Rattle.wit_remap_spec.specs.Resources.{is_resource, is_resource_kind, leads_to_resource}
-use Rattle.wit_merge_spec.specs.Merged.{joined_graph, joined_type, merge_maps, merged_type, moves_type}
+use Rattle.wit_merge_spec.specs.Merged.{joined_graph, merge_maps, merged_type}
 use Rattle.wit_merge_spec.specs.Matches.{GraphMerge, counterpart_type}
 use Rattle.wit_merge_spec.specs.Cause.{HasNoMismatch}
 use Rattle.wit_merge_laws.specs.facts.MatchFacts.{goes_to, type_is}
@@ -31,6 +31,7 @@ use Rattle.wit_merge_laws.specs.laws.OrderLaws.{ResourcesStay}
 use Rattle.wit_merge_laws.specs.facts.StructureHeads.{resource_variant}
 use Rattle.wit_merge_laws.specs.facts.TypesStand.{joined_keeps, matched_some, new_type_at, old_type_at}
 use Rattle.wit_remap_spec.specs.steps.Parts.{kind_image}
+use Rattle.wit_merge_spec.specs.steps.Parts.{joined_type, moves_type}
 
 -- ---- some pass a test
 

@@ -18,13 +18,13 @@ use Rattle.wit_graph_theory.specs.facts.ListFacts.{Contains-map_cases, contained
 use Rattle.wit_remap_spec.specs.Image.{entry_image, function_image, item_image, key_image}
 use Rattle.wit_remap_spec.specs.Joined.{joined_entry, joined_item, joined_stability}
 use Rattle.wit_merge_spec.specs.Matches.{GraphMerge, Pair, counterpart_interface, counterpart_of, counterpart_package, counterpart_type, counterpart_world}
-use Rattle.wit_merge_spec.specs.Merged.{brought_functions, is_under_id, merge_maps, merged_interface, merged_type, merged_world, moves_interface, moves_world, with_entries, with_interface, with_package, with_world}
+use Rattle.wit_merge_spec.specs.Merged.{brought_functions, is_under_id, merge_maps, merged_interface, merged_type, merged_world, with_entries, with_interface, with_package, with_world}
 use Rattle.wit_merge_laws.specs.facts.InterfacesStand.{counterpart_from}
 use Rattle.wit_merge_laws.specs.facts.NothingFacts.{map_same}
 use Rattle.wit_merge_laws.specs.facts.SelfFacts.{all_same, nothing_behind}
 use Rattle.wit_merge_laws.specs.facts.WorldsStand.{entry}
 use Rattle.wit_merge_laws.specs.laws.GrowingLaws.{LeftByMatches}
-use Rattle.wit_merge_spec.specs.steps.Parts.{brought_types, with_type}
+use Rattle.wit_merge_spec.specs.steps.Parts.{brought_types, with_type, moves_interface, moves_world}
 
 -- ---- lists
 

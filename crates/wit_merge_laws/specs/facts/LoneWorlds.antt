@@ -29,7 +29,7 @@ use Rattle.wit_remap_spec.specs.Image.{Maps, entry_image, item_image, key_image,
 use Rattle.wit_graph_theory.specs.facts.LawsOfElaboration.{LawsOfElaboration}
 use Rattle.wit_graph_theory.specs.facts.ListFacts.{Contains-map, Contains-map_cases, found_at, place_of}
 use Rattle.wit_graph_theory.specs.facts.OptionFacts.{none_there, some_by}
-use Rattle.wit_merge_spec.specs.Merged.{joined_graph, joined_world, with_world, merge_maps, merged_interface, merged_type, merged_world, moves_type, moves_world}
+use Rattle.wit_merge_spec.specs.Merged.{joined_graph, with_world, merge_maps, merged_interface, merged_type, merged_world}
 use Rattle.wit_merge_spec.specs.Matches.{GraphMerge, counterpart_of, counterpart_type, counterpart_type_by, counterpart_world, matched_world}
 use Rattle.wit_merge_laws.specs.facts.BothOrders.{Corresponds, InBothOrders, flip, of_graph, one_like, one_like_back, other_way, reaches_like, uses_like}
 use Rattle.wit_merge_laws.specs.facts.InterfacesStand.{counterpart_from}
@@ -42,6 +42,7 @@ use Rattle.wit_merge_laws.specs.facts.UsesInto.{needs_back, needs_goes, needs_st
 use Rattle.wit_merge_laws.specs.facts.WorldsStand.{entry}
 use Rattle.wit_elaboration.specs.steps.Parts.{type_role, exported_keys, exported_interfaces}
 use Rattle.wit_remap_spec.specs.steps.Parts.{function_kind_image}
+use Rattle.wit_merge_spec.specs.steps.Parts.{joined_world, moves_type, moves_world}
 
 -- ---- images of entries
 

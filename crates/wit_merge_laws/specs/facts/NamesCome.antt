@@ -24,7 +24,7 @@ use Rattle.wit_graph_theory.specs.facts.ListFacts.{found_at, from_map, place_of,
 use Rattle.wit_graph_theory.specs.Operations.{merge_sources}
 use Rattle.wit_graph_theory.specs.steps.Sources.{Source}
 use Rattle.wit_merge_spec.specs.Matches.{GraphMerge, counterpart_interface, counterpart_world, world_labels}
-use Rattle.wit_merge_spec.specs.Merged.{merge_maps, merged_interface, merged_world, moves_interface, moves_world, joined_graph, merged}
+use Rattle.wit_merge_spec.specs.Merged.{merge_maps, merged_interface, merged_world, joined_graph, merged}
 use Rattle.wit_merge_spec.specs.Cause.{HasNoMismatch}
 use Rattle.wit_merge_laws.specs.facts.InterfacesStand.{interface_at_from, interfaces_come, moved_interface_remapped}
 use Rattle.wit_merge_laws.specs.facts.InterfacesStand as interfaces
@@ -45,6 +45,7 @@ use Rattle.wit_merge_laws.specs.facts.UsesListed.{image_entry, unmatched, world_
 use Rattle.wit_merge_laws.specs.facts.WorldsStand.{entry}
 use Rattle.wit_merge_laws.specs.facts.WholeFacts.{interface_from}
 use Rattle.wit_remap_spec.specs.steps.Parts.{identity}
+use Rattle.wit_merge_spec.specs.steps.Parts.{moves_interface, moves_world}
 
 -- a label comes of that label, the key of an interface of the key of one that goes there
 pub label_key : (m : GraphMerge) (w : ℕ) (k : WorldKey) (label : List ℕ) → key_image (merge_maps m) w k ≡ key.Name label → k ≡ key.Name label

@@ -31,7 +31,7 @@ use Rattle.wit_graph_theory.specs.facts.OptionFacts.{some_same}
 use Rattle.wit_graph_theory.specs.steps.Sources.{InterfaceStands}
 use Rattle.wit_merge_spec.specs.Cause.{same_sort, HasNoMismatch}
 use Rattle.wit_merge_spec.specs.Cause as differ
-use Rattle.wit_merge_spec.specs.Merged.{joined_graph, joined_interface, joined_world, merged, with_interface, brought_functions, merge_maps, merged_interface, merged_package, merged_type, merged_world, moves_interface, moves_world}
+use Rattle.wit_merge_spec.specs.Merged.{joined_graph, merged, with_interface, brought_functions, merge_maps, merged_interface, merged_package, merged_type, merged_world}
 use Rattle.wit_merge_spec.specs.Matches.{GraphMerge, counterpart_interface, counterpart_of, counterpart_world}
 use Rattle.wit_merge_laws.specs.facts.InterfacesStand as interfaces
 use Rattle.wit_merge_laws.specs.facts.InterfacesStand.{option_is, option_so}
@@ -45,6 +45,7 @@ use Rattle.wit_merge_laws.specs.facts.TypesStand.{matched_some}
 use Rattle.wit_merge_laws.specs.facts.UsesListed.{key_remapped, world_keeps_entries}
 use Rattle.wit_merge_laws.specs.facts.WholeFacts.{types_within}
 use Rattle.wit_merge_laws.specs.facts.WorldsStand.{entry, entry_there}
+use Rattle.wit_merge_spec.specs.steps.Parts.{joined_interface, joined_world, moves_interface, moves_world}
 
 -- the places of the things of the graph, which stay, and of those of the other
 abbrev pub staying : NewIds

@@ -37,7 +37,7 @@ use Rattle.wit_graph_theory.specs.facts.RowFacts.{post_order_shorter}
 use Rattle.wit_graph_theory.specs.steps.Sources.{Source}
 use Rattle.wit_graph_theory.specs.facts.TypesAcyclic.{types_acyclic}
 use Rattle.wit_merge_spec.specs.Cause.{HasNoMismatch, MergeIsAccepted, conflict_4, interface_cycle_22, merge_mismatch_24}
-use Rattle.wit_merge_spec.specs.Merged.{joined_graph, joined_type, merge_maps, merged_type, moves_type, remap_of_merge}
+use Rattle.wit_merge_spec.specs.Merged.{joined_graph, merge_maps, merged_type, remap_of_merge}
 use Rattle.wit_merge_spec.specs.Matches.{GraphMerge, counterpart_type}
 use Rattle.wit_merge_laws.specs.facts.JoinedGood.{UnionCanElaborate, aliases, in_order}
 use Rattle.wit_merge_laws.specs.facts.MatchFacts.{goes_to, type_is}
@@ -47,6 +47,7 @@ use Rattle.wit_merge_laws.specs.facts.WorldsStand.{joined_covered, joined_stands
 use Rattle.wit_graph_data.specs.steps.Parts.{interface_id_text}
 use Rattle.wit_elaboration.specs.steps.Parts.{interface_cycle_text}
 use Rattle.wit_remap_spec.specs.steps.Parts.{owns}
+use Rattle.wit_merge_spec.specs.steps.Parts.{joined_type, moves_type}
 
 -- ---- no type refers to itself
 

@@ -32,7 +32,7 @@ use Rattle.wit_graph_theory.specs.Operations.{merge_sources}
 use Rattle.wit_graph_theory.specs.facts.OptionFacts.{some_parts, some_same}
 use Rattle.wit_graph_theory.specs.steps.Sources.{InterfaceStands, Source}
 use Rattle.wit_remap_spec.specs.Joined.{joined_entry, joined_item}
-use Rattle.wit_merge_spec.specs.Merged.{is_under_id, joined_graph, joined_interface, merged, with_world, merge_maps, merged_interface, merged_world, moves_interface}
+use Rattle.wit_merge_spec.specs.Merged.{is_under_id, joined_graph, merged, with_world, merge_maps, merged_interface, merged_world}
 use Rattle.wit_merge_spec.specs.Matches.{GraphMerge, counterpart_interface, counterpart_interface_by, counterpart_of, counterpart_world, world_labels}
 use Rattle.wit_merge_spec.specs.Cause.{HasNoMismatch}
 use Rattle.wit_merge_laws.specs.facts.InterfacesStand.{interface_stands, joined_keeps, moved_interface_remapped, old_interface_at}
@@ -45,6 +45,7 @@ use Rattle.wit_merge_laws.specs.facts.UnitedWorlds.{entries_from, exported_is_na
 use Rattle.wit_merge_laws.specs.facts.WholeFacts.{world_from}
 use Rattle.wit_merge_laws.specs.facts.WorldsStand.{sources_good}
 use Rattle.wit_remap_spec.specs.steps.Parts.{identity}
+use Rattle.wit_merge_spec.specs.steps.Parts.{joined_interface, moves_interface}
 
 unnamed_cut : (g : Graph) (f : ℕ) → is_unnamed (map (cut_interface (kept_whole g)) g.interfaces) f ≡ is_unnamed g.interfaces f
 unnamed_cut g f = by g.interfaces f

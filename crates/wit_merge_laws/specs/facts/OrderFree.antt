@@ -20,7 +20,7 @@ use Rattle.wit_graph_theory.specs.facts.ListFacts.{at_map, found_at, from_map, g
 use Rattle.wit_data.specs.Entries.{entries_of}
 use Rattle.wit_merge_spec.specs.Cause.{same_sort, HasNoMismatch}
 use Rattle.wit_merge_spec.specs.Matches.{GraphMerge, counterpart_world}
-use Rattle.wit_merge_spec.specs.Merged.{merge_maps, merged_world, moves_world, joined_graph, merged}
+use Rattle.wit_merge_spec.specs.Merged.{merge_maps, merged_world, joined_graph, merged}
 use Rattle.wit_merge_laws.specs.facts.AgreementBack.{agreement_is_symmetric}
 use Rattle.wit_merge_laws.specs.facts.BothNames.{names_of_both}
 use Rattle.wit_merge_laws.specs.facts.BothOrders.{Corresponds, InBothOrders, flip, of_graph, of_other, other_way}
@@ -44,6 +44,7 @@ use Rattle.wit_merge_laws.specs.facts.SharedImports.{imports_it, imports_of_both
 use Rattle.wit_merge_laws.specs.facts.TypesStand.{matched_some}
 use Rattle.wit_merge_laws.specs.facts.UsesListed.{key_in}
 use Rattle.wit_merge_laws.specs.facts.WorldsStand.{entry}
+use Rattle.wit_merge_spec.specs.steps.Parts.{moves_world}
 
 other_first : {A B : Type 0} → A ⊎ B → B ⊎ A
 other_first (inl a) = inr a

@@ -32,7 +32,7 @@ use Rattle.wit_graph_theory.specs.laws.Theory.{HasGoodTables}
 use Rattle.wit_link_spec.specs.facts.RankFacts.{selected-at, selected_with_index-from}
 use Rattle.wit_remap_spec.specs.Selected.{rank, selected, selected_with_index}
 use Rattle.wit_link_laws.specs.facts.KeysApart.{joined_apart}
-use Rattle.wit_merge_spec.specs.Merged.{joined_graph, joined_interface, joined_package, joined_world, package_image, merged, with_package, with_world, merge_maps, merged_interface, merged_package, merged_world, moves_interface, moves_package, moves_world}
+use Rattle.wit_merge_spec.specs.Merged.{joined_graph, package_image, merged, with_package, with_world, merge_maps, merged_interface, merged_package, merged_world}
 use Rattle.wit_merge_spec.specs.Matches.{GraphMerge, counterpart_interface, counterpart_interface_by, counterpart_of, counterpart_package, counterpart_world, named_in_counterpart}
 use Rattle.wit_merge_laws.specs.facts.InterfacesStand as interfaces
 use Rattle.wit_merge_laws.specs.facts.InterfacesStand.{counterpart_from, counterpart_is}
@@ -40,6 +40,7 @@ use Rattle.wit_merge_laws.specs.facts.ListedStand as worlds
 use Rattle.wit_merge_laws.specs.facts.MatchFacts.{goes_to, package_is}
 use Rattle.wit_merge_laws.specs.facts.MatchedOnce.{package_once}
 use Rattle.wit_merge_laws.specs.facts.TypesStand.{matched_some, moved_next}
+use Rattle.wit_merge_spec.specs.steps.Parts.{joined_interface, joined_world, joined_package, moves_interface, moves_world, moves_package}
 
 -- a key that is looked up in vain isn't there
 in_vain : {K V : Type 0} (test : K → Bool) (k : K) (v : V) (es : List (K × V)) → test k ≡ true → lookup test es ≡ None → Contains es (k, v) → ⊥

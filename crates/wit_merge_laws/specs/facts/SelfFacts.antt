@@ -51,7 +51,7 @@ use Rattle.wit_remap_spec.specs.ValueRemap.{types_behind}
 use Rattle.wit_remap_spec.specs.Selected.{selected, selected_with_index}
 use Rattle.wit_merge_spec.specs.Cause.{MergeIsAccepted}
 use Rattle.wit_merge_spec.specs.Matches.{GraphMerge, counterpart_at_label, counterpart_interface, counterpart_interface_by, counterpart_of, counterpart_package, counterpart_type, counterpart_type_by, counterpart_world, matched_world, named_in_counterpart, unnamed_item, world_labels}
-use Rattle.wit_merge_spec.specs.Merged.{brought_functions, is_under_id, joined_graph, joined_interface, joined_package, joined_type, joined_world, merge_maps, merged_interface, merged_package, merged_type, merged_world, moved_worlds, moves_interface, moves_package, moves_type, moves_world, package_image, remap_of_merge, merged, with_entries, with_interface, with_package, with_world}
+use Rattle.wit_merge_spec.specs.Merged.{brought_functions, is_under_id, joined_graph, merge_maps, merged_interface, merged_package, merged_type, merged_world, moved_worlds, package_image, remap_of_merge, merged, with_entries, with_interface, with_package, with_world}
 use Rattle.wit_merge_laws.specs.facts.BothNames.{both_names}
 use Rattle.wit_merge_laws.specs.facts.FoundBack.{label_found, lookup_finds_entry, lookup_finds_name, lookup_finds_package, lookup_finds_world_type, unnamed_held, unnamed_so}
 use Rattle.wit_merge_laws.specs.facts.InterfacesStand.{counterpart_from, old_interface_at}
@@ -66,7 +66,7 @@ use Rattle.wit_merge_laws.specs.facts.WorldsStand.{entry}
 use Rattle.wit_merge_laws.specs.laws.CopyLaws.{AcceptedCopiesChangeNothing, IsPlacedType, StaysItself}
 use Rattle.wit_merge_laws.specs.laws.MergingLaws.{merge_of_graphs}
 use Rattle.wit_merge_laws.specs.laws.Names.{HaveSameNames, InterfaceName, IsNamedSo, at_label, in_package}
-use Rattle.wit_merge_spec.specs.steps.Parts.{moved_interfaces, brought_types, with_type}
+use Rattle.wit_merge_spec.specs.steps.Parts.{moved_interfaces, brought_types, with_type, joined_type, joined_interface, joined_world, joined_package, moves_type, moves_interface, moves_world, moves_package}
 
 -- ---- lists
 

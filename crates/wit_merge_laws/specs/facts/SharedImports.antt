@@ -30,7 +30,7 @@ use Rattle.wit_graph_theory.specs.facts.EntryFacts.{key_entry}
 use Rattle.wit_graph_theory.specs.facts.LawsOfElaboration.{LawsOfElaboration}
 use Rattle.wit_graph_theory.specs.facts.ListFacts.{at_map, found_at, place_of, same_at, some_at}
 use Rattle.wit_graph_theory.specs.facts.OptionFacts.{some_same}
-use Rattle.wit_merge_spec.specs.Merged.{joined_graph, joined_world, merged, merged_interface, merged_world, moves_world}
+use Rattle.wit_merge_spec.specs.Merged.{joined_graph, merged, merged_interface, merged_world}
 use Rattle.wit_merge_spec.specs.Matches.{GraphMerge, counterpart_world}
 use Rattle.wit_merge_spec.specs.Cause.{HasNoMismatch}
 use Rattle.wit_merge_laws.specs.facts.JoinedGood.{UnionCanElaborate, in_order, listed_imports}
@@ -48,6 +48,7 @@ use Rattle.wit_merge_laws.specs.facts.TypesStand.{matched_some}
 use Rattle.wit_merge_laws.specs.facts.UnitedWorlds.{is_elaborated, named_key}
 use Rattle.wit_merge_laws.specs.facts.UsesListed.{key_in, world_keeps_entries}
 use Rattle.wit_merge_laws.specs.facts.WorldsStand.{entry}
+use Rattle.wit_merge_spec.specs.steps.Parts.{joined_world, moves_world}
 
 -- ---- names tell apart
 

@@ -35,7 +35,7 @@ use Rattle.wit_graph_theory.specs.facts.ListFacts.{Contains-map_cases, found_at,
 use Rattle.wit_graph_theory.specs.laws.PackageCycles.{ListsKey}
 use Rattle.wit_remap_spec.specs.Joined.{joined_entry, joined_item}
 use Rattle.wit_merge_spec.specs.Cause.{same_sort, HasNoMismatch}
-use Rattle.wit_merge_spec.specs.Merged.{joined_graph, joined_world, with_world, merged_interface}
+use Rattle.wit_merge_spec.specs.Merged.{joined_graph, with_world, merged_interface}
 use Rattle.wit_merge_spec.specs.Matches.{GraphMerge, counterpart_key, counterpart_of, counterpart_world}
 use Rattle.wit_merge_laws.specs.facts.ListedStand.{interfaces_apart}
 use Rattle.wit_merge_laws.specs.facts.MatchedEntries.{covered}
@@ -45,6 +45,7 @@ use Rattle.wit_merge_laws.specs.facts.UsesFrom.{old_needs, use_from}
 use Rattle.wit_merge_laws.specs.facts.UsesListed.{counterpart_lists_key, held_one, key_in, key_remapped, one_held, world_keeps_entries}
 use Rattle.wit_merge_laws.specs.facts.WorldsStand.{entry, entry_there}
 use Rattle.wit_elaboration.specs.steps.Parts.{type_role, exported_keys, exported_interfaces}
+use Rattle.wit_merge_spec.specs.steps.Parts.{joined_world}
 
 -- ---- items
 

@@ -31,12 +31,12 @@ use Rattle.wit_remap_spec.specs.Selected.{rank, selected_with_index}
 use Rattle.wit_remap_spec.specs.Resources.{leads_to_resource, own_of}
 use Rattle.wit_remap_spec.specs.ValueRemap.{needs_own}
 use Rattle.wit_link_laws.specs.facts.ValueRemapFacts.{behind_from, leads_named, new_stands, own_stands, value_stands}
-use Rattle.wit_merge_spec.specs.Merged.{joined_graph, joined_type, merge_maps, merge_maps_without_owns, merged_type, moves_type, remap_of_merge}
+use Rattle.wit_merge_spec.specs.Merged.{joined_graph, merge_maps, merge_maps_without_owns, merged_type, remap_of_merge}
 use Rattle.wit_merge_spec.specs.Matches.{GraphMerge, counterpart_of, counterpart_type}
 use Rattle.wit_merge_laws.specs.facts.MatchFacts.{goes_to, type_is}
 use Rattle.wit_data.specs.steps.Parts.{parts}
 use Rattle.wit_remap_spec.specs.steps.Parts.{types_without_owns, value_id, owns}
-use Rattle.wit_merge_spec.specs.steps.Parts.{moved_types, with_type}
+use Rattle.wit_merge_spec.specs.steps.Parts.{moved_types, with_type, joined_type, moves_type}
 
 -- ---- what moves, and what is matched
 

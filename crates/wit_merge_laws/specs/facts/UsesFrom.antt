@@ -19,11 +19,12 @@ use Rattle.wit_graph_theory.specs.facts.ReferredFacts.{alias_image}
 use Rattle.wit_graph_theory.specs.steps.Sources.{Stands}
 use Rattle.wit_graph_theory.specs.facts.UsesAcyclic.{other_from}
 use Rattle.wit_remap_spec.specs.Resources.{own_of}
-use Rattle.wit_merge_spec.specs.Merged.{joined_graph, joined_type, merge_maps, merged_interface, merged_type}
+use Rattle.wit_merge_spec.specs.Merged.{joined_graph, merge_maps, merged_interface, merged_type}
 use Rattle.wit_merge_spec.specs.Matches.{GraphMerge}
 use Rattle.wit_merge_spec.specs.Cause.{HasNoMismatch}
 use Rattle.wit_merge_laws.specs.facts.JoinedGood.{joined_good}
 use Rattle.wit_merge_laws.specs.facts.TypesStand.{TypeFrom, an_own, joined_keeps, of_graph, of_other, old_type_at, type_at_from, type_stands}
+use Rattle.wit_merge_spec.specs.steps.Parts.{joined_type}
 
 -- ---- images of names and owners
 

@@ -20,7 +20,7 @@ use Rattle.wit_graph_theory.specs.facts.OptionFacts.{some_same}
 use Rattle.wit_graph_theory.specs.facts.ReferredFacts.{alias_image}
 use Rattle.wit_graph_theory.specs.steps.Sources.{InterfaceStands, Stands}
 use Rattle.wit_graph_theory.specs.facts.UsesAcyclic.{other_from}
-use Rattle.wit_merge_spec.specs.Merged.{joined_graph, joined_interface, joined_type, merge_maps, merged_interface, merged_type, moves_type}
+use Rattle.wit_merge_spec.specs.Merged.{joined_graph, merge_maps, merged_interface, merged_type}
 use Rattle.wit_merge_spec.specs.Matches.{GraphMerge, counterpart_type}
 use Rattle.wit_merge_laws.specs.facts.InterfacesStand as interfaces
 use Rattle.wit_merge_laws.specs.facts.ListedStand.{interfaces_apart}
@@ -28,6 +28,7 @@ use Rattle.wit_merge_laws.specs.facts.MatchFacts.{goes_to, type_is}
 use Rattle.wit_merge_laws.specs.facts.TypesStand.{joined_keeps, matched_some, new_type_at, old_type_at, type_stands}
 use Rattle.wit_merge_laws.specs.facts.UsesFrom.{target_there}
 use Rattle.wit_merge_laws.specs.facts.WholeFacts.{types_within}
+use Rattle.wit_merge_spec.specs.steps.Parts.{joined_type, joined_interface, moves_type}
 
 -- an alias that is matched names what that is matched with that its counterpart names
 abbrev pub AliasesMatched : GraphMerge → Type 0

@@ -29,7 +29,7 @@ use Rattle.wit_graph_theory.specs.facts.UnnamedOnceCarried.{unnamed_same}
 use Rattle.wit_graph_theory.specs.laws.PackageCycles.{ListsKey, ListsUses}
 use Rattle.wit_graph_theory.specs.steps.Sources.{InterfaceStands}
 use Rattle.wit_remap_spec.specs.Joined.{joined_entry}
-use Rattle.wit_merge_spec.specs.Merged.{is_under_id, joined_graph, joined_interface, joined_world, with_world, merge_maps, merged_interface, moves_interface, moves_world}
+use Rattle.wit_merge_spec.specs.Merged.{is_under_id, joined_graph, with_world, merge_maps, merged_interface}
 use Rattle.wit_merge_spec.specs.Matches.{GraphMerge, counterpart_interface, counterpart_key, counterpart_of, counterpart_world, world_labels}
 use Rattle.wit_merge_spec.specs.Cause.{HasNoMismatch}
 use Rattle.wit_merge_laws.specs.facts.InterfacesStand.{interface_stands, joined_keeps, moved_interface_remapped, old_interface_at}
@@ -39,6 +39,7 @@ use Rattle.wit_merge_laws.specs.facts.OnceStand.{entry_held, image_held, spot_of
 use Rattle.wit_merge_laws.specs.facts.TypesStand.{matched_some}
 use Rattle.wit_merge_laws.specs.facts.UsesFrom.{UseOfOther, use_from}
 use Rattle.wit_merge_laws.specs.facts.WorldsStand.{entry, entry_there}
+use Rattle.wit_merge_spec.specs.steps.Parts.{joined_interface, joined_world, moves_interface, moves_world}
 
 -- the key of an interface is looked for as the key of that at its place
 pub key_remapped : (m : GraphMerge) (j : ℕ) (k : WorldKey) → counterpart_key m (key.Interface j) ≡ Some k → k ≡ key.Interface (merged_interface m j)

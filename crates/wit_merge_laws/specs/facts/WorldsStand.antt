@@ -38,7 +38,7 @@ use Rattle.wit_link_laws.specs.facts.ListedTypes.{lists_type}
 use Rattle.wit_remap_spec.specs.Joined.{joined_entry, joined_item}
 use Rattle.wit_merge_spec.specs.Cause.{same_sort, HasNoMismatch}
 use Rattle.wit_merge_spec.specs.Cause as differ
-use Rattle.wit_merge_spec.specs.Merged.{is_under_id, joined_graph, joined_world, with_world, merge_maps, merged_type, merged_world, moves_world}
+use Rattle.wit_merge_spec.specs.Merged.{is_under_id, joined_graph, with_world, merge_maps, merged_type, merged_world}
 use Rattle.wit_merge_spec.specs.Matches.{GraphMerge, counterpart_item, counterpart_key, counterpart_of, counterpart_type, counterpart_type_by, counterpart_world, matched_world}
 use Rattle.wit_merge_spec.specs.MismatchText.{side_word}
 use Rattle.wit_merge_laws.specs.facts.InterfacesStand as interfaces
@@ -50,6 +50,7 @@ use Rattle.wit_merge_laws.specs.facts.TypesStand as types
 use Rattle.wit_merge_laws.specs.facts.TypesStand.{matched_some}
 use Rattle.wit_merge_laws.specs.facts.WholeFacts.{interface_from, world_from}
 use Rattle.wit_remap_spec.specs.steps.Parts.{identity}
+use Rattle.wit_merge_spec.specs.steps.Parts.{joined_world, moves_world}
 
 abbrev pub entry : WorldKey → WorldItem → Entry
 entry k held = (k, held)

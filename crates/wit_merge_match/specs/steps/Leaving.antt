@@ -16,8 +16,8 @@ use Rattle.wit_elaboration.specs.Entries.{same_key}
 use Rattle.wit_graph_data.specs.declared.graph.Package.{Package}
 use Rattle.wit_remap_spec.specs.Joined.{joined_stability}
 use Rattle.wit_merge_spec.specs.Matches.{GraphMerge, counterpart_item}
-use Rattle.wit_merge_spec.specs.Merged.{brought_functions, moves_interface, moves_world}
-use Rattle.wit_merge_spec.specs.steps.Parts.{brought_types}
+use Rattle.wit_merge_spec.specs.Merged.{brought_functions}
+use Rattle.wit_merge_spec.specs.steps.Parts.{brought_types, moves_interface, moves_world}
 
 -- a stability is as it was, where another is joined to it
 abbrev pub Stays : Stability → Stability → Type 0

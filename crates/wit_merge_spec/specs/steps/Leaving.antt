@@ -10,8 +10,8 @@ use Rattle.wit_remap_spec.specs.Image.{interface_image, world_image}
 use Rattle.wit_remap_spec.specs.Selected.{selected}
 use Rattle.wit_remap_spec.specs.ValueRemap.{types_behind, world_functions}
 use Rattle.wit_merge_spec.specs.Matches.{GraphMerge}
-use Rattle.wit_merge_spec.specs.Merged.{joined_graph, joined_interface, joined_package, joined_type, joined_world, merge_maps, merged_package, moved_worlds, moves_package, package_image, remap_of_merge}
-use Rattle.wit_merge_spec.specs.steps.Parts.{moved_interfaces}
+use Rattle.wit_merge_spec.specs.Merged.{joined_graph, merge_maps, merged_package, moved_worlds, package_image, remap_of_merge}
+use Rattle.wit_merge_spec.specs.steps.Parts.{moved_interfaces, joined_type, joined_interface, joined_world, joined_package, moves_package}
 
 -- each thing of the graph is what it was: what is matched with it brings nothing, and has no stability that it lacks
 pub record LeavesGraph (m : GraphMerge) : Type 0 where

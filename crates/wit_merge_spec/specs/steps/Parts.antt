@@ -1,22 +1,23 @@
 -- Parts of the definitions under names of their own, for contracts of inner functions and for proofs. Each is what stands
 -- in a definition in its place, so none has to be believed.
-use Rattle.std.specs.Prelude.{ℕ, true, false, List, [], ◌∷◌, ◌++◌, codes, flat_map, bytes_eq, map, filter, ◌+◌, Option}
+use Rattle.std.specs.Prelude.{ℕ, true, false, List, [], ◌∷◌, ◌++◌, codes, flat_map, bytes_eq, map, filter, ◌+◌, Option, Bool, not, is_some}
 use Rattle.std.specs.Map.{lookup}
 use Rattle.std.specs.Option.{option_map_or}
 use Rattle.wit_data.specs.Entries.{Entry}
 use Rattle.wit_data.specs.declared.interface.Interface.{Interface}
 use Rattle.wit_data.specs.declared.world.World.{World}
-use Rattle.wit_merge_spec.specs.Matches.{paired, interface_at_label, TypePair, entry_pairs, WorldLabel, GraphMerge, matched_interface, counterpart_type}
+use Rattle.wit_merge_spec.specs.Matches.{paired, interface_at_label, TypePair, entry_pairs, WorldLabel, GraphMerge, matched_interface, counterpart_type, counterpart_interface, counterpart_of, counterpart_package, counterpart_world}
 use Rattle.wit_data.specs.declared.function.Function.{Function}
 use Rattle.wit_data.specs.declared.types.TypeDef.{TypeDef}
 use Rattle.wit_remap_spec.specs.Joined.{joined_stability}
 use Rattle.wit_remap_spec.specs.Selected.{selected}
-use Rattle.wit_merge_spec.specs.Merged.{brought_functions, moves_interface, moves_type}
+use Rattle.wit_merge_spec.specs.Merged.{brought_functions, with_interface, with_package, with_world}
 use Rattle.wit_graph_data.specs.declared.graph.Graph.{Graph}
 use Rattle.wit_remap_spec.specs.Spans.{interface_spans, type_spans, world_spans}
 use Rattle.wit_sources.specs.Span.{OptionalSpan}
 use Rattle.wit_merge_spec.specs.Structure.{DifferInStructure, Feature, within, held_features}
 use Rattle.wit_data.specs.Kind.{KindPart}
+use Rattle.wit_graph_data.specs.declared.graph.Package.{Package}
 
 -- the interfaces under labels of world w, each with its label
 abbrev pub labels_of_world : ℕ → World → List (ℕ × WorldLabel)
@@ -29,6 +30,19 @@ common_types links from into = flat_map (λ (e : List ℕ × ℕ). option_map_or
 -- those of two worlds, imports before exports
 abbrev pub common_entries : GraphMerge → List (List ℕ) → World → World → List TypePair
 common_entries m links from into = flat_map (entry_pairs m links (codes "import") into.imports) from.imports ++ flat_map (entry_pairs m links (codes "export") into.exports) from.exports
+
+-- what isn't matched moves
+abbrev pub moves_type : GraphMerge → ℕ → Bool
+moves_type m t = not (is_some (counterpart_type m t))
+
+abbrev pub moves_interface : GraphMerge → ℕ → Bool
+moves_interface m i = not (is_some (counterpart_interface m i))
+
+abbrev pub moves_world : GraphMerge → ℕ → Bool
+moves_world m w = not (is_some (counterpart_world m w))
+
+abbrev pub moves_package : GraphMerge → ℕ → Bool
+moves_package m p = not (is_some (counterpart_package m p))
 
 abbrev pub moved_types : GraphMerge → List TypeDef
 moved_types m = selected (moves_type m) m.other.types
@@ -78,3 +92,22 @@ other_sort_text = codes "world items do not have the same type"
 -- the features of a part
 abbrev pub part_features : List TypeDef → (ℕ → Option ℕ) → (ℕ → List Feature) → KindPart → List Feature
 part_features types matched inner p = map (within p.step) (held_features types matched inner p.ty)
+
+-- a type of the graph, by its place and what it is: with the stability of what is matched with it joined to its own, if
+-- something is
+abbrev pub joined_type : GraphMerge → ℕ × TypeDef → TypeDef
+joined_type m e = option_map_or (λ (p : ℕ × TypeDef). record e.1 { stability = joined_stability p.1.stability e.1.stability }) (counterpart_of (counterpart_type m) m.other.types e.0) e.1
+
+-- an interface of the graph, by its id and what it is: with what its counterpart brings, if it has one
+abbrev pub joined_interface : GraphMerge → ℕ × Interface → Interface
+joined_interface m e = option_map_or (λ (p : ℕ × Interface). with_interface m p.1 e.1) (counterpart_of (counterpart_interface m) m.other.interfaces e.0) e.1
+
+-- a world of the graph, by its id and what it is: with the stabilities of its counterpart joined to its own, if it
+-- has one
+abbrev pub joined_world : GraphMerge → ℕ × World → World
+joined_world m e = option_map_or (λ (p : ℕ × World). with_world m p e.1) (counterpart_of (counterpart_world m) m.other.worlds e.0) e.1
+
+-- a package of the graph, by its id and what it is: with the interfaces and worlds that its counterpart brings, if it
+-- has one
+abbrev pub joined_package : GraphMerge → ℕ × Package → Package
+joined_package m e = option_map_or (λ (p : ℕ × Package). with_package m p.1 e.1) (counterpart_of (counterpart_package m) m.other.packages e.0) e.1

@@ -1,10 +1,10 @@
 use Rattle.std.proofs.Common.{◌∙◌, ◌++◌, ◌∷◌, [], List, Option, ℕ, ap, arith, map, sym}
 use Rattle.std.specs.List.{range_with_len}
-use Rattle.wit_link_spec.specs.Addition.{active_type_id}
 use Rattle.wit_link_spec.specs.steps.AdditionRefs.{addition_of}
 use Rattle.wit_link_spec.specs.facts.RangeFacts.{range-next}
 use Rattle.wit_link_lookup.proofs.Causes.{types-next}
 use Rattle.wit_link_lookup.proofs.types.type_ids.Goals as goal
+use Rattle.wit_link_spec.specs.steps.Parts.{active_type_id}
 
 pub loop-t-preserved : goal.loop-t-preserved
 loop-t-preserved c =

@@ -3,7 +3,7 @@ use Rattle.std.proofs.lemmas.Bool.{false≢true, le-ltb, lt-ltb}
 use Rattle.std.proofs.lemmas.Result.{IfOk-weaker}
 use Rattle.wit_data.specs.declared.types.TypeDef.{TypeDef}
 use Rattle.wit_link_spec.specs.steps.AdditionRefs.{addition_of}
-use Rattle.wit_link_spec.specs.Addition.{Addition, active_type_id}
+use Rattle.wit_link_spec.specs.Addition.{Addition}
 use Rattle.wit_link_spec.specs.facts.FlagFacts.{place-inside, place-is}
 use Rattle.wit_link_spec.specs.Lookup.{is_foreign_type}
 use Rattle.wit_remap_spec.specs.Borrows.{HoldsBorrow}
@@ -12,6 +12,7 @@ use Rattle.wit_link_resources.proofs.MayHold.{borrow_here, found_there, nowhere_
 use Rattle.wit_link_spec.specs.facts.NewFacts.{foreign_type_id-below}
 use Rattle.wit_link_resources.proofs.Where.{foreign_back}
 use Rattle.wit_link_resources.proofs.borrows.is_borrow_there.Goals as goal
+use Rattle.wit_link_spec.specs.steps.Parts.{active_type_id}
 
 pub at-requires : goal.at-requires
 at-requires c = place-inside (addition_of c.args.addition.now) c.args.new_ids.now c.requires.new_ids c.args.index c.requires.there

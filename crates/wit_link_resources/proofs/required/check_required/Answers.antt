@@ -1,7 +1,7 @@
 use Rattle.std.proofs.Common.{◌≡◌, ◌∙◌, ◌<◌, true, false, ℕ, None, Some, List, length, slice_get, ap, sym, subst, inr}
 use Rattle.wit_data.specs.declared.types.TypeDef.{TypeDef}
 use Rattle.wit_link_spec.specs.steps.AdditionRefs.{addition_of}
-use Rattle.wit_link_spec.specs.Addition.{Addition, active_type_id}
+use Rattle.wit_link_spec.specs.Addition.{Addition}
 use Rattle.wit_link_spec.specs.facts.FlagFacts.{place-inside, place-is}
 use Rattle.wit_link_spec.specs.facts.NewFacts.{foreign_type_id-below}
 use Rattle.wit_remap_spec.specs.Resources.{leads_to_resource}
@@ -9,6 +9,7 @@ use Rattle.wit_link_resources.specs.steps.Leading.{AreRight}
 use Rattle.wit_link_resources.proofs.Tells.{resource_cause}
 use Rattle.wit_link_resources.proofs.Where.{foreign_back, found_on, required_is_foreign}
 use Rattle.wit_link_resources.proofs.required.check_required.Goals as goal
+use Rattle.wit_link_spec.specs.steps.Parts.{active_type_id}
 
 pub at-requires : goal.at-requires
 at-requires c =

@@ -4,12 +4,13 @@ use Rattle.std.specs.List.{enumerate_from}
 use Rattle.wit_data.specs.declared.interface.Interface.{Interface}
 use Rattle.wit_remap_spec.specs.Image.{interface_image}
 use Rattle.wit_remap_spec.specs.Selected.{selected_with_index}
-use Rattle.wit_merge_spec.specs.Merged.{joined_interface, with_interface, merge_maps, moves_interface}
+use Rattle.wit_merge_spec.specs.Merged.{with_interface, merge_maps}
 use Rattle.wit_merge_spec.specs.Matches.{counterpart_interface}
 use Rattle.wit_merge.specs.steps.UnionSteps.{merging_of}
 use Rattle.wit_merge.proofs.Movable.{interfaces_join, interfaces_move}
 use Rattle.wit_merge.proofs.UnitedIs.{united_is, without_places}
 use Rattle.wit_merge.proofs.interfaces.joined_interfaces.Goals as goal
+use Rattle.wit_merge_spec.specs.steps.Parts.{joined_interface, moves_interface}
 
 pub joined_list-requires-clause-joining : goal.joined_list-requires-clause-joining
 joined_list-requires-clause-joining c x x' from into at found there =

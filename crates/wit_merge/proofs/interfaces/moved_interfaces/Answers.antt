@@ -2,13 +2,14 @@ use Rattle.std.proofs.Common.{◌∙◌, ℕ, Bool, ap, map}
 use Rattle.std.proofs.lemmas.Result.{IfOk-weaker}
 use Rattle.wit_data.specs.declared.interface.Interface.{Interface}
 use Rattle.wit_remap_spec.specs.Image.{interface_image}
-use Rattle.wit_merge_spec.specs.Merged.{merge_maps, moves_interface}
+use Rattle.wit_merge_spec.specs.Merged.{merge_maps}
 use Rattle.wit_remap_spec.specs.Selected.{selected_with_index}
 use Rattle.wit_merge_spec.specs.Matches.{counterpart_interface}
 use Rattle.wit_merge.specs.steps.UnionSteps.{merging_of}
 use Rattle.wit_merge.proofs.Movable.{interfaces_move}
 use Rattle.wit_merge.proofs.UnitedIs.{moves_is, without_places}
 use Rattle.wit_merge.proofs.interfaces.moved_interfaces.Goals as goal
+use Rattle.wit_merge_spec.specs.steps.Parts.{moves_interface}
 
 pub move_all-requires-clause-can : goal.move_all-requires-clause-can
 move_all-requires-clause-can c x from at moves = interfaces_move c.args.plan.now c.requires x from at

@@ -3,12 +3,13 @@ use Rattle.std.proofs.lemmas.Result.{IfOk-weaker}
 use Rattle.std.specs.List.{enumerate_from}
 use Rattle.wit_graph_data.specs.declared.graph.Package.{Package}
 use Rattle.wit_remap_spec.specs.Selected.{selected_with_index}
-use Rattle.wit_merge_spec.specs.Merged.{joined_package, package_image, with_package, moves_package}
+use Rattle.wit_merge_spec.specs.Merged.{package_image, with_package}
 use Rattle.wit_merge_spec.specs.Matches.{counterpart_package}
 use Rattle.wit_merge.specs.steps.UnionSteps.{merging_of}
 use Rattle.wit_merge.proofs.Movable.{packages_join, packages_move}
 use Rattle.wit_merge.proofs.UnitedIs.{moves_is, united_is, without_places}
 use Rattle.wit_merge.proofs.packages.joined_packages.Goals as goal
+use Rattle.wit_merge_spec.specs.steps.Parts.{joined_package, moves_package}
 
 pub joined_list-requires-clause-joining : goal.joined_list-requires-clause-joining
 joined_list-requires-clause-joining c x x' from into at found there =

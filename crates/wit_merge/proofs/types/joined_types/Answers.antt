@@ -3,14 +3,14 @@ use Rattle.std.specs.List.{enumerate_from}
 use Rattle.wit_data.specs.declared.types.TypeDef.{TypeDef}
 use Rattle.wit_remap_spec.specs.Image.{type_image}
 use Rattle.wit_remap_spec.specs.Selected.{selected_with_index}
-use Rattle.wit_merge_spec.specs.Merged.{joined_type, merge_maps, moves_type, remap_of_merge}
+use Rattle.wit_merge_spec.specs.Merged.{merge_maps, remap_of_merge}
 use Rattle.wit_merge_spec.specs.Matches.{counterpart_type}
 use Rattle.wit_merge.specs.steps.UnionSteps.{merging_of}
 use Rattle.wit_merge.proofs.Movable.{types_move}
 use Rattle.wit_merge.proofs.UnitedIs.{united_is, without_places}
 use Rattle.wit_merge.proofs.types.joined_types.Goals as goal
 use Rattle.wit_remap_spec.specs.steps.Parts.{owns}
-use Rattle.wit_merge_spec.specs.steps.Parts.{moved_types, with_type}
+use Rattle.wit_merge_spec.specs.steps.Parts.{moved_types, with_type, joined_type, moves_type}
 
 pub joined_list-requires-clause-moving : goal.joined_list-requires-clause-moving
 joined_list-requires-clause-moving c x from at moves = types_move c.args.plan.now c.requires.ready x from at

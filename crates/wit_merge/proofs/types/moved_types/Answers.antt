@@ -2,12 +2,13 @@ use Rattle.std.proofs.Common.{◌∙◌, ◌++◌, ℕ, Bool, ap, map}
 use Rattle.wit_data.specs.declared.types.TypeDef.{TypeDef}
 use Rattle.wit_remap_spec.specs.Image.{type_image}
 use Rattle.wit_remap_spec.specs.Selected.{selected_with_index}
-use Rattle.wit_merge_spec.specs.Merged.{merge_maps, moves_type}
+use Rattle.wit_merge_spec.specs.Merged.{merge_maps}
 use Rattle.wit_merge_spec.specs.Matches.{counterpart_type}
 use Rattle.wit_merge.specs.steps.UnionSteps.{merging_of}
 use Rattle.wit_merge.proofs.Movable.{types_move}
 use Rattle.wit_merge.proofs.UnitedIs.{moves_is, without_places}
 use Rattle.wit_merge.proofs.types.moved_types.Goals as goal
+use Rattle.wit_merge_spec.specs.steps.Parts.{moves_type}
 
 pub move_all-requires-clause-can : goal.move_all-requires-clause-can
 move_all-requires-clause-can c x from at moves = types_move c.args.plan.now c.requires.ready x from at

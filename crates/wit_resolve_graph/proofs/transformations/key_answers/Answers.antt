@@ -4,8 +4,8 @@ use Rattle.std.proofs.lemmas.Map.Iter.{iter_turn}
 use Rattle.std.specs.Map.Iter.{deref_pair}
 use Rattle.wit_values.specs.facts.Lists.{map-next}
 use Rattle.wit_elaboration.specs.Entries.{Entry}
-use Rattle.wit_resolve_graph.specs.Step.{is_listed_key}
 use Rattle.wit_resolve_graph.proofs.transformations.key_answers.Goals as goal
+use Rattle.wit_resolve_graph.specs.steps.Parts.{is_listed_key}
 
 pub loop-key-preserved : goal.loop-key-preserved
 loop-key-preserved c =

@@ -1,6 +1,6 @@
 use Rattle.std.proofs.Common.{◌≡◌, length, take}
-use Rattle.wit_resolve_graph.specs.Step.{listed_answers}
 use Rattle.wit_resolve_graph.proofs.transformations.key_answers.Given as goal
+use Rattle.wit_resolve_graph.specs.steps.Parts.{listed_answers}
 
 -- the answers so far
 abbrev pub invariant-loop-key : goal.invariant-loop-key
