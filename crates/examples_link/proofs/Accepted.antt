@@ -17,7 +17,7 @@ use Rattle.wit_graph_theory.specs.examples.TestFacts.{all_are, all_at, at_are, i
 use Rattle.wit_link_spec.specs.Addition.{Addition, own_worlds}
 use Rattle.wit_link_spec.specs.Cause as reason
 use Rattle.wit_link_spec.specs.Gates.{OptionalSpan, package_spans}
-use Rattle.wit_link_spec.specs.Reasons.{AdditionOverflows, IsActiveFunction, IsResolved}
+use Rattle.wit_link_spec.specs.Reasons.{IsActiveFunction, IsResolved}
 use Rattle.wit_link_spec.specs.Reasons as part
 use Rattle.wit_link_spec.specs.WorldReasons.{AtInclude, AtWorld, IsCauseAtWorld}
 use Rattle.wit_link_spec.specs.facts.WorldCauseFacts.{cause_world}
@@ -27,7 +27,7 @@ use Rattle.examples_link.proofs.WorldTests.{IsPlain, fine, plain_accepted}
 use Rattle.examples_link.specs.IncludedWorlds.{including}
 use Rattle.examples_link.specs.Packages.{adding, first_package, include_with, no_features}
 use Rattle.examples_link.specs.Pushes.{add_using}
-use Rattle.wit_link_spec.specs.steps.Parts.{IncludeIsAccepted, AdditionIsAccepted}
+use Rattle.wit_link_spec.specs.steps.Parts.{IncludeIsAccepted, AdditionIsAccepted, AdditionOverflows}
 
 -- ---- tests
 
@@ -84,7 +84,7 @@ module _ (a : Addition) (y : AtWorld a 0) (p : Passes a y) where
   is_accepted _ (reason.type_not_defined_13 span message c) = p.has_image.types span message c
   is_accepted _ (reason.not_a_resource_14 span message c) = nothing_in a.unresolved.required_resource_types (c.t, c.place) p.required c.required
   is_accepted _ (reason.borrow_in_result_15 span message c) = no_active c.f c.active
-  is_accepted _ (reason.offset_overflow_27 c) = fits c
+  is_accepted _ (reason.offset_overflow_27 from to known past) = fits (record { from = from; to = to; known = known; past = past })
   is_accepted _ (reason.of_world k error reached c) = of_first a p.later (λ (n : ℕ). IsCauseAtWorld a n error) (λ n x. cause_world a n error x) (plain_accepted a 0 y p.plain (λ image. p.includes) error) k c
 
 -- ---- the first package

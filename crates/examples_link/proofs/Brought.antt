@@ -234,7 +234,7 @@ included_causes = record {
         at = (import_include (codes "f") (codes "[set]p")).at;
         whole = _;
         whole_is = refl;
-        cause = no_getter_18 (codes "import") (codes "[set]p") _ (record { entries = _; list = inl (refl, refl); setter = ((0, lit< tt, refl), (refl, refl)); absent = no_getter });
+        cause = no_getter_18 (codes "import") (codes "[set]p") _ (record { entries = _; list = inl (refl, refl); setter = ((0, lit< tt, refl), refl); absent = no_getter });
       }));
   getter_comes = λ span message c.
       let found = of_getter (imports (codes "[get]p") (codes "[set]p")) span message c in

@@ -20,14 +20,14 @@ use Rattle.wit_link_spec.specs.Addition.{Addition}
 use Rattle.wit_link_spec.specs.Cause as reason
 use Rattle.wit_link_spec.specs.Gates.{OptionalSpan}
 use Rattle.wit_link_spec.specs.Gates as asked
-use Rattle.wit_link_spec.specs.Reasons.{AType, AWorld, AdditionOverflows, AnInterface, IsActiveFunction, IsResolved, ReturnsBorrow}
+use Rattle.wit_link_spec.specs.Reasons.{AType, AWorld, AnInterface, IsActiveFunction, IsResolved, ReturnsBorrow}
 use Rattle.wit_link_spec.specs.Reasons as part
 use Rattle.examples_link.proofs.HasImage.{image}
 use Rattle.examples_link.proofs.Matching.{no_memory, of_borrow, of_excluded, of_excluded_owner, of_overflow, of_unreleased, of_version}
 use Rattle.examples_link.specs.Causes.{ExamplesOfCauses, returning_under}
 use Rattle.examples_link.specs.Packages.{adding, adding_at, bare, feature_f, gate_f, gated, gated_owner, loose_interface, no_features, returning, since_one}
 use Rattle.wit_remap_spec.specs.steps.Parts.{IsBorrow}
-use Rattle.wit_link_spec.specs.steps.Parts.{MayHoldBorrow, function_is_active}
+use Rattle.wit_link_spec.specs.steps.Parts.{MayHoldBorrow, function_is_active, AdditionOverflows}
 
 -- ---- packages with an image
 
@@ -204,7 +204,7 @@ causes = record {
   });
   function_off = λ span message c. let found = of_borrow returning_off span message c in function_off found.f found.active;
   own_result = λ span message c. own_result span message (of_borrow returning_own span message c);
-  too_far = reason.offset_overflow_27 (record { from = 8; to = 13; known = (0, lit< tt, refl); past = lit≤ tt });
+  too_far = reason.offset_overflow_27 8 13 (0, lit< tt, refl) (lit≤ tt);
   just_fits = λ c. just_fits (of_overflow at_the_end c);
   no_memory = λ a c. no_memory a c;
 }

@@ -119,7 +119,7 @@ lacks_getter = written_no_getter_18 _ _ (record {
   setter = record {
     entries = _;
     list = inl (refl, refl);
-    setter = ((0, lit< tt, refl), (refl, refl));
+    setter = ((0, lit< tt, refl), refl);
     absent = λ has. differ (codes "[set]p") (codes "[get]p") refl (label_same _ _ (only_one (key.Name (codes "[set]p")) (key.Name (codes "[get]p")) has));
   };
   span_is = refl;

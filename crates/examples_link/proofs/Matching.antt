@@ -18,7 +18,7 @@ use Rattle.wit_graph_data.specs.declared.cause.Cause.TheVariants as cause
 use Rattle.wit_graph_data.specs.declared.graph.Graph.{Graph}
 use Rattle.wit_graph_data.specs.declared.error_kind.ResolveErrorKind.{ResolveErrorKind}
 use Rattle.wit_graph_data.specs.declared.error_kind.ResolveErrorKind.TheVariants.{PackageNotFound, WorldNotFound, InterfaceNotFound, InvalidTransitiveDependency, DuplicatePackage, ItemShadowing, StabilityMismatch, Semantic, OffsetOverflow, OutOfMemory}
-use Rattle.wit_labels.specs.Setters.{IsSetter, getter_label}
+use Rattle.wit_labels.specs.Setters.{getter_label, is_setter_label}
 use Rattle.wit_labels.specs.Strong.{Clashes}
 use Rattle.wit_link_spec.specs.Addition.{Addition}
 use Rattle.wit_link_spec.specs.Cause.{IsAdditionCause}
@@ -27,9 +27,10 @@ use Rattle.wit_link_spec.specs.Cause as reason
 use Rattle.wit_link_spec.specs.WorldReasons.{IsFinishCause, LabelsClash, SetterIsAlone, WorldIsInConflict, IsFirstUnmatched, IsIncludeCause, LabelIsTaken, StabilitiesAreApart, IsCauseAtFinish, IsCauseAtInclude, IsCauseAtWorld}
 use Rattle.wit_link_spec.specs.Gates.{OptionalSpan}
 use Rattle.wit_link_spec.specs.Include.{EntryLists, IsListCalled, PartiallyLinked, lists_of}
-use Rattle.wit_link_spec.specs.Reasons.{AdditionOverflows, ForeignTypeMissing, HasExcludedOwner, IsDuplicate, IsNoResource, IsUnreleased, LacksInterface, LacksPackage, LacksVersion, LacksWorld, RefersToExcluded, ReturnsBorrow}
+use Rattle.wit_link_spec.specs.Reasons.{ForeignTypeMissing, HasExcludedOwner, IsDuplicate, IsNoResource, IsUnreleased, LacksInterface, LacksPackage, LacksVersion, LacksWorld, RefersToExcluded, ReturnsBorrow}
 use Rattle.wit_link_spec.specs.WorldReasons as world
 use Rattle.examples_link.proofs.AtWorlds.{HaveLists, made, written}
+use Rattle.wit_link_spec.specs.steps.Parts.{AdditionOverflows}
 
 -- ---- an include, and a world that is finished
 
@@ -87,7 +88,7 @@ pub record LonelySetterAt (a : Addition) (k : ℕ) : Type 0 where
   pub f : Function
   pub entries : List Entry
   pub list : IsListCalled word lists entries
-  pub setter : Contains entries (key.Name label, item.Function f) × IsSetter label (key.Name label, item.Function f)
+  pub setter : Contains entries (key.Name label, item.Function f) × (is_setter_label label ≡ true)
   pub absent : Contains (keys_of entries) (key.Name (getter_label label)) → ⊥
 
 module _ (a : Addition) (k : ℕ) where
@@ -246,7 +247,7 @@ module _ (a : Addition) where
   of_getter span message (reason.of_world k _ reached c) = (k, lonely_at a k span message c)
 
   pub of_overflow : IsAdditionCause a OffsetOverflow → AdditionOverflows a
-  of_overflow (reason.offset_overflow_27 c) = c
+  of_overflow (reason.offset_overflow_27 from to known past) = record { from = from; to = to; known = known; past = past }
   of_overflow (reason.of_world k _ reached c) = absurd (not_of_world a k _ refl c)
 
   pub no_memory : IsAdditionCause a OutOfMemory → ⊥

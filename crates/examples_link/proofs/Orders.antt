@@ -16,9 +16,10 @@ use Rattle.wit_graph_data.specs.declared.error_kind.ResolveErrorKind.{ResolveErr
 use Rattle.wit_graph_data.specs.declared.error_kind.ResolveErrorKind.TheVariants.{DuplicatePackage, OffsetOverflow, PackageCycle}
 use Rattle.wit_graph_theory.specs.examples.TestFacts.{none_in, one_of_two, only_one}
 use Rattle.wit_link_spec.specs.Gates.{OptionalSpan}
-use Rattle.wit_link.specs.GroupOrder.{AreSorted, HasSpanOverflow, IsDefinedTwice, IsGroupOrder, IsSortCause, PassesLastPosition, Unresolved, group_uses, names_of}
+use Rattle.wit_link.specs.GroupOrder.{AreSorted, IsDefinedTwice, IsGroupOrder, IsSortCause, PassesLastPosition, Unresolved, group_uses, names_of}
 use Rattle.examples_link.specs.Orders.{ExamplesOfGroups, ExamplesOfOrders, dep_on_main, main_and_dep, one_alone, twice_at, two_alone}
 use Rattle.examples_link.specs.Packages.{bare, dep_name, main_name, naming}
+use Rattle.wit_link.specs.steps.Parts.{HasSpanOverflow}
 
 -- ---- two roots
 

@@ -265,7 +265,7 @@ world_causes = record {
     setter = record {
       entries = _;
       list = inl (refl, refl);
-      setter = ((0, lit< tt, refl), (refl, refl));
+      setter = ((0, lit< tt, refl), refl);
       absent = λ has. differ (codes "[set]p") (codes "[get]p") refl (label_same _ _ (only_one (key.Name (codes "[set]p")) (key.Name (codes "[get]p")) has));
     };
     span_is = refl;

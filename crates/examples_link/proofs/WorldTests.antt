@@ -23,7 +23,7 @@ use Rattle.wit_graph_theory.specs.facts.OptionFacts.{some_same}
 use Rattle.wit_graph_theory.specs.examples.TestFacts.{all_are, implied, implies, none_in}
 use Rattle.wit_elaboration.specs.Elaboration.{graph_uses}
 use Rattle.wit_elaboration.specs.Imported.{HasTransitiveConflict}
-use Rattle.wit_labels.specs.Setters.{IsSetter, getter_label, is_setter_label, setters_placed}
+use Rattle.wit_labels.specs.Setters.{getter_label, is_setter_label, setters_placed}
 use Rattle.wit_labels.specs.Strong.{strong_key}
 use Rattle.wit_labels.specs.declared.strong.StrongKey.{StrongKey}
 use Rattle.wit_graph_data.specs.declared.error_kind.ResolveErrorKind.{ResolveErrorKind}
@@ -214,11 +214,11 @@ getter_there keys (key.Name label, item.Interface i note docs span external_id) 
 getter_there keys (key.Name label, item.Type_ t span) = true
 getter_there keys (key.Interface i, held) = true
 
-has_getters : (entries : List Entry) (label : List ℕ) (f : Function) → Contains entries (key.Name label, item.Function f) → IsSetter label (key.Name label, item.Function f)
+has_getters : (entries : List Entry) (label : List ℕ) (f : Function) → Contains entries (key.Name label, item.Function f) → is_setter_label label ≡ true
     → (Contains (keys_of entries) (key.Name (getter_label label)) → ⊥) → list_all (getter_there (keys_of entries)) entries ≡ true → ⊥
 has_getters entries label f inside setter absent all =
     let passes : getter_there (keys_of entries) (key.Name label, item.Function f) ≡ true = all_are (getter_there (keys_of entries)) entries all (key.Name label, item.Function f) inside in
-    absent (Contains-from_any (λ j k h. (key_is j k).0 h) (key.Name (getter_label label)) (keys_of entries) (implied (is_setter_label label) (list_any (same_key (key.Name (getter_label label))) (keys_of entries)) passes setter.1))
+    absent (Contains-from_any (λ j k h. (key_is j k).0 h) (key.Name (getter_label label)) (keys_of entries) (implied (is_setter_label label) (list_any (same_key (key.Name (getter_label label))) (keys_of entries)) passes setter))
 
 abbrev pub getters_there : List Entry → Bool
 getters_there entries = list_all (getter_there (keys_of entries)) entries

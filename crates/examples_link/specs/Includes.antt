@@ -13,10 +13,11 @@ use Rattle.wit_data.specs.declared.world.WorldKey.TheVariants as key
 use Rattle.wit_graph_data.specs.examples.Samples.{entry_of, foo_bar, foo_bar_of, function_of, sample, type_of, unnamed, world_of}
 use Rattle.wit_graph_data.specs.declared.graph.Graph.{Graph}
 use Rattle.wit_labels.specs.examples.Examples.{function_entry, named_as}
-use Rattle.wit_link_spec.specs.Include.{EntryLists, PartiallyLinked, is_copied, joined_entries, with_include_of}
+use Rattle.wit_link_spec.specs.Include.{EntryLists, PartiallyLinked, is_copied, joined_entries}
 use Rattle.wit_remap_spec.specs.Joined.{include_stability, joined_stability, Disagree}
 use Rattle.wit_link_spec.specs.WorldReasons.{IsRenamed, IsShadowed}
 use Rattle.examples_link.specs.Packages.{gate_f, gate_g, gated_entry, since_one}
+use Rattle.wit_link_spec.specs.steps.Parts.{with_include_of}
 
 -- ---- a world with a type of its own
 

@@ -5,8 +5,9 @@ use Rattle.wit_names.specs.declared.package_name.PackageName.{PackageName}
 use Rattle.wit_data.specs.declared.stability.Stability.TheVariants.{Unknown}
 use Rattle.wit_graph_data.specs.Error.{NoCause}
 use Rattle.wit_graph_data.specs.examples.Samples.{foo_bar}
-use Rattle.wit_link.specs.GroupOrder.{AreSorted, HasSpanOverflow, IsDefinedTwice, IsGroupOrder, IsOnPackageCycle, IsSortCause, Unresolved, group_uses}
+use Rattle.wit_link.specs.GroupOrder.{AreSorted, IsDefinedTwice, IsGroupOrder, IsOnPackageCycle, IsSortCause, Unresolved, group_uses}
 use Rattle.examples_link.specs.Packages.{bare, dep_name, main_name, naming}
+use Rattle.wit_link.specs.steps.Parts.{HasSpanOverflow}
 
 -- a main package that names an interface of its dependency, and the dependency
 abbrev pub main_and_dep : List Unresolved

@@ -35,7 +35,7 @@ use Rattle.wit_graph_theory.specs.examples.TestFacts.{all_are, all_at, all_uses,
 use Rattle.wit_link_spec.specs.Gates.{OptionalSpan}
 use Rattle.wit_remap_spec.specs.Borrows.{HoldsBorrow}
 use Rattle.wit_remap_spec.specs.Joined.{Disagree, HasStability}
-use Rattle.wit_merge_spec.specs.Cause.{EntriesDiffer, ItemsDiffer, same_sort, AreJoined, HasNoMismatch, IsMergeCause, MergeIsAccepted, MergeOverflows, MergeReturnsBorrow, StabilitiesMismatch}
+use Rattle.wit_merge_spec.specs.Cause.{EntriesDiffer, ItemsDiffer, same_sort, AreJoined, HasNoMismatch, IsMergeCause, MergeIsAccepted, MergeReturnsBorrow, StabilitiesMismatch}
 use Rattle.wit_merge_spec.specs.Cause as merging
 use Rattle.wit_merge_spec.specs.Matches.{FirstDiffers, GraphMerge, Pair, TypePair, counterpart_interface, counterpart_item, counterpart_type, counterpart_world, matched_interface, matched_world, type_pairs}
 use Rattle.wit_merge_spec.specs.MismatchText.{side_word}
@@ -44,7 +44,7 @@ use Rattle.wit_merge_spec.specs.facts.DifferenceFacts.{same_no_first}
 use Rattle.wit_merge_spec.specs.Structure.{Feature, structure}
 use Rattle.wit_merge_laws.specs.facts.InterfacesStand.{option_is, option_so}
 use Rattle.wit_elaboration.specs.steps.Parts.{exported_interfaces, graph_package_uses}
-use Rattle.wit_merge_spec.specs.steps.Parts.{StructuresDiffer, graph_spans}
+use Rattle.wit_merge_spec.specs.steps.Parts.{StructuresDiffer, graph_spans, MergeOverflows}
 
 -- ---- interfaces
 
@@ -286,7 +286,7 @@ can_merge m p _ (merging.mismatch_8 from into c) = joined_accepted m p.gates fro
 can_merge m p _ (merging.borrow_in_result_15 message one c) = results_fine m p.results message c
 can_merge m p _ (merging.interface_cycle_22 message one c) = no_cycle p.rank (graph_uses (joined_graph m)) p.uses c.i c.j c.on_cycle
 can_merge m p _ (merging.merge_mismatch_24 message c) = are_one m p.interfaces p.worlds p.types message c
-can_merge m p _ (merging.offset_overflow_27 c) = fits m p.spans c
+can_merge m p _ (merging.offset_overflow_27 from to known past) = fits m p.spans (record { from = from; to = to; known = known; past = past })
 
 -- what differs in nothing is told nothing of
 pub differs_in_nothing : (m : GraphMerge) → interfaces_pass m ≡ true → worlds_pass m ≡ true → structures_from m ≡ structures_into m → (span : OptionalSpan) (message : List ℕ) → IsMergeCause m (Semantic span message cause.MergeMismatch) → ⊥

@@ -40,7 +40,7 @@ module _ (m : GraphMerge) where
   of_circle _ _ (merging.interface_cycle_22 message one c) = c
 
   of_overflow : IsMergeCause m OffsetOverflow → merging.MergeOverflows m
-  of_overflow (merging.offset_overflow_27 c) = c
+  of_overflow (merging.offset_overflow_27 from to known past) = record { from = from; to = to; known = known; past = past }
 
   none_of_memory : IsMergeCause m OutOfMemory → ⊥
   none_of_memory c = elim c [ ]
@@ -92,9 +92,9 @@ refusals = record {
   circle_x = merging.interface_cycle_22 _ (are_one _ refl refl refl) (record { i = 1; j = 0; on_cycle = record { is_used = (0, lit< tt, refl); leads_back = (1 ∷ [], ((0, lit< tt, refl), refl)) }; id = _; id_is = refl; message_is = refl });
   circle_y = merging.interface_cycle_22 _ (are_one _ refl refl refl) (record { i = 0; j = 1; on_cycle = record { is_used = (0, lit< tt, refl); leads_back = (0 ∷ [], ((0, lit< tt, refl), refl)) }; id = _; id_is = refl; message_is = refl });
   no_circle = λ span message c. let is = of_circle _ span message c in no_cycle (λ i. i) _ refl is.i is.j is.on_cycle;
-  too_far = merging.offset_overflow_27 (record { from = 5; to = 10; known = (1, lit< tt, refl); past = lit≤ tt });
+  too_far = merging.offset_overflow_27 5 10 (1, lit< tt, refl) (lit≤ tt);
   just_fits = λ c. fits _ refl (of_overflow _ c);
-  field_too_far = merging.offset_overflow_27 (record { from = 5; to = 10; known = (2, lit< tt, refl); past = lit≤ tt });
+  field_too_far = merging.offset_overflow_27 5 10 (2, lit< tt, refl) (lit≤ tt);
   field_fits = λ c. fits _ refl (of_overflow _ c);
   unknown_fits = λ c. fits _ refl (of_overflow _ c);
   no_memory = none_of_memory;

@@ -166,7 +166,7 @@ module _ (features : Features) (g : Graph) (offset : ℕ) where
     accepted _ (reason.type_not_defined_13 span message c) = has_image.types span message c
     accepted _ (reason.not_a_resource_14 span message c) = Contains-nil c.required
     accepted _ (reason.borrow_in_result_15 span message c) = no_function c.f c.active
-    accepted _ (reason.offset_overflow_27 c) = none_some _ (only_one None (Some (c.from, c.to)) c.known)
+    accepted _ (reason.offset_overflow_27 from to known past) = none_some _ (only_one None (Some (from, to)) known)
     accepted _ (reason.of_world k error reached c) = no_world k (cause_world of_first k error c)
 
     -- so no package of the one is refused

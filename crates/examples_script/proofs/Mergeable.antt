@@ -59,7 +59,7 @@ module _ (ps : List Package) (ns : List (PackageName × ℕ)) (qs : List Package
     packages_merge _ (merging.borrow_in_result_15 message one c) = Contains-nil c.moved
     packages_merge _ (merging.interface_cycle_22 message one c) = no_cycle (λ i. i) (graph_uses (joined_graph of_packages)) refl c.i c.j c.on_cycle
     packages_merge _ (merging.merge_mismatch_24 message c) = none_differ message c
-    packages_merge _ (merging.offset_overflow_27 c) = Contains-nil c.known
+    packages_merge _ (merging.offset_overflow_27 from to known past) = Contains-nil known
 
 -- ---- one interface under a gate
 
@@ -107,4 +107,4 @@ module _ (f g : List ℕ) (offset : ℕ) where
     gates_merge _ (merging.borrow_in_result_15 message one c) = Contains-nil c.moved
     gates_merge _ (merging.interface_cycle_22 message one c) = no_cycle (λ i. i) (graph_uses (joined_graph of_gates)) refl c.i c.j c.on_cycle
     gates_merge _ (merging.merge_mismatch_24 message c) = agree message c
-    gates_merge _ (merging.offset_overflow_27 c) = none_some _ (only_one _ _ c.known)
+    gates_merge _ (merging.offset_overflow_27 from to known past) = none_some _ (only_one _ _ known)

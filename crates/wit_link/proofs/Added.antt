@@ -44,7 +44,7 @@ module _ (a : Addition) (is_new : IsNew a) (checked : IsChecked a) (each_world :
   is_accepted _ (type_not_defined_13 span message is) = checked.found.types span message is
   is_accepted _ (not_a_resource_14 span message is) = checked.resources span message is
   is_accepted _ (borrow_in_result_15 span message is) = checked.no_borrow span message is
-  is_accepted _ (offset_overflow_27 is) = is_new.fits is
+  is_accepted _ (offset_overflow_27 from to known past) = is_new.fits (record { from = from; to = to; known = known; past = past })
   is_accepted _ (of_world k error reached is) = each_world k error is
 
   -- and it is added
@@ -57,11 +57,13 @@ module _ (a : Addition) (is_new : IsNew a) (checked : IsChecked a) (each_world :
 pub taken : (a : Addition) → a.offset < 2 ^ 32 → HasPackage a.graph a.unresolved.name → (error : ResolveErrorKind) → IsNameTaken a.offset a.unresolved error → (error ≡ OutOfMemory) ⊎ IsAdditionCause a error
 taken a small there error (inl is) =
     inr (subst (IsAdditionCause a) (sym is) (duplicate_5 a.unresolved.name _ None (record { there = there; name_is = refl; span1_is = refl; span2_is = refl })))
-taken a small there error (inr far) = inr (subst (IsAdditionCause a) (sym far.0) (offset_overflow_27 (passes-of_not_fitting a small (λ fits. far.1 fits.name))))
+taken a small there error (inr far) =
+    let past = passes-of_not_fitting a small (λ fits. far.1 fits.name) in
+    inr (subst (IsAdditionCause a) (sym far.0) (offset_overflow_27 past.from past.to past.known past.past))
 
 -- that a span is too far
 pub too_far : (a : Addition) → a.offset < 2 ^ 32 → (PackageFits a.offset a.unresolved → ⊥) → IsAdditionCause a OffsetOverflow
-too_far a small fits_not = offset_overflow_27 (passes-of_not_fitting a small fits_not)
+too_far a small fits_not = let past = passes-of_not_fitting a small fits_not in offset_overflow_27 past.from past.to past.known past.past
 
 not_there : (o : Option ℕ) → is_some o ≡ false → is_some o ≡ true → ⊥
 not_there None none some = cc

@@ -4,10 +4,10 @@ use Rattle.wit_data.specs.declared.unresolved.UnresolvedPackage.{UnresolvedPacka
 use Rattle.wit_link_spec.specs.Gates.{OptionalSpan, package_spans}
 use Rattle.wit_graph_theory.specs.facts.ListFacts.{Each-map, place_of}
 use Rattle.wit_link_spec.specs.Addition.{Addition}
-use Rattle.wit_link_spec.specs.Reasons.{AdditionOverflows}
 use Rattle.wit_remap.specs.steps.Fits.{Fits}
 use Rattle.wit_remap.specs.facts.FittingFacts.{AllFit, Each-append, Each-cons, Each-head, Each-left, Each-right, Each-tail, Each-unmapped, SomePasses, all_parts, fit_or_pass, parts_fit, parts_spans}
 use Rattle.wit_link.specs.steps.Checked.{PackageFits}
+use Rattle.wit_link_spec.specs.steps.Parts.{AdditionOverflows}
 
 module _ (offset : ℕ) where
   -- ---- the spans of a package, from behind

@@ -87,15 +87,12 @@ pub record IsOnPackageCycle (unresolved : List Unresolved) (span : OptionalSpan)
 abbrev pub PassesLastPosition : OptionalSpan → Type 0
 PassesLastPosition place = (from : ℕ) × (to : ℕ) × (place ≡ Some (from, to)) × (2 ^ 32 ≤ to)
 
--- 27: a place that would be told is too far
-abbrev pub HasSpanOverflow : List Unresolved → Type 0
-HasSpanOverflow unresolved =
-    ((name : PackageName) × (span1 : OptionalSpan) × (span2 : OptionalSpan) × IsDefinedTwice unresolved name span1 span2 × (PassesLastPosition span1 ⊎ PassesLastPosition span2))
-    ⊎ ((span : OptionalSpan) × (home : PackageName) × IsOnPackageCycle unresolved span home × PassesLastPosition span)
-
--- sorting unresolved packages has a reason to be refused with this error
+-- sorting unresolved packages has a reason to be refused with this error: 5, 6, or 27 where a place that one of these would
+-- tell is too far
 abbrev pub IsSortCause : List Unresolved → ResolveErrorKind → Type 0
 IsSortCause unresolved (DuplicatePackage name span1 span2) = IsDefinedTwice unresolved name span1 span2
 IsSortCause unresolved (PackageCycle span home) = IsOnPackageCycle unresolved span home
-IsSortCause unresolved OffsetOverflow = HasSpanOverflow unresolved
+IsSortCause unresolved OffsetOverflow =
+    ((name : PackageName) × (span1 : OptionalSpan) × (span2 : OptionalSpan) × IsDefinedTwice unresolved name span1 span2 × (PassesLastPosition span1 ⊎ PassesLastPosition span2))
+    ⊎ ((span : OptionalSpan) × (home : PackageName) × IsOnPackageCycle unresolved span home × PassesLastPosition span)
 IsSortCause unresolved _ = ⊥

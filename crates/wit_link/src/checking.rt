@@ -3,13 +3,13 @@ ghost use Rattle.std.specs.Prelude.{◌≡◌, ◌⊎◌, IfErr, IfOk, OnOk};
 ghost use Rattle.wit_link_spec.specs.steps.AdditionRefs.{activity_of, addition_of, new_ids_of, values_of};
 ghost use Rattle.wit_link_spec.specs.Cause.{IsAdditionCause};
 ghost use Rattle.wit_link_spec.specs.steps.Passed.{GatesAreMet, HasResources, IsAllFound, NeedsNothingExcluded, ReturnsNoBorrow};
-ghost use Rattle.wit_link_spec.specs.Reasons.{AdditionOverflows};
 ghost use Rattle.wit_elaboration.specs.Valid.{IsValid};
 ghost use Rattle.wit_graph_data.specs.declared.error_kind.ResolveErrorKind.TheVariants.{OutOfMemory};
 ghost use Rattle.wit_data.specs.Shape.{IsShaped};
 ghost use Rattle.wit_link.specs.steps.Checked.{IsChecked};
 ghost use Rattle.wit_link_resources.specs.steps.Leading.{AreRight};
 ghost use Rattle.wit_remap.specs.Grown.{Begins};
+ghost use Rattle.wit_link_spec.specs.steps.Parts.{AdditionOverflows};
 
 use std::alloc::Global;
 use wit_data::{Table, TypeId};

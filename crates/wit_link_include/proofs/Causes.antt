@@ -1,5 +1,5 @@
 -- Why a world can't be finished, from what its steps tell.
-use Rattle.std.proofs.Common.{◌≡◌, ◌⊎◌, inl, inr, ℕ, List, None, Some, Contains, codes, refl, sym, subst, slice_get}
+use Rattle.std.proofs.Common.{◌≡◌, ◌⊎◌, inl, inr, ℕ, List, None, Some, Contains, codes, refl, sym, subst, slice_get, true}
 use Rattle.std.specs.Map.{keys_of}
 use Rattle.wit_data.specs.Entries.{Entry}
 use Rattle.wit_data.specs.declared.function.Function.{Function}
@@ -14,7 +14,7 @@ use Rattle.wit_graph_data.specs.declared.graph.Graph.{Graph}
 use Rattle.wit_graph_data.specs.declared.error_kind.ResolveErrorKind.{ResolveErrorKind}
 use Rattle.wit_graph_data.specs.declared.error_kind.ResolveErrorKind.TheVariants.{PackageNotFound, WorldNotFound, InterfaceNotFound, InvalidTransitiveDependency, DuplicatePackage, PackageCycle, ItemShadowing, StabilityMismatch, Semantic, OffsetOverflow, OutOfMemory}
 use Rattle.wit_graph_theory.specs.facts.ListFacts.{contained_at, same_at}
-use Rattle.wit_labels.specs.Setters.{HaveGetters, IsSetter, LacksGetterAt, getter_label, setters_placed}
+use Rattle.wit_labels.specs.Setters.{HaveGetters, IsSetter, LacksGetterAt, getter_label, setters_placed, is_setter_label}
 use Rattle.wit_labels.specs.Strong.{AreStronglyUnique, Clashes}
 use Rattle.wit_link_spec.specs.CauseText.{clash_text, getter_text}
 use Rattle.wit_link_spec.specs.Include.{IsListCalled, lists_of}
@@ -40,7 +40,7 @@ alone_error world word entries place label f lacks at e same =
     let is : IsSetter lacks.label (key.Name label, item.Function f) = subst (λ (x : Entry). IsSetter lacks.label x) here lacks.setter in
     let called : lacks.label ≡ label = name_same lacks.label label (sym is.0) in
     subst (IsListError world word entries) (sym same)
-    (alone label f (contained_at entries place (key.Name label, item.Function f) at, subst (λ (l : List ℕ). IsSetter l (key.Name label, item.Function f)) called is)
+    (alone label f (contained_at entries place (key.Name label, item.Function f) at, subst (λ (l : List ℕ). is_setter_label l ≡ true) called is.1)
     (subst (λ (l : List ℕ). Contains (keys_of entries) (key.Name (getter_label l)) → ⊥) called lacks.absent))
 
 -- a list without either is refused for nothing
@@ -49,7 +49,7 @@ list_accepted world word entries unique getters = record { no_cause = none }
   where
     none : NoCause (IsListError world word entries)
     none _ (clash n m is) = unique n m is
-    none _ (alone label f setter absent) = absent (getters (key.Name label, item.Function f) label setter.0 setter.1)
+    none _ (alone label f setter absent) = absent (getters (key.Name label, item.Function f) label setter.0 (refl, setter.1))
 
 -- the errors of one list of a world
 list_cause : (g : Graph) (world : World) (word : List ℕ) (entries : List Entry) (kind : ResolveErrorKind) → IsListCalled word (lists_of world) entries → IsListError world.name word entries kind → IsFinishCause g world kind

@@ -18,9 +18,10 @@ use Rattle.wit_data.specs.declared.world.WorldItem.TheVariants as item
 use Rattle.wit_data.specs.declared.world.WorldKey.TheVariants as key
 use Rattle.wit_graph_data.specs.declared.graph.Graph.{Graph}
 use Rattle.wit_graph_theory.specs.facts.ListFacts.{Contains-map_cases, found_at, place_of}
-use Rattle.wit_link_spec.specs.Include.{belongs_to, entry_mentions, interface_mentions}
+use Rattle.wit_link_spec.specs.Include.{belongs_to, entry_mentions}
 use Rattle.wit_link_laws.specs.laws.StageFacts.{CanInclude}
 use Rattle.wit_link_include.specs.steps.Included.{NamesThere}
+use Rattle.wit_link_spec.specs.steps.Parts.{interface_mentions}
 
 module _ (g : Graph) (from : ℕ) (old : World) (can : CanInclude g from old) where
   in_types : (i : ℕ) (interface : Interface) → slice_get g.interfaces i ≡ Some interface → (t : ℕ) → Contains (map (λ (e : List ℕ × ℕ). e.1) interface.types) t → t < length g.types

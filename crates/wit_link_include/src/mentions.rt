@@ -4,8 +4,9 @@ ghost use Rattle.std.specs.List.{flat_map};
 ghost use Rattle.std.specs.Option.{option_map_or};
 ghost use Rattle.wit_data.specs.Kind.{function_references};
 ghost use Rattle.wit_data.specs.declared.function.Function.{Function};
-ghost use Rattle.wit_link_spec.specs.Include.{entry_mentions, interface_mentions};
+ghost use Rattle.wit_link_spec.specs.Include.{entry_mentions};
 ghost use Rattle.wit_link_include.specs.steps.Included.{IsOrigin, roots_of};
+ghost use Rattle.wit_link_spec.specs.steps.Parts.{interface_mentions};
 
 use crate::origin::Origin;
 use std::alloc::{AllocError, Global};

@@ -30,7 +30,7 @@ module _ (a : Addition) where
       → (kind ≡ OffsetOverflow) × ((range : ℕ × ℕ) × (place ≡ Some range) × (2 ^ 32 ≤ range.1 + a.offset)) → IsAdditionCause a kind
   too_far place kind known told =
       subst (λ (k : ResolveErrorKind). IsAdditionCause a k) (sym told.0)
-      (offset_overflow_27 (record { from = told.1.0.0; to = told.1.0.1; known = subst (λ (p : OptionalSpan). Contains (package_spans a.unresolved) p) told.1.1 known; past = told.1.2 }))
+      (offset_overflow_27 told.1.0.0 told.1.0.1 (subst (λ (p : OptionalSpan). Contains (package_spans a.unresolved) p) told.1.1 known) told.1.2)
 
   -- the places of what has to be a resource
   required_known : (t : ℕ) (place : OptionalSpan) → Contains a.unresolved.required_resource_types (t, place) → Contains (package_spans a.unresolved) place

@@ -2,7 +2,7 @@
 -- Everything of the graph stays at its ids. Behind it come the images of what is active, the `own`s that
 -- values ask for, and, world by world, the copies of its includes and the world, elaborated.
 -- Source: `append` of wit-parser 0.263.0.
-use Rattle.std.specs.Prelude.{ℕ, List, [], ◌∷◌, ◌++◌, map, filter_map, fold, take, length, option_map}
+use Rattle.std.specs.Prelude.{ℕ, List, [], ◌∷◌, ◌++◌, map, filter_map, fold, take, length, option_map, slice_get}
 use Rattle.wit_data.specs.declared.interface.Interface.{Interface}
 use Rattle.wit_data.specs.declared.world.World.{World}
 use Rattle.wit_data.specs.declared.world.WorldInclude.{WorldInclude}
@@ -12,9 +12,10 @@ use Rattle.wit_graph_data.specs.declared.graph.Package.{Package}
 use Rattle.wit_remap_spec.specs.Image.{interface_image, world_image}
 use Rattle.wit_link_spec.specs.Addition.{Addition, active_includes, addition_maps, own_interface, own_interfaces, own_world, own_worlds, remap_of_addition, remapped_interface, remapped_world}
 use Rattle.wit_remap_spec.specs.Selected.{selected_with_index}
-use Rattle.wit_link_spec.specs.Include.{EntryLists, PartiallyLinked, lists_of, with_include_of}
+use Rattle.wit_link_spec.specs.Include.{EntryLists, PartiallyLinked, lists_of, with_world_included}
 use Rattle.wit_remap_spec.specs.ValueRemap.{types_behind}
 use Rattle.wit_labels.specs.Setters.{setters_placed}
+use Rattle.std.specs.Option.{option_map_or}
 
 -- ---- the package
 
@@ -39,10 +40,12 @@ with_parts a = record {
 
 -- ---- its worlds
 
--- world w of the package with these includes, over a partially linked graph
+-- world w of the package with these includes, one after another, over a partially linked graph; one of a world that isn't
+-- there changes nothing
 abbrev pub with_includes : Addition → ℕ → World → List WorldInclude → Graph → PartiallyLinked
 with_includes a w world includes g =
-    fold (λ (b : PartiallyLinked) (i : WorldInclude). with_include_of (length a.graph.packages) (length g.worlds) i.names (remapped_world a i.id) b)
+    fold (λ (b : PartiallyLinked) (i : WorldInclude).
+    option_map_or (λ (included : World). with_world_included (length a.graph.packages) (length g.worlds) i.names (remapped_world a i.id) included b) (slice_get b.graph.worlds (remapped_world a i.id)) b)
     (record { graph = g; lists = lists_of (world_image (addition_maps a) w world) }) includes
 
 -- a world, finished: its setters after their getters, elaborated over the types and interfaces of a graph

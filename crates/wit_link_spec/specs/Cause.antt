@@ -1,15 +1,15 @@
 -- The table of causes: with which errors an addition is refused, in the order of their numbers. An addition with such a
 -- cause is refused, and one that is refused, but for want of memory, has the cause that it tells. Those that lie in a
 -- world (4, 7, 8, 16, 17, 18) have a table of their own, `IsCauseAtWorld`; the first world that has one tells it.
-use Rattle.std.specs.Prelude.{◌<◌, ℕ, List}
+use Rattle.std.specs.Prelude.{◌<◌, ℕ, List, Contains, Some, ◌≤◌, ◌^◌, ◌+◌}
 use Rattle.wit_names.specs.declared.package_name.PackageName.{PackageName}
 use Rattle.wit_graph_data.specs.Error.{NoCause}
 use Rattle.wit_graph_data.specs.declared.cause.Cause.TheVariants as cause
 use Rattle.wit_graph_data.specs.declared.error_kind.ResolveErrorKind.{ResolveErrorKind}
 use Rattle.wit_graph_data.specs.declared.error_kind.ResolveErrorKind.TheVariants.{PackageNotFound, WorldNotFound, InterfaceNotFound, DuplicatePackage, Semantic, OffsetOverflow}
 use Rattle.wit_link_spec.specs.Addition.{Addition}
-use Rattle.wit_link_spec.specs.Gates.{OptionalSpan}
-use Rattle.wit_link_spec.specs.Reasons.{AdditionOverflows, ForeignTypeMissing, HasExcludedOwner, IsDuplicate, IsNoResource, IsUnreleased, LacksInterface, LacksPackage, LacksVersion, LacksWorld, RefersToExcluded, ReturnsBorrow}
+use Rattle.wit_link_spec.specs.Gates.{OptionalSpan, package_spans}
+use Rattle.wit_link_spec.specs.Reasons.{ForeignTypeMissing, HasExcludedOwner, IsDuplicate, IsNoResource, IsUnreleased, LacksInterface, LacksPackage, LacksVersion, LacksWorld, RefersToExcluded, ReturnsBorrow}
 use Rattle.wit_link_spec.specs.WorldReasons.{IsCauseAtWorld}
 
 pub data IsAdditionCause (a : Addition) : ResolveErrorKind → Type 0 where
@@ -24,6 +24,7 @@ pub data IsAdditionCause (a : Addition) : ResolveErrorKind → Type 0 where
   type_not_defined_13 : (span : OptionalSpan) (message : List ℕ) → ForeignTypeMissing a span message → IsAdditionCause a (Semantic span message cause.TypeNotDefined)
   not_a_resource_14 : (span : OptionalSpan) (message : List ℕ) → IsNoResource a span message → IsAdditionCause a (Semantic span message cause.NotAResource)
   borrow_in_result_15 : (span : OptionalSpan) (message : List ℕ) → ReturnsBorrow a span message → IsAdditionCause a (Semantic span message cause.BorrowInResult)
-  offset_overflow_27 : AdditionOverflows a → IsAdditionCause a OffsetOverflow
+  -- a span of the package would end past 4294967295
+  offset_overflow_27 : (from to : ℕ) → Contains (package_spans a.unresolved) (Some (from, to)) → 2 ^ 32 ≤ to + a.offset → IsAdditionCause a OffsetOverflow
   -- that of the first world that has one
   of_world : (k : ℕ) (error : ResolveErrorKind) → ((i : ℕ) → i < k → NoCause (IsCauseAtWorld a i)) → IsCauseAtWorld a k error → IsAdditionCause a error

@@ -66,14 +66,13 @@ owner_belongs_to g w world owner.None = false
 abbrev pub is_owned_within : Graph → ℕ → World → ℕ → Bool
 is_owned_within g w world t = option_map_or (λ (def : TypeDef). owner_belongs_to g w world def.owner) (slice_get g.types t) false
 
--- the types that an interface names: those of its list, and those that its functions refer to
-abbrev pub interface_mentions : Interface → List ℕ
-interface_mentions interface = map (λ (e : List ℕ × ℕ). e.1) interface.types ++ flat_map (λ (e : List ℕ × Function). function_references e.1) interface.functions
-
--- the types that an entry names: itself where it is a type, those that its function refers to, those of an
--- interface that belongs to the world
+-- the types that an entry names: itself where it is a type, those that its function refers to, those that an interface
+-- which belongs to the world lists and that its functions refer to
 abbrev pub entry_mentions : Graph → World → Entry → List ℕ
-entry_mentions g world (k, item.Interface i stability docs span external_id) = if belongs_to g world i then option_map_or interface_mentions (slice_get g.interfaces i) [] else []
+entry_mentions g world (k, item.Interface i stability docs span external_id) = if belongs_to g world i
+    then option_map_or (λ (interface : Interface).
+    map (λ (e : List ℕ × ℕ). e.1) interface.types ++ flat_map (λ (e : List ℕ × Function). function_references e.1) interface.functions) (slice_get g.interfaces i) []
+    else []
 entry_mentions g world (k, item.Function f) = function_references f
 entry_mentions g world (k, item.Type_ t span) = t ∷ []
 
@@ -148,8 +147,3 @@ with_world_included home into names from world b =
         exports = joined_entries (is_other_package world.package home) b.lists.exports (map (entry_image m from) world.exports);
       };
     }
-
--- a graph and the lists of the world that comes next, with world `from` included, or as they are where there is no
--- such world
-abbrev pub with_include_of : ℕ → ℕ → List IncludeName → ℕ → PartiallyLinked → PartiallyLinked
-with_include_of home into names from b = option_map_or (λ (world : World). with_world_included home into names from world b) (slice_get b.graph.worlds from) b

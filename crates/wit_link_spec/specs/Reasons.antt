@@ -1,7 +1,7 @@
 -- Why an addition is refused: a record for each reason, with the fields and the span that the error tells.
 -- Most read the features, the graph and the package alone.
 -- Source: `append` of wit-parser 0.263.0.
-use Rattle.std.specs.Prelude.{◌≡◌, ◌≢◌, ◌⊎◌, ◌≤◌, ◌+◌, ◌^◌, ℕ, true, false, List, [], ◌∷◌, ◌++◌, map, slice_get, Option, None, Some, Contains, codes, is_some, if◌then◌else◌, flat_map}
+use Rattle.std.specs.Prelude.{◌≡◌, ◌≢◌, ◌⊎◌, ◌+◌, ℕ, true, false, List, [], ◌∷◌, ◌++◌, map, slice_get, Option, None, Some, Contains, codes, is_some, if◌then◌else◌, flat_map}
 use Rattle.std.specs.Map.{keys_of, lookup}
 use Rattle.std.specs.declared.cmp.Ordering.TheVariants.{Less}
 use Rattle.wit_values.specs.Version.{Parts, version_cmp}
@@ -33,7 +33,7 @@ use Rattle.wit_graph_data.specs.declared.graph.Graph.{Graph}
 use Rattle.wit_link_spec.specs.Addition.{Addition}
 use Rattle.wit_link_spec.specs.CauseText.{excluded_text}
 use Rattle.wit_remap_spec.specs.Borrows.{borrow_text, HoldsBorrow}
-use Rattle.wit_link_spec.specs.Gates.{OptionalSpan, HasEntry, IsAsked, interface_is_active, is_active, type_is_active, world_is_active, package_spans}
+use Rattle.wit_link_spec.specs.Gates.{OptionalSpan, HasEntry, IsAsked, interface_is_active, is_active, type_is_active, world_is_active}
 use Rattle.wit_link_spec.specs.Lookup.{find_interface, find_world, foreign_interface_id, foreign_type_id, is_foreign_type, named_items}
 use Rattle.wit_graph_data.specs.Named.{interface_type}
 use Rattle.wit_remap_spec.specs.Resources.{leads_to_resource}
@@ -239,15 +239,6 @@ pub record ReturnsBorrow (a : Addition) (span : OptionalSpan) (message : List �
       ⊎ ((s : ℕ) × (s' : ℕ) × Reaches (type_contents a.unresolved.types) t s × (type_is_active a.features a.unresolved.types s ≡ true) × (foreign_type_id a.graph a.unresolved s ≡ Some s') × HoldsBorrow a.graph.types s')
   pub span_is : span ≡ moved_by a.offset f.span
   pub message_is : message ≡ borrow_text f.name
-
--- ---- 27: a position that is too large
-
--- a span of the package would end past 4294967295
-pub record AdditionOverflows (a : Addition) : Type 0 where
-  pub from : ℕ
-  pub to : ℕ
-  pub known : Contains (package_spans a.unresolved) (Some (from, to))
-  pub past : 2 ^ 32 ≤ to + a.offset
 
 -- ---- what leaves no image
 

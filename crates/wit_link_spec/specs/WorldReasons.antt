@@ -13,7 +13,7 @@ use Rattle.wit_graph_data.specs.Error.{NoCause}
 use Rattle.wit_graph_data.specs.declared.cause.Cause.TheVariants as cause
 use Rattle.wit_graph_data.specs.declared.error_kind.ResolveErrorKind.{ResolveErrorKind}
 use Rattle.wit_graph_data.specs.declared.error_kind.ResolveErrorKind.TheVariants.{Semantic, ItemShadowing, StabilityMismatch, InvalidTransitiveDependency}
-use Rattle.wit_labels.specs.Setters.{getter_label, IsSetter, setters_placed}
+use Rattle.wit_labels.specs.Setters.{getter_label, setters_placed, is_setter_label}
 use Rattle.wit_link_spec.specs.Addition.{Addition, active_includes, own_worlds, remapped_world}
 use Rattle.wit_link_spec.specs.CauseText.{clash_text, getter_text}
 use Rattle.wit_link_spec.specs.Gates.{OptionalSpan}
@@ -54,7 +54,7 @@ pub record LabelsClash (world : World) (word n m : List ℕ) : Type 0 where
 pub record SetterIsAlone (world : World) (word label : List ℕ) (f : Function) : Type 0 where
   pub entries : List Entry
   pub list : IsListCalled word (lists_of world) entries
-  pub setter : Contains entries (key.Name label, item.Function f) × IsSetter label (key.Name label, item.Function f)
+  pub setter : Contains entries (key.Name label, item.Function f) × (is_setter_label label ≡ true)
   pub absent : Contains (keys_of entries) (key.Name (getter_label label)) → ⊥
 
 -- the causes of a world that is finished, in the order of their numbers

@@ -67,4 +67,4 @@ can_merge m agree none settled e (mismatch_8 from into is) = agree.stabilities f
 can_merge m agree none settled e (borrow_in_result_15 message whole is) = none message is
 can_merge m agree none settled e (interface_cycle_22 message whole is) = settled e (settles.interface_cycle_22 message is)
 can_merge m agree none settled e (merge_mismatch_24 message is) = agree.one message is
-can_merge m agree none settled e (offset_overflow_27 is) = agree.spans is
+can_merge m agree none settled e (offset_overflow_27 from to known past) = agree.spans (record { from = from; to = to; known = known; past = past })

@@ -7,13 +7,13 @@ use Rattle.wit_graph_data.specs.declared.graph.Graph.{Graph}
 use Rattle.wit_graph_data.specs.declared.error_kind.ResolveErrorKind.{ResolveErrorKind}
 use Rattle.wit_graph_data.specs.declared.error_kind.ResolveErrorKind.TheVariants.{OutOfMemory}
 use Rattle.wit_elaboration.specs.AllElaborated.{all_elaborated}
-use Rattle.wit_merge_spec.specs.Cause.{HasNoMismatch, IsMergeCause, MergeIsAccepted, MergeOverflows, MergeReturnsBorrow, borrow_in_result_15}
+use Rattle.wit_merge_spec.specs.Cause.{HasNoMismatch, IsMergeCause, MergeIsAccepted, MergeReturnsBorrow, borrow_in_result_15}
 use Rattle.wit_merge_spec.specs.Matches.{GraphMerge}
 use Rattle.wit_merge_spec.specs.Merged.{joined_graph, merged}
 use Rattle.wit_unite_common.specs.steps.Reasons.{CanBeElaborated, ElaborationCause}
 use Rattle.wit_merge.specs.steps.UnionSteps.{DoAgree, IsBorrowError}
 use Rattle.wit_merge.proofs.Elaborates.{can_merge, can_settle, cause_from}
-use Rattle.wit_merge_spec.specs.steps.Parts.{graph_spans}
+use Rattle.wit_merge_spec.specs.steps.Parts.{graph_spans, MergeOverflows}
 
 -- where no span passes the end all fit
 pub all_fit : (m : GraphMerge) → m.offset < 2 ^ 32 → (MergeOverflows m → ⊥) → PartsFit m.offset m.other.types m.other.interfaces m.other.worlds

@@ -4,9 +4,8 @@ use Rattle.wit_graph_data.specs.declared.graph.Graph.{Graph}
 use Rattle.wit_graph_theory.specs.facts.ListFacts.{place_of}
 use Rattle.wit_remap.specs.steps.Fits.{Fits, PartsFit}
 use Rattle.wit_remap.specs.facts.FittingFacts.{all_parts, fit_or_pass, parts_fit}
-use Rattle.wit_merge_spec.specs.Cause.{MergeOverflows}
 use Rattle.wit_merge_match.specs.Differing.{merge_of_graphs_by}
-use Rattle.wit_merge_spec.specs.steps.Parts.{graph_spans}
+use Rattle.wit_merge_spec.specs.steps.Parts.{graph_spans, MergeOverflows}
 
 module _ (offset : ℕ) (g : Graph) where
   -- where it fits, none does

@@ -1,8 +1,8 @@
 //! Whether the spans of a graph can be moved.
 ghost use Rattle.std.specs.Prelude.{◌≡◌, false, true};
 ghost use Rattle.wit_graph_data.specs.declared.graph.Graph.{Graph};
-ghost use Rattle.wit_merge_spec.specs.Cause.{MergeOverflows};
 ghost use Rattle.wit_merge_match.specs.Differing.{merge_of_graphs_by};
+ghost use Rattle.wit_merge_spec.specs.steps.Parts.{MergeOverflows};
 
 use wit_graph_data::Graph;
 use wit_remap::parts_fit;

@@ -109,15 +109,6 @@ pub record MergeReturnsBorrow (m : GraphMerge) (message : List ℕ) : Type 0 whe
   pub holds : HoldsBorrow (joined_graph m).types t'
   pub message_is : message ≡ borrow_text f.name
 
--- ---- 27: a position that is too large
-
--- 27: a span of the incoming graph would end past 4294967295, whether it moves or not
-pub record MergeOverflows (m : GraphMerge) : Type 0 where
-  pub from : ℕ
-  pub to : ℕ
-  pub known : Contains (flat_map type_spans m.other.types ++ (flat_map interface_spans m.other.interfaces ++ flat_map world_spans m.other.worlds)) (Some (from, to))
-  pub past : 2 ^ 32 ≤ to + m.offset
-
 -- why the two graphs of a merge can't be made one
 pub data IsMergeCause (m : GraphMerge) : ResolveErrorKind → Type 0 where
   conflict_4 : (span : OptionalSpan) (name : List ℕ) → HasNoMismatch m → HasWorldInConflict (joined_graph m) span name → IsMergeCause m (InvalidTransitiveDependency span name)
@@ -126,7 +117,9 @@ pub data IsMergeCause (m : GraphMerge) : ResolveErrorKind → Type 0 where
   borrow_in_result_15 : (message : List ℕ) → HasNoMismatch m → MergeReturnsBorrow m message → IsMergeCause m (Semantic None message cause.BorrowInResult)
   interface_cycle_22 : (message : List ℕ) → HasNoMismatch m → UsesItself (joined_graph m) message → IsMergeCause m (Semantic None message cause.InterfaceCycle)
   merge_mismatch_24 : (message : List ℕ) → GraphsDiffer m message → IsMergeCause m (Semantic None message cause.MergeMismatch)
-  offset_overflow_27 : MergeOverflows m → IsMergeCause m OffsetOverflow
+  -- a span of the incoming graph would end past 4294967295, whether it moves or not
+  offset_overflow_27 : (from to : ℕ) → Contains (flat_map type_spans m.other.types ++ (flat_map interface_spans m.other.interfaces ++ flat_map world_spans m.other.worlds)) (Some (from, to))
+      → 2 ^ 32 ≤ to + m.offset → IsMergeCause m OffsetOverflow
 
 -- no cause holds against the merge
 abbrev pub MergeIsAccepted : GraphMerge → Type 0

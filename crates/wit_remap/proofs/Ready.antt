@@ -22,7 +22,7 @@ use Rattle.wit_remap_spec.specs.Selected.{selected, selected_with_index}
 use Rattle.wit_link_spec.specs.Gates.{interface_is_active, world_is_active}
 use Rattle.wit_link_spec.specs.Added.{with_parts}
 use Rattle.wit_link_spec.specs.facts.RankFacts.{selected_with_index-from}
-use Rattle.wit_link_spec.specs.Reasons.{AdditionOverflows, IsResolved}
+use Rattle.wit_link_spec.specs.Reasons.{IsResolved}
 use Rattle.wit_link_spec.specs.declared.addition.NewIds.{NewIds}
 use Rattle.wit_link_spec.specs.steps.NewThings.{is_new}
 use Rattle.wit_link_spec.specs.facts.NewFacts.{new_interfaces, new_types, new_worlds}
@@ -35,7 +35,7 @@ use Rattle.wit_remap.proofs.KeysApart.{world_keys_apart}
 use Rattle.wit_remap.proofs.NamesApart.{keys_all, keys_named, names_all, names_differ, names_some}
 use Rattle.wit_remap.proofs.SpansFit.{interfaces_fit, types_fit, worlds_fit}
 use Rattle.wit_remap_spec.specs.steps.Parts.{owns}
-use Rattle.wit_link_spec.specs.steps.Parts.{include_is_active}
+use Rattle.wit_link_spec.specs.steps.Parts.{include_is_active, AdditionOverflows}
 
 module _ (a : Addition) (valid : IsValid a.graph) (shaped : IsShaped a.unresolved) (image : IsResolved a) where
   interface_names_apart : IsDistinct bytes_eq (keys_of (interfaces_at (addition_maps a) (selected_with_index (own_interface a) a.unresolved.interfaces)))

@@ -20,9 +20,9 @@ use Rattle.wit_graph_theory.specs.facts.ListFacts.{Contains-map, contained_at}
 use Rattle.wit_link_spec.specs.Addition.{Addition}
 use Rattle.wit_link_spec.specs.Gates.{OptionalSpan, package_spans}
 use Rattle.wit_remap_spec.specs.Spans.{function_spans, interface_spans, item_spans, type_spans, world_spans}
-use Rattle.wit_link_spec.specs.Reasons.{AdditionOverflows}
 use Rattle.wit_remap.specs.steps.Fits.{Fits, FunctionFits, InterfaceFits, ItemFits, KindFits, TypeFits, WorldFits}
 use Rattle.wit_remap_spec.specs.steps.Parts.{kind_spans}
+use Rattle.wit_link_spec.specs.steps.Parts.{AdditionOverflows}
 
 -- all places of a list fit
 abbrev pub AllFit : ℕ → List OptionalSpan → Type 0

@@ -6,7 +6,7 @@ ghost use Rattle.std.specs.Str.{bytes_eq};
 ghost use Rattle.wit_link_spec.specs.steps.AdditionRefs.{activity_of, new_ids_of, values_of};
 ghost use Rattle.wit_link_spec.specs.Added.{with_parts};
 ghost use Rattle.wit_remap_spec.specs.Selected.{selected, selected_with_index};
-ghost use Rattle.wit_link_spec.specs.Reasons.{AdditionOverflows, IsResolved};
+ghost use Rattle.wit_link_spec.specs.Reasons.{IsResolved};
 ghost use Rattle.wit_link_spec.specs.steps.NewThings.{is_new};
 ghost use Rattle.wit_elaboration.specs.Valid.{IsValid};
 ghost use Rattle.wit_remap_spec.specs.Kept.{cut_interface};
@@ -18,6 +18,7 @@ ghost use Rattle.wit_remap.specs.steps.Fits.{CanMoveParts, added_worlds, additio
 ghost use Rattle.wit_remap.specs.Grown.{Grown};
 ghost use Rattle.wit_remap.specs.steps.Movers.{maps_of};
 ghost use Rattle.wit_remap.specs.steps.Parts.{kept_of};
+ghost use Rattle.wit_link_spec.specs.steps.Parts.{AdditionOverflows};
 
 use crate::mover::Mover;
 use crate::part::{Part, selected, selected_with_index};

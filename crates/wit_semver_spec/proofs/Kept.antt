@@ -12,11 +12,11 @@ use Rattle.wit_graph_theory.specs.facts.ListFacts.{at_map, found_at, same_at, so
 use Rattle.wit_graph_theory.specs.facts.OptionFacts.{some_by}
 use Rattle.wit_elaboration.specs.AllElaborated.{all_elaborated, elaborated_world}
 use Rattle.wit_values.specs.facts.Lists.{kept-cases, slice_get-set}
-use Rattle.wit_semver_spec.specs.SemverMerged.{new_target, rewritten_types, semver_merge, with_new_entries_at, SemverMerge, newest, target_name}
+use Rattle.wit_semver_spec.specs.SemverMerged.{rewritten_types, semver_merge, with_new_entries_at, SemverMerge, newest, target_name}
 use Rattle.wit_semver_spec.specs.laws.Unchanged.{SameButLists, SameButTarget}
 use Rattle.wit_semver_spec.specs.laws.TrackLaws.{AliasesKeepNames, KeepsThings, RewrittenKeep}
 use Rattle.wit_semver_spec.specs.facts.TypesAfter.{after, needs_as_alias, retargeted_from, retargeted_name, retargeted_type, type_after, type_into}
-use Rattle.wit_semver_spec.specs.steps.Parts.{listed_world, name_of, retargeted}
+use Rattle.wit_semver_spec.specs.steps.Parts.{listed_world, name_of, retargeted, new_target}
 
 -- ---- worlds
 

@@ -25,13 +25,13 @@ use Rattle.wit_graph_theory.specs.facts.ListFacts.{found_at, place_of, same_at}
 use Rattle.wit_elaboration.specs.AllElaborated.{elaborated_world}
 use Rattle.wit_graph_theory.specs.facts.LawsOfElaboration.{LawsOfElaboration}
 use Rattle.wit_graph_theory.specs.facts.OptionFacts.{option_cases}
-use Rattle.wit_semver_spec.specs.SemverMerged.{kept_imports, new_target, rewritten_types, with_new_entries_at, SemverMerge, newest, IsComplete}
+use Rattle.wit_semver_spec.specs.SemverMerged.{kept_imports, rewritten_types, with_new_entries_at, SemverMerge, newest, IsComplete}
 use Rattle.wit_semver_spec.specs.facts.Accepting.{complete, elaborates, in_order, listed_there, new_types, new_uses, uses_acyclic}
 use Rattle.wit_semver_spec.specs.facts.Merged.{is_done}
 use Rattle.wit_semver_spec.specs.facts.TypesAfter.{after, needs_after, retargeted_from, retargeted_owner, retargeted_type, type_into}
 use Rattle.wit_semver_spec.specs.laws.TrackLaws.{IsSemverMerged}
 use Rattle.wit_elaboration.specs.steps.Parts.{type_role, of_class}
-use Rattle.wit_semver_spec.specs.steps.Parts.{is_replaced_entry, listed_world, retargeted}
+use Rattle.wit_semver_spec.specs.steps.Parts.{is_replaced_entry, listed_world, retargeted, new_target}
 
 -- ---- lists
 

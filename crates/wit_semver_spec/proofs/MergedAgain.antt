@@ -15,14 +15,14 @@ use Rattle.wit_graph_data.specs.declared.graph.Graph.{Graph}
 use Rattle.wit_graph_theory.specs.facts.LawsOfElaboration.{LawsOfElaboration}
 use Rattle.wit_graph_theory.specs.facts.ListFacts.{at_map}
 use Rattle.wit_values.specs.facts.Lists.{slice_get-set}
-use Rattle.wit_semver_spec.specs.SemverMerged.{imported, is_replaced, kept_imports, new_target, newest, newest_type, replaced_use, rewritable_types, semver_merged, target_name, with_new_entries_at, SemverMerge, SemverMergeIsAccepted}
+use Rattle.wit_semver_spec.specs.SemverMerged.{imported, is_replaced, kept_imports, newest, newest_type, replaced_use, rewritable_types, semver_merged, target_name, with_new_entries_at, SemverMerge, SemverMergeIsAccepted}
 use Rattle.wit_semver_spec.specs.facts.Accepting.{rewritten_is}
 use Rattle.wit_semver_spec.specs.facts.Greatest.{newest_stays}
 use Rattle.wit_semver_spec.specs.facts.Merged.{one_on_each}
 use Rattle.wit_semver_spec.specs.facts.TypesAfter.{replaced_use_from}
 use Rattle.wit_semver_spec.proofs.SameTypes.{same_types_keep_worlds}
 use Rattle.wit_semver_spec.proofs.ValidRewriting.{rewritten_is_valid}
-use Rattle.wit_semver_spec.specs.steps.Parts.{is_replaced_entry, listed_world, interface_type}
+use Rattle.wit_semver_spec.specs.steps.Parts.{is_replaced_entry, listed_world, interface_type, new_target}
 
 -- ---- lists that stay
 

@@ -9,11 +9,11 @@ use Rattle.wit_data.specs.declared.world.World.{World}
 use Rattle.wit_elaboration.specs.AllElaborated.{all_elaborated}
 use Rattle.wit_graph_theory.specs.facts.DependencyFacts.{needs_from}
 use Rattle.wit_graph_theory.specs.facts.ListFacts.{some_at}
-use Rattle.wit_semver_spec.specs.SemverMerged.{new_target, rewritable_types, semver_merged, rewritten_types, target_name, semver_merge, with_new_entries_at, newest}
+use Rattle.wit_semver_spec.specs.SemverMerged.{rewritable_types, semver_merged, rewritten_types, target_name, semver_merge, with_new_entries_at, newest}
 use Rattle.wit_semver_spec.specs.facts.Accepting.{complete}
 use Rattle.wit_semver_spec.specs.facts.TypesAfter.{newest_has, retargeted_into, type_into}
 use Rattle.wit_semver_spec.specs.laws.TrackLaws.{AliasesNameNewest}
-use Rattle.wit_semver_spec.specs.steps.Parts.{interface_type, retargeted}
+use Rattle.wit_semver_spec.specs.steps.Parts.{interface_type, retargeted, new_target}
 
 pub aliases_name_newest : AliasesNameNewest
 aliases_name_newest u w t f valid there accepted follows uses replaced =

@@ -48,7 +48,7 @@ use Rattle.wit_graph_theory.specs.facts.ListFacts.{Contains-map, place_of}
 use Rattle.wit_graph_theory.specs.facts.PackageCycleFacts.{row_from, row_into}
 use Rattle.wit_graph_theory.specs.facts.PackagesAcyclic.{is_there, there_is}
 use Rattle.wit_transform.specs.facts.UnnamedOnceTransformed.{set_split}
-use Rattle.wit_semver_spec.specs.SemverMerged.{Agrees, IsComplete, SemverMerge, SemverMergeCause, conflict_4, functions_disagree_25, interface_cycle_22, is_replaced, kept_imports, new_target, package_cycle_6, rewritten_types, type_cycle_23, type_missing_25, with_new_entries_at}
+use Rattle.wit_semver_spec.specs.SemverMerged.{Agrees, IsComplete, SemverMerge, SemverMergeCause, conflict_4, functions_disagree_25, interface_cycle_22, is_replaced, kept_imports, package_cycle_6, rewritten_types, type_cycle_23, type_missing_25, with_new_entries_at}
 use Rattle.wit_semver_spec.specs.facts.Accepting.{in_order, listed_there, relisted_from, rewritten_is}
 use Rattle.wit_semver_spec.specs.facts.Greatest.{any_of}
 use Rattle.wit_semver_spec.specs.facts.KeptKeys.{kept_holds, kept_into, kept_test, passed}
@@ -56,7 +56,7 @@ use Rattle.wit_semver_spec.specs.laws.TrackLaws.{RetargetsNone, SameTypesKeepWor
 use Rattle.wit_semver_spec.proofs.FewerImports.{AreClosed, AreSettled, part_is_elaborated}
 use Rattle.wit_graph_data.specs.steps.Parts.{entry_interfaces, package_needs}
 use Rattle.wit_elaboration.specs.steps.Parts.{type_role, function_role, graph_package_uses}
-use Rattle.wit_semver_spec.specs.steps.Parts.{is_replaced_entry, listed_world, retargeted}
+use Rattle.wit_semver_spec.specs.steps.Parts.{is_replaced_entry, listed_world, retargeted, new_target}
 
 -- ---- lists that stay
 

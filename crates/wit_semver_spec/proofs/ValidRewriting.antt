@@ -24,14 +24,14 @@ use Rattle.wit_graph_theory.specs.facts.UnnamedOnceFacts.{StandOnce-from_entries
 use Rattle.wit_graph_theory.specs.facts.PackageCycleFacts.{acyclic_packages, packages_stay_acyclic}
 use Rattle.wit_elaboration.specs.AllElaborated.{elaborated_world}
 use Rattle.wit_graph_theory.specs.facts.LawsOfElaboration.{LawsOfElaboration}
-use Rattle.wit_semver_spec.specs.SemverMerged.{new_target, semver_merged, with_new_entries_at, SemverMerge, SemverMergeIsAccepted}
+use Rattle.wit_semver_spec.specs.SemverMerged.{semver_merged, with_new_entries_at, SemverMerge, SemverMergeIsAccepted}
 use Rattle.wit_semver_spec.specs.facts.Accepting.{complete, elaborates, listed_there, new_aliases, new_exports, new_imports, no_package_cycle, no_type_cycle, relisted_worlds, rewritten_is, uses_acyclic}
 use Rattle.wit_semver_spec.proofs.ListedUses.{listed_lists_uses}
 use Rattle.wit_semver_spec.specs.facts.TypesAfter.{retargeted_name, retargeted_owner, type_after}
 use Rattle.wit_semver_spec.specs.facts.TypesGood.{interface_after, known_after, on_the_way, refers_in_range, refers_to_own, unnamed_plain}
 use Rattle.wit_semver_spec.proofs.WorldsGood.{done, done_is_canonical, done_is_good, from, new, one_place_new, same_name, same_package, types_stay, with_new_entries, world_from}
 use Rattle.wit_elaboration.specs.steps.Parts.{graph_package_uses, type_cycle_text}
-use Rattle.wit_semver_spec.specs.steps.Parts.{listed_world}
+use Rattle.wit_semver_spec.specs.steps.Parts.{listed_world, new_target}
 
 module _ (laws : LawsOfElaboration) (u : SemverMerge) (valid : IsValid u.graph) (w : ℕ) (there : slice_get u.graph.worlds w ≡ Some u.world) (accepted : SemverMergeIsAccepted u.rule u.graph w) where
   abbrev g : Graph

@@ -57,13 +57,10 @@ versioned_of packages interface =
 abbrev pub versioned : Graph → ℕ → Option Versioned
 versioned g i = option_and_then (versioned_of g.packages) (slice_get g.interfaces i)
 
--- the name of its package, with the track in the place of the version: the same for all on one track
-abbrev pub track_package : TrackRule → Versioned → PackageName
-track_package rule v = record v.home { version = Some (track_by rule v.version) }
-
--- are two on one track?
+-- are two on one track? They have one name, and their packages one name with the track in the place of the version
 abbrev pub have_one_track : TrackRule → Versioned → Versioned → Bool
-have_one_track rule v w = same_package (track_package rule v) (track_package rule w) && bytes_eq v.name w.name
+have_one_track rule v w =
+    same_package (record v.home { version = Some (track_by rule v.version) }) (record w.home { version = Some (track_by rule w.version) }) && bytes_eq v.name w.name
 
 -- what a test tells of two interfaces, where both are of packages with versions
 abbrev pub both : (Versioned → Versioned → Bool) → Option Versioned → Option Versioned → Bool
@@ -73,10 +70,6 @@ both test (Some v) other = option_map_or (test v) other false
 -- are interfaces i and j on one track?
 abbrev pub are_on_one_track : TrackRule → Graph → ℕ → ℕ → Bool
 are_on_one_track rule g i j = both (have_one_track rule) (versioned g i) (versioned g j)
-
--- is interface j on the track of i, and of a greater version?
-abbrev pub is_older_than : TrackRule → Graph → ℕ → ℕ → Bool
-is_older_than rule g i j = both (λ v w. have_one_track rule v w && is_lt (version_cmp v.version w.version)) (versioned g i) (versioned g j)
 
 -- ---- which imports are replaced
 
@@ -96,7 +89,9 @@ imported u = keyed_interfaces u.world.imports
 
 -- is interface i one of them, of which another is of a greater version on its track?
 abbrev pub is_replaced : SemverMerge → ℕ → Bool
-is_replaced u i = list_any (nat_eq i) (imported u) && list_any (is_older_than u.rule u.graph i) (imported u)
+is_replaced u i =
+    list_any (nat_eq i) (imported u)
+    && list_any (λ j. both (λ v w. have_one_track u.rule v w && is_lt (version_cmp v.version w.version)) (versioned u.graph i) (versioned u.graph j)) (imported u)
 
 -- the greatest of them on the track of interface i: the first there that isn't replaced, in a valid graph the only one,
 -- since no two interfaces have one name and one version. Without any it is i itself, which nothing reads, since where i is
@@ -146,13 +141,11 @@ target_name types t =
 abbrev pub newest_type : SemverMerge → ℕ → Option ℕ
 newest_type u t = option_and_then (λ f. option_and_then (λ name. interface_type u.graph name (newest u f)) (target_name u.graph.types t)) (replaced_use u t)
 
--- what type t comes to name, where it may be rewritten
-abbrev pub new_target : SemverMerge → ℕ → Option ℕ
-new_target u t = if list_any (nat_eq t) (rewritable_types u) then newest_type u t else None
-
--- the types: one that comes to name another type as an alias of it, each other as it was
+-- the types: one that may be rewritten as an alias of the newest's type, where there is one; each other as it was
 abbrev pub rewritten_types : SemverMerge → List TypeDef
-rewritten_types u = map (λ (e : ℕ × TypeDef). option_map_or (λ t. record e.1 { kind = kind.Type_ (type.Id t) }) (new_target u e.0) e.1) (enumerate_from 0 u.graph.types)
+rewritten_types u =
+    map (λ (e : ℕ × TypeDef). option_map_or (λ t. record e.1 { kind = kind.Type_ (type.Id t) })
+    (if list_any (nat_eq e.0) (rewritable_types u) then newest_type u e.0 else None) e.1) (enumerate_from 0 u.graph.types)
 
 -- ---- the graph
 

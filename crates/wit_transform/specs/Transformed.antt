@@ -124,13 +124,9 @@ abbrev pub type_refusal : WorldKey → WorldItem → Option ResolveErrorKind
 type_refusal (key.Name label) held = if is_type held then Some (Semantic None (codes "type import `" ++ (label ++ codes "` cannot be exported")) TypeExported) else None
 type_refusal (key.Interface i) held = None
 
--- why an entry can't be an export: the first of these refusals
-abbrev pub entry_refusal : WorldKey → WorldItem → Option ResolveErrorKind
-entry_refusal k held = first_refusal (type_refusal k held ∷ [])
-
 -- why these can't be the exports of a world: the refusal of the first of them that can't be one
 abbrev pub export_refusal : List Entry → Option ResolveErrorKind
-export_refusal exports = first_refusal (map (λ (e : Entry). entry_refusal e.0 e.1) exports)
+export_refusal exports = first_refusal (map (λ (e : Entry). type_refusal e.0 e.1) exports)
 
 -- ---- the reasons, by their numbers
 

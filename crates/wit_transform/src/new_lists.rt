@@ -6,7 +6,7 @@ ghost use Rattle.wit_graph_data.specs.declared.cause.Cause.TheVariants as cause;
 ghost use Rattle.wit_graph_data.specs.declared.error_kind.ResolveErrorKind.TheVariants.{OutOfMemory, Semantic};
 ghost use Rattle.wit_data.specs.declared.world.WorldKey.{WorldKey};
 ghost use Rattle.wit_data.specs.declared.world.WorldKey.TheVariants as key;
-ghost use Rattle.wit_transform.specs.Transformed.{IsFirstCommon, entry_refusal, export_refusal, name_taken_text, type_refusal, AreUnderLabels, entries_by_answer, is_type, type_entries};
+ghost use Rattle.wit_transform.specs.Transformed.{IsFirstCommon, export_refusal, name_taken_text, type_refusal, AreUnderLabels, entries_by_answer, is_type, type_entries};
 ghost use Rattle.wit_transform.specs.steps.Parts.{label_clash_text, type_exported_text, HasClash};
 
 use std::alloc::{AllocError, Global};
@@ -200,20 +200,6 @@ fn type_refusal(
     }
 }
 
-/// Why an entry can't be an export: the first refusal that there is.
-fn entry_refusal(
-    alloc: Global,
-    key: &WorldKey,
-    item: &WorldItem,
-) -> Result<Option<ResolveError>, AllocError>
-    ensures { IfOk result (λ refusal. refusal ≡ entry_refusal key.now item.now) }
-{
-    if let Some(refusal) = type_refusal(alloc, key, item)? {
-        return Ok(Some(refusal));
-    }
-    Ok(None)
-}
-
 /// Why these can't be the exports of a world: the refusal of the first of them that can't be one.
 fn export_refusal(
     alloc: Global,
@@ -222,7 +208,7 @@ fn export_refusal(
     ensures { IfOk result (λ refusal. refusal ≡ export_refusal exports.now) }
 {
     for (key, item) in exports.iter() {
-        if let Some(refusal) = entry_refusal(alloc, key, item)? {
+        if let Some(refusal) = type_refusal(alloc, key, item)? {
             return Ok(Some(refusal));
         }
     }

@@ -10,8 +10,9 @@ use Rattle.wit_graph_data.specs.declared.error_kind.ResolveErrorKind.TheVariants
 use Rattle.wit_link_spec.specs.Addition.{Addition}
 use Rattle.wit_link_spec.specs.Gates.{OptionalSpan}
 use Rattle.wit_link_spec.specs.steps.Passed.{GatesAreMet, HasResources, IsAllFound, NeedsNothingExcluded, ReturnsNoBorrow}
-use Rattle.wit_link_spec.specs.Reasons.{AdditionOverflows, HasPackage}
+use Rattle.wit_link_spec.specs.Reasons.{HasPackage}
 use Rattle.wit_remap.specs.steps.Fits.{Fits, PartsFit}
+use Rattle.wit_link_spec.specs.steps.Parts.{AdditionOverflows}
 
 -- the package isn't there yet, and its spans stay within the last position
 pub record IsNew (a : Addition) : Type 0 where

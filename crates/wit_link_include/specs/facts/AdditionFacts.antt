@@ -22,13 +22,13 @@ use Rattle.wit_labels.specs.Strong.{Clashes}
 use Rattle.wit_link_spec.specs.Addition.{Addition, active_includes, addition_maps, own_worlds, remapped_world}
 use Rattle.wit_link_spec.specs.Cause.{IsAdditionCause, of_world}
 use Rattle.wit_link_spec.specs.WorldReasons.{IsFinishCause, LabelsClash, SetterIsAlone, no_getter_18, not_strongly_unique_17, IsIncludeCause, AtWorld, IsCauseAtFinish, IsCauseAtInclude, of_finish, of_include, written_no_getter_18, written_not_strongly_unique_17}
-use Rattle.wit_link_spec.specs.Include.{IsListCalled, PartiallyLinked, lists_of, with_include_of}
+use Rattle.wit_link_spec.specs.Include.{IsListCalled, PartiallyLinked, lists_of}
 use Rattle.wit_link_spec.specs.Added.{with_includes, with_parts, with_world, with_worlds}
 use Rattle.wit_link_spec.specs.facts.Linked.{updated_includes}
 use Rattle.wit_link_spec.specs.Reasons.{IsResolved}
 use Rattle.wit_link_include.specs.steps.Included as local
 use Rattle.wit_link_include.specs.facts.SeveralFacts.{one_worlds}
-use Rattle.wit_link_spec.specs.steps.Parts.{include_is_active, updated_include, with_include, with_all_includes, with_finished, with_entry_lists, IncludeIsAccepted, WorldIsAccepted, IsReached}
+use Rattle.wit_link_spec.specs.steps.Parts.{include_is_active, updated_include, with_include, with_all_includes, with_finished, with_entry_lists, IncludeIsAccepted, WorldIsAccepted, IsReached, with_include_of}
 
 take_map : {X Y : Type 0} (f : X → Y) (j : ℕ) (xs : List X) → take j (map f xs) ≡ map f (take j xs)
 take_map f zero [] = refl
@@ -170,7 +170,7 @@ module _ (a : Addition) where
   setter_goes k at none word label f is = record {
     entries = map (entry_image (addition_maps a) at.id) is.entries;
     list = list_goes k at none word is.entries is.list;
-    setter = (Contains-map (entry_image (addition_maps a) at.id) is.entries (key.Name label, item.Function f) is.setter.0, (refl, is.setter.1.1));
+    setter = (Contains-map (entry_image (addition_maps a) at.id) is.entries (key.Name label, item.Function f) is.setter.0, is.setter.1);
     absent = λ there. is.absent (label_was at.id is.entries (getter_label label) there);
   }
 

@@ -27,11 +27,11 @@ use Rattle.wit_graph_data.specs.declared.error_kind.ResolveErrorKind.{ResolveErr
 use Rattle.wit_graph_data.specs.declared.error_kind.ResolveErrorKind.TheVariants.{ItemShadowing, Semantic, StabilityMismatch}
 use Rattle.wit_remap_spec.specs.Image.{entry_image, Maps, interface_image, type_image}
 use Rattle.wit_labels.specs.Groups.{begins_group, rest_of}
-use Rattle.wit_labels.specs.Setters.{IsSetter, getter_label}
+use Rattle.wit_labels.specs.Setters.{getter_label, is_setter_label}
 use Rattle.wit_labels.specs.Strong.{Clashes}
 use Rattle.wit_link_spec.specs.CauseText.{clash_text, getter_text}
 use Rattle.wit_link_spec.specs.Gates.{OptionalSpan}
-use Rattle.wit_link_spec.specs.Include.{EntryLists, PartiallyLinked, joined_entries, lists_of, with_include_of, belongs_to, entry_mentions, is_owned_within, is_unnamed_type, named_types, owner_belongs_to}
+use Rattle.wit_link_spec.specs.Include.{EntryLists, PartiallyLinked, joined_entries, lists_of, belongs_to, entry_mentions, is_owned_within, is_unnamed_type, named_types, owner_belongs_to}
 use Rattle.wit_remap_spec.specs.Joined.{include_stability, Disagree}
 use Rattle.wit_link_spec.specs.WorldReasons.{IsFinishCause, IsIncludeCause, IsRenamed, IsShadowed}
 use Rattle.wit_link_laws.specs.laws.StageFacts.{CanBeLinked, CanInclude, IsPartiallyLinked}
@@ -43,7 +43,7 @@ use Rattle.wit_digraph.specs.PostOrder.{post_order}
 use Rattle.wit_labels.specs.Rename.{renamed_label}
 use Rattle.wit_remap_spec.specs.Selected.{selected, selected_with_index}
 use Rattle.wit_link_include.specs.declared.origin.Origin.{Origin}
-use Rattle.wit_link_spec.specs.steps.Parts.{with_finished, with_entry_lists}
+use Rattle.wit_link_spec.specs.steps.Parts.{with_finished, with_entry_lists, with_include_of}
 use Rattle.wit_remap_spec.specs.steps.Parts.{include_maps}
 
 -- Where copies go by tables, and what the types that a world names lead to.
@@ -256,7 +256,7 @@ pub record JoinIsAccepted (other : Bool) (span : OptionalSpan) (word : List ℕ)
 -- the error of two labels that clash, or of a setter without its getter
 pub data IsListError (world word : List ℕ) (entries : List Entry) : ResolveErrorKind → Type 0 where
   clash : (n m : List ℕ) → Clashes (keys_of entries) n m → IsListError world word entries (Semantic None (clash_text word n world m) cause.NotStronglyUnique)
-  alone : (label : List ℕ) (f : Function) → Contains entries (key.Name label, item.Function f) × IsSetter label (key.Name label, item.Function f)
+  alone : (label : List ℕ) (f : Function) → Contains entries (key.Name label, item.Function f) × (is_setter_label label ≡ true)
       → (Contains (keys_of entries) (key.Name (getter_label label)) → ⊥) → IsListError world word entries (Semantic f.span (getter_text word label world (getter_label label)) cause.NoGetter)
 
 -- no such error is one of the list

@@ -30,11 +30,12 @@ use Rattle.wit_remap_spec.specs.Kept.{KeptIds}
 use Rattle.wit_graph_theory.specs.facts.ListFacts.{Contains-map, contained_at, found_at, get_at, same_at, some_at}
 use Rattle.wit_graph_theory.specs.Operations.{include_source}
 use Rattle.wit_graph_theory.specs.steps.Sources.{IsGoodSource}
-use Rattle.wit_link_spec.specs.Include.{belongs_to, entry_mentions, interface_mentions, is_owned_within, named_types, owner_belongs_to}
+use Rattle.wit_link_spec.specs.Include.{belongs_to, entry_mentions, is_owned_within, named_types, owner_belongs_to}
 use Rattle.wit_link_laws.specs.facts.Among.{owner_of_own}
 use Rattle.wit_link_laws.specs.facts.Mentioned.{BelongsOrNamed, entry_is, entry_mentioned, mentioned_refers, mentioned_with, owned_has}
 use Rattle.wit_link_laws.specs.facts.PartiallyLinked.{IsSoundSoFar}
 use Rattle.wit_link_laws.specs.facts.Truth.{all_pass, and_both, and_parts, or_cases, or_left, or_right, passes}
+use Rattle.wit_link_spec.specs.steps.Parts.{interface_mentions}
 
 -- is type t mentioned?
 abbrev pub is_mentioned : Graph → World → ℕ → Bool

@@ -28,9 +28,10 @@ use Rattle.wit_graph_theory.specs.facts.ListFacts.{Contains-map_cases, found_at,
 use Rattle.wit_graph_theory.specs.facts.GoodWorlds.{import_from_export}
 use Rattle.wit_graph_theory.specs.facts.UnnamedOnceCarried.{named_not}
 use Rattle.wit_graph_theory.specs.facts.RowFacts.{Reaches-join, Reaches-use}
-use Rattle.wit_link_spec.specs.Include.{belongs_to, entry_mentions, interface_mentions, is_owned_within, named_types, owner_belongs_to}
+use Rattle.wit_link_spec.specs.Include.{belongs_to, entry_mentions, is_owned_within, named_types, owner_belongs_to}
 use Rattle.wit_link_laws.specs.facts.Among.{IsAmong, among_reached, own_named, owner_of_own}
 use Rattle.wit_link_laws.specs.facts.PartiallyLinked.{IsSoundSoFar}
+use Rattle.wit_link_spec.specs.steps.Parts.{interface_mentions}
 
 -- ---- what goes with a world
 

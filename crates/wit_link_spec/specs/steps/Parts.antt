@@ -1,11 +1,11 @@
 -- Parts of the definitions under names of their own, for contracts of inner functions and for proofs. Each is what stands
 -- in a definition in its place, so none has to be believed.
-use Rattle.std.specs.Prelude.{◌≡◌, ◌⊎◌, ℕ, true, Some, List, ◌++◌, codes, Bool, flat_map, ◌+◌, ◌&&◌, length, nat_eq, if◌then◌else◌, [], ◌∷◌, Option, None, ◌<◌}
+use Rattle.std.specs.Prelude.{◌≡◌, ◌⊎◌, ℕ, true, Some, List, ◌++◌, codes, Bool, flat_map, ◌+◌, ◌&&◌, length, nat_eq, if◌then◌else◌, [], ◌∷◌, Option, None, ◌<◌, map, slice_get, ◌≤◌, ◌^◌, Contains}
 use Rattle.wit_digraph.specs.Relation.{Reaches}
 use Rattle.wit_graph_data.specs.Queries.{type_contents}
 use Rattle.wit_link_spec.specs.Addition.{Addition, own_type, active_includes, remapped_world, own_world, own_interface}
 use Rattle.wit_remap_spec.specs.Borrows.{HoldsBorrow}
-use Rattle.wit_link_spec.specs.Gates.{type_is_active, is_active, is_foreign_interface, is_foreign_world, interface_is_active, world_is_active}
+use Rattle.wit_link_spec.specs.Gates.{type_is_active, is_active, is_foreign_interface, is_foreign_world, interface_is_active, world_is_active, package_spans}
 use Rattle.wit_link_spec.specs.Lookup.{foreign_type_id, foreign_interface_id, foreign_world_id, is_foreign_type}
 use Rattle.semver.specs.Identifiers.{parts_text}
 use Rattle.wit_values.specs.Version.{Parts}
@@ -22,18 +22,21 @@ use Rattle.wit_data.specs.declared.types.TypeDef.{TypeDef}
 use Rattle.wit_remap_spec.specs.Selected.{selected, rank}
 use Rattle.wit_digraph.specs.PostOrder.{post_order}
 use Rattle.wit_data.specs.Entries.{Entry}
-use Rattle.wit_data.specs.Kind.{type_references}
+use Rattle.wit_data.specs.Kind.{type_references, function_references}
 use Rattle.wit_data.specs.declared.world.World.{World}
 use Rattle.wit_data.specs.declared.world.WorldKey.{WorldKey}
 use Rattle.wit_elaboration.specs.Entries.{same_key}
 use Rattle.wit_graph_data.specs.declared.graph.Graph.{Graph}
-use Rattle.wit_link_spec.specs.Include.{belongs_to, is_owned_within, named_types, PartiallyLinked, with_include_of, EntryLists}
+use Rattle.wit_link_spec.specs.Include.{belongs_to, is_owned_within, named_types, PartiallyLinked, EntryLists, with_world_included}
 use Rattle.wit_sources.specs.Span.{moved_by}
 use Rattle.wit_labels.specs.Setters.{setters_placed}
 use Rattle.wit_link_spec.specs.Added.{with_includes, finished_world}
 use Rattle.wit_graph_data.specs.Error.{NoCause}
 use Rattle.wit_link_spec.specs.WorldReasons.{IsCauseAtInclude, IsCauseAtWorld}
 use Rattle.wit_link_spec.specs.Cause.{IsAdditionCause}
+use Rattle.std.specs.Option.{option_map_or}
+use Rattle.wit_data.specs.declared.world.IncludeName.{IncludeName}
+use Rattle.wit_data.specs.declared.interface.Interface.{Interface}
 
 -- the values of type t of the package hold a borrow: one of the package, or in a foreign type one of the graph
 abbrev pub MayHoldBorrow : Addition → ℕ → Type 0
@@ -98,6 +101,11 @@ has_key entries k = list_any (λ (e : Entry). same_key k e.0) entries
 abbrev pub updated_include : Addition → WorldInclude → WorldInclude
 updated_include a include = record include { id = remapped_world a include.id; span = moved_by a.offset include.span }
 
+-- a graph and the lists of the world that comes next, with world `from` included, or as they are where there is no
+-- such world
+abbrev pub with_include_of : ℕ → ℕ → List IncludeName → ℕ → PartiallyLinked → PartiallyLinked
+with_include_of home into names from b = option_map_or (λ (world : World). with_world_included home into names from world b) (slice_get b.graph.worlds from) b
+
 -- one include more of the world that comes next
 abbrev pub with_include : Addition → ℕ → PartiallyLinked → WorldInclude → PartiallyLinked
 with_include a into b include = with_include_of (length a.graph.packages) into include.names (remapped_world a include.id) b
@@ -161,3 +169,14 @@ active_world_id a w =
 -- every world before world k is accepted
 abbrev pub IsReached : Addition → ℕ → Type 0
 IsReached a k = (i : ℕ) → i < k → NoCause (IsCauseAtWorld a i)
+
+-- the types that an interface names: those of its list, and those that its functions refer to
+abbrev pub interface_mentions : Interface → List ℕ
+interface_mentions interface = map (λ (e : List ℕ × ℕ). e.1) interface.types ++ flat_map (λ (e : List ℕ × Function). function_references e.1) interface.functions
+
+-- a span of the package would end past 4294967295
+pub record AdditionOverflows (a : Addition) : Type 0 where
+  pub from : ℕ
+  pub to : ℕ
+  pub known : Contains (package_spans a.unresolved) (Some (from, to))
+  pub past : 2 ^ 32 ≤ to + a.offset

@@ -126,4 +126,4 @@ accepted_growth laws m valid valid_other one leaves can = by
     by error (borrow_in_result_15 message same is) = can.results message is
     by error (interface_cycle_22 message same is) = alone.no_use message is
     by error (merge_mismatch_24 message differ) = one message differ
-    by error (offset_overflow_27 is) = can.spans is
+    by error (offset_overflow_27 from to known past) = can.spans (record { from = from; to = to; known = known; past = past })

@@ -87,7 +87,7 @@ module _ (g : Graph) (offset : ℕ) (valid : IsValid g) where
   nothing_speaks error (borrow_in_result_15 message one is) = Contains-nil is.moved
   nothing_speaks error (interface_cycle_22 message one is) = no_cycle (graph_uses (joined_graph m)) (so (λ h. IsAcyclic (graph_uses h)) valid.no_cycles.uses) is.i is.j is.on_cycle
   nothing_speaks error (merge_mismatch_24 message differ) = none_differ message differ
-  nothing_speaks error (offset_overflow_27 is) = Contains-nil is.known
+  nothing_speaks error (offset_overflow_27 from to known past) = Contains-nil known
 
 pub nothing : NothingComes
 nothing g offset valid = (nothing_speaks g offset valid, ap all_elaborated (same_lists g offset) ∙ valid_is_elaborated g valid)

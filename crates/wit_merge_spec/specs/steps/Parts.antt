@@ -1,6 +1,6 @@
 -- Parts of the definitions under names of their own, for contracts of inner functions and for proofs. Each is what stands
 -- in a definition in its place, so none has to be believed.
-use Rattle.std.specs.Prelude.{ℕ, true, false, List, [], ◌∷◌, ◌++◌, codes, flat_map, bytes_eq, map, filter, ◌+◌, Option, Bool, not, is_some}
+use Rattle.std.specs.Prelude.{ℕ, true, false, List, [], ◌∷◌, ◌++◌, codes, flat_map, bytes_eq, map, filter, ◌+◌, Option, Bool, not, is_some, ◌≤◌, ◌^◌, Some, Contains}
 use Rattle.std.specs.Map.{lookup}
 use Rattle.std.specs.Option.{option_map_or}
 use Rattle.wit_data.specs.Entries.{Entry}
@@ -111,3 +111,10 @@ joined_world m e = option_map_or (λ (p : ℕ × World). with_world m p e.1) (co
 -- has one
 abbrev pub joined_package : GraphMerge → ℕ × Package → Package
 joined_package m e = option_map_or (λ (p : ℕ × Package). with_package m p.1 e.1) (counterpart_of (counterpart_package m) m.other.packages e.0) e.1
+
+-- 27: a span of the incoming graph would end past 4294967295, whether it moves or not
+pub record MergeOverflows (m : GraphMerge) : Type 0 where
+  pub from : ℕ
+  pub to : ℕ
+  pub known : Contains (flat_map type_spans m.other.types ++ (flat_map interface_spans m.other.interfaces ++ flat_map world_spans m.other.worlds)) (Some (from, to))
+  pub past : 2 ^ 32 ≤ to + m.offset

@@ -8,12 +8,12 @@ use Rattle.wit_data.specs.declared.types.TypeDef.{TypeDef}
 use Rattle.wit_data.specs.declared.world.World.{World}
 use Rattle.wit_elaboration.specs.Entries.{Entry}
 use Rattle.wit_graph_data.specs.declared.graph.Graph.{Graph}
-use Rattle.wit_semver_spec.specs.SemverMerged.{Agrees, IsComplete, LacksType, SemverMerge, Versioned, both, is_replaced, kept_imports, newest, newest_type, rewritable_types, track_package, semver_merge, versioned}
+use Rattle.wit_semver_spec.specs.SemverMerged.{Agrees, IsComplete, LacksType, SemverMerge, Versioned, both, is_replaced, kept_imports, newest, newest_type, rewritable_types, semver_merge, versioned}
 use Rattle.wit_semver.specs.contracts.tracks.TrackKeyPartialEq.TheImpl.{eq-value}
 use Rattle.wit_semver.specs.declared.tracks.TrackKey.{TrackKey}
 use Rattle.wit_semver.specs.declared.tracks.VersionedInterface.{VersionedInterface}
 use Rattle.wit_semver.specs.declared.semver_merge_plan.SemverMergePlan.{SemverMergePlan}
-use Rattle.wit_semver_spec.specs.steps.Parts.{is_below, retargeted}
+use Rattle.wit_semver_spec.specs.steps.Parts.{is_below, retargeted, track_package}
 
 -- an interface with what is told of it
 abbrev pub told : VersionedInterface → Versioned

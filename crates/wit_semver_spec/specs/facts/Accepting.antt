@@ -38,12 +38,12 @@ use Rattle.wit_graph_theory.specs.facts.NamedUses.{used_is_named}
 use Rattle.wit_transform.specs.facts.UnnamedOnceTransformed.{set_split}
 use Rattle.wit_elaboration.specs.AllElaborated.{DependsOnItself, RefersToItself, UsesItself, all_elaborated, elaborated_world}
 use Rattle.wit_graph_theory.specs.facts.OptionFacts.{some_same, some_there}
-use Rattle.wit_semver_spec.specs.SemverMerged.{new_target, semver_merged, rewritten_types, with_new_entries_at, SemverMerge, is_replaced, newest, IsComplete, SemverMergeIsAccepted, conflict_4, interface_cycle_22, package_cycle_6, type_cycle_23, type_missing_25}
+use Rattle.wit_semver_spec.specs.SemverMerged.{semver_merged, rewritten_types, with_new_entries_at, SemverMerge, is_replaced, newest, IsComplete, SemverMergeIsAccepted, conflict_4, interface_cycle_22, package_cycle_6, type_cycle_23, type_missing_25}
 use Rattle.wit_semver_spec.specs.facts.Greatest.{newest_stays}
 use Rattle.wit_semver_spec.specs.facts.TypesAfter.{retargeted_from, retargeted_name, retargeted_owner, retargeted_type, type_after, type_into}
 use Rattle.wit_graph_data.specs.steps.Parts.{interface_id_text}
 use Rattle.wit_elaboration.specs.steps.Parts.{interface_cycle_text}
-use Rattle.wit_semver_spec.specs.steps.Parts.{listed_world, retargeted}
+use Rattle.wit_semver_spec.specs.steps.Parts.{listed_world, retargeted, new_target}
 
 some_and : (P : ℕ → Type 0) (o : Option ℕ) → IsSomeAnd o P → (p : ℕ) × (o ≡ Some p)
 some_and P None h = absurd h

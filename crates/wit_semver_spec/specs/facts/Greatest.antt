@@ -14,9 +14,9 @@ use Rattle.wit_digraph.specs.facts.MemberFacts.{Contains-cons_cases, Contains-he
 use Rattle.wit_names.specs.facts.PackageNameFacts.{same_package-Decides}
 use Rattle.wit_names.specs.PackageName.{same_package}
 use Rattle.wit_names.specs.declared.track.TrackRule.{TrackRule}
-use Rattle.wit_semver_spec.specs.SemverMerged.{SemverMerge, Versioned, are_on_one_track, both, have_one_track, imported, is_older_than, is_replaced, newest, track_package, versioned}
+use Rattle.wit_semver_spec.specs.SemverMerged.{SemverMerge, Versioned, are_on_one_track, both, have_one_track, imported, is_replaced, newest, versioned}
 use Rattle.wit_semver_spec.specs.laws.TrackLaws.{IsGreatest}
-use Rattle.wit_semver_spec.specs.steps.Parts.{is_below}
+use Rattle.wit_semver_spec.specs.steps.Parts.{is_below, track_package, is_older_than}
 
 -- ---- tests
 

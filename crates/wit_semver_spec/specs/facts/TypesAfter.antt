@@ -21,8 +21,8 @@ use Rattle.wit_graph_theory.specs.facts.GoodIsValid.{good_things}
 use Rattle.wit_graph_theory.specs.facts.ListFacts.{at_map, found_at, from_map, place_of, same_at}
 use Rattle.wit_graph_theory.specs.facts.OptionFacts.{option_cases, some_by, some_parts, some_same, some_there}
 use Rattle.wit_graph_theory.specs.facts.PackagesAcyclic.{numbered_from, numbered_into}
-use Rattle.wit_semver_spec.specs.SemverMerged.{IsComplete, SemverMerge, is_replaced, new_target, newest, newest_type, replaced_use, rewritable_types, rewritten_types, target_name, semver_merge_text}
-use Rattle.wit_semver_spec.specs.steps.Parts.{name_of, interface_type, retargeted, missing_text}
+use Rattle.wit_semver_spec.specs.SemverMerged.{IsComplete, SemverMerge, is_replaced, newest, newest_type, replaced_use, rewritable_types, rewritten_types, target_name, semver_merge_text}
+use Rattle.wit_semver_spec.specs.steps.Parts.{name_of, interface_type, retargeted, missing_text, new_target}
 
 -- ---- parts of options
 

@@ -26,10 +26,10 @@ use Rattle.wit_graph_theory.specs.facts.ListFacts.{found_at, from_row, in_row, s
 use Rattle.wit_graph_theory.specs.facts.OptionFacts.{option_cases}
 use Rattle.wit_graph_theory.specs.facts.OwnedFacts.{row, row_from, row_into}
 use Rattle.wit_graph_theory.specs.facts.PackagesAcyclic.{length-numbered}
-use Rattle.wit_semver_spec.specs.SemverMerged.{new_target, rewritten_types, SemverMerge, newest}
+use Rattle.wit_semver_spec.specs.SemverMerged.{rewritten_types, SemverMerge, newest}
 use Rattle.wit_semver_spec.specs.facts.Accepting.{stays_so}
 use Rattle.wit_semver_spec.specs.facts.TypesAfter.{after, needs_as_alias, retargeted_from, retargeted_name, retargeted_owner, retargeted_type, type_after}
-use Rattle.wit_semver_spec.specs.steps.Parts.{retargeted}
+use Rattle.wit_semver_spec.specs.steps.Parts.{retargeted, new_target}
 
 -- an alias is not plain
 alias_not_plain : (k : TypeDefKind) (t : ℕ) → alias_target k ≡ Some t → IsPlain k → ⊥

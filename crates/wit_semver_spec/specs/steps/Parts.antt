@@ -1,6 +1,6 @@
 -- Parts of the definitions under names of their own, for contracts of inner functions and for proofs. Each is what stands
 -- in a definition in its place, so none has to be believed.
-use Rattle.std.specs.Prelude.{ℕ, Bool, List, ◌++◌, map, Option, slice_get, option_and_then, option_map, bytes_eq, codes}
+use Rattle.std.specs.Prelude.{ℕ, Bool, List, ◌++◌, map, Option, slice_get, option_and_then, option_map, bytes_eq, codes, ◌&&◌, nat_eq, None, Some, if◌then◌else◌}
 use Rattle.std.specs.List.{list_any}
 use Rattle.std.specs.Map.{lookup}
 use Rattle.std.specs.Ordering.{is_lt}
@@ -12,8 +12,11 @@ use Rattle.wit_data.specs.declared.world.World.{World}
 use Rattle.wit_data.specs.declared.types.TypeDefKind.TheVariants as kind
 use Rattle.wit_data.specs.declared.types.Type_.TheVariants as type
 use Rattle.wit_elaboration.specs.Entries.{Entry, key_interface}
-use Rattle.wit_semver_spec.specs.SemverMerged.{is_replaced, Versioned, SemverMerge, kept_imports}
+use Rattle.wit_semver_spec.specs.SemverMerged.{is_replaced, Versioned, SemverMerge, kept_imports, versioned, both, have_one_track, newest_type, rewritable_types}
 use Rattle.std.specs.Option.{option_map_or}
+use Rattle.wit_names.specs.Track.{track_by}
+use Rattle.wit_names.specs.declared.track.TrackRule.{TrackRule}
+use Rattle.wit_graph_data.specs.declared.graph.Graph.{Graph}
 
 -- an interface of this name in a package of that name, where that has a version
 abbrev pub versioned_in : List ℕ → PackageName → Option Versioned
@@ -54,3 +57,15 @@ missing_text name = codes "type `" ++ (name ++ codes "` is missing")
 -- functions of one name that disagree
 abbrev pub disagreement_text : List ℕ → List ℕ
 disagreement_text mismatch = codes "failed to merge interfaces: " ++ mismatch
+
+-- the name of its package, with the track in the place of the version: the same for all on one track
+abbrev pub track_package : TrackRule → Versioned → PackageName
+track_package rule v = record v.home { version = Some (track_by rule v.version) }
+
+-- is interface j on the track of i, and of a greater version?
+abbrev pub is_older_than : TrackRule → Graph → ℕ → ℕ → Bool
+is_older_than rule g i j = both (λ v w. have_one_track rule v w && is_lt (version_cmp v.version w.version)) (versioned g i) (versioned g j)
+
+-- what type t comes to name, where it may be rewritten
+abbrev pub new_target : SemverMerge → ℕ → Option ℕ
+new_target u t = if list_any (nat_eq t) (rewritable_types u) then newest_type u t else None

@@ -2,8 +2,9 @@ use Rattle.std.proofs.Common.{◌≡◌, ◌∙◌, ◌++◌, Bool, false, [], s
 use Rattle.std.specs.Option.{option_map_or}
 use Rattle.std.proofs.lemmas.List.{append-nil}
 use Rattle.wit_data.specs.declared.world.WorldItem.{WorldItem}
-use Rattle.wit_link_spec.specs.Include.{belongs_to, entry_mentions, interface_mentions}
+use Rattle.wit_link_spec.specs.Include.{belongs_to, entry_mentions}
 use Rattle.wit_link_include.proofs.mentions.push_item.Goals as goal
+use Rattle.wit_link_spec.specs.steps.Parts.{interface_mentions}
 
 pub returns-else-contains_key : goal.returns-else-contains_key
 returns-else-contains_key c = λ k.

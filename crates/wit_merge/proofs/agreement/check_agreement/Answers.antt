@@ -27,7 +27,8 @@ pub returns-then-not-spans_fit-clause-cause : goal.returns-then-not-spans_fit-cl
 returns-then-not-spans_fit-clause-cause c =
     let g = c.args.graph.now in
     let told : c.into-then-not-spans_fit.result ≡ OffsetOverflow = search rules in
-    inr (subst (IsMergeCause (merge_of_graphs_by g c.args.other.now c.args.offset)) (sym told) (offset_overflow_27 (c.spans_fit.ensures.pass c.if-not-spans_fit.true g)))
+    let past = c.spans_fit.ensures.pass c.if-not-spans_fit.true g in
+    inr (subst (IsMergeCause (merge_of_graphs_by g c.args.other.now c.args.offset)) (sym told) (offset_overflow_27 past.from past.to past.known past.past))
 
 pub returns-clause-agree : goal.returns-clause-agree
 returns-clause-agree c =
