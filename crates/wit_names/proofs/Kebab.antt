@@ -5,7 +5,8 @@ use Rattle.std.proofs.lemmas.List.Splits.{slice_split-cons_yes, slice_split-cons
 use Rattle.std.specs.Prelude.{◌==◌, ◌||◌, ◌&&◌, length, not, slice_index}
 use Rattle.std.specs.Char.{is_ascii_alphabetic}
 use Rattle.std.specs.List.{list_all, list_any, slice_split, onto_first}
-use Rattle.wit_names.specs.UsePath.{is_lower, is_upper, is_word, is_kebab_name}
+use Rattle.wit_names.specs.UsePath.{is_word, is_kebab_name}
+use Rattle.wit_names.specs.steps.Parts.{is_lower, is_upper}
 
 -- a letter or a digit
 abbrev is_word_byte : ℕ → Bool

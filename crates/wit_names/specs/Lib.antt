@@ -3,3 +3,4 @@ pub mod Track
 pub mod UsePath
 pub mod examples
 pub mod facts
+pub mod steps

@@ -1,5 +1,5 @@
 -- Kebab names and use paths, by which WIT names things (design/mvp/WIT.md of the component model).
-use Rattle.std.specs.Prelude.{◌≡◌, ℕ, ◌==◌, ◌&&◌, ◌||◌, Bool, not, List, ◌∷◌, ◌++◌, length, slice_index, codes, IsTrue, IfSome, Option, Some, None, if◌then◌else◌, option_map}
+use Rattle.std.specs.Prelude.{◌≡◌, ℕ, ◌==◌, ◌&&◌, ◌||◌, Bool, not, List, ◌∷◌, ◌++◌, length, slice_index, codes, IsTrue, Option, Some, None, if◌then◌else◌, option_map}
 use Rattle.std.specs.Char.{is_ascii_alphabetic, is_ascii_digit, is_ascii_lowercase, is_ascii_uppercase}
 use Rattle.std.specs.List.{list_all, list_any, slice_split, before_first, after_first}
 use Rattle.std.specs.Result.{result_ok}
@@ -11,17 +11,9 @@ use Rattle.wit_names.specs.declared.use_path.ParsedUsePath.TheVariants.{Name, Pa
 use Rattle.wit_names.specs.declared.use_path.UsePathFault.{UsePathFault}
 use Rattle.wit_names.specs.declared.use_path.UsePathFault.TheVariants as fault
 
--- a lower case letter or a digit
-abbrev pub is_lower : ℕ → Bool
-is_lower b = is_ascii_lowercase b || is_ascii_digit b
-
--- an upper case letter or a digit
-abbrev pub is_upper : ℕ → Bool
-is_upper b = is_ascii_uppercase b || is_ascii_digit b
-
--- a word: letters of one case and digits, at least one
+-- a word: lower case letters and digits, or upper case letters and digits, at least one
 abbrev pub is_word : List ℕ → Bool
-is_word word = not (length word == 0) && (list_all is_lower word || list_all is_upper word)
+is_word word = not (length word == 0) && (list_all (λ b. is_ascii_lowercase b || is_ascii_digit b) word || list_all (λ b. is_ascii_uppercase b || is_ascii_digit b) word)
 
 -- a kebab name: what stands between its dashes are words, and it begins with a letter
 unfoldable pub is_kebab_name : List ℕ → Bool

@@ -3,8 +3,9 @@ ghost use Rattle.std.specs.Prelude.{◌≡◌, ◌↔◌, ◌<◌, ◌==◌, sli
 ghost use Rattle.semver.specs.Parse.{memory_error, version_parts};
 ghost use Rattle.std.specs.Char.{is_ascii_alphabetic};
 ghost use Rattle.std.specs.List.{before_first, after_first, list_all, slice_split};
-ghost use Rattle.wit_names.specs.UsePath.{IsKebabName, IsUsePath, is_lower, is_upper, is_word, package_path_of, use_path_fault_text, use_path_of, version_after};
+ghost use Rattle.wit_names.specs.UsePath.{IsKebabName, IsUsePath, is_word, package_path_of, use_path_fault_text, use_path_of, version_after};
 ghost use Rattle.wit_names.specs.declared.use_path.ParsedUsePath.{ParsedUsePath};
+ghost use Rattle.wit_names.specs.steps.Parts.{is_lower, is_upper};
 
 use crate::package_name::PackageName;
 use std::alloc::{AllocError, Global};

@@ -26,10 +26,6 @@ Choice = Result ℕ (List ℕ)
 
 -- ---- what is said
 
--- the text is no use path
-abbrev pub no_path_text : List ℕ → List ℕ
-no_path_text text = codes "failed to parse world specifier `" ++ (text ++ codes "`: invalid use path")
-
 -- there is no main package
 abbrev pub no_main_text : List ℕ
 no_main_text = codes "No main packages defined"
@@ -38,42 +34,14 @@ no_main_text = codes "No main packages defined"
 abbrev pub world_line : List ℕ → List ℕ
 world_line text = codes "\n  " ++ text
 
--- a line for each world of the graph, by id
-abbrev pub all_world_lines : Graph → List ℕ
-all_world_lines g = flat_map (λ (world : World). option_map_or (λ p. world_line (id_text g.packages p world.name)) world.package []) g.worlds
-
--- there are several main packages, and none is named
+-- there are several main packages, and none is named; a line for each world of the graph, by id
 abbrev pub several_mains_text : Graph → List ℕ
-several_mains_text g = codes "There are multiple main packages; a world must be explicitly chosen:" ++ all_world_lines g
+several_mains_text g =
+    codes "There are multiple main packages; a world must be explicitly chosen:" ++ flat_map (λ (world : World). option_map_or (λ p. world_line (id_text g.packages p world.name)) world.package []) g.worlds
 
 -- the text of a version, where there is one
 abbrev pub version_part : Option Parts → List ℕ
 version_part version = option_map_or parts_text version []
-
--- a name without a version may mean two packages
-abbrev pub several_versions_text : PackageName → PackageName → PackageName → List ℕ
-several_versions_text name a b =
-    codes "package name `" ++ (package_name_text name ++ (codes "` is available at both versions " ++ (version_part a.version ++ (codes " and " ++ (version_part b.version ++ codes " but which is not specified")))))
-
--- no package has the name
-abbrev pub unknown_text : PackageName → List ℕ
-unknown_text name = codes "unknown package `" ++ (package_name_text name ++ codes "`")
-
--- the package has no world of the name
-abbrev pub no_world_text : List ℕ → PackageName → List ℕ
-no_world_text world name = codes "World `" ++ (world ++ (codes "` not found in package `" ++ (package_name_text name ++ codes "`")))
-
--- the main package has no world
-abbrev pub empty_text : PackageName → List ℕ
-empty_text name = codes "The main package `" ++ (package_name_text name ++ codes "` contains no worlds")
-
--- a line for each world of a package, in the order of its table
-abbrev pub package_world_lines : Graph → ℕ → Package → List ℕ
-package_world_lines g p home = flat_map (λ (e : List ℕ × ℕ). world_line (id_text g.packages p e.0)) home.worlds
-
--- the main package has several worlds, and none is named
-abbrev pub several_worlds_text : Graph → ℕ → Package → List ℕ
-several_worlds_text g p home = codes "There are multiple worlds in `" ++ (package_name_text home.name ++ (codes "`; one must be explicitly chosen:" ++ package_world_lines g p home))
 
 -- ---- packages
 
@@ -91,11 +59,12 @@ is_version_of name candidate = is_some candidate.version && (bytes_eq name.names
 abbrev pub versions_of : PackageName → List (PackageName × ℕ) → List (PackageName × ℕ)
 versions_of name names = filter (λ (e : PackageName × ℕ). is_none name.version && is_version_of name e.0) names
 
--- the only one of some packages
+-- the only one of some packages: else there is none of the name, or a name without a version may mean two
 abbrev pub only_version : PackageName → List (PackageName × ℕ) → Choice
-only_version name [] = Err (unknown_text name)
+only_version name [] = Err (codes "unknown package `" ++ (package_name_text name ++ codes "`"))
 only_version name (e ∷ []) = Ok e.1
-only_version name (a ∷ b ∷ rest) = Err (several_versions_text name a.0 b.0)
+only_version name (a ∷ b ∷ rest) = Err
+    (codes "package name `" ++ (package_name_text name ++ (codes "` is available at both versions " ++ (version_part a.0.version ++ (codes " and " ++ (version_part b.0.version ++ codes " but which is not specified"))))))
 
 -- the package of exactly that name, else without a version the one versioned package of that name
 abbrev pub named_package : List (PackageName × ℕ) → PackageName → Choice
@@ -105,13 +74,14 @@ named_package names name = option_map_or Ok (lookup (same_package name) names) (
 
 -- the world of that name in a package
 abbrev pub named_world : List ℕ → Package → Choice
-named_world name home = ok_or (lookup (bytes_eq name) home.worlds) (no_world_text name home.name)
+named_world name home = ok_or (lookup (bytes_eq name) home.worlds) (codes "World `" ++ (name ++ (codes "` not found in package `" ++ (package_name_text home.name ++ codes "`"))))
 
--- the only world of a package
+-- the only world of a package: else it has none, or several, each told on a line, in the order of its table
 abbrev pub only_world : Graph → ℕ → Package → List (List ℕ × ℕ) → Choice
-only_world g p home [] = Err (empty_text home.name)
+only_world g p home [] = Err (codes "The main package `" ++ (package_name_text home.name ++ codes "` contains no worlds"))
 only_world g p home (e ∷ []) = Ok e.1
-only_world g p home (a ∷ b ∷ rest) = Err (several_worlds_text g p home)
+only_world g p home (a ∷ b ∷ rest) = Err
+    (codes "There are multiple worlds in `" ++ (package_name_text home.name ++ (codes "`; one must be explicitly chosen:" ++ flat_map (λ (e : List ℕ × ℕ). world_line (id_text g.packages p e.0)) home.worlds)))
 
 -- what is chosen in package p, which is there
 abbrev pub in_package : Graph → ℕ → (Package → Choice) → Choice
@@ -132,7 +102,7 @@ by_path g (p ∷ q ∷ mains) chosen = Err (several_mains_text g)
 
 -- by a text, as it reads
 abbrev pub by_reading : Graph → List ℕ → List ℕ → Option ParsedUsePath → Choice
-by_reading g mains text None = Err (no_path_text text)
+by_reading g mains text None = Err (codes "failed to parse world specifier `" ++ (text ++ codes "`: invalid use path"))
 by_reading g mains text (Some chosen) = by_path g mains (Some chosen)
 
 -- the world that is chosen among the main packages, by a text or by none, or what is said

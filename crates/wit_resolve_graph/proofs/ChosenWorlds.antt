@@ -16,7 +16,8 @@ use Rattle.wit_graph_data.specs.declared.graph.Graph.{Graph}
 use Rattle.wit_graph_data.specs.declared.graph.Package.{Package}
 use Rattle.wit_graph_data.specs.declared.error_kind.ResolveErrorKind.{ResolveErrorKind}
 use Rattle.wit_graph_theory.specs.facts.ListFacts.{found_at, place_of}
-use Rattle.wit_queries.specs.Selection.{Choice, IsSelection, by_path, by_reading, in_named, in_package, named_package, named_world, no_main_text, no_world_text, only_world, selected_world}
+use Rattle.wit_queries.specs.Selection.{Choice, IsSelection, by_path, by_reading, in_named, in_package, named_package, named_world, no_main_text, only_world, selected_world}
+use Rattle.wit_queries.specs.steps.Parts.{no_world_text}
 
 -- the world stands in the table of a package
 record IsTabled (g : Graph) (id : ℕ) : Type 0 where

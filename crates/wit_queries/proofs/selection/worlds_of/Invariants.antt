@@ -1,8 +1,9 @@
 use Rattle.std.proofs.Common.{◌≡◌, ◌++◌, ℕ, List, string_bytes}
 use Rattle.std.specs.List.{flat_map}
 use Rattle.wit_graph_data.specs.IdText.{id_text}
-use Rattle.wit_queries.specs.Selection.{package_world_lines, world_line}
+use Rattle.wit_queries.specs.Selection.{world_line}
 use Rattle.wit_queries.proofs.selection.worlds_of.Given as goal
+use Rattle.wit_queries.specs.steps.Parts.{package_world_lines}
 
 -- the lines so far, and those of the worlds that are left
 abbrev pub invariant-loop-name : goal.invariant-loop-name
