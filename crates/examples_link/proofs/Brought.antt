@@ -159,22 +159,20 @@ included_causes = record {
         at = (exporting_include 0).at;
         whole = _;
         whole_is = refl;
-        cause = conflict_4 (codes "foo:bar/c") (record {
-          conflict = (2, 1, (0, lit< tt, refl), (0, lit< tt, refl), (b_outside, 0, (0 ∷ [], ((0, lit< tt, refl), refl)), (1, lit< tt, refl)));
-          name_is = (
-            key.Interface 2,
-            (
-              [],
-              entry_of 2,
-              entry_of 0 ∷ [],
+        cause = conflict_4 (codes "foo:bar/c")
+            (2, 1, (0, lit< tt, refl), (0, lit< tt, refl), (b_outside, 0, (0 ∷ [], ((0, lit< tt, refl), refl)), (1, lit< tt, refl))) (
+              key.Interface 2,
+              (
+                [],
+                entry_of 2,
+                entry_of 0 ∷ [],
+                refl,
+                λ e inside. absurd (none_in e inside),
+                (2, (0, lit< tt, refl), (1, 1, (0, lit< tt, refl), ([], refl), (b_outside, 0, (0 ∷ [], ((0, lit< tt, refl), refl)), (1, lit< tt, refl)))),
+                refl,
+              ),
               refl,
-              λ e inside. absurd (none_in e inside),
-              (2, (0, lit< tt, refl), (1, 1, (0, lit< tt, refl), ([], refl), (b_outside, 0, (0 ∷ [], ((0, lit< tt, refl), refl)), (1, lit< tt, refl)))),
-              refl,
-            ),
-            refl,
-          );
-        });
+            );
       }));
   closed = λ span name c.
       let found = of_conflict (exporting 1) span name c in

@@ -24,13 +24,13 @@ use Rattle.wit_link_spec.specs.Addition.{Addition}
 use Rattle.wit_link_spec.specs.Cause.{IsAdditionCause}
 use Rattle.wit_link_spec.specs.facts.Linked.{IncludeIsReached}
 use Rattle.wit_link_spec.specs.Cause as reason
-use Rattle.wit_link_spec.specs.WorldReasons.{IsFinishCause, LabelsClash, SetterIsAlone, WorldIsInConflict, IsFirstUnmatched, IsIncludeCause, LabelIsTaken, StabilitiesAreApart, IsCauseAtFinish, IsCauseAtInclude, IsCauseAtWorld}
+use Rattle.wit_link_spec.specs.WorldReasons.{IsFinishCause, LabelsClash, SetterIsAlone, IsFirstUnmatched, IsIncludeCause, LabelIsTaken, StabilitiesAreApart, IsCauseAtFinish, IsCauseAtInclude, IsCauseAtWorld}
 use Rattle.wit_link_spec.specs.Gates.{OptionalSpan}
 use Rattle.wit_link_spec.specs.Include.{EntryLists, IsListCalled, PartiallyLinked, lists_of}
 use Rattle.wit_link_spec.specs.Reasons.{ForeignTypeMissing, HasExcludedOwner, IsDuplicate, IsNoResource, IsUnreleased, LacksInterface, LacksPackage, LacksVersion, LacksWorld, RefersToExcluded, ReturnsBorrow}
 use Rattle.wit_link_spec.specs.WorldReasons as world
 use Rattle.examples_link.proofs.AtWorlds.{HaveLists, made, written}
-use Rattle.wit_link_spec.specs.steps.Parts.{AdditionOverflows}
+use Rattle.wit_link_spec.specs.steps.Parts.{AdditionOverflows, WorldIsInConflict}
 
 -- ---- an include, and a world that is finished
 
@@ -52,7 +52,7 @@ module _ (home : ℕ) (b : PartiallyLinked) (i : WorldInclude) (old : World) whe
 
 module _ (g : Graph) (w : World) where
   pub conflict_in : (span : OptionalSpan) (name : List ℕ) → IsFinishCause g w (InvalidTransitiveDependency span name) → WorldIsInConflict g w name
-  conflict_in _ _ (world.conflict_4 name is) = is
+  conflict_in _ _ (world.conflict_4 name conflict name_is) = record { conflict = conflict; name_is = name_is }
 
   clash_in : (span : OptionalSpan) (message : List ℕ) → IsFinishCause g w (Semantic span message cause.NotStronglyUnique) → (word : List ℕ) × (n : List ℕ) × (m : List ℕ) × LabelsClash w word n m
   clash_in _ _ (world.not_strongly_unique_17 word n m is) = (word, n, m, is)
@@ -62,7 +62,7 @@ module _ (g : Graph) (w : World) where
 
   finish_number : (numbers : List ℕ) → list_any (nat_eq 4) numbers ≡ true → list_any (nat_eq 17) numbers ≡ true → list_any (nat_eq 18) numbers ≡ true → (error : ResolveErrorKind) → IsFinishCause g w error
       → list_any (nat_eq (error_number error)) numbers ≡ true
-  finish_number numbers four seventeen eighteen _ (world.conflict_4 name is) = four
+  finish_number numbers four seventeen eighteen _ (world.conflict_4 name conflict name_is) = four
   finish_number numbers four seventeen eighteen _ (world.not_strongly_unique_17 word n m is) = seventeen
   finish_number numbers four seventeen eighteen _ (world.no_getter_18 word label f is) = eighteen
 

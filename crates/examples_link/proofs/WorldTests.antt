@@ -272,7 +272,7 @@ module _ (a : Addition) (k : ℕ) (y : AtWorld a k) where
   plain_accepted p includes _ (of_finish error image accepted is) = none error is.cause
     where
       none : (error : ResolveErrorKind) → IsFinishCause is.whole.graph (unfinished_world a is.at.id is.at.world is.whole.lists) error → ⊥
-      none _ (conflict_4 name c) = plain_exports p _ name (record { at = is.at; whole = is.whole; whole_is = is.whole_is; cause = conflict_4 name c })
+      none _ (conflict_4 name conflict name_is) = plain_exports p _ name (record { at = is.at; whole = is.whole; whole_is = is.whole_is; cause = conflict_4 name conflict name_is })
       none _ (not_strongly_unique_17 word n m c) =
           plain_labels p (clash_at a k _ _ (of_finish _ image accepted (record { at = is.at; whole = is.whole; whole_is = is.whole_is; cause = not_strongly_unique_17 word n m c })))
       none _ (no_getter_18 word label f c) =

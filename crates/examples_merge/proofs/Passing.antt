@@ -35,7 +35,7 @@ use Rattle.wit_graph_theory.specs.examples.TestFacts.{all_are, all_at, all_uses,
 use Rattle.wit_link_spec.specs.Gates.{OptionalSpan}
 use Rattle.wit_remap_spec.specs.Borrows.{HoldsBorrow}
 use Rattle.wit_remap_spec.specs.Joined.{Disagree, HasStability}
-use Rattle.wit_merge_spec.specs.Cause.{EntriesDiffer, ItemsDiffer, same_sort, AreJoined, HasNoMismatch, IsMergeCause, MergeIsAccepted, MergeReturnsBorrow, StabilitiesMismatch}
+use Rattle.wit_merge_spec.specs.Cause.{EntriesDiffer, ItemsDiffer, same_sort, AreJoined, HasNoMismatch, IsMergeCause, MergeIsAccepted, MergeReturnsBorrow}
 use Rattle.wit_merge_spec.specs.Cause as merging
 use Rattle.wit_merge_spec.specs.Matches.{FirstDiffers, GraphMerge, Pair, TypePair, counterpart_interface, counterpart_item, counterpart_type, counterpart_world, matched_interface, matched_world, type_pairs}
 use Rattle.wit_merge_spec.specs.MismatchText.{side_word}
@@ -44,7 +44,7 @@ use Rattle.wit_merge_spec.specs.facts.DifferenceFacts.{same_no_first}
 use Rattle.wit_merge_spec.specs.Structure.{Feature, structure}
 use Rattle.wit_merge_laws.specs.facts.InterfacesStand.{option_is, option_so}
 use Rattle.wit_elaboration.specs.steps.Parts.{exported_interfaces, graph_package_uses}
-use Rattle.wit_merge_spec.specs.steps.Parts.{StructuresDiffer, graph_spans, MergeOverflows}
+use Rattle.wit_merge_spec.specs.steps.Parts.{StructuresDiffer, graph_spans, MergeOverflows, StabilitiesMismatch}
 
 -- ---- interfaces
 
@@ -282,7 +282,7 @@ pub record Passes (m : GraphMerge) : Type 0 where
 pub can_merge : (m : GraphMerge) → Passes m → MergeIsAccepted m
 can_merge m p _ (merging.conflict_4 span name one c) = in_no_conflict m p.exports span name c
 can_merge m p _ (merging.package_cycle_6 home one c) = no_cycle (λ p. p) (graph_package_uses (joined_graph m)) p.packages c.p c.q c.on_cycle
-can_merge m p _ (merging.mismatch_8 from into c) = joined_accepted m p.gates from into c
+can_merge m p _ (merging.mismatch_8 from into joined apart) = joined_accepted m p.gates from into (record { joined = joined; apart = apart })
 can_merge m p _ (merging.borrow_in_result_15 message one c) = results_fine m p.results message c
 can_merge m p _ (merging.interface_cycle_22 message one c) = no_cycle p.rank (graph_uses (joined_graph m)) p.uses c.i c.j c.on_cycle
 can_merge m p _ (merging.merge_mismatch_24 message c) = are_one m p.interfaces p.worlds p.types message c

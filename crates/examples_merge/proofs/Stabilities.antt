@@ -10,13 +10,14 @@ use Rattle.wit_graph_data.specs.declared.graph.Graph.{Graph}
 use Rattle.wit_graph_theory.specs.examples.TestFacts.{feature_of}
 use Rattle.wit_link_spec.specs.Gates.{OptionalSpan}
 use Rattle.wit_remap_spec.specs.Joined.{Disagree}
-use Rattle.wit_merge_spec.specs.Cause.{AreJoined, IsMergeCause, StabilitiesMismatch}
+use Rattle.wit_merge_spec.specs.Cause.{AreJoined, IsMergeCause}
 use Rattle.wit_merge_spec.specs.Cause as merging
 use Rattle.wit_merge_spec.specs.Matches.{GraphMerge}
 use Rattle.wit_merge_spec.specs.Structure.{structure, structure_within}
 use Rattle.examples_merge.proofs.Passing.{GatesJoin, can_merge, joined_accepted}
 use Rattle.examples_merge.specs.Graphs.{gate_f, gate_g, merge_of_graphs}
 use Rattle.examples_merge.specs.Stabilities.{Disagrees, DisagreesNowhere, ExamplesOfStabilities}
+use Rattle.wit_merge_spec.specs.steps.Parts.{StabilitiesMismatch}
 
 other_feature : gate_g ≡ gate_f → ⊥
 other_feature same = differ (codes "g") (codes "f") refl (ap feature_of same)
@@ -27,10 +28,10 @@ gates_apart = record { from_known = λ same. cc; into_known = λ same. cc; diffe
 
 -- where they are joined 8 is told
 pub disagreeing : (g other : Graph) → AreJoined (merge_of_graphs g other) gate_g gate_f → Disagrees g other
-disagreeing g other joined = merging.mismatch_8 gate_g gate_f (record { joined = joined; apart = gates_apart })
+disagreeing g other joined = merging.mismatch_8 gate_g gate_f joined gates_apart
 
 of_mismatch : (m : GraphMerge) (span : OptionalSpan) (from into : Stability) → IsMergeCause m (StabilityMismatch span from into) → StabilitiesMismatch m from into
-of_mismatch m _ _ _ (merging.mismatch_8 from into c) = c
+of_mismatch m _ _ _ (merging.mismatch_8 from into joined apart) = record { joined = joined; apart = apart }
 
 -- where all are joined it isn't
 pub nowhere : (g other : Graph) → GatesJoin (merge_of_graphs g other) → DisagreesNowhere g other

@@ -146,6 +146,6 @@ two_reasons = record {
   would_return = would_return;
   no_borrow = λ span message c. one_of_borrow t_differs span message c _ t_differ;
   i_told = merging.merge_mismatch_24 _ i_differ;
-  gates_beside = merging.mismatch_8 gate_g gate_f (record { joined = merging.interfaces (record { x = 0; from = _; x' = 0; into = _; from_is = refl; matched = refl; into_is = refl }); apart = gates_apart });
+  gates_beside = merging.mismatch_8 gate_g gate_f (merging.interfaces (record { x = 0; from = _; x' = 0; into = _; from_is = refl; matched = refl; into_is = refl })) gates_apart;
   too_far_beside = merging.offset_overflow_27 5 10 (0, lit< tt, refl) (lit≤ tt);
 }

@@ -10,13 +10,14 @@ use Rattle.wit_graph_data.specs.declared.error_kind.ResolveErrorKind.TheVariants
 use Rattle.wit_graph_data.specs.declared.graph.Package.{Package}
 use Rattle.wit_remap_spec.specs.FunctionMismatch.{HaveFunctionMismatch}
 use Rattle.wit_graph_theory.specs.examples.TestFacts.{all_uses, falls, no_cycle, none_some, only_one}
-use Rattle.wit_merge_spec.specs.Cause.{GraphsDiffer, AreJoined, IsMergeCause, MergeIsAccepted, StabilitiesMismatch}
+use Rattle.wit_merge_spec.specs.Cause.{GraphsDiffer, AreJoined, IsMergeCause, MergeIsAccepted}
 use Rattle.wit_merge_spec.specs.Cause as merging
 use Rattle.wit_merge_spec.specs.Matches.{GraphMerge, Pair, counterpart_interface, counterpart_type, counterpart_world}
 use Rattle.wit_merge_spec.specs.Merged.{joined_graph}
 use Rattle.wit_merge_spec.specs.Structure.{DifferInStructure, Feature, structure, structure_within}
 use Rattle.examples_script.specs.SmallGraphs.{bare, gate, gated}
 use Rattle.wit_elaboration.specs.steps.Parts.{graph_package_uses}
+use Rattle.wit_merge_spec.specs.steps.Parts.{StabilitiesMismatch}
 
 no_pair : {X : Type 0} (found : ℕ → Option ℕ) (ours : List X) → Pair found [] ours → ⊥
 no_pair found ours p = let is = p.from_is in cc
@@ -55,7 +56,7 @@ module _ (ps : List Package) (ns : List (PackageName × ℕ)) (qs : List Package
     pub packages_merge : MergeIsAccepted of_packages
     packages_merge _ (merging.conflict_4 span name one c) = Contains-nil c.there
     packages_merge _ (merging.package_cycle_6 home one c) = no_cycle (λ p. p) (graph_package_uses (joined_graph of_packages)) falling c.p c.q c.on_cycle
-    packages_merge _ (merging.mismatch_8 from into c) = none_joined from into c.joined
+    packages_merge _ (merging.mismatch_8 from into joined apart) = none_joined from into joined
     packages_merge _ (merging.borrow_in_result_15 message one c) = Contains-nil c.moved
     packages_merge _ (merging.interface_cycle_22 message one c) = no_cycle (λ i. i) (graph_uses (joined_graph of_packages)) refl c.i c.j c.on_cycle
     packages_merge _ (merging.merge_mismatch_24 message c) = none_differ message c
@@ -75,7 +76,7 @@ module _ (f g : List ℕ) (offset : ℕ) where
   gates_joined _ _ (merging.entries p exported i i' from into matched comes there) = absurd (no_pair (counterpart_world of_gates) [] p)
 
   of_mismatch : (span : OptionalSpan) (from into : Stability) → IsMergeCause of_gates (StabilityMismatch span from into) → StabilitiesMismatch of_gates from into
-  of_mismatch _ _ _ (merging.mismatch_8 from into c) = c
+  of_mismatch _ _ _ (merging.mismatch_8 from into joined apart) = record { joined = joined; apart = apart }
 
   -- 8 is told of these, in this order
   pub told_gates : (span : OptionalSpan) (from into : Stability) → IsMergeCause of_gates (StabilityMismatch span from into) → (gate g ≡ from) × (gate f ≡ into)
@@ -83,10 +84,9 @@ module _ (f g : List ℕ) (offset : ℕ) where
 
   -- where they differ it is told
   pub gates_apart : (gate g ≡ gate f → ⊥) → IsMergeCause of_gates (StabilityMismatch None (gate g) (gate f))
-  gates_apart apart = merging.mismatch_8 (gate g) (gate f) (record {
-    joined = merging.interfaces (record { x = 0; from = _; x' = 0; into = _; from_is = refl; matched = refl; into_is = refl });
-    apart = record { from_known = λ same. cc; into_known = λ same. cc; differ = apart };
-  })
+  gates_apart apart =
+      merging.mismatch_8 (gate g) (gate f) (merging.interfaces (record { x = 0; from = _; x' = 0; into = _; from_is = refl; matched = refl; into_is = refl }))
+      (record { from_known = λ same. cc; into_known = λ same. cc; differ = apart })
 
   no_function : (from into : Interface) (k : ℕ) (text : List ℕ) → slice_get (gated g).interfaces k ≡ Some from → HaveFunctionMismatch from into text → ⊥
   no_function from into k text at have = Contains-nil (subst (λ (i : Interface). Contains i.functions (have.name, have.function)) (sym (the_one _ from k at)) have.has)
@@ -103,7 +103,7 @@ module _ (f g : List ℕ) (offset : ℕ) where
     pub gates_merge : MergeIsAccepted of_gates
     gates_merge _ (merging.conflict_4 span name one c) = Contains-nil c.there
     gates_merge _ (merging.package_cycle_6 home one c) = no_cycle (λ p. p) (graph_package_uses (joined_graph of_gates)) refl c.p c.q c.on_cycle
-    gates_merge _ (merging.mismatch_8 from into c) = join from into c
+    gates_merge _ (merging.mismatch_8 from into joined apart) = join from into (record { joined = joined; apart = apart })
     gates_merge _ (merging.borrow_in_result_15 message one c) = Contains-nil c.moved
     gates_merge _ (merging.interface_cycle_22 message one c) = no_cycle (λ i. i) (graph_uses (joined_graph of_gates)) refl c.i c.j c.on_cycle
     gates_merge _ (merging.merge_mismatch_24 message c) = agree message c

@@ -43,10 +43,13 @@ entry_interface types (item.Interface id stability docs span external_id) = Some
 entry_interface types (item.Function function) = None
 entry_interface types (item.Type_ id span) = type_interface_dep types id
 
+-- the interfaces that some entries name, in order
+abbrev pub entry_interfaces : List TypeDef → List (WorldKey × WorldItem) → List ℕ
+entry_interfaces types entries = filter_map (λ (e : WorldKey × WorldItem). entry_interface types e.1) entries
+
 -- the interfaces that a world names, those of its imports first
 abbrev pub world_interfaces : List TypeDef → World → List ℕ
-world_interfaces types world =
-    filter_map (λ (e : WorldKey × WorldItem). entry_interface types e.1) world.imports ++ filter_map (λ (e : WorldKey × WorldItem). entry_interface types e.1) world.exports
+world_interfaces types world = entry_interfaces types world.imports ++ entry_interfaces types world.exports
 
 -- what the interfaces of a package use, in the order of its table, and then what its worlds name, in the
 -- order of theirs

@@ -68,7 +68,7 @@ conflict_cause g world (PackageNotFound span requested known) is = absurd is
 conflict_cause g world (WorldNotFound span requested home) is = absurd is
 conflict_cause g world (InterfaceNotFound span requested home) is = absurd is
 conflict_cause g world (InvalidTransitiveDependency span name) is =
-    inr (subst (λ s. IsFinishCause g world (InvalidTransitiveDependency s name)) (sym is.1) (conflict_4 name (record { conflict = is.0; name_is = is.2 })))
+    inr (subst (λ s. IsFinishCause g world (InvalidTransitiveDependency s name)) (sym is.1) (conflict_4 name is.0 is.2))
 conflict_cause g world (DuplicatePackage name span1 span2) is = absurd is
 conflict_cause g world (PackageCycle span home) is = absurd is
 conflict_cause g world (ItemShadowing span word name) is = absurd is
@@ -86,6 +86,6 @@ list_of_both world word entries labels (inr is) error found =
     labels.exports.no_cause error (subst (λ (w : List ℕ). IsListError world.name w world.exports error) is.0 (subst (λ (l : List Entry). IsListError world.name word l error) is.1 found))
 
 pub finish_accepted : (g : Graph) (world : World) → LabelsAreAccepted world → (HasTransitiveConflict (graph_uses g) (setters_placed world.exports) → ⊥) → NoCause (IsFinishCause g world)
-finish_accepted g world labels no_conflict _ (conflict_4 name is) = no_conflict is.conflict
+finish_accepted g world labels no_conflict _ (conflict_4 name conflict name_is) = no_conflict conflict
 finish_accepted g world labels no_conflict _ (not_strongly_unique_17 word n m is) = list_of_both world word is.entries labels is.list _ (clash n m is.clash)
 finish_accepted g world labels no_conflict _ (no_getter_18 word label f is) = list_of_both world word is.entries labels is.list _ (alone label f is.setter is.absent)

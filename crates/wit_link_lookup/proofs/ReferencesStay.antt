@@ -20,13 +20,12 @@ use Rattle.wit_graph_data.specs.declared.error_kind.ResolveErrorKind.TheVariants
 use Rattle.wit_graph_theory.specs.facts.ListFacts.{Contains-map, Contains-map_cases, contained_at, place_of}
 use Rattle.wit_link_spec.specs.Addition.{Addition}
 use Rattle.wit_link_spec.specs.Cause.{IsAdditionCause, excluded_11, excluded_owner_12}
-use Rattle.wit_link_spec.specs.CauseText.{excluded_text}
+use Rattle.wit_link_spec.specs.CauseText.{excluded_text, excluded_owner_text}
 use Rattle.wit_link_spec.specs.Gates.{HasEntry, OptionalSpan, world_is_active}
 use Rattle.wit_link_spec.specs.steps.Passed.{NeedsNothingExcluded}
 use Rattle.wit_link_spec.specs.Reasons.{AType, AWorld, AnInterface, IsActiveFunction, IsExcluded, Thing, kind_references, of_entry, of_foreign_type, of_function, of_include, of_interface, of_type, of_world, owner_thing, word_of}
 use Rattle.wit_link_lookup.specs.steps.FeatureSteps.{FieldStays, FunctionsStay, IsActiveType, IsReferred, ItemStays, KindRefers, KindStays, MayRefuse, PartsStay, RefersByItem, RefersInField, Stays, TypesStay, seen, thing_is_active}
 use Rattle.wit_link_lookup.specs.declared.checker.Checker.{Checker}
-use Rattle.wit_link_spec.specs.steps.Parts.{excluded_owner_text}
 
 -- ---- what is active is not left out
 

@@ -10,11 +10,10 @@ ghost use Rattle.wit_graph_data.specs.declared.cause.Cause.TheVariants as cause;
 ghost use Rattle.wit_graph_data.specs.declared.error_kind.ResolveErrorKind.TheVariants.{OutOfMemory, Semantic};
 ghost use Rattle.wit_link_spec.specs.steps.AdditionRefs.{activity_of, addition_of};
 ghost use Rattle.wit_link_spec.specs.Cause.{IsAdditionCause};
-ghost use Rattle.wit_link_spec.specs.CauseText.{excluded_text};
+ghost use Rattle.wit_link_spec.specs.CauseText.{excluded_text, excluded_owner_text};
 ghost use Rattle.wit_link_spec.specs.steps.Passed.{NeedsNothingExcluded};
 ghost use Rattle.wit_link_spec.specs.Reasons.{AType, word_of};
 ghost use Rattle.wit_link_lookup.specs.steps.FeatureSteps.{FieldStays, ForeignStays, FunctionStays, FunctionsStay, IncludeStays, IsActiveType, IsCheckerReady, IsReferred, ItemStays, KindRefers, KindStays, MayBeActive, MayRefuse, OwnerStays, PartsStay, RefersByInclude, RefersByItem, RefersInField, Stays, TypeStays, TypesStay, seen, thing_is_active, thing_of};
-ghost use Rattle.wit_link_spec.specs.steps.Parts.{excluded_owner_text};
 
 use crate::checker::Checker;
 use crate::needs::{Needed, flag_at};

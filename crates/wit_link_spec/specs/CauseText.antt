@@ -6,6 +6,10 @@ use Rattle.std.specs.Prelude.{ℕ, List, ◌++◌, codes}
 abbrev pub excluded_text : List ℕ → List ℕ
 excluded_text sort = codes "found a reference to a " ++ (sort ++ codes " which is excluded due to its feature not being activated")
 
+-- 12: a type whose owner is left out; sort is `interface` or `world`
+abbrev pub excluded_owner_text : List ℕ → List ℕ
+excluded_owner_text sort = excluded_text sort ++ (codes "; this type is not gated by a feature but its " ++ (sort ++ codes " is"))
+
 -- 17: two labels that are not strongly unique; list is `import` or `export`
 abbrev pub clash_text : List ℕ → List ℕ → List ℕ → List ℕ → List ℕ
 clash_text list n world m =

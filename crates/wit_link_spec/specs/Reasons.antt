@@ -31,7 +31,7 @@ use Rattle.wit_data.specs.declared.world.WorldItem.TheVariants as item
 use Rattle.wit_graph_data.specs.Queries.{type_contents}
 use Rattle.wit_graph_data.specs.declared.graph.Graph.{Graph}
 use Rattle.wit_link_spec.specs.Addition.{Addition}
-use Rattle.wit_link_spec.specs.CauseText.{excluded_text}
+use Rattle.wit_link_spec.specs.CauseText.{excluded_text, excluded_owner_text}
 use Rattle.wit_remap_spec.specs.Borrows.{borrow_text, HoldsBorrow}
 use Rattle.wit_link_spec.specs.Gates.{OptionalSpan, HasEntry, IsAsked, interface_is_active, is_active, type_is_active, world_is_active}
 use Rattle.wit_link_spec.specs.Lookup.{find_interface, find_world, foreign_interface_id, foreign_type_id, is_foreign_type, named_items}
@@ -192,7 +192,7 @@ pub record HasExcludedOwner (a : Addition) (span : OptionalSpan) (message : List
   pub owner : owner_thing def.owner ≡ thing ∷ []
   pub excluded : IsExcluded a thing
   pub span_is : span ≡ moved_by a.offset def.span
-  pub message_is : message ≡ excluded_text (word_of thing) ++ (codes "; this type is not gated by a feature but its " ++ (word_of thing ++ codes " is"))
+  pub message_is : message ≡ excluded_owner_text (word_of thing)
 
 -- ---- 13, 14: foreign types that aren't there, or aren't resources
 

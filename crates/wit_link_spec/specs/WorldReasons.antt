@@ -39,11 +39,6 @@ use Rattle.wit_labels.specs.Strong.{Clashes}
 -- is what is made of it). The table at the end has each cause with its number, its span and what it tells.
 -- Source: `process_world_includes`, `validate_world_strongly_unique_names` and `elaborate_world` of wit-parser 0.263.0.
 
--- 4: what its exports need from outside is exported; by the name of the first export that leads there
-pub record WorldIsInConflict (g : Graph) (world : World) (name : List ℕ) : Type 0 where
-  pub conflict : HasTransitiveConflict (graph_uses g) (setters_placed world.exports)
-  pub name_is : IsRefusedName g.packages g.interfaces (graph_uses g) (setters_placed world.exports) name
-
 -- 17: labels n and m of one of its lists are not strongly unique
 pub record LabelsClash (world : World) (word n m : List ℕ) : Type 0 where
   pub entries : List Entry
@@ -59,7 +54,9 @@ pub record SetterIsAlone (world : World) (word label : List ℕ) (f : Function) 
 
 -- the causes of a world that is finished, in the order of their numbers
 pub data IsFinishCause (g : Graph) (world : World) : ResolveErrorKind → Type 0 where
-  conflict_4 : (name : List ℕ) → WorldIsInConflict g world name → IsFinishCause g world (InvalidTransitiveDependency world.span name)
+  -- what its exports need from outside is exported; by the name of the first export that leads there
+  conflict_4 : (name : List ℕ) → HasTransitiveConflict (graph_uses g) (setters_placed world.exports)
+      → IsRefusedName g.packages g.interfaces (graph_uses g) (setters_placed world.exports) name → IsFinishCause g world (InvalidTransitiveDependency world.span name)
   not_strongly_unique_17 : (word n m : List ℕ) → LabelsClash world word n m → IsFinishCause g world (Semantic None (clash_text word n world.name m) cause.NotStronglyUnique)
   no_getter_18 : (word label : List ℕ) (f : Function) → SetterIsAlone world word label f
       → IsFinishCause g world (Semantic f.span (getter_text word label world.name (getter_label label)) cause.NoGetter)

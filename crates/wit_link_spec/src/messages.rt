@@ -1,7 +1,6 @@
 //! What is said of what is left out.
 ghost use Rattle.std.specs.Prelude.{◌≡◌, IfOk, string_bytes};
-ghost use Rattle.wit_link_spec.specs.CauseText.{excluded_text};
-ghost use Rattle.wit_link_spec.specs.steps.Parts.{excluded_owner_text};
+ghost use Rattle.wit_link_spec.specs.CauseText.{excluded_text, excluded_owner_text};
 
 use std::alloc::{AllocError, Global};
 

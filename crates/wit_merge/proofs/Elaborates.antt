@@ -63,7 +63,7 @@ module _ (m : GraphMerge) (valid : IsValid m.graph) (valid_other : IsValid m.oth
 pub can_merge : (m : GraphMerge) → DoAgree m → ((message : List ℕ) → MergeReturnsBorrow m message → ⊥) → ((e : ResolveErrorKind) → ElaborationCause (joined_graph m) e → ⊥) → MergeIsAccepted m
 can_merge m agree none settled e (conflict_4 span name whole is) = settled e (settles.conflict_4 span name is)
 can_merge m agree none settled e (package_cycle_6 home whole is) = settled e (settles.package_cycle_6 home is)
-can_merge m agree none settled e (mismatch_8 from into is) = agree.stabilities from into is
+can_merge m agree none settled e (mismatch_8 from into joined apart) = agree.stabilities from into (record { joined = joined; apart = apart })
 can_merge m agree none settled e (borrow_in_result_15 message whole is) = none message is
 can_merge m agree none settled e (interface_cycle_22 message whole is) = settled e (settles.interface_cycle_22 message is)
 can_merge m agree none settled e (merge_mismatch_24 message is) = agree.one message is

@@ -25,10 +25,11 @@ use Rattle.wit_sources.specs.Span.{OptionalSpan}
 use Rattle.wit_remap_spec.specs.Joined.{Disagree, HasStability}
 use Rattle.wit_merge_spec.specs.Matches.{GraphMerge, Pair, counterpart_interface, counterpart_type, counterpart_world}
 use Rattle.wit_merge_spec.specs.Cause as reasons
-use Rattle.wit_merge_spec.specs.Cause.{AreJoined, StabilitiesMismatch}
+use Rattle.wit_merge_spec.specs.Cause.{AreJoined}
 use Rattle.wit_merge_match.specs.steps.Stabilities as stabilities
 use Rattle.wit_merge_match.specs.steps.Stabilities.{AreApart, EntriesApart, EntryApart, InterfacesApartAt, TypesApartAt, WorldsApart, WorldsApartAt, matched_stability, own_stability}
 use Rattle.wit_merge_match.proofs.Steps.{NoneBelow, from_pair, to_pair}
+use Rattle.wit_merge_spec.specs.steps.Parts.{StabilitiesMismatch}
 
 -- ---- entries
 

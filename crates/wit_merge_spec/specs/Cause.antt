@@ -82,8 +82,6 @@ pub data GraphsDiffer (m : GraphMerge) : List ℕ → Type 0 where
 abbrev pub HasNoMismatch : GraphMerge → Type 0
 HasNoMismatch m = (message : List ℕ) → GraphsDiffer m message → ⊥
 
--- ---- 8: stabilities
-
 -- a stability of a matched thing, and the one to which it is joined: of types, interfaces, worlds, and of entries of
 -- matched worlds under the keys of matched interfaces
 pub data AreJoined (m : GraphMerge) : Stability → Stability → Type 0 where
@@ -92,11 +90,6 @@ pub data AreJoined (m : GraphMerge) : Stability → Stability → Type 0 where
   worlds : (p : Pair (counterpart_world m) m.other.worlds m.graph.worlds) → AreJoined m p.from.stability p.into.stability
   entries : (p : Pair (counterpart_world m) m.other.worlds m.graph.worlds) (exported : Bool) (i i' : ℕ) (from into : Stability) → counterpart_interface m i ≡ Some i'
       → HasStability (entries_of exported p.from) i from → HasStability (entries_of exported p.into) i' into → AreJoined m from into
-
--- 8: two that are joined are known and differ
-pub record StabilitiesMismatch (m : GraphMerge) (from into : Stability) : Type 0 where
-  pub joined : AreJoined m from into
-  pub apart : Disagree from into
 
 -- ---- 15: a borrow in a result
 
@@ -113,7 +106,8 @@ pub record MergeReturnsBorrow (m : GraphMerge) (message : List ℕ) : Type 0 whe
 pub data IsMergeCause (m : GraphMerge) : ResolveErrorKind → Type 0 where
   conflict_4 : (span : OptionalSpan) (name : List ℕ) → HasNoMismatch m → HasWorldInConflict (joined_graph m) span name → IsMergeCause m (InvalidTransitiveDependency span name)
   package_cycle_6 : (home : PackageName) → HasNoMismatch m → DependsOnItself (joined_graph m) home → IsMergeCause m (PackageCycle None home)
-  mismatch_8 : (from into : Stability) → StabilitiesMismatch m from into → IsMergeCause m (StabilityMismatch None from into)
+  -- two stabilities that are joined are known and differ
+  mismatch_8 : (from into : Stability) → AreJoined m from into → Disagree from into → IsMergeCause m (StabilityMismatch None from into)
   borrow_in_result_15 : (message : List ℕ) → HasNoMismatch m → MergeReturnsBorrow m message → IsMergeCause m (Semantic None message cause.BorrowInResult)
   interface_cycle_22 : (message : List ℕ) → HasNoMismatch m → UsesItself (joined_graph m) message → IsMergeCause m (Semantic None message cause.InterfaceCycle)
   merge_mismatch_24 : (message : List ℕ) → GraphsDiffer m message → IsMergeCause m (Semantic None message cause.MergeMismatch)

@@ -1,9 +1,8 @@
 //! The next of what the entries of a table name.
 ghost use Rattle.std.specs.Prelude.{◌≡◌, ◌∷◌, ℕ, List, [], MatchOption, filter_map};
-ghost use Rattle.wit_graph_data.specs.Queries.{entry_interface, other_package};
+ghost use Rattle.wit_graph_data.specs.Queries.{entry_interface, other_package, entry_interfaces};
 ghost use Rattle.wit_data.specs.Uses.{type_interface_dep};
 ghost use Rattle.wit_queries.specs.RemainingUses.{remaining_interfaces, remaining_uses};
-ghost use Rattle.wit_graph_data.specs.steps.Parts.{entry_interfaces};
 
 use crate::interface_deps::InterfaceDirectDeps;
 use crate::world_deps::WorldInterfaces;

@@ -20,7 +20,7 @@ pub(crate) struct WorldInterfaces<'a> {
 
 impl<'a> Model for WorldInterfaces<'a> {
     ghost use Rattle.std.specs.Prelude.{List, ℕ, ◌++◌};
-    ghost use Rattle.wit_graph_data.specs.steps.Parts.{entry_interfaces};
+    ghost use Rattle.wit_graph_data.specs.Queries.{entry_interfaces};
 
     ghost Value = { List ℕ };
 

@@ -1,9 +1,8 @@
 //! Where the things of a handed-in package or graph stand in the graph that took them.
 ghost use Rattle.std.specs.Prelude.{◌≡◌, ◌⊎◌, ◌<◌, ℕ, None, Some, Ok, IfErr, OnOk, codes, length, slice_get, string_bytes};
-ghost use Rattle.wit_link_spec.specs.CauseText.{excluded_text};
+ghost use Rattle.wit_link_spec.specs.CauseText.{excluded_text, excluded_owner_text};
 ghost use Rattle.wit_graph_data.specs.declared.cause.Cause.TheVariants as cause;
 ghost use Rattle.wit_graph_data.specs.declared.error_kind.ResolveErrorKind.TheVariants.{OutOfMemory, Semantic};
-ghost use Rattle.wit_link_spec.specs.steps.Parts.{excluded_owner_text};
 
 use std::alloc::{AllocError, Global};
 use wit_data::{Id, InterfaceId, Items, PackageId, Span, Text, TryClone, TypeId, WorldId};

@@ -37,7 +37,7 @@ use Rattle.wit_elaboration.specs.facts.SoundFacts.{lists_in_order}
 use Rattle.wit_elaboration.specs.laws.ElaborationLaws.{ImportsKeepOrder, stands_on}
 use Rattle.wit_elaboration.specs.laws.Imports.{roots_of}
 use Rattle.wit_elaboration.specs.laws.KeptByElaboration.{HoldsImports}
-use Rattle.wit_graph_data.specs.Queries.{entry_interface, other_package, package_interfaces, package_uses, world_interfaces}
+use Rattle.wit_graph_data.specs.Queries.{entry_interface, other_package, package_interfaces, package_uses, world_interfaces, entry_interfaces}
 use Rattle.wit_graph_data.specs.declared.error_kind.ResolveErrorKind.{ResolveErrorKind}
 use Rattle.wit_graph_data.specs.declared.graph.Graph.{Graph}
 use Rattle.wit_graph_data.specs.declared.graph.Package.{Package}
@@ -54,7 +54,7 @@ use Rattle.wit_semver_spec.specs.facts.Greatest.{any_of}
 use Rattle.wit_semver_spec.specs.facts.KeptKeys.{kept_holds, kept_into, kept_test, passed}
 use Rattle.wit_semver_spec.specs.laws.TrackLaws.{RetargetsNone, SameTypesKeepWorlds}
 use Rattle.wit_semver_spec.proofs.FewerImports.{AreClosed, AreSettled, part_is_elaborated}
-use Rattle.wit_graph_data.specs.steps.Parts.{entry_interfaces, package_needs}
+use Rattle.wit_graph_data.specs.steps.Parts.{package_needs}
 use Rattle.wit_elaboration.specs.steps.Parts.{type_role, function_role, graph_package_uses}
 use Rattle.wit_semver_spec.specs.steps.Parts.{is_replaced_entry, listed_world, retargeted, new_target}
 

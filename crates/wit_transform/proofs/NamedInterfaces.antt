@@ -14,7 +14,7 @@ use Rattle.wit_elaboration.specs.Elaboration.{graph_uses}
 use Rattle.wit_elaboration.specs.Entries.{Entry, keyed_interfaces, item_interface, role_of}
 use Rattle.wit_elaboration.specs.Imported.{HasTransitiveConflict}
 use Rattle.wit_elaboration.specs.laws.Imports.{IsImported, Needed, roots_of}
-use Rattle.wit_graph_data.specs.Queries.{entry_interface, world_interfaces}
+use Rattle.wit_graph_data.specs.Queries.{entry_interface, world_interfaces, entry_interfaces}
 use Rattle.wit_elaboration.specs.Valid.{IsValid}
 use Rattle.wit_graph_data.specs.declared.graph.Graph.{Graph}
 use Rattle.wit_graph_theory.specs.facts.DependencyFacts.{filter_map_from}
@@ -25,7 +25,6 @@ use Rattle.wit_graph_theory.specs.facts.LawsOfElaboration.{LawsOfElaboration}
 use Rattle.wit_transform.specs.facts.ListsFrom.{ComesFrom}
 use Rattle.wit_transform.specs.facts.TransformedWorlds.{done, in_order, is_elaborated, listed, old_entry}
 use Rattle.wit_transform.specs.Transformed.{WorldLists}
-use Rattle.wit_graph_data.specs.steps.Parts.{entry_interfaces}
 
 -- rows that lack some uses of acyclic ones
 pub fewer_acyclic : (old rows : List (List ℕ)) → length rows ≡ length old → ((i j : ℕ) → Contains (direct rows i) j → Contains (direct old i) j) → IsAcyclic old → IsAcyclic rows

@@ -8,16 +8,10 @@ use Rattle.wit_names.specs.declared.package_name.PackageName.{PackageName}
 use Rattle.wit_data.specs.declared.types.TypeDef.{TypeDef}
 use Rattle.wit_data.specs.declared.types.TypeDefKind.{TypeDefKind}
 use Rattle.wit_data.specs.declared.world.World.{World}
-use Rattle.wit_data.specs.declared.world.WorldItem.{WorldItem}
-use Rattle.wit_data.specs.declared.world.WorldKey.{WorldKey}
 use Rattle.wit_graph_data.specs.declared.graph.Package.{Package}
-use Rattle.wit_graph_data.specs.Queries.{is_future_kind, is_held, other_package, package_interfaces, is_number_or_listed, track_part, entry_interface}
+use Rattle.wit_graph_data.specs.Queries.{is_future_kind, is_held, other_package, package_interfaces, is_number_or_listed, track_part}
 use Rattle.wit_names.specs.PackageName.{version_suffix}
 use Rattle.wit_graph_data.specs.IdText.{id_text}
-
--- the interfaces that some entries name, in order
-abbrev pub entry_interfaces : List TypeDef → List (WorldKey × WorldItem) → List ℕ
-entry_interfaces types entries = filter_map (λ (e : WorldKey × WorldItem). entry_interface types e.1) entries
 
 -- the packages that package p depends on directly, in order, with repeats
 abbrev pub package_needs : List TypeDef → List Interface → List World → ℕ → Package → List ℕ

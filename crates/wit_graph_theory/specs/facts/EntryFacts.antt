@@ -22,12 +22,11 @@ use Rattle.wit_elaboration.specs.Entries.{Entry, key_interface, keyed_interfaces
 use Rattle.wit_elaboration.specs.laws.Imports.{roots_of}
 use Rattle.wit_elaboration.specs.laws.KeptByElaboration.{HoldsImports, ImportsAreLeast}
 use Rattle.wit_elaboration.specs.facts.SoundFacts.{dep_is_named, lists_in_order, named_within}
-use Rattle.wit_graph_data.specs.Queries.{entry_interface, world_interfaces}
+use Rattle.wit_graph_data.specs.Queries.{entry_interface, world_interfaces, entry_interfaces}
 use Rattle.wit_graph_theory.specs.facts.DependencyFacts.{filter_map_into}
 use Rattle.wit_graph_theory.specs.facts.ListFacts.{place_of}
 use Rattle.wit_graph_theory.specs.facts.NamedUses.{used_is_named}
 use Rattle.wit_graph_theory.specs.laws.PackageCycles.{ListsKey, ListsUses}
-use Rattle.wit_graph_data.specs.steps.Parts.{entry_interfaces}
 use Rattle.wit_elaboration.specs.steps.Parts.{type_role, function_role, exported_keys}
 
 pub one_of : (i j : ℕ) → Contains (i ∷ []) j → i ≡ j

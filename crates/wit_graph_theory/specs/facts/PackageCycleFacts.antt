@@ -20,7 +20,7 @@ use Rattle.wit_elaboration.specs.Entries.{Entry, item_interface, role_of}
 use Rattle.wit_elaboration.specs.laws.Imports.{IsImported, roots_of}
 use Rattle.wit_elaboration.specs.laws.KeptByElaboration.{ElaboratedEntries}
 use Rattle.wit_elaboration.specs.facts.SoundFacts.{lists_in_order}
-use Rattle.wit_graph_data.specs.Queries.{entry_interface, other_package, package_interfaces, package_uses, world_interfaces}
+use Rattle.wit_graph_data.specs.Queries.{entry_interface, other_package, package_interfaces, package_uses, world_interfaces, entry_interfaces}
 use Rattle.wit_elaboration.specs.Valid.{IsInTable}
 use Rattle.wit_graph_data.specs.declared.graph.Package.{Package}
 use Rattle.wit_graph_theory.specs.facts.DependencyFacts.{filter_map_from, filter_map_into}
@@ -31,7 +31,7 @@ use Rattle.wit_graph_theory.specs.facts.OptionFacts.{some_parts, some_same, some
 use Rattle.wit_graph_theory.specs.laws.PackageCycles.{AreElaboratedFrom, IsElaboratedFrom, ListsKey}
 use Rattle.wit_graph_theory.specs.facts.PackagesAcyclic.{is_there, length-numbered, numbered_from, numbered_into, there_is}
 use Rattle.wit_graph_theory.specs.facts.RowFacts.{Reaches-join, Reaches-self, Reaches-use}
-use Rattle.wit_graph_data.specs.steps.Parts.{entry_interfaces, package_needs}
+use Rattle.wit_graph_data.specs.steps.Parts.{package_needs}
 
 -- ---- the packages of interfaces
 

@@ -21,7 +21,7 @@ use Rattle.wit_data.specs.declared.types.TypeOwner.TheVariants as owner
 use Rattle.wit_data.specs.declared.world.WorldItem.TheVariants as item
 use Rattle.wit_data.specs.declared.world.WorldKey.TheVariants as key
 use Rattle.wit_elaboration.specs.facts.SoundFacts.{dep_is_named}
-use Rattle.wit_graph_data.specs.Queries.{entry_interface, other_package, package_interfaces, package_uses, world_interfaces}
+use Rattle.wit_graph_data.specs.Queries.{entry_interface, other_package, package_interfaces, package_uses, world_interfaces, entry_interfaces}
 use Rattle.wit_elaboration.specs.Valid.{IsValid}
 use Rattle.wit_graph_data.specs.declared.graph.Graph.{Graph}
 use Rattle.wit_graph_data.specs.declared.graph.Package.{Package}
@@ -40,7 +40,7 @@ use Rattle.wit_link_spec.specs.Added.{new_package, with_parts}
 use Rattle.wit_link_spec.specs.Reasons.{IsResolved}
 use Rattle.wit_link_laws.specs.facts.Grown.{IsGrown, interfaces_behind, more_interfaces, more_types, types_behind}
 use Rattle.wit_link_laws.specs.facts.CanonicalStays.{interface_stays, type_stays}
-use Rattle.wit_graph_data.specs.steps.Parts.{entry_interfaces, package_needs}
+use Rattle.wit_graph_data.specs.steps.Parts.{package_needs}
 
 -- ---- what a graph's packages name is there
 

@@ -149,7 +149,7 @@ module _ (a : Addition) where
             at = record { id = e.0; world = e.1; is = at };
             whole = whole;
             whole_is = refl;
-            cause = conflict_4 (key_text whole.graph.packages whole.graph.interfaces refused.0) (record { conflict = conflict; name_is = (refused.0, refused.1, refl) });
+            cause = conflict_4 (key_text whole.graph.packages whole.graph.interfaces refused.0) conflict (refused.0, refused.1, refl);
           }))
 
       pub next_stands : IsSoundSoFar (stage a (suc k))

@@ -11,7 +11,6 @@ use Rattle.semver.specs.Identifiers.{parts_text}
 use Rattle.wit_values.specs.Version.{Parts}
 use Rattle.wit_names.specs.PackageName.{package_name_text}
 use Rattle.wit_names.specs.declared.package_name.PackageName.{PackageName}
-use Rattle.wit_link_spec.specs.CauseText.{excluded_text}
 use Rattle.std.specs.List.{list_any}
 use Rattle.wit_data.specs.Foreign.{ForeignItem, ForeignItems}
 use Rattle.wit_data.specs.declared.function.Function.{Function}
@@ -37,6 +36,8 @@ use Rattle.wit_link_spec.specs.Cause.{IsAdditionCause}
 use Rattle.std.specs.Option.{option_map_or}
 use Rattle.wit_data.specs.declared.world.IncludeName.{IncludeName}
 use Rattle.wit_data.specs.declared.interface.Interface.{Interface}
+use Rattle.wit_elaboration.specs.Elaboration.{graph_uses}
+use Rattle.wit_elaboration.specs.Imported.{HasTransitiveConflict, IsRefusedName}
 
 -- the values of type t of the package hold a borrow: one of the package, or in a foreign type one of the graph
 abbrev pub MayHoldBorrow : Addition → ℕ → Type 0
@@ -52,10 +53,6 @@ gate_without_version_text name = codes "package [" ++ (package_name_text name ++
 abbrev pub gate_unreleased_text : Parts → PackageName → Parts → List ℕ
 gate_unreleased_text since name version =
     codes "feature gate cannot reference unreleased version " ++ (parts_text since ++ (codes " of package [" ++ (package_name_text name ++ (codes "] (current version " ++ (parts_text version ++ codes ")")))))
-
--- 12: a type whose owner is left out; sort is `interface` or `world`
-abbrev pub excluded_owner_text : List ℕ → List ℕ
-excluded_owner_text sort = excluded_text sort ++ (codes "; this type is not gated by a feature but its " ++ (sort ++ codes " is"))
 
 -- 13: a type that its interface doesn't have
 abbrev pub type_not_defined_text : List ℕ → List ℕ
@@ -180,3 +177,8 @@ pub record AdditionOverflows (a : Addition) : Type 0 where
   pub to : ℕ
   pub known : Contains (package_spans a.unresolved) (Some (from, to))
   pub past : 2 ^ 32 ≤ to + a.offset
+
+-- 4: what its exports need from outside is exported; by the name of the first export that leads there
+pub record WorldIsInConflict (g : Graph) (world : World) (name : List ℕ) : Type 0 where
+  pub conflict : HasTransitiveConflict (graph_uses g) (setters_placed world.exports)
+  pub name_is : IsRefusedName g.packages g.interfaces (graph_uses g) (setters_placed world.exports) name

@@ -15,7 +15,7 @@ use Rattle.wit_remap_spec.specs.Borrows.{HoldsBorrow}
 use Rattle.wit_remap.specs.steps.Fits.{PartsFit, Fits, FunctionFits, InterfaceFits, TypeFits, WorldFits}
 use Rattle.wit_merge_spec.specs.Matches.{GraphMerge}
 use Rattle.wit_merge_spec.specs.Merged.{merge_maps, remap_of_merge, joined_graph, with_interface, with_package}
-use Rattle.wit_merge_spec.specs.Cause.{HasNoMismatch, MergeReturnsBorrow, StabilitiesMismatch}
+use Rattle.wit_merge_spec.specs.Cause.{HasNoMismatch, MergeReturnsBorrow}
 use Rattle.wit_merge_match.specs.steps.Matched.{AreMatches, merge_remap_of, moves}
 use Rattle.wit_merge.specs.declared.merge_plan.MergePlan.{MergePlan}
 use Rattle.std.specs.Map.{lookup}
@@ -35,7 +35,7 @@ use Rattle.wit_graph_data.specs.declared.graph.Package.{Package}
 use Rattle.wit_remap_spec.specs.Joined.{joined_stability}
 use Rattle.wit_remap.specs.steps.Movers.{goes}
 use Rattle.wit_remap_spec.specs.steps.Parts.{value_id}
-use Rattle.wit_merge_spec.specs.steps.Parts.{moves_interface, moves_world, MergeOverflows}
+use Rattle.wit_merge_spec.specs.steps.Parts.{moves_interface, moves_world, MergeOverflows, StabilitiesMismatch}
 
 -- the place of the first one, from place n on, that is matched with thing x'
 abbrev pub first_from : ℕ → List (Option ℕ) → ℕ → Option ℕ

@@ -26,7 +26,7 @@ use Rattle.wit_data.specs.declared.world.WorldKey.{WorldKey}
 use Rattle.wit_data.specs.declared.world.WorldKey.TheVariants as key
 use Rattle.wit_elaboration.specs.Elaboration.{graph_uses}
 use Rattle.wit_elaboration.specs.Valid.{IsValid}
-use Rattle.wit_graph_data.specs.Queries.{entry_interface, other_package, package_interfaces, world_interfaces}
+use Rattle.wit_graph_data.specs.Queries.{entry_interface, other_package, package_interfaces, world_interfaces, entry_interfaces}
 use Rattle.wit_graph_data.specs.declared.graph.Graph.{Graph}
 use Rattle.wit_graph_data.specs.declared.graph.Package.{Package}
 use Rattle.wit_graph_theory.specs.facts.DependencyFacts.{filter_map_from, filter_map_into, needs_from, needs_into}
@@ -52,7 +52,7 @@ use Rattle.wit_merge_laws.specs.facts.NamesGo.{home_is}
 use Rattle.wit_merge_laws.specs.facts.PackagesStand.{PackageFrom, interface_moves, interfaces_in_tables, of_graph, of_other, package_at_from, world_moves}
 use Rattle.wit_merge_laws.specs.facts.TypesStand.{matched_some, moved_next}
 use Rattle.wit_merge_laws.specs.facts.UsesInto.{needs_back}
-use Rattle.wit_graph_data.specs.steps.Parts.{entry_interfaces, package_needs}
+use Rattle.wit_graph_data.specs.steps.Parts.{package_needs}
 use Rattle.wit_elaboration.specs.steps.Parts.{graph_package_uses}
 use Rattle.wit_merge_spec.specs.steps.Parts.{moves_type, moves_interface, moves_world, moves_package}
 

@@ -122,7 +122,7 @@ accepted_growth laws m valid valid_other one leaves can = by
     by : MergeIsAccepted m
     by error (conflict_4 span name same is) = let refused = alone.conflict span name is in can.worlds refused.world refused.there refused.conflict
     by error (package_cycle_6 home same is) = alone.no_dependency home is
-    by error (mismatch_8 from into is) = can.stabilities from into is
+    by error (mismatch_8 from into joined apart) = can.stabilities from into (record { joined = joined; apart = apart })
     by error (borrow_in_result_15 message same is) = can.results message is
     by error (interface_cycle_22 message same is) = alone.no_use message is
     by error (merge_mismatch_24 message differ) = one message differ

@@ -83,7 +83,7 @@ module _ (g : Graph) (offset : ℕ) (valid : IsValid g) where
   pub nothing_speaks : MergeIsAccepted m
   nothing_speaks error (conflict_4 span name one is) = so (λ h. (world : World) → Contains h.worlds world → HasTransitiveConflict (graph_uses h) world.exports → ⊥) (clear g valid) is.world is.there is.conflict
   nothing_speaks error (package_cycle_6 home one is) = no_cycle (graph_package_uses (joined_graph m)) (so (λ h. IsAcyclic (graph_package_uses h)) valid.no_cycles.packages) is.p is.q is.on_cycle
-  nothing_speaks error (mismatch_8 from into is) = none_joined from into is.joined
+  nothing_speaks error (mismatch_8 from into joined apart) = none_joined from into joined
   nothing_speaks error (borrow_in_result_15 message one is) = Contains-nil is.moved
   nothing_speaks error (interface_cycle_22 message one is) = no_cycle (graph_uses (joined_graph m)) (so (λ h. IsAcyclic (graph_uses h)) valid.no_cycles.uses) is.i is.j is.on_cycle
   nothing_speaks error (merge_mismatch_24 message differ) = none_differ message differ

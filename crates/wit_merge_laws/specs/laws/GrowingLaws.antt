@@ -17,12 +17,12 @@ use Rattle.wit_graph_data.specs.declared.error_kind.ResolveErrorKind.{ResolveErr
 use Rattle.wit_graph_data.specs.declared.error_kind.ResolveErrorKind.TheVariants.{InvalidTransitiveDependency}
 use Rattle.wit_remap_spec.specs.Image.{function_image, interface_image}
 use Rattle.wit_remap_spec.specs.Borrows.{borrow_text, HoldsBorrow}
-use Rattle.wit_merge_spec.specs.Cause.{HasNoMismatch, IsMergeCause, MergeIsAccepted, MergeReturnsBorrow, StabilitiesMismatch}
+use Rattle.wit_merge_spec.specs.Cause.{HasNoMismatch, IsMergeCause, MergeIsAccepted, MergeReturnsBorrow}
 use Rattle.wit_merge_spec.specs.Matches.{GraphMerge, Pair, counterpart_interface, counterpart_package, counterpart_type, counterpart_world}
 use Rattle.wit_merge_spec.specs.Merged.{joined_graph, merge_maps, moved_functions, merged, with_interface, with_package, with_world}
 use Rattle.wit_merge_spec.specs.steps.Leaving.{LeavesGraph, grown_graph, new_functions, new_worlds, with_new_worlds}
 use Rattle.wit_elaboration.specs.steps.Parts.{graph_package_uses}
-use Rattle.wit_merge_spec.specs.steps.Parts.{moved_interfaces, with_type, MergeOverflows}
+use Rattle.wit_merge_spec.specs.steps.Parts.{moved_interfaces, with_type, MergeOverflows, StabilitiesMismatch}
 
 -- what is matched leaves its counterpart as it is: it has no stability that this lacks, and nothing of it moves
 pub record BringsNothing (m : GraphMerge) : Type 0 where

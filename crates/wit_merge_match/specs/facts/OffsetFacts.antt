@@ -4,9 +4,10 @@ use Rattle.wit_data.specs.Entries.{Entry}
 use Rattle.wit_data.specs.declared.stability.Stability.{Stability}
 use Rattle.wit_data.specs.declared.world.WorldItem.{WorldItem}
 use Rattle.wit_graph_data.specs.declared.graph.Graph.{Graph}
-use Rattle.wit_merge_spec.specs.Cause.{EntriesDiffer, GraphsDiffer, ItemsDiffer, AreJoined, HasNoMismatch, StabilitiesMismatch}
+use Rattle.wit_merge_spec.specs.Cause.{EntriesDiffer, GraphsDiffer, ItemsDiffer, AreJoined, HasNoMismatch}
 use Rattle.wit_merge_spec.specs.Cause as reasons
 use Rattle.wit_merge_match.specs.Differing.{merge_of_graphs_by}
+use Rattle.wit_merge_spec.specs.steps.Parts.{StabilitiesMismatch}
 
 module _ (g other : Graph) (a b : ℕ) where
   items_by : (from into : WorldItem) (text : List ℕ) → ItemsDiffer (merge_of_graphs_by g other a) from into text → ItemsDiffer (merge_of_graphs_by g other b) from into text

@@ -9,7 +9,7 @@ use Rattle.wit_data.specs.declared.world.World.{World}
 use Rattle.wit_merge_spec.specs.Matches.{paired, interface_at_label, TypePair, entry_pairs, WorldLabel, GraphMerge, matched_interface, counterpart_type, counterpart_interface, counterpart_of, counterpart_package, counterpart_world}
 use Rattle.wit_data.specs.declared.function.Function.{Function}
 use Rattle.wit_data.specs.declared.types.TypeDef.{TypeDef}
-use Rattle.wit_remap_spec.specs.Joined.{joined_stability}
+use Rattle.wit_remap_spec.specs.Joined.{joined_stability, Disagree}
 use Rattle.wit_remap_spec.specs.Selected.{selected}
 use Rattle.wit_merge_spec.specs.Merged.{brought_functions, with_interface, with_package, with_world}
 use Rattle.wit_graph_data.specs.declared.graph.Graph.{Graph}
@@ -18,6 +18,8 @@ use Rattle.wit_sources.specs.Span.{OptionalSpan}
 use Rattle.wit_merge_spec.specs.Structure.{DifferInStructure, Feature, within, held_features}
 use Rattle.wit_data.specs.Kind.{KindPart}
 use Rattle.wit_graph_data.specs.declared.graph.Package.{Package}
+use Rattle.wit_data.specs.declared.stability.Stability.{Stability}
+use Rattle.wit_merge_spec.specs.Cause.{AreJoined}
 
 -- the interfaces under labels of world w, each with its label
 abbrev pub labels_of_world : ℕ → World → List (ℕ × WorldLabel)
@@ -118,3 +120,8 @@ pub record MergeOverflows (m : GraphMerge) : Type 0 where
   pub to : ℕ
   pub known : Contains (flat_map type_spans m.other.types ++ (flat_map interface_spans m.other.interfaces ++ flat_map world_spans m.other.worlds)) (Some (from, to))
   pub past : 2 ^ 32 ≤ to + m.offset
+
+-- 8: two that are joined are known and differ
+pub record StabilitiesMismatch (m : GraphMerge) (from into : Stability) : Type 0 where
+  pub joined : AreJoined m from into
+  pub apart : Disagree from into

@@ -21,7 +21,8 @@ returns-in-Some-2-clause-cause c =
     let pair = c.in-Some-2.pair in
     let told : c.into-in-Some-2.result ≡ StabilityMismatch None pair.from pair.into = search rules in
     let apart = rw c.in-Some-2.is at c.in_ok-pair.ensures.some in
-    inr (subst (IsMergeCause (merge_of_graphs_by g other c.args.offset)) (sym told) (mismatch_8 pair.from pair.into (mismatches_by g other 0 c.args.offset pair.from pair.into apart)))
+    let differ = mismatches_by g other 0 c.args.offset pair.from pair.into apart in
+    inr (subst (IsMergeCause (merge_of_graphs_by g other c.args.offset)) (sym told) (mismatch_8 pair.from pair.into differ.joined differ.apart))
 
 pub returns-then-not-spans_fit-clause-cause : goal.returns-then-not-spans_fit-clause-cause
 returns-then-not-spans_fit-clause-cause c =

@@ -1,6 +1,6 @@
 use Rattle.std.proofs.Common.{◌≡◌}
 use Rattle.wit_queries.proofs.next.next_named.Given as goal
-use Rattle.wit_graph_data.specs.steps.Parts.{entry_interfaces}
+use Rattle.wit_graph_data.specs.Queries.{entry_interfaces}
 
 -- what was passed over names none
 abbrev pub invariant-loop-item : goal.invariant-loop-item
