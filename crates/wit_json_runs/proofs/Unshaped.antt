@@ -71,7 +71,7 @@ pub group_told : (g : UnresolvedPackageGroup) (inner : Option (ℕ × ShapeFault
     → TellsGroup g (Some (Some i, fault))
 group_told g inner i fault main told is =
     let there : TellsNested g.nested (Some (i, fault)) = subst (λ (o : Option (ℕ × ShapeFault)). TellsNested g.nested o) is told in
-    (λ shaped. there.0 shaped.nested, (main, there.1))
+    (λ shaped. there.0 shaped.nested, (main, there.1.0, there.1.1))
 
 -- all have it
 pub group_shaped : (g : UnresolvedPackageGroup) (inner : Option (ℕ × ShapeFault)) → IsShaped g.main → TellsNested g.nested inner → inner ≡ None → IsGroupShaped g
@@ -113,7 +113,7 @@ push_deps main deps shaped (Some it) told = (λ both. told.0 both.1, among it.gr
   where
     among : (group : Option ℕ) → IsAmongDeps deps group it.«package» it.fault → IsPushFault main deps group it.«package» it.fault
     among None is = absurd is
-    among (Some i) is = (shaped, is)
+    among (Some i) is = (shaped, is.0, is.1)
 
 -- the main one has it, and the others tell
 pub push_told : {E : Type 0} (main : UnresolvedPackageGroup) (deps : List UnresolvedPackageGroup) (inner : Option (Option ℕ × ShapeFault)) (r : Result (Option Unshaped) E) → TellsGroup main inner
