@@ -30,12 +30,13 @@ EQUAL, NO_ROW, OTHER_RULE = "equal", "of no row", "the second rule of tracks"
 
 
 class Answers:
-    """What a program writes: the replies, and the graph with what stands beside it, as text and read."""
+    """What a program writes: the replies, and the graph with what stands beside it, read, and as text without the files."""
 
     def __init__(self, text):
-        self.text = text.partition(',"resolve":')[2]
+        self.text = text.partition(',"resolve":')[2].rpartition(',"sources":')[0]
         read = json.loads(text)
         self.replies, self.resolve = read["replies"], read["resolve"]
+        self.paths = [it["path"] for it in self.resolve["sources"]]
 
 
 @functools.lru_cache(maxsize=64)
@@ -144,7 +145,7 @@ def graph_difference(programs, commands):
 def difference_after(programs, commands):
     """Where the graphs differ after commands that both answer the same, None where they don't."""
     ours, theirs = (run(it, commands)[0] for it in programs)
-    if ours.text == theirs.text and ours.replies == theirs.replies:
+    if ours.text == theirs.text and ours.paths == theirs.paths and ours.replies == theirs.replies:
         return None
     try:
         pairing = paired(ours.resolve, theirs.resolve)
@@ -212,17 +213,17 @@ def rows_of(programs, commands):
 def script_document(number):
     """The document of a random script, an empty one where that isn't understood."""
     import compare
-    import documents
+    import script_documents
 
-    return documents.document_of(compare.written(number, compare.KINDS)) or {"commands": []}
+    return script_documents.document_of(compare.written(number, compare.KINDS)) or {"commands": []}
 
 
 def case_document(name, path):
     """The document of a case of a file, an empty one where that isn't understood."""
     import compare
-    import documents
+    import script_documents
 
-    return documents.document_of(compare.stored(compare.read(path))[0][name]) or {"commands": []}
+    return script_documents.document_of(compare.stored(compare.read(path))[0][name]) or {"commands": []}
 
 
 def case_names(path):

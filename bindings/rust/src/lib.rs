@@ -54,6 +54,7 @@ mod commands;
 mod data;
 #[cfg(feature = "library")]
 mod ffi;
+mod members;
 mod names;
 mod renumber;
 mod resolve;
@@ -68,7 +69,7 @@ pub use arena::{Arena, Id};
 pub use builder::PackageBuilder;
 pub use commands::{
     Command, CommandError, CoreExport, CoreImport, CoreNames, FunctionName, FunctionPlace,
-    JsonPath, JsonStep, Mangling, Refusal, Remap, Reply, TrackRule,
+    JsonPath, JsonStep, Mangling, Refusal, Remap, Reply, ShapeFault, TrackRule,
 };
 pub use data::*;
 pub use indexmap::{IndexMap, IndexSet};

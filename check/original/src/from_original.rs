@@ -20,8 +20,18 @@ pub fn resolve(from: &wp::Resolve) -> wg::Resolve {
             .collect(),
         features: from.features.iter().cloned().collect(),
         all_features: from.all_features,
-        source_names: from.source_map.source_names().map(str::to_owned).collect(),
+        track_rule: wg::TrackRule::Published,
+        source_map: source_map(&from.source_map),
     }
+}
+
+/// The files by their paths: wit-parser doesn't give their texts.
+fn source_map(from: &wp::SourceMap) -> wg::SourceMap {
+    let mut made = wg::SourceMap::new();
+    for path in from.source_names() {
+        made.push_str(path, "");
+    }
+    made
 }
 
 fn place<T, U>(from: wp::Id<T>) -> wg::Id<U> {

@@ -1,18 +1,79 @@
-//! Unresolved packages as wit-parser's own.
+//! Unresolved packages, and graphs, as wit-parser's own.
 
 use crate::ids::Ids;
 use wit_parser as wp;
 use witgraph as wg;
 
 pub fn group(from: &wg::UnresolvedPackageGroup) -> wp::UnresolvedPackageGroup {
-    let mut source_map = wp::SourceMap::default();
-    for source in from.source_map.sources() {
-        source_map.push_str(&source.path, source.text.clone());
-    }
     wp::UnresolvedPackageGroup {
         main: package(&from.main),
         nested: from.nested.iter().map(package).collect(),
-        source_map,
+        source_map: source_map(&from.source_map),
+    }
+}
+
+fn source_map(from: &wg::SourceMap) -> wp::SourceMap {
+    let mut made = wp::SourceMap::default();
+    for source in from.sources() {
+        made.push_str(&source.path, source.text.clone());
+    }
+    made
+}
+
+/// A graph with its features and files. Of which interface another one is a copy no document tells.
+pub fn resolve(from: &wg::Resolve) -> wp::Resolve {
+    let mut made = wp::Resolve::new();
+    let ids = Ids {
+        types: (from.types.iter())
+            .map(|_| made.types.alloc(no_type()))
+            .collect(),
+        interfaces: (from.interfaces.iter())
+            .map(|_| made.interfaces.alloc(no_interface()))
+            .collect(),
+        worlds: (from.worlds.iter())
+            .map(|_| made.worlds.alloc(no_world()))
+            .collect(),
+    };
+    let packages: Vec<_> = (from.packages.iter())
+        .map(|(_, it)| made.packages.alloc(package_of_graph(it, &ids)))
+        .collect();
+    for (id, it) in from.packages.iter() {
+        made.package_names
+            .insert(package_name(&it.name), packages[id.index()]);
+    }
+    for (id, it) in from.types.iter() {
+        made.types[ids.ty(id)] = type_def(it, &ids);
+    }
+    for (id, it) in from.interfaces.iter() {
+        made.interfaces[ids.interface(id)] = wp::Interface {
+            package: it.package.map(|it| packages[it.index()]),
+            ..interface(it, &ids)
+        };
+    }
+    for (id, it) in from.worlds.iter() {
+        made.worlds[ids.world(id)] = wp::World {
+            package: it.package.map(|it| packages[it.index()]),
+            ..world(it, &ids)
+        };
+    }
+    made.features.extend(from.features.iter().cloned());
+    made.all_features = from.all_features;
+    made.source_map = source_map(&from.source_map);
+    made
+}
+
+fn package_of_graph(from: &wg::Package, ids: &Ids) -> wp::Package {
+    let interfaces = from.interfaces.iter();
+    let worlds = from.worlds.iter();
+    wp::Package {
+        name: package_name(&from.name),
+        docs: docs(&from.docs),
+        interfaces: interfaces
+            .map(|(name, it)| (name.clone(), ids.interface(*it)))
+            .collect(),
+        worlds: worlds
+            .map(|(name, it)| (name.clone(), ids.world(*it)))
+            .collect(),
     }
 }
 

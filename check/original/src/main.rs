@@ -1,13 +1,16 @@
-//! Reads a document of docs/JSON.md from standard input, carries out its commands by wit-parser's `Resolve`, and writes
-//! what it answers and the graph that it has then, as `witgraph_json` does.
+//! Reads a document of docs/JSON.md from standard input, carries out its commands by wit-parser's `Resolve`, on the graph
+//! with which it begins or an empty one, and writes what it answers and the graph that it has then, as `witgraph_json`
+//! does.
 //!
-//! - A document is one that `witgraph_json` reads, with packages that have their shape; neither is asked again.
+//! - A document is one that `witgraph_json` reads, with a graph that is valid and packages that have their shape; none of
+//!   this is asked again.
 //! - Of a refusal it has the text, the span, how it is shown, and the number where wit-parser has a kind of its own for
 //!   it (1 to 8), else `null`.
 //! - Where a call panics the reply is `{"panic": TEXT}`. Before each command its place is written to standard error, as
 //!   `2` or `2.0` of a command within a `merge`, so that what overflows the stack or doesn't end is known.
 //! - After a refusal or a panic all but the source map is as before the command; wit-parser leaves what it had begun.
 //! - `set-track-rule` does nothing: wit-parser has the rule `published` alone.
+//! - The files have their paths and no texts, which wit-parser keeps to itself.
 
 mod from_original;
 mod ids;
@@ -29,7 +32,8 @@ static TOLD: Mutex<String> = Mutex::new(String::new());
 fn main() -> Result<(), Box<dyn Error>> {
     let document = Document::from_json(&io::read_to_string(io::stdin())?)?;
     set_hook(Box::new(|it| tell(it.to_string())));
-    let mut resolve = Resolve::new();
+    let begun = document.resolve.as_ref().map(into_original::resolve);
+    let mut resolve = begun.unwrap_or_default();
     let replies = run(&mut resolve, &document.commands, "");
     let replies = serde_json::to_string(&replies)?;
     let resolve = serde_json::to_string(&from_original::resolve(&resolve))?;
