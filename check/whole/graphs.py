@@ -18,7 +18,7 @@ class Graph:
     def __init__(self, resolve):
         graph, details = resolve["graph"], resolve["details"]
         self.raw = graph["types"]
-        self.rest = {"features": resolve["features"], "files": [it["path"] for it in resolve["sources"]]}
+        self.rest = {"features": resolve["features"], "sources": resolve["sources"]}
         self.kept = [at for at, it in enumerate(self.raw) if not is_own(it)]
         self.ranks = {at: rank for rank, at in enumerate(self.kept)}
         self.things = {

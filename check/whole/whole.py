@@ -5,7 +5,8 @@
     python3 check/whole/whole.py PATH/TO/witgraph_json PATH/TO/witgraph-original DOCUMENT..
 
 With `--texts` packages are texts of WIT, read by tools/wit2json.py. With `--scripts` documents are those of random scripts
-of check/compare.py, with `--stored` those of a file of cases; files with documents may be named.
+of check/compare.py, with `--stored` those of a file of cases; files with documents may be named. With `--in-two`
+`witgraph_json` carries out each document in two, of which the second begins with the graph that came out of the first.
 
 Replies are compared with texts, spans and how they are shown, graphs in all data (check/whole/graphs.py says what is
 free), of the second graphs of merges, too. Where the two differ the tool tells of which row of docs/DIFFERENCES.md that
@@ -14,6 +15,7 @@ is 1 then.
 """
 import argparse
 import collections
+import copy
 import functools
 import json
 import multiprocessing
@@ -30,13 +32,12 @@ EQUAL, NO_ROW, OTHER_RULE = "equal", "of no row", "the second rule of tracks"
 
 
 class Answers:
-    """What a program writes: the replies, and the graph with what stands beside it, read, and as text without the files."""
+    """What a program writes: the replies, and the graph with what stands beside it, as text and read."""
 
     def __init__(self, text):
-        self.text = text.partition(',"resolve":')[2].rpartition(',"sources":')[0]
+        self.text = text.partition(',"resolve":')[2].strip()[:-1]
         read = json.loads(text)
         self.replies, self.resolve = read["replies"], read["resolve"]
-        self.paths = [it["path"] for it in self.resolve["sources"]]
 
 
 @functools.lru_cache(maxsize=64)
@@ -53,8 +54,19 @@ def run_text(program, text):
     return None, tuple(int(it) for it in places[-1].split(".")) if places else ()
 
 
+class InTwo(str):
+    """The path of a program that carries out commands in two documents."""
+
+
 def run(program, commands):
-    return run_text(program, json.dumps({"commands": commands}))
+    if not isinstance(program, InTwo) or not commands:
+        return run_text(program, json.dumps({"commands": commands}))
+    middle = len(commands) // 2
+    first, _ = run_text(program, json.dumps({"commands": commands[:middle]}))
+    last, _ = run_text(program, f'{{"resolve":{first.text},"commands":{json.dumps(commands[middle:])}}}')
+    last = copy.copy(last)
+    last.replies = first.replies + last.replies
+    return last, None
 
 
 class Difference:
@@ -145,7 +157,7 @@ def graph_difference(programs, commands):
 def difference_after(programs, commands):
     """Where the graphs differ after commands that both answer the same, None where they don't."""
     ours, theirs = (run(it, commands)[0] for it in programs)
-    if ours.text == theirs.text and ours.paths == theirs.paths and ours.replies == theirs.replies:
+    if ours.text == theirs.text and ours.replies == theirs.replies:
         return None
     try:
         pairing = paired(ours.resolve, theirs.resolve)
@@ -267,6 +279,7 @@ def main():
     parser.add_argument("--texts", action="store_true")
     parser.add_argument("--scripts", action="store_true")
     parser.add_argument("--stored")
+    parser.add_argument("--in-two", action="store_true")
     parser.add_argument("--first", type=int, default=1)
     parser.add_argument("--many", type=int, default=100)
     parser.add_argument("--jobs", type=int, default=1)
@@ -277,7 +290,8 @@ def main():
         made = file_document if asked.documents else script_document
     if asked.stored:
         names, made = case_names(asked.stored), functools.partial(case_document, path=asked.stored)
-    tell = functools.partial(told, programs=(asked.program, asked.original), made=made)
+    program = InTwo(asked.program) if asked.in_two else asked.program
+    tell = functools.partial(told, programs=(program, asked.original), made=made)
     firsts, differences = collections.Counter(), collections.Counter()
     with multiprocessing.Pool(asked.jobs) as pool:
         for found, text in pool.imap(tell, names, 8):

@@ -3,7 +3,8 @@
 use wit_parser as wp;
 use witgraph as wg;
 
-pub fn resolve(from: &wp::Resolve) -> wg::Resolve {
+/// A graph, with the files that it has: wit-parser tells their paths alone.
+pub fn resolve(from: &wp::Resolve, source_map: wg::SourceMap) -> wg::Resolve {
     wg::Resolve {
         worlds: from.worlds.iter().map(|(_, it)| world(it)).collect(),
         interfaces: from
@@ -21,17 +22,8 @@ pub fn resolve(from: &wp::Resolve) -> wg::Resolve {
         features: from.features.iter().cloned().collect(),
         all_features: from.all_features,
         track_rule: wg::TrackRule::Published,
-        source_map: source_map(&from.source_map),
+        source_map,
     }
-}
-
-/// The files by their paths: wit-parser doesn't give their texts.
-fn source_map(from: &wp::SourceMap) -> wg::SourceMap {
-    let mut made = wg::SourceMap::new();
-    for path in from.source_names() {
-        made.push_str(path, "");
-    }
-    made
 }
 
 fn place<T, U>(from: wp::Id<T>) -> wg::Id<U> {
