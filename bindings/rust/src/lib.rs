@@ -5,7 +5,7 @@
 //!
 //! **By commands**: [`PackageBuilder`] makes packages, [`Document::from_json`] reads them as `tools/wit2json.py` of the
 //! repository writes them of WIT. [`run`] and [`run_by`] carry out [`Command`]s and give a [`Run`]: a
-//! [`Reply`] for each, and the graph, a [`Resolve`] with the names of wit-parser.
+//! [`Reply`] for each, and the graph, a [`Resolve`] with the names of wit-parser, on which [`Run::then`] goes on.
 //!
 //! **By scripts**, in the language of `docs/SCRIPT.md`: [`execute`] runs one on an empty graph and gives its answers:
 //!

@@ -24,42 +24,41 @@ fn source_map(from: &wg::SourceMap) -> wp::SourceMap {
 pub fn resolve(from: &wg::Resolve) -> wp::Resolve {
     let mut made = wp::Resolve::new();
     let ids = Ids {
-        types: (from.types.iter())
-            .map(|_| made.types.alloc(no_type()))
-            .collect(),
-        interfaces: (from.interfaces.iter())
-            .map(|_| made.interfaces.alloc(no_interface()))
-            .collect(),
-        worlds: (from.worlds.iter())
-            .map(|_| made.worlds.alloc(no_world()))
-            .collect(),
+        types: places(&mut made.types, from.types.len(), no_type),
+        interfaces: places(&mut made.interfaces, from.interfaces.len(), no_interface),
+        worlds: places(&mut made.worlds, from.worlds.len(), no_world),
     };
-    let packages: Vec<_> = (from.packages.iter())
+    let packages = from.packages.iter();
+    let packages: Vec<_> = packages
         .map(|(_, it)| made.packages.alloc(package_of_graph(it, &ids)))
         .collect();
-    for (id, it) in from.packages.iter() {
-        made.package_names
-            .insert(package_name(&it.name), packages[id.index()]);
-    }
+    let package_of = |id: Option<wg::PackageId>| id.map(|it| packages[it.index()]);
     for (id, it) in from.types.iter() {
         made.types[ids.ty(id)] = type_def(it, &ids);
     }
     for (id, it) in from.interfaces.iter() {
         made.interfaces[ids.interface(id)] = wp::Interface {
-            package: it.package.map(|it| packages[it.index()]),
+            package: package_of(it.package),
             ..interface(it, &ids)
         };
     }
     for (id, it) in from.worlds.iter() {
         made.worlds[ids.world(id)] = wp::World {
-            package: it.package.map(|it| packages[it.index()]),
+            package: package_of(it.package),
             ..world(it, &ids)
         };
     }
+    let names = from.packages.iter().map(|(_, it)| package_name(&it.name));
+    made.package_names = names.zip(packages).collect();
     made.features.extend(from.features.iter().cloned());
     made.all_features = from.all_features;
     made.source_map = source_map(&from.source_map);
     made
+}
+
+/// So many places of an arena, to be filled.
+fn places<T>(arena: &mut wp::Arena<T>, count: usize, empty: fn() -> T) -> Vec<wp::Id<T>> {
+    (0..count).map(|_| arena.alloc(empty())).collect()
 }
 
 fn package_of_graph(from: &wg::Package, ids: &Ids) -> wp::Package {
@@ -88,15 +87,9 @@ pub fn package_name(from: &wg::PackageName) -> wp::PackageName {
 fn package(from: &wg::UnresolvedPackage) -> wp::UnresolvedPackage {
     let mut made = empty(from);
     let ids = Ids {
-        types: (from.types.iter())
-            .map(|_| made.types.alloc(no_type()))
-            .collect(),
-        interfaces: (from.interfaces.iter())
-            .map(|_| made.interfaces.alloc(no_interface()))
-            .collect(),
-        worlds: (from.worlds.iter())
-            .map(|_| made.worlds.alloc(no_world()))
-            .collect(),
+        types: places(&mut made.types, from.types.len(), no_type),
+        interfaces: places(&mut made.interfaces, from.interfaces.len(), no_interface),
+        worlds: places(&mut made.worlds, from.worlds.len(), no_world),
     };
     for (id, it) in from.types.iter() {
         made.types[ids.ty(id)] = type_def(it, &ids);
