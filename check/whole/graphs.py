@@ -226,14 +226,28 @@ class Pairing:
 
 def without_gated(ours, theirs):
     """A graph without the functions that are gated off and that the other doesn't have."""
-    made, features = copy.deepcopy(ours), ours["features"]
-    listed = zip(made["graph"]["interfaces"], made["details"]["interfaces"], theirs["graph"]["interfaces"])
-    for it, more, other in listed:
-        for name in it["functions"].keys() - other["functions"].keys():
-            gate = it["functions"][name].get("stability", {}).get("unstable")
-            if gate and not features["all"] and gate["feature"] not in features["names"]:
-                del it["functions"][name], more["functions"][name]
+    made, others = copy.deepcopy(ours), theirs["graph"]["interfaces"]
+    for at, (it, more) in enumerate(zip(made["graph"]["interfaces"], made["details"]["interfaces"])):
+        gated = gated_off(it["functions"], ours["features"])
+        for name in gated - other_of(at, it, gated, others)["functions"].keys():
+            del it["functions"][name], more["functions"][name]
     return made
+
+
+def gated_off(functions, features):
+    """The names of the functions whose feature is off."""
+    gates = ((name, it.get("stability", {}).get("unstable")) for name, it in functions.items())
+    return {name for name, gate in gates if gate and not features["all"] and gate["feature"] not in features["names"]}
+
+
+def other_of(at, interface, gated, others):
+    """The interface of this number, or, as a copy may have another number, the first one with the same other functions."""
+
+    def named(it):
+        return it["name"], [name for name in it["functions"] if name not in gated]
+
+    fits = (it for it in [others[at], *others] if named(it) == named(interface))
+    return next(fits, others[at])
 
 
 def is_reference(value):
