@@ -1,21 +1,19 @@
 #!/usr/bin/env python3
-"""Shows how fast a build of `witgraph_json` reads and writes big documents (docs/JSON.md).
+"""Shows how fast `witgraph_json` reads and writes big documents (docs/JSON.md).
 
-    bench/documents.py PROGRAM [--worlds N] [--times N]
+    bench/documents.py LIBRARY [--worlds N] [--times N]
 
-The documents are the packages of examples/wasi at both versions, and a package of N worlds, each of which imports an
-interface. Of each first the push is carried out, then the graph that came out is read and written again. Reading alone is
-timed by a document whose last command isn't one. Of several runs the least is told, in processor time of the program; a
-megabyte is a million bytes.
+LIBRARY is a shared library, made as bindings/README.md says. The documents are the packages of examples/wasi at both
+versions, and a package of N worlds, each of which imports an interface. Of each first the push is carried out, then the
+graph that came out is read, looked at whether it is valid, and written again. Reading alone is timed by a document whose
+last command isn't one. The least processor time of several calls counts; a megabyte is a million bytes.
 """
 import argparse
+import ctypes
 import json
-import os
 import pathlib
-import resource
-import subprocess
 import sys
-import tempfile
+import time
 
 TOP = pathlib.Path(__file__).resolve().parent.parent
 sys.dont_write_bytecode = True
@@ -45,46 +43,50 @@ def compact(value):
     return json.dumps(value, separators=(",", ":"), ensure_ascii=False).encode()
 
 
-def timed(program, text, times):
-    """What comes out of a document, and the least processor time."""
-    least = None
-    with tempfile.TemporaryFile() as file:
-        file.write(text)
+class Library:
+    """The call, with a buffer that stays."""
+
+    def __init__(self, path):
+        size = ctypes.c_size_t
+        self.call, self.needed = ctypes.CDLL(path).witgraph_json, size()
+        self.call.argtypes = [ctypes.c_char_p, size, ctypes.c_char_p, size, ctypes.POINTER(size)]
+        self.output = ctypes.create_string_buffer(1 << 26)
+
+    def timed(self, text, times):
+        """What comes out of a document, and the least processor time."""
+        spent = []
         for _ in range(times):
-            file.seek(0)
-            before = resource.getrusage(resource.RUSAGE_CHILDREN)
-            out = subprocess.run([program], stdin=file, stdout=subprocess.PIPE, check=False).stdout
-            after = resource.getrusage(resource.RUSAGE_CHILDREN)
-            spent = after.ru_utime + after.ru_stime - before.ru_utime - before.ru_stime
-            least = spent if least is None else min(least, spent)
-    return out, least
+            before = time.process_time()
+            self.call(text, len(text), self.output, len(self.output), ctypes.byref(self.needed))
+            spent.append(time.process_time() - before)
+        return ctypes.string_at(self.output, self.needed.value), min(spent)
 
 
-def row(program, name, begin, commands, times):
+def row(library, name, begin, commands, times):
     """Times a document, and tells what comes out of it."""
     text = begin + b'"commands":[' + commands + b"]}"
-    out, whole = timed(program, text, times)
-    fault, reading = timed(program, begin + b'"commands":[' + commands + b"," * bool(commands) + b'"nothing"]}', times)
+    out, whole = library.timed(text, times)
+    more = b"," * bool(commands) + b'"nothing"]}'
+    fault, reading = library.timed(begin + b'"commands":[' + commands + more, times)
     if not out.startswith(b'{"replies":') or not fault.startswith(b'{"fault":'):
         sys.exit(f"{name}: {out[:300]} {fault[:300]}")
     size = len(text) / 1e6, len(out) / 1e6
-    rest = max(whole - reading, 1e-9)
-    print(f"| {name} | {size[0]:.2f}, {size[1]:.2f} | {whole:.3f} | {size[0] / max(reading, 1e-9):.0f} | {size[1] / rest:.0f} |", flush=True)
+    print(f"| {name} | {size[0]:.2f}, {size[1]:.2f} | {1000 * whole:.2f} | {size[0] / reading:.0f} | {size[1] / (whole - reading):.0f} |")
     return out
 
 
 def main():
     parser = argparse.ArgumentParser()
-    parser.add_argument("program")
+    parser.add_argument("library")
     parser.add_argument("--worlds", type=int, default=10000)
-    parser.add_argument("--times", type=int, default=5)
+    parser.add_argument("--times", type=int, default=200)
     asked = parser.parse_args()
-    program = os.path.abspath(asked.program)
-    print("| Document | MB in, out | seconds | reading, MB/s | the rest, MB/s out |\n|---|---|---|---|---|")
+    library = Library(asked.library)
+    print("| Document | MB in, out | ms | reading, MB/s in | the rest, MB/s out |\n|---|---|---|---|---|")
     for name, push in (("WASI", wasi()), (f"{asked.worlds} worlds", worlds(asked.worlds))):
-        out = row(program, f"{name}, pushed", b"{", compact(push), asked.times)
+        out = row(library, f"{name}, pushed", b"{", compact(push), asked.times)
         resolve = out[out.index(b',"resolve":') + 11 : -1]
-        again = row(program, f"{name}, the graph again", b'{"resolve":' + resolve + b",", b"", asked.times)
+        again = row(library, f"{name}, the graph again", b'{"resolve":' + resolve + b",", b"", asked.times)
         if again != b'{"replies":[],"resolve":' + resolve + b"}":
             sys.exit(f"{name}: another graph comes out")
 
