@@ -76,3 +76,14 @@ returns-clause-valid c =
     subst IsValid (sym made)
     (c.importized_stay_valid.ensures c.args.graph.now c.args.world out c.requires.valid
     (λ error cause. importize_clear c.args.graph.now c.args.world c.at.result.now out there (subst (NameIsFreeAt c.args.graph.now c.args.world) name c.in_ok-name.ensures.free) c.in_ok-lists.ensures.no_clash error cause))
+
+pub returns-clause-ok : goal.returns-clause-ok
+returns-clause-ok c =
+    let there : slice_get c.args.graph.now.worlds c.args.world ≡ Some c.at.result.now = subst (λ (i : ℕ). slice_get c.args.graph.now.worlds i ≡ Some c.at.result.now) c.index.ensures c.at.ensures in
+    let out = option_map string_bytes c.args.out in
+    let named = c.in_ok-name.ensures.ok in
+    let same : named.0 ≡ c.at.result.now = same_at c.args.graph.now.worlds c.args.world c.args.world named.0 c.at.result.now refl named.1 there in
+    let name : c.in_ok-name.name ≡ (importized out c.at.result.now).name = named.2 ∙ ap (λ (x : World). (importized out x).name) same in
+    let transform : WorldLists = record { name = c.in_ok-name.name; imports = c.in_ok-lists.lists.imports; exports = c.in_ok-lists.lists.exports } in
+    let turn_is : transform ≡ importized out c.at.result.now = λ i. record { name = name i; imports = c.in_ok-lists.ensures.imports i; exports = c.in_ok-lists.ensures.exports i } in
+    c.in_ok-transform.ensures.ok ∙ transformed_same c.args.graph.now c.args.world c.at.result.now transform (importized out) there turn_is
