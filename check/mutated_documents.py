@@ -9,9 +9,9 @@ graph which came out of one of these, random ones of check/whole/random_document
 or bytes are changed, left out, repeated or exchanged.
 
 A document is to be answered by status 0 with a reply to each command, or by status 1 with a fault whose place is in the text,
-or by status 3 where it isn't UTF-8; what comes out is compact JSON. Each eighth graph that comes out is read again, and has to
-come out as it was. A call that ends the process, or takes a minute, is told by its number, and the others go on. Ends with
-status 1 where something else was answered.
+or by status 3 where it isn't UTF-8; what comes out is compact JSON. Of each eighth document the graph that comes out is read
+again, and has to come out as it was, but where a label `interface-1` stands beside interface 1. A call that ends the process,
+or takes a minute, is told by its number, and the others go on. Ends with status 1 where something else was answered.
 """
 import argparse
 import collections
@@ -308,9 +308,23 @@ def wrong(text, status, out):
 
 
 def is_read_again(library, out):
-    """Whether the graph that came out comes out again."""
+    """Whether the graph that came out comes out again, or has two members of one name, which can't be read."""
     resolve = resolve_of(out)
-    return library.answer(b'{"resolve":%s,"commands":[]}' % resolve) == (0, b'{"replies":[],"resolve":%s}' % resolve)
+    answer = library.answer(b'{"resolve":%s,"commands":[]}' % resolve)
+    return answer == (0, b'{"replies":[],"resolve":%s}' % resolve) or answer[0] == 1 and has_one_name_twice(out)
+
+
+def has_one_name_twice(out):
+    """Whether an interface stands in a world under its own key and under a label of the same name."""
+    worlds = dict(dict(dict(json.loads(out, object_pairs_hook=Members))["resolve"])["graph"])["worlds"]
+    sides = (dict(it)[side] for it in worlds for side in ("imports", "exports"))
+    return any(repeated(side) for side in sides)
+
+
+def repeated(members):
+    """Whether a name stands twice, each time with the interface of that number."""
+    own = [name for name, ((_, of),) in members if isinstance(of, Members) and name == f"interface-{dict(of).get('id')}"]
+    return len(set(own)) < len(own)
 
 
 def look(library, documents, number, counts):

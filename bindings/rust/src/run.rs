@@ -50,7 +50,8 @@ impl Run {
     }
 
     /// The document that goes on with more commands on this graph: its replies, and the graph that it leaves, are those of
-    /// one document with all commands.
+    /// one document with all commands. (A graph with an interface under a label that reads as its own key, `interface-1`
+    /// of interface 1, can't be told.)
     pub fn then(self, commands: Vec<Command>) -> Document {
         Document {
             resolve: Some(self.graph),
