@@ -44,7 +44,8 @@ impl ListedGraph {
     /// refusal is want of memory outside the command.
     pub fn change(&mut self, alloc: Global, command: Command) -> ResolveResult<Option<String>>
         requires { IsCommandShaped command }
-        ensures { OnOk result (Carries self.old.resolve command self.new.resolve) }
+        ensures carried { OnOk result (Carries self.old.resolve command self.new.resolve) }
+        ensures listing { self.new.listing ≡ self.old.listing }
     {
         let mut commands = Items::new(alloc);
         commands.push(command)?;
