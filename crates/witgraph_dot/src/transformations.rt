@@ -1,9 +1,8 @@
 //! The commands that transform a world, and what counts as listed after them.
 ghost use Rattle.std.specs.Prelude.{◌≡◌, IfOk, OnOk};
-ghost use Rattle.wit_graph_data.specs.Named.{world_named};
 ghost use Rattle.wit_resolve_graph.specs.declared.command.Command.TheVariants.{Exportize, Importize, Semver};
 ghost use Rattle.witgraph_dot.specs.Drawn.{Carries};
-ghost use Rattle.witgraph_dot.specs.Transformed.{exportized_imports, exports_of, importized_imports, semver_merged_imports, unless_noted, with_versions};
+ghost use Rattle.witgraph_dot.specs.Transformed.{IsListedAfter, exportized_imports, exports_of, importized_imports, semver_merged_imports, with_versions};
 
 use crate::entries::{own_exports, own_imports};
 use crate::listed_graph::ListedGraph;
@@ -25,7 +24,7 @@ impl ListedGraph {
         out: Option<Text>,
     ) -> ResolveResult<Option<String>>
         ensures carried { OnOk result (Carries self.old.resolve (Importize «package» world out) self.new.resolve) }
-        ensures listed { IfOk result (λ note. self.new.listing.imports.items ≡ unless_noted note self.old.listing.imports.items (importized_imports (world_named self.old.resolve.graph «package» world) (exports_of (world_named self.old.resolve.graph «package» world) self.old.resolve.graph) self.old.listing.imports.items)) }
+        ensures listed { IfOk result (λ note. IsListedAfter self.old (Importize «package» world out) note self.new) }
     {
         let id = self.resolve.world_named(&package, world.as_str());
         let exports = exports_of(alloc, &self.resolve, &id)?;
@@ -51,7 +50,7 @@ impl ListedGraph {
         keys: Option<Items<Text>>,
     ) -> ResolveResult<Option<String>>
         ensures carried { OnOk result (Carries self.old.resolve (Exportize «package» world out keys) self.new.resolve) }
-        ensures listed { IfOk result (λ note. self.new.listing.imports.items ≡ unless_noted note self.old.listing.imports.items (exportized_imports (world_named self.old.resolve.graph «package» world) self.new.resolve.graph self.old.listing.imports.items)) }
+        ensures listed { IfOk result (λ note. IsListedAfter self.old (Exportize «package» world out keys) note self.new) }
     {
         let id = self.resolve.world_named(&package, world.as_str());
         let command = Command::Exportize {
@@ -75,7 +74,7 @@ impl ListedGraph {
         world: Text,
     ) -> ResolveResult<Option<String>>
         ensures carried { OnOk result (Carries self.old.resolve (Semver «package» world) self.new.resolve) }
-        ensures listed { IfOk result (λ note. self.new.listing.imports.items ≡ unless_noted note self.old.listing.imports.items (semver_merged_imports (world_named self.old.resolve.graph «package» world) self.new.resolve.track_rule self.new.resolve.graph self.old.listing.imports.items)) }
+        ensures listed { IfOk result (λ note. IsListedAfter self.old (Semver «package» world) note self.new) }
     {
         let id = self.resolve.world_named(&package, world.as_str());
         let note = self.change(alloc, Command::Semver { package, world })?;
