@@ -31,17 +31,21 @@ class Listed:
         if thing not in there:
             there.append(thing)
 
-    def push(self, packages):
+    def push(self, packages, graph):
+        """What a gate leaves out may name what isn't there: that isn't listed."""
+        interfaces = {(it.name.key, name) for it in graph.packages for name in it.interfaces}
+        worlds = {(it.name.key, name) for it in graph.packages for name in it.worlds}
         pairs = []
         for package in packages:
             for world in package.worlds.values():
                 at = (package.name.key, world.name)
                 for it in world.imports:
-                    if it.label is None:
+                    if it.label is None and named(it.item, package) in interfaces:
                         self.add(self.imports, at, named(it.item, package))
                 for it in world.includes:
-                    pairs.append((at, named(it.world, package)))
-                    self.add(self.includes, *pairs[-1])
+                    if at in worlds and named(it.world, package) in worlds:
+                        pairs.append((at, named(it.world, package)))
+                        self.add(self.includes, *pairs[-1])
         for _ in pairs:
             for at, of in pairs:
                 for table in (self.imports, self.includes):
@@ -94,7 +98,7 @@ class Stage(Session):
             if told == {"merged"}:
                 self.listed[-1].merge(other)
         elif words[0] == "push" and all(it.startswith("pushed") for it in told):
-            listed.push(packages)
+            listed.push(packages, self.graphs[-1])
         elif world and told == {"done"}:
             self.transform(words, listed, package.name.key, before)
 
@@ -108,7 +112,8 @@ class Stage(Session):
                 if any(self.are_versions(graph, it, of) for of in list(there)):
                     listed.add(listed.imports, old, it)
             return
-        new = words[3] if len(words) > 3 and words[3] != "-" else f"{words[2]}-{words[0].removesuffix('ize')}ized"
+        unnamed = len(words) < 4 or words[0] == "exportize" and words[3] == "-"
+        new = f"{words[2]}-{words[0]}d" if unnamed else words[3]
         listed.rename(old, (key, new))
         if words[0] == "importize":
             listed.imports[key, new] = before

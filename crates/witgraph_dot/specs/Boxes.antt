@@ -34,8 +34,11 @@ line_of_entry word (key.Name label) (item.Type_ id span) = codes "\\n" ++ (word 
 abbrev pub entry_line : List ℕ → Entry → List ℕ
 entry_line word e = line_of_entry word e.0 e.1
 
+-- the beginning of world w, with its name
+abbrev pub world_head : ℕ → List ℕ → List ℕ
+world_head w name = codes "    w" ++ (decimal w ++ (codes " [shape=component, style=filled, fillcolor=\"#dbe7f6\", label=\"" ++ quoted_text name))
+
 -- world w, with its functions and types
 abbrev pub world_box : ℕ → World → List ℕ
 world_box w world =
-    codes "    w" ++ (decimal w ++ (codes " [shape=component, style=filled, fillcolor=\"#dbe7f6\", label=\"" ++ (quoted_text world.name
-    ++ (flat_map (entry_line (codes "import")) world.imports ++ (flat_map (entry_line (codes "export")) world.exports ++ codes "\"];\n")))))
+    world_head w world.name ++ (flat_map (entry_line (codes "import")) world.imports ++ (flat_map (entry_line (codes "export")) world.exports ++ codes "\"];\n"))

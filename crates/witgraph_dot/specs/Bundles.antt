@@ -1,5 +1,5 @@
 -- Arrows that lead to the same frame as one.
-use Rattle.std.specs.Prelude.{◌&&◌, ◌<◌, ℕ, Bool, List, [], ◌∷◌, ◌++◌, filter, flat_map, if◌then◌else◌, length, map, nat_lt}
+use Rattle.std.specs.Prelude.{◌&&◌, ℕ, Bool, List, [], ◌++◌, filter, flat_map, if◌then◌else◌, length, map, nat_lt}
 use Rattle.wit_graph_data.specs.declared.graph.Package.{Package}
 use Rattle.witgraph_dot.specs.Sets.{are_among, is_among, without}
 use Rattle.witgraph_dot.specs.Shown.{indices_from}

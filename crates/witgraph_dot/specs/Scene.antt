@@ -58,9 +58,13 @@ abbrev pub is_included : View → ℕ → ℕ → Bool
 is_included v w w' =
     is_among v.worlds w' && (not (length (own_imports (slice_get v.graph.worlds w')) == 0) && are_among (own_imports (slice_get v.graph.worlds w')) (own_imports (slice_get v.graph.worlds w)))
 
+-- one of some worlds includes world w
+abbrev pub is_included_by_any : List Include → List ℕ → ℕ → Bool
+is_included_by_any included worlds w = list_any (λ u. includes included u w) worlds
+
 -- the worlds that no other of them includes
 abbrev pub outermost : List Include → List ℕ → List ℕ
-outermost included worlds = filter (λ w. not (list_any (λ u. includes included u w) worlds)) worlds
+outermost included worlds = filter (λ w. not (is_included_by_any included worlds w)) worlds
 
 -- the worlds to which one arrow leads in place of arrows to all that they import
 abbrev pub included_worlds : View → ℕ → List ℕ
@@ -88,17 +92,27 @@ left_imports v w = without (shown_imports v w) (included_imports v.graph.worlds 
 abbrev pub brought_imports : View → ℕ → List ℕ
 brought_imports v w = within (left_imports v w) (included_imports v.graph.worlds (includes_of w v.includes))
 
--- of what is left that which stands in no whole frame of what included worlds import
+-- what stands in whole frames of what included worlds import
+abbrev pub bundled_imports : View → ℕ → List ℕ
+bundled_imports v w = whole_frames (import_frames v w) (brought_imports v w)
+
+-- of what is left that which stands in none of these
 abbrev pub single_imports : View → ℕ → List ℕ
-single_imports v w = without (left_imports v w) (whole_frames (import_frames v w) (brought_imports v w))
+single_imports v w = without (left_imports v w) (bundled_imports v w)
+
+-- of what is left the arrows to what lines list, and to what elaboration added
+abbrev pub listed_arrows : View → ℕ → List Arrow
+listed_arrows v w = bundle (import_frames v w) kind.Listed (within (single_imports v w) (imports_of w v.imports))
+
+abbrev pub unlisted_arrows : View → ℕ → List Arrow
+unlisted_arrows v w = bundle (import_frames v w) kind.Added (without (single_imports v w) (imports_of w v.imports))
 
 -- the arrows to what world w imports: to included worlds, to whole frames that included worlds import, and then to what lines
 -- list and to what elaboration added
 abbrev pub import_arrows : View → ℕ → List Arrow
 import_arrows v w =
     included_arrows (included_worlds v w) ++ (frame_arrows (import_frames v w) kind.Listed (brought_imports v w)
-    ++ (bundle (import_frames v w) kind.Listed (within (single_imports v w) (imports_of w v.imports))
-    ++ bundle (import_frames v w) kind.Added (without (single_imports v w) (imports_of w v.imports))))
+    ++ (listed_arrows v w ++ unlisted_arrows v w))
 
 -- the arrows to what elaboration added alone
 abbrev pub added_arrows : View → ℕ → List Arrow

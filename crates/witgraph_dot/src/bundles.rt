@@ -42,13 +42,13 @@ pub fn frames_of(
 /// Frames without some interfaces.
 pub fn frames_but(
     alloc: Global,
-    frames: &Items<Items<InterfaceId>>,
+    frames: &[Items<InterfaceId>],
     others: &[InterfaceId],
 ) -> Result<Items<Items<InterfaceId>>, AllocError>
     ensures { IfOk result (λ left. left ≡ frames_but others.now frames.now) }
 {
     let mut left = Items::new(alloc);
-    for frame in frames.iter() {
+    for frame in frames {
         let rest = without(alloc, frame.as_slice(), others)?;
         left.push(Items::from_vec(rest))?;
     }
@@ -65,13 +65,13 @@ fn is_whole(frame: &Items<InterfaceId>, targets: &[InterfaceId]) -> bool
 /// The interfaces of the frames that are whole.
 pub fn whole_frames(
     alloc: Global,
-    frames: &Items<Items<InterfaceId>>,
+    frames: &[Items<InterfaceId>],
     targets: &[InterfaceId],
 ) -> Result<Vec<InterfaceId>, AllocError>
     ensures { IfOk result (λ interfaces. interfaces.items ≡ whole_frames frames.now targets.now) }
 {
     let mut interfaces = Vec::new(alloc);
-    for frame in frames.iter() {
+    for frame in frames {
         if is_whole(frame, targets) {
             interfaces.extend_from_slice(frame.as_slice())?;
         }
@@ -81,7 +81,7 @@ pub fn whole_frames(
 
 /// Adds an arrow of a kind to each frame that is whole.
 pub fn add_frames(
-    frames: &Items<Items<InterfaceId>>,
+    frames: &[Items<InterfaceId>],
     kind: ArrowKind,
     targets: &[InterfaceId],
     arrows: &mut Vec<Arrow>,
@@ -115,7 +115,7 @@ fn add_interfaces(
 /// Adds the arrows of a kind to some interfaces: one to each frame that is whole, and one to each other interface.
 pub fn add_bundle(
     alloc: Global,
-    frames: &Items<Items<InterfaceId>>,
+    frames: &[Items<InterfaceId>],
     kind: ArrowKind,
     targets: &[InterfaceId],
     arrows: &mut Vec<Arrow>,

@@ -1,7 +1,7 @@
 //! The frames of packages.
 ghost use Rattle.std.specs.Prelude.{◌≡◌, ◌++◌, OnOk, string_bytes};
 ghost use Rattle.std.specs.List.{flat_map};
-ghost use Rattle.witgraph_dot.specs.Boxes.{entry_line, interface_box, interface_boxes, line_of_entry, name_box, world_box};
+ghost use Rattle.witgraph_dot.specs.Boxes.{entry_line, interface_box, interface_boxes, line_of_entry, name_box, world_box, world_head};
 
 use crate::scene::Scene;
 use crate::sets::{is_among, is_world_among};
@@ -110,14 +110,21 @@ fn write_worlds(scene: &Scene<'_>, package: &Package, text: &mut String) -> Resu
 fn write_world(index: usize, world: &World, text: &mut String) -> Result<(), AllocError>
     ensures { OnOk result (string_bytes text.new ≡ string_bytes text.old ++ world_box index world.now) }
 {
-    let name = Quoted(world.name.as_str());
-    write!(
-        text,
-        "    w{index} [shape=component, style=filled, fillcolor=\"#dbe7f6\", label=\"{name}"
-    )?;
+    write_world_head(index, world.name.as_str(), text)?;
     write_labels("import", &world.imports, text)?;
     write_labels("export", &world.exports, text)?;
     text.push_str("\"];\n")
+}
+
+/// Writes the beginning of a world, with its name.
+fn write_world_head(index: usize, name: &str, text: &mut String) -> Result<(), AllocError>
+    ensures { OnOk result (string_bytes text.new ≡ string_bytes text.old ++ world_head index name.now) }
+{
+    let title = Quoted(name);
+    write!(
+        text,
+        "    w{index} [shape=component, style=filled, fillcolor=\"#dbe7f6\", label=\"{title}"
+    )
 }
 
 /// Writes the functions and types of entries, one on a line.

@@ -65,6 +65,7 @@ impl ListedGraph {
         requires { IsCommandShaped command }
         ensures carried { OnOk result (Carries self.old.resolve command self.new.resolve) }
         ensures listed { IfOk result (λ note. IsListedAfter self.old command note self.new) }
+        ensures included { self.new.listing.includes.items ≡ self.old.listing.includes.items }
     {
         match command {
             Command::Importize {

@@ -66,7 +66,8 @@ impl Listing {
 
     /// Adds an interface to what is listed for a world.
     pub fn add(&mut self, world: WorldId, interface: InterfaceId) -> Result<(), AllocError>
-        ensures { OnOk result (self.new.imports.items ≡ with_import self.old.imports.items world interface) }
+        ensures listed { OnOk result (self.new.imports.items ≡ with_import self.old.imports.items world interface) }
+        ensures included { self.new.includes.items ≡ self.old.includes.items }
     {
         if !self.has(world, interface) {
             self.imports.push(Import { world, interface })?;
@@ -76,7 +77,8 @@ impl Listing {
 
     /// Adds these interfaces to what is listed for a world.
     pub fn add_all(&mut self, world: WorldId, interfaces: &[InterfaceId]) -> Result<(), AllocError>
-        ensures { OnOk result (self.new.imports.items ≡ with_imports self.old.imports.items world interfaces.now) }
+        ensures listed { OnOk result (self.new.imports.items ≡ with_imports self.old.imports.items world interfaces.now) }
+        ensures included { self.new.includes.items ≡ self.old.includes.items }
     {
         for interface in interfaces {
             self.add(world, *interface)?;
@@ -106,7 +108,8 @@ impl Listing {
 
     /// Adds a world to those that a world includes.
     pub fn add_include(&mut self, world: WorldId, included: WorldId) -> Result<(), AllocError>
-        ensures { OnOk result (self.new.includes.items ≡ with_include self.old.includes.items world included) }
+        ensures included { OnOk result (self.new.includes.items ≡ with_include self.old.includes.items world included) }
+        ensures listed { self.new.imports.items ≡ self.old.imports.items }
     {
         if !self.includes(world, included) {
             self.includes.push(Include { world, included })?;
@@ -116,7 +119,8 @@ impl Listing {
 
     /// Adds these worlds to those that a world includes.
     pub fn add_includes(&mut self, world: WorldId, included: &[WorldId]) -> Result<(), AllocError>
-        ensures { OnOk result (self.new.includes.items ≡ with_includes self.old.includes.items world included.now) }
+        ensures included { OnOk result (self.new.includes.items ≡ with_includes self.old.includes.items world included.now) }
+        ensures listed { self.new.imports.items ≡ self.old.imports.items }
     {
         for other in included {
             self.add_include(world, *other)?;
@@ -131,7 +135,8 @@ impl Listing {
         world: WorldId,
         interfaces: &[InterfaceId],
     ) -> Result<(), AllocError>
-        ensures { OnOk result (self.new.imports.items ≡ with_imports (others_of world self.old.imports.items) world interfaces.now) }
+        ensures listed { OnOk result (self.new.imports.items ≡ with_imports (others_of world self.old.imports.items) world interfaces.now) }
+        ensures included { self.new.includes.items ≡ self.old.includes.items }
     {
         let mut imports = Vec::new(alloc);
         for import in &self.imports {

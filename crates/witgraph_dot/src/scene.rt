@@ -1,8 +1,9 @@
 //! A graph of which a picture is drawn, with what of it is shown, and which arrows there are.
 ghost use Rattle.std.specs.Prelude.{◌≡◌, ◌++◌, ◌<◌, IfOk, OnOk, length, slice_get};
 ghost use Rattle.wit_graph_data.specs.Queries.{interface_direct_deps};
-ghost use Rattle.witgraph_dot.specs.Bundles.{frames_of};
-ghost use Rattle.witgraph_dot.specs.Scene.{added_arrows, export_arrows, import_arrows, included_arrows, included_imports, included_worlds, is_included, left_imports, outermost, uses_arrows, view_of, world_arrows, shown_imports};
+ghost use Rattle.witgraph_dot.specs.Bundles.{frame_arrows, frames_of};
+ghost use Rattle.witgraph_dot.specs.Scene.{added_arrows, brought_imports, bundled_imports, export_arrows, import_arrows, import_frames, included_arrows, included_imports, included_worlds, is_included, is_included_by_any, left_imports, listed_arrows, outermost, shown_imports, single_imports, unlisted_arrows, uses_arrows, view_of, world_arrows};
+ghost use Rattle.witgraph_dot.specs.declared.arrow.ArrowKind.TheVariants.{Listed};
 ghost use Rattle.witgraph_dot.specs.Shown.{shown_interfaces, shown_worlds};
 
 use crate::arrow::{Arrow, ArrowKind, Target};
@@ -70,7 +71,13 @@ impl<'a> Scene<'a> {
             }
         }
         let mut arrows = Vec::new(alloc);
-        add_bundle(alloc, &self.frames, ArrowKind::Used, &used, &mut arrows)?;
+        add_bundle(
+            alloc,
+            self.frames.as_slice(),
+            ArrowKind::Used,
+            &used,
+            &mut arrows,
+        )?;
         Ok(arrows)
     }
 
@@ -96,7 +103,57 @@ impl<'a> Scene<'a> {
         within(alloc, &imports, &self.interfaces)
     }
 
-    /// Adds the arrows to the imports that elaboration added.
+    /// The frames without what a world exports.
+    fn import_frames(
+        &self,
+        alloc: Global,
+        world: WorldId,
+    ) -> Result<Items<Items<InterfaceId>>, AllocError>
+        ensures { IfOk result (λ frames. frames ≡ import_frames (view_of self.now) world) }
+    {
+        let exports = own_exports(alloc, self.resolve, world)?;
+        frames_but(alloc, self.frames.as_slice(), &exports)
+    }
+
+    /// Of what a world imports, that to which no arrow to an included world leads.
+    fn left_imports(&self, alloc: Global, world: WorldId) -> Result<Vec<InterfaceId>, AllocError>
+        ensures { IfOk result (λ left. left.items ≡ left_imports (view_of self.now) world) }
+    {
+        let included = self.included_worlds(alloc, world)?;
+        let meant = included_imports(alloc, self.resolve, &included)?;
+        let imports = self.shown_imports(alloc, world)?;
+        without(alloc, &imports, &meant)
+    }
+
+    /// Of that what included worlds import, shown or not.
+    fn brought_imports(&self, alloc: Global, world: WorldId) -> Result<Vec<InterfaceId>, AllocError>
+        ensures { IfOk result (λ brought. brought.items ≡ brought_imports (view_of self.now) world) }
+    {
+        let included = self.listing.includes_of(alloc, world)?;
+        let all = included_imports(alloc, self.resolve, &included)?;
+        let left = self.left_imports(alloc, world)?;
+        within(alloc, &left, &all)
+    }
+
+    /// What stands in whole frames of what included worlds import.
+    fn bundled_imports(&self, alloc: Global, world: WorldId) -> Result<Vec<InterfaceId>, AllocError>
+        ensures { IfOk result (λ bundled. bundled.items ≡ bundled_imports (view_of self.now) world) }
+    {
+        let frames = self.import_frames(alloc, world)?;
+        let brought = self.brought_imports(alloc, world)?;
+        whole_frames(alloc, frames.as_slice(), &brought)
+    }
+
+    /// Of what is left that which stands in none of these.
+    fn single_imports(&self, alloc: Global, world: WorldId) -> Result<Vec<InterfaceId>, AllocError>
+        ensures { IfOk result (λ single. single.items ≡ single_imports (view_of self.now) world) }
+    {
+        let bundled = self.bundled_imports(alloc, world)?;
+        let left = self.left_imports(alloc, world)?;
+        without(alloc, &left, &bundled)
+    }
+
+    /// Adds the arrows to the imports that elaboration added, where these are shown alone.
     fn add_added(
         &self,
         alloc: Global,
@@ -105,16 +162,79 @@ impl<'a> Scene<'a> {
     ) -> Result<(), AllocError>
         ensures { OnOk result (arrows.new.items ≡ arrows.old.items ++ added_arrows (view_of self.now) world) }
     {
-        let exports = own_exports(alloc, self.resolve, world)?;
-        let frames = frames_but(alloc, &self.frames, &exports)?;
+        let frames = self.import_frames(alloc, world)?;
         let imports = self.shown_imports(alloc, world)?;
-        let listed = self.listing.imports_of(alloc, world)?;
-        let added = without(alloc, &imports, &listed)?;
-        add_bundle(alloc, &frames, ArrowKind::Added, &added, arrows)
+        let lines = self.listing.imports_of(alloc, world)?;
+        let added = without(alloc, &imports, &lines)?;
+        add_bundle(alloc, frames.as_slice(), ArrowKind::Added, &added, arrows)
     }
 
-    /// Adds the arrows to what a world imports: those to worlds that it includes, those to whole frames that included
-    /// worlds import, and then to what lines list and to what elaboration added of what is left.
+    /// Adds the arrows to worlds that a world includes.
+    fn add_included(
+        &self,
+        alloc: Global,
+        world: WorldId,
+        arrows: &mut Vec<Arrow>,
+    ) -> Result<(), AllocError>
+        ensures { OnOk result (arrows.new.items ≡ arrows.old.items ++ included_arrows (included_worlds (view_of self.now) world)) }
+    {
+        let included = self.included_worlds(alloc, world)?;
+        add_worlds(&included, arrows)
+    }
+
+    /// Adds the arrows to whole frames that included worlds import.
+    fn add_brought(
+        &self,
+        alloc: Global,
+        world: WorldId,
+        arrows: &mut Vec<Arrow>,
+    ) -> Result<(), AllocError>
+        ensures { OnOk result (arrows.new.items ≡ arrows.old.items ++ frame_arrows (import_frames (view_of self.now) world) Listed (brought_imports (view_of self.now) world)) }
+    {
+        let frames = self.import_frames(alloc, world)?;
+        let brought = self.brought_imports(alloc, world)?;
+        add_frames(frames.as_slice(), ArrowKind::Listed, &brought, arrows)
+    }
+
+    /// Adds the arrows to what lines list, of what is left.
+    fn add_listed(
+        &self,
+        alloc: Global,
+        world: WorldId,
+        arrows: &mut Vec<Arrow>,
+    ) -> Result<(), AllocError>
+        ensures { OnOk result (arrows.new.items ≡ arrows.old.items ++ listed_arrows (view_of self.now) world) }
+    {
+        let frames = self.import_frames(alloc, world)?;
+        let single = self.single_imports(alloc, world)?;
+        let lines = self.listing.imports_of(alloc, world)?;
+        let listed = within(alloc, &single, &lines)?;
+        add_bundle(alloc, frames.as_slice(), ArrowKind::Listed, &listed, arrows)
+    }
+
+    /// Adds the arrows to what elaboration added, of what is left.
+    fn add_unlisted(
+        &self,
+        alloc: Global,
+        world: WorldId,
+        arrows: &mut Vec<Arrow>,
+    ) -> Result<(), AllocError>
+        ensures { OnOk result (arrows.new.items ≡ arrows.old.items ++ unlisted_arrows (view_of self.now) world) }
+    {
+        let frames = self.import_frames(alloc, world)?;
+        let single = self.single_imports(alloc, world)?;
+        let lines = self.listing.imports_of(alloc, world)?;
+        let unlisted = without(alloc, &single, &lines)?;
+        add_bundle(
+            alloc,
+            frames.as_slice(),
+            ArrowKind::Added,
+            &unlisted,
+            arrows,
+        )
+    }
+
+    /// Adds the arrows to what a world imports.
     fn add_imports(
         &self,
         alloc: Global,
@@ -123,24 +243,10 @@ impl<'a> Scene<'a> {
     ) -> Result<(), AllocError>
         ensures { OnOk result (arrows.new.items ≡ arrows.old.items ++ import_arrows (view_of self.now) world) }
     {
-        let exports = own_exports(alloc, self.resolve, world)?;
-        let frames = frames_but(alloc, &self.frames, &exports)?;
-        let included = self.included_worlds(alloc, world)?;
-        add_worlds(&included, arrows)?;
-        let imports = self.shown_imports(alloc, world)?;
-        let meant = included_imports(alloc, self.resolve, &included)?;
-        let left = without(alloc, &imports, &meant)?;
-        let all_included = self.listing.includes_of(alloc, world)?;
-        let brought = included_imports(alloc, self.resolve, &all_included)?;
-        let brought = within(alloc, &left, &brought)?;
-        add_frames(&frames, ArrowKind::Listed, &brought, arrows)?;
-        let bundled = whole_frames(alloc, &frames, &brought)?;
-        let left = without(alloc, &left, &bundled)?;
-        let lines = self.listing.imports_of(alloc, world)?;
-        let listed = within(alloc, &left, &lines)?;
-        add_bundle(alloc, &frames, ArrowKind::Listed, &listed, arrows)?;
-        let added = without(alloc, &left, &lines)?;
-        add_bundle(alloc, &frames, ArrowKind::Added, &added, arrows)
+        self.add_included(alloc, world, arrows)?;
+        self.add_brought(alloc, world, arrows)?;
+        self.add_listed(alloc, world, arrows)?;
+        self.add_unlisted(alloc, world, arrows)
     }
 
     /// Adds the arrows to what a world exports.
@@ -154,7 +260,13 @@ impl<'a> Scene<'a> {
     {
         let exports = own_exports(alloc, self.resolve, world)?;
         let exports = within(alloc, &exports, &self.interfaces)?;
-        add_bundle(alloc, &self.frames, ArrowKind::Exported, &exports, arrows)
+        add_bundle(
+            alloc,
+            self.frames.as_slice(),
+            ArrowKind::Exported,
+            &exports,
+            arrows,
+        )
     }
 
     /// The worlds to which one arrow leads in place of arrows to their imports: those that are included, shown, and that
@@ -201,11 +313,18 @@ fn outermost(
 {
     let mut left = Vec::new(alloc);
     for world in worlds {
-        if !worlds.iter().any(|other| listing.includes(*other, *world)) {
+        if !is_included_by_any(listing, worlds, *world) {
             left.push(*world)?;
         }
     }
     Ok(left)
+}
+
+/// Whether one of some worlds includes a world.
+fn is_included_by_any(listing: &Listing, worlds: &[WorldId], world: WorldId) -> bool
+    ensures { result ≡ is_included_by_any listing.now.includes.items worlds.now world }
+{
+    worlds.iter().any(|other| listing.includes(*other, world))
 }
 
 /// What worlds import under the ids of interfaces.

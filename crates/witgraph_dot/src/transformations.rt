@@ -25,6 +25,7 @@ impl ListedGraph {
     ) -> ResolveResult<Option<String>>
         ensures carried { OnOk result (Carries self.old.resolve (Importize «package» world out) self.new.resolve) }
         ensures listed { IfOk result (λ note. IsListedAfter self.old (Importize «package» world out) note self.new) }
+        ensures included { self.new.listing.includes.items ≡ self.old.listing.includes.items }
     {
         let id = self.resolve.world_named(&package, world.as_str());
         let exports = exports_of(alloc, &self.resolve, &id)?;
@@ -51,6 +52,7 @@ impl ListedGraph {
     ) -> ResolveResult<Option<String>>
         ensures carried { OnOk result (Carries self.old.resolve (Exportize «package» world out keys) self.new.resolve) }
         ensures listed { IfOk result (λ note. IsListedAfter self.old (Exportize «package» world out keys) note self.new) }
+        ensures included { self.new.listing.includes.items ≡ self.old.listing.includes.items }
     {
         let id = self.resolve.world_named(&package, world.as_str());
         let command = Command::Exportize {
@@ -75,6 +77,7 @@ impl ListedGraph {
     ) -> ResolveResult<Option<String>>
         ensures carried { OnOk result (Carries self.old.resolve (Semver «package» world) self.new.resolve) }
         ensures listed { IfOk result (λ note. IsListedAfter self.old (Semver «package» world) note self.new) }
+        ensures included { self.new.listing.includes.items ≡ self.old.listing.includes.items }
     {
         let id = self.resolve.world_named(&package, world.as_str());
         let note = self.change(alloc, Command::Semver { package, world })?;
@@ -92,7 +95,8 @@ fn list_exports(
     world: Option<WorldId>,
     exports: &[InterfaceId],
 ) -> Result<(), AllocError>
-    ensures { OnOk result (listing.new.imports.items ≡ importized_imports world exports.now listing.old.imports.items) }
+    ensures listed { OnOk result (listing.new.imports.items ≡ importized_imports world exports.now listing.old.imports.items) }
+    ensures included { listing.new.includes.items ≡ listing.old.includes.items }
 {
     match world {
         Some(world) => listing.replace(alloc, world, exports),
@@ -107,7 +111,8 @@ fn list_unexported(
     listing: &mut Listing,
     world: Option<WorldId>,
 ) -> Result<(), AllocError>
-    ensures { OnOk result (listing.new.imports.items ≡ exportized_imports world resolve.now.graph listing.old.imports.items) }
+    ensures listed { OnOk result (listing.new.imports.items ≡ exportized_imports world resolve.now.graph listing.old.imports.items) }
+    ensures included { listing.new.includes.items ≡ listing.old.includes.items }
 {
     let Some(world) = world else {
         return Ok(());
@@ -125,7 +130,8 @@ fn list_newest(
     listing: &mut Listing,
     world: Option<WorldId>,
 ) -> Result<(), AllocError>
-    ensures { OnOk result (listing.new.imports.items ≡ semver_merged_imports world resolve.now.track_rule resolve.now.graph listing.old.imports.items) }
+    ensures listed { OnOk result (listing.new.imports.items ≡ semver_merged_imports world resolve.now.track_rule resolve.now.graph listing.old.imports.items) }
+    ensures included { listing.new.includes.items ≡ listing.old.includes.items }
 {
     let Some(world) = world else {
         return Ok(());
@@ -142,7 +148,8 @@ fn add_versions(
     world: WorldId,
     interfaces: &[InterfaceId],
 ) -> Result<(), AllocError>
-    ensures { OnOk result (listing.new.imports.items ≡ with_versions resolve.now.track_rule resolve.now.graph listing.old.imports.items world interfaces.now) }
+    ensures listed { OnOk result (listing.new.imports.items ≡ with_versions resolve.now.track_rule resolve.now.graph listing.old.imports.items world interfaces.now) }
+    ensures included { listing.new.includes.items ≡ listing.old.includes.items }
 {
     for id in interfaces {
         let listed = listing.imports_of(alloc, world)?;

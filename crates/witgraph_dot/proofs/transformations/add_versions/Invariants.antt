@@ -4,6 +4,9 @@ use Rattle.witgraph_dot.proofs.transformations.add_versions.Given as goal
 
 -- with those that are left it has all
 abbrev pub invariant-loop-id : goal.invariant-loop-id
-invariant-loop-id l =
-    with_versions l.resolve.track_rule l.resolve.graph l.listing.imports.items l.world (drop l.id-index l.interfaces)
-    ≡ with_versions l.resolve.track_rule l.resolve.graph l.fn.listing.imports.items l.world l.interfaces
+invariant-loop-id l = record {
+  listed :
+      with_versions l.resolve.track_rule l.resolve.graph l.listing.imports.items l.world (drop l.id-index l.interfaces)
+      ≡ with_versions l.resolve.track_rule l.resolve.graph l.fn.listing.imports.items l.world l.interfaces;
+  included : l.listing.includes.items ≡ l.fn.listing.includes.items;
+}
