@@ -1,3 +1,12 @@
+pub mod Boxes
+pub mod Bundles
+pub mod Choice
 pub mod Drawn
+pub mod Labels
 pub mod Listed
+pub mod Scene
+pub mod Sets
+pub mod Shown
 pub mod Texts
+pub mod Tracks
+pub mod Transformed

@@ -1,11 +1,9 @@
--- The imports that lines list: each a world and an interface that it imports under the interface's own id.
+-- The imports that lines list, each a world and an interface that it imports under the interface's own id; and the worlds that
+-- worlds include.
 use Rattle.std.specs.Prelude.{◌&&◌, ℕ, Bool, List, [], ◌∷◌, ◌++◌, filter, nat_eq, not, if◌then◌else◌, flat_map}
 use Rattle.std.specs.List.{list_any}
-use Rattle.wit_data.specs.declared.world.WorldKey.{WorldKey}
-use Rattle.wit_data.specs.declared.world.WorldKey.TheVariants as key
-use Rattle.witgraph_dot.specs.declared.arrows.ArrowKind.{ArrowKind}
-use Rattle.witgraph_dot.specs.declared.arrows.ArrowKind.TheVariants.{Added, Listed}
 use Rattle.witgraph_dot.specs.declared.listing.Import.{Import}
+use Rattle.witgraph_dot.specs.declared.listing.Include.{Include}
 
 -- it is an import of this world
 abbrev pub is_of : ℕ → Import → Bool
@@ -40,7 +38,31 @@ abbrev pub with_imports : List Import → ℕ → List ℕ → List Import
 with_imports imports world [] = imports
 with_imports imports world (interface ∷ interfaces) = with_imports (with_import imports world interface) world interfaces
 
--- what the arrow of an import says: elaboration adds nothing under a label, and has added under its own id what no line lists
-abbrev pub import_kind : List Import → ℕ → WorldKey → ArrowKind
-import_kind imports world (key.Name label) = Listed
-import_kind imports world (key.Interface interface) = if lists imports world interface then Listed else Added
+-- it is an include of this world
+abbrev pub is_include_of : ℕ → Include → Bool
+is_include_of world include = nat_eq include.world world
+
+-- it is this include
+abbrev pub is_include : ℕ → ℕ → Include → Bool
+is_include world included include = is_include_of world include && nat_eq include.included included
+
+-- a world includes another, by a line or by one of a world that it includes
+abbrev pub includes : List Include → ℕ → ℕ → Bool
+includes all world included = list_any (is_include world included) all
+
+-- the world that an include of this world includes
+abbrev pub included_by : ℕ → Include → List ℕ
+included_by world include = if is_include_of world include then include.included ∷ [] else []
+
+-- the worlds that a world includes
+abbrev pub includes_of : ℕ → List Include → List ℕ
+includes_of world all = flat_map (included_by world) all
+
+-- with one include more, where it isn't there
+abbrev pub with_include : List Include → ℕ → ℕ → List Include
+with_include all world included = if includes all world included then all else all ++ record { world = world; included = included } ∷ []
+
+-- with several more
+abbrev pub with_includes : List Include → ℕ → List ℕ → List Include
+with_includes all world [] = all
+with_includes all world (included ∷ more) = with_includes (with_include all world included) world more

@@ -3,7 +3,8 @@ use Rattle.std.specs.Prelude.{ℕ, List, ◌++◌, codes, nat_eq, if◌then◌el
 use Rattle.std.specs.Char.{encode_utf8}
 use Rattle.std.specs.List.{flat_map}
 use Rattle.std.specs.Str.{chars}
-use Rattle.wit_names.specs.PackageName.{package_name_text}
+use Rattle.wit_names.specs.PackageName.{package_name_text, version_suffix}
+use Rattle.wit_names.specs.declared.package_name.PackageName.{PackageName}
 use Rattle.wit_script.specs.declared.ready.ScriptCommand.{ScriptCommand}
 use Rattle.wit_script.specs.declared.ready.ScriptCommand.TheVariants as asks
 use Rattle.wit_script_lines.specs.Request.{request_text}
@@ -15,6 +16,10 @@ quoted_char c = if nat_eq c 34 then codes "\\\"" else if nat_eq c 92 then codes 
 -- a text there
 abbrev pub quoted_text : List ℕ → List ℕ
 quoted_text text = flat_map quoted_char (chars text)
+
+-- the name of a package there
+abbrev pub quoted_name : PackageName → List ℕ
+quoted_name p = quoted_text p.namespace ++ (codes ":" ++ (quoted_text p.name ++ version_suffix p.version))
 
 -- in a label of HTML: the signs of its marks, a space and the end of a line stand for themselves
 abbrev pub html_char : ℕ → List ℕ

@@ -1,5 +1,6 @@
 //! The interfaces that a world imports and exports under their own ids.
-ghost use Rattle.std.specs.Prelude.{◌≡◌, IfOk, slice_get};
+ghost use Rattle.std.specs.Prelude.{◌≡◌, ◌++◌, IfOk, OnOk, slice_get};
+ghost use Rattle.wit_data.specs.Entries.{interfaces_of_entries};
 ghost use Rattle.wit_elaboration.specs.Entries.{keyed_interfaces};
 ghost use Rattle.witgraph_dot.specs.Drawn.{own_exports, own_imports};
 
@@ -20,6 +21,21 @@ fn own_interfaces(
         }
     }
     Ok(interfaces)
+}
+
+/// Adds the interfaces of entries, under whatever keys.
+pub fn add_interfaces(
+    entries: &Table<WorldKey, WorldItem>,
+    interfaces: &mut Vec<InterfaceId>,
+) -> Result<(), AllocError>
+    ensures { OnOk result (interfaces.new.items ≡ interfaces.old.items ++ interfaces_of_entries entries.now) }
+{
+    for (_, item) in entries.iter() {
+        if let WorldItem::Interface { id, .. } = item {
+            interfaces.push(*id)?;
+        }
+    }
+    Ok(())
 }
 
 /// Those that a world imports.

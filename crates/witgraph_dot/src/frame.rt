@@ -1,52 +1,130 @@
 //! The frames of packages.
-use crate::texts::Quoted;
+ghost use Rattle.std.specs.Prelude.{◌≡◌, ◌++◌, OnOk, string_bytes};
+ghost use Rattle.std.specs.List.{flat_map};
+ghost use Rattle.witgraph_dot.specs.Boxes.{entry_line, interface_box, interface_boxes, line_of_entry, name_box, world_box, world_head};
+
+use crate::scene::Scene;
+use crate::sets::{is_among, is_world_among};
+use crate::texts::{Quoted, QuotedName};
 use std::alloc::AllocError;
 use std::fmt::Write;
-use wit_resolve_graph::{Package, PackageName, Table, World, WorldItem, WorldKey};
+use wit_resolve_graph::{
+    InterfaceId, Package, PackageId, PackageName, Table, World, WorldItem, WorldKey,
+};
 
-/// Writes the frame of a package, with its interfaces and its worlds, which are among these of the graph.
+/// Writes the frame of a package with its interfaces and worlds that are shown. Where there are none it isn't drawn.
 pub fn write_frame(
-    worlds: &[World],
+    scene: &Scene<'_>,
     package: &Package,
-    index: usize,
+    id: PackageId,
     text: &mut String,
 ) -> Result<(), AllocError> {
+    let Some(interfaces) = scene.frames.get(id.index()) else {
+        return Ok(());
+    };
+    if interfaces.is_empty() && !shows_world(scene, package) {
+        return Ok(());
+    }
+    let index = id.index();
     write!(text, "  subgraph cluster_{index} {{\n")?;
-    text.push_str("    style=\"rounded,filled\"; color=\"#c9c9c9\"; fillcolor=\"#f6f6f3\";\n")?;
-    write_name(&package.name, text)?;
-    for (name, id) in package.interfaces.iter() {
-        let (name, index) = (Quoted(name), id.index());
-        write!(text, "    i{index} [label=\"{name}\"];\n")?;
+    text.push_str(
+        "    style=\"rounded,filled\"; color=\"#c9c9c9\"; fillcolor=\"#f6f6f3\"; label=\"\";\n",
+    )?;
+    write_name(index, &package.name, text)?;
+    if has_inner_frame(scene, package, interfaces.len()) {
+        write!(text, "    subgraph cluster_{index}_interfaces {{\n")?;
+        text.push_str("    style=rounded; color=\"#dcdcd4\"; label=\"\";\n")?;
+        write_interfaces(package, interfaces.as_slice(), text)?;
+        text.push_str("    }\n")?;
+    } else {
+        write_interfaces(package, interfaces.as_slice(), text)?;
     }
-    for (_, id) in package.worlds.iter() {
-        if let Some(world) = worlds.get(id.index()) {
-            write_world(id.index(), world, text)?;
-        }
-    }
+    write_worlds(scene, package, text)?;
     text.push_str("  }\n")
 }
 
-/// Writes the name of a package.
-fn write_name(owner: &PackageName, text: &mut String) -> Result<(), AllocError> {
-    let namespace = Quoted(owner.namespace.as_str());
-    let name = Quoted(owner.name.as_str());
-    write!(text, "    label=\"{namespace}:{name}")?;
-    if let Some(version) = &owner.version {
-        write!(text, "@{version}")?;
+/// Whether several interfaces of a package stand in a frame of their own: beside its worlds, so that these can have an
+/// arrow to it.
+pub fn has_inner_frame(scene: &Scene<'_>, package: &Package, interfaces: usize) -> bool {
+    interfaces > 1 && shows_world(scene, package)
+}
+
+/// Whether a world of a package is shown.
+fn shows_world(scene: &Scene<'_>, package: &Package) -> bool {
+    for (_, id) in package.worlds.iter() {
+        if is_world_among(&scene.worlds, *id) {
+            return true;
+        }
     }
-    text.push_str("\";\n")
+    false
+}
+
+/// Writes the name of a package: as a box, since arrows lead round boxes, and straight through the label of a frame.
+fn write_name(index: usize, owner: &PackageName, text: &mut String) -> Result<(), AllocError>
+    ensures { OnOk result (string_bytes text.new ≡ string_bytes text.old ++ name_box index owner.now) }
+{
+    let name = QuotedName(owner);
+    write!(
+        text,
+        "    p{index} [shape=plaintext, style=filled, fillcolor=\"#f6f6f3\", fontname=\"Helvetica-Bold\", margin=\"0.02,0.02\", height=0, label=\"{name}\"];\n"
+    )
+}
+
+/// Writes the interfaces of a package that are among these.
+fn write_interfaces(
+    package: &Package,
+    shown: &[InterfaceId],
+    text: &mut String,
+) -> Result<(), AllocError>
+    ensures { OnOk result (string_bytes text.new ≡ string_bytes text.old ++ interface_boxes shown.now «package».now) }
+{
+    for (name, id) in package.interfaces.iter() {
+        if is_among(shown, *id) {
+            write_interface(id.index(), name, text)?;
+        }
+    }
+    Ok(())
+}
+
+/// Writes an interface.
+fn write_interface(index: usize, name: &str, text: &mut String) -> Result<(), AllocError>
+    ensures { OnOk result (string_bytes text.new ≡ string_bytes text.old ++ interface_box index name.now) }
+{
+    let name = Quoted(name);
+    write!(text, "    i{index} [label=\"{name}\"];\n")
+}
+
+/// Writes the worlds of a package that are shown.
+fn write_worlds(scene: &Scene<'_>, package: &Package, text: &mut String) -> Result<(), AllocError> {
+    for (_, id) in package.worlds.iter() {
+        if is_world_among(&scene.worlds, *id) {
+            if let Some(world) = scene.resolve.worlds().get(id.index()) {
+                write_world(id.index(), world, text)?;
+            }
+        }
+    }
+    Ok(())
 }
 
 /// Writes a world, with its functions and types below its name.
-fn write_world(index: usize, world: &World, text: &mut String) -> Result<(), AllocError> {
-    let name = Quoted(world.name.as_str());
-    write!(
-        text,
-        "    w{index} [shape=component, style=filled, fillcolor=\"#dbe7f6\", label=\"{name}"
-    )?;
+fn write_world(index: usize, world: &World, text: &mut String) -> Result<(), AllocError>
+    ensures { OnOk result (string_bytes text.new ≡ string_bytes text.old ++ world_box index world.now) }
+{
+    write_world_head(index, world.name.as_str(), text)?;
     write_labels("import", &world.imports, text)?;
     write_labels("export", &world.exports, text)?;
     text.push_str("\"];\n")
+}
+
+/// Writes the beginning of a world, with its name.
+fn write_world_head(index: usize, name: &str, text: &mut String) -> Result<(), AllocError>
+    ensures { OnOk result (string_bytes text.new ≡ string_bytes text.old ++ world_head index name.now) }
+{
+    let title = Quoted(name);
+    write!(
+        text,
+        "    w{index} [shape=component, style=filled, fillcolor=\"#dbe7f6\", label=\"{title}"
+    )
 }
 
 /// Writes the functions and types of entries, one on a line.
@@ -54,17 +132,31 @@ fn write_labels(
     word: &str,
     entries: &Table<WorldKey, WorldItem>,
     text: &mut String,
-) -> Result<(), AllocError> {
+) -> Result<(), AllocError>
+    ensures { OnOk result (string_bytes text.new ≡ string_bytes text.old ++ flat_map (entry_line word.now) entries.now) }
+{
     for (key, item) in entries.iter() {
-        let noun = match item {
-            WorldItem::Interface { .. } => continue,
-            WorldItem::Function(_) => "func",
-            WorldItem::Type_ { .. } => "type",
-        };
-        if let WorldKey::Name(label) = key {
-            let label = Quoted(label.as_str());
-            write!(text, "\\n{word} {noun} {label}")?;
-        }
+        write_label(word, key, item, text)?;
     }
     Ok(())
+}
+
+/// Writes the line of an entry, where it is a function or a type.
+fn write_label(
+    word: &str,
+    key: &WorldKey,
+    item: &WorldItem,
+    text: &mut String,
+) -> Result<(), AllocError>
+    ensures { OnOk result (string_bytes text.new ≡ string_bytes text.old ++ line_of_entry word.now key.now item.now) }
+{
+    let WorldKey::Name(label) = key else {
+        return Ok(());
+    };
+    let label = Quoted(label.as_str());
+    match item {
+        WorldItem::Interface { .. } => Ok(()),
+        WorldItem::Function(_) => write!(text, "\\n{word} func {label}"),
+        WorldItem::Type_ { .. } => write!(text, "\\n{word} type {label}"),
+    }
 }

@@ -1,11 +1,12 @@
 //! A graph on which commands work, with what lines list for its worlds.
-ghost use Rattle.std.specs.Prelude.{◌≡◌, OnOk};
+ghost use Rattle.std.specs.Prelude.{◌≡◌, IfOk, OnOk, []};
 ghost use Rattle.wit_resolve_graph.specs.Step.{IsCommandShaped};
 ghost use Rattle.wit_resolve_graph.specs.State.{new_state};
 ghost use Rattle.wit_resolve_graph.specs.declared.command.Command.TheVariants.{Merge, PushGroups};
 ghost use Rattle.wit_script.specs.Ready.{IsReady};
 ghost use Rattle.wit_script.specs.declared.ready.ScriptCommand.TheVariants as asks;
 ghost use Rattle.witgraph_dot.specs.Drawn.{Carries};
+ghost use Rattle.witgraph_dot.specs.Transformed.{IsListedAfter};
 
 use crate::listing::Listing;
 use crate::package_lines::list_groups;
@@ -25,7 +26,9 @@ pub struct ListedGraph {
 impl ListedGraph {
     /// An empty graph.
     pub fn new(alloc: Global) -> ListedGraph
-        ensures { result.resolve ≡ new_state }
+        ensures graph { result.resolve ≡ new_state }
+        ensures imports { result.listing.imports.items ≡ [] }
+        ensures includes { result.listing.includes.items ≡ [] }
     {
         ListedGraph {
             resolve: Resolve::new(alloc),
@@ -44,7 +47,8 @@ impl ListedGraph {
     /// refusal is want of memory outside the command.
     pub fn change(&mut self, alloc: Global, command: Command) -> ResolveResult<Option<String>>
         requires { IsCommandShaped command }
-        ensures { OnOk result (Carries self.old.resolve command self.new.resolve) }
+        ensures carried { OnOk result (Carries self.old.resolve command self.new.resolve) }
+        ensures listing { self.new.listing ≡ self.old.listing }
     {
         let mut commands = Items::new(alloc);
         commands.push(command)?;
@@ -59,7 +63,9 @@ impl ListedGraph {
     /// The same, with what counts as listed after a command that transforms a world.
     pub fn carry_out(&mut self, alloc: Global, command: Command) -> ResolveResult<Option<String>>
         requires { IsCommandShaped command }
-        ensures { OnOk result (Carries self.old.resolve command self.new.resolve) }
+        ensures carried { OnOk result (Carries self.old.resolve command self.new.resolve) }
+        ensures listed { IfOk result (λ note. IsListedAfter self.old command note self.new) }
+        ensures included { self.new.listing.includes.items ≡ self.old.listing.includes.items }
     {
         match command {
             Command::Importize {

@@ -1,6 +1,6 @@
-//! The imports that lines list.
+//! The imports that lines list, and the worlds that they include.
 ghost use Rattle.std.specs.Prelude.{◌≡◌, IfOk, OnOk, []};
-ghost use Rattle.witgraph_dot.specs.Listed.{imports_of, lists, others_of, with_import, with_imports};
+ghost use Rattle.witgraph_dot.specs.Listed.{imports_of, includes, includes_of, lists, others_of, with_import, with_imports, with_include, with_includes};
 
 use std::alloc::{AllocError, Global};
 use wit_resolve_graph::{InterfaceId, Remap, WorldId};
@@ -12,7 +12,15 @@ struct Import {
     interface: InterfaceId,
 }
 
-/// The imports that lines list. What a world imports beside them under an interface's own id, elaboration has added.
+/// That a world includes another, by a line or by one of a world that it includes.
+#[derive(Clone, Copy)]
+pub struct Include {
+    pub world: WorldId,
+    pub included: WorldId,
+}
+
+/// The imports that lines list, and the worlds that they include. What a world imports beside the former under an
+/// interface's own id, elaboration has added.
 ///
 /// A line lists an import where it is an `import` line of the world or of one that it includes, whatever its gate. After
 /// a command that transforms a world these count as listed: after `importize` its former exports, after `exportize` what
@@ -21,15 +29,18 @@ struct Import {
 #[derive(Drop)]
 pub struct Listing {
     imports: Vec<Import>,
+    includes: Vec<Include>,
 }
 
 impl Listing {
-    /// No import.
+    /// No import and no include.
     pub fn new(alloc: Global) -> Listing
-        ensures { result.imports.items ≡ [] }
+        ensures imports { result.imports.items ≡ [] }
+        ensures includes { result.includes.items ≡ [] }
     {
         Listing {
             imports: Vec::new(alloc),
+            includes: Vec::new(alloc),
         }
     }
 
@@ -55,7 +66,8 @@ impl Listing {
 
     /// Adds an interface to what is listed for a world.
     pub fn add(&mut self, world: WorldId, interface: InterfaceId) -> Result<(), AllocError>
-        ensures { OnOk result (self.new.imports.items ≡ with_import self.old.imports.items world interface) }
+        ensures listed { OnOk result (self.new.imports.items ≡ with_import self.old.imports.items world interface) }
+        ensures included { self.new.includes.items ≡ self.old.includes.items }
     {
         if !self.has(world, interface) {
             self.imports.push(Import { world, interface })?;
@@ -65,10 +77,53 @@ impl Listing {
 
     /// Adds these interfaces to what is listed for a world.
     pub fn add_all(&mut self, world: WorldId, interfaces: &[InterfaceId]) -> Result<(), AllocError>
-        ensures { OnOk result (self.new.imports.items ≡ with_imports self.old.imports.items world interfaces.now) }
+        ensures listed { OnOk result (self.new.imports.items ≡ with_imports self.old.imports.items world interfaces.now) }
+        ensures included { self.new.includes.items ≡ self.old.includes.items }
     {
         for interface in interfaces {
             self.add(world, *interface)?;
+        }
+        Ok(())
+    }
+
+    /// Whether a world includes another.
+    pub fn includes(&self, world: WorldId, included: WorldId) -> bool
+        ensures { result ≡ includes self.now.includes.items world included }
+    {
+        self.includes.iter().any(|include| include.world == world && include.included == included)
+    }
+
+    /// The worlds that a world includes.
+    pub fn includes_of(&self, alloc: Global, world: WorldId) -> Result<Vec<WorldId>, AllocError>
+        ensures { IfOk result (λ worlds. worlds.items ≡ includes_of world self.now.includes.items) }
+    {
+        let mut worlds = Vec::new(alloc);
+        for include in &self.includes {
+            if include.world == world {
+                worlds.push(include.included)?;
+            }
+        }
+        Ok(worlds)
+    }
+
+    /// Adds a world to those that a world includes.
+    pub fn add_include(&mut self, world: WorldId, included: WorldId) -> Result<(), AllocError>
+        ensures included { OnOk result (self.new.includes.items ≡ with_include self.old.includes.items world included) }
+        ensures listed { self.new.imports.items ≡ self.old.imports.items }
+    {
+        if !self.includes(world, included) {
+            self.includes.push(Include { world, included })?;
+        }
+        Ok(())
+    }
+
+    /// Adds these worlds to those that a world includes.
+    pub fn add_includes(&mut self, world: WorldId, included: &[WorldId]) -> Result<(), AllocError>
+        ensures included { OnOk result (self.new.includes.items ≡ with_includes self.old.includes.items world included.now) }
+        ensures listed { self.new.imports.items ≡ self.old.imports.items }
+    {
+        for other in included {
+            self.add_include(world, *other)?;
         }
         Ok(())
     }
@@ -80,7 +135,8 @@ impl Listing {
         world: WorldId,
         interfaces: &[InterfaceId],
     ) -> Result<(), AllocError>
-        ensures { OnOk result (self.new.imports.items ≡ with_imports (others_of world self.old.imports.items) world interfaces.now) }
+        ensures listed { OnOk result (self.new.imports.items ≡ with_imports (others_of world self.old.imports.items) world interfaces.now) }
+        ensures included { self.new.includes.items ≡ self.old.includes.items }
     {
         let mut imports = Vec::new(alloc);
         for import in &self.imports {
@@ -99,6 +155,13 @@ impl Listing {
             let interface = remap.interfaces().get(import.interface.index());
             if let (Some(Some(world)), Some(Some(interface))) = (world, interface) {
                 self.add(*world, *interface)?;
+            }
+        }
+        for include in &other.includes {
+            let world = remap.worlds().get(include.world.index());
+            let included = remap.worlds().get(include.included.index());
+            if let (Some(Some(world)), Some(Some(included))) = (world, included) {
+                self.add_include(*world, *included)?;
             }
         }
         Ok(())

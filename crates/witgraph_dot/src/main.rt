@@ -10,20 +10,28 @@
 //! A script that isn't understood gives the line of `witgraph` and no picture.
 #![tactic(auto)]
 
-mod arrows;
+mod arrow;
+mod bundles;
+mod choice;
+mod drawing;
 mod entries;
 mod frame;
 mod heading;
+mod labels;
 mod listed_graph;
 mod listing;
 mod names;
 mod package_lines;
 mod picture;
+mod scene;
+mod sets;
+mod shown;
 mod stage;
 mod texts;
 mod track;
 mod transformations;
 
+use crate::choice::Choice;
 use crate::picture::draw;
 use crate::stage::Stage;
 use std::alloc::{AllocError, Global};
@@ -38,7 +46,8 @@ fn answer(alloc: Global, script: &str) -> ResolveResult<(String, ExitCode)> {
     match read_script(alloc, script) {
         Ok(commands) => {
             let stage = Stage::after(alloc, commands)?;
-            Ok((draw(alloc, &stage)?, ExitCode::SUCCESS))
+            let choice = Choice::of_script(alloc, script)?;
+            Ok((draw(alloc, &stage, &choice)?, ExitCode::SUCCESS))
         }
         Err(ReadFault::NotUnderstood { line }) => Ok((
             format!(in alloc; "line {line}: not understood\n")?,

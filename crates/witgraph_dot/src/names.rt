@@ -1,5 +1,11 @@
 //! Worlds and interfaces by their names.
-use wit_resolve_graph::{AstItem, InterfaceId, PackageName, Resolve, UnresolvedPackage, WorldId};
+ghost use Rattle.std.specs.Prelude.{◌≡◌};
+ghost use Rattle.std.specs.Option.{option_map};
+ghost use Rattle.witgraph_dot.specs.Tracks.{full_name};
+
+use wit_resolve_graph::{
+    AstItem, InterfaceId, PackageName, Resolve, Text, UnresolvedPackage, WorldId,
+};
 
 /// The interface of this name in the package of that name.
 fn interface_named(resolve: &Resolve, owner: &PackageName, name: &str) -> Option<InterfaceId> {
@@ -56,9 +62,13 @@ pub fn world_of(resolve: &Resolve, package: &UnresolvedPackage, id: WorldId) -> 
     resolve.world_named(&package.name, world.name.as_str())
 }
 
-/// The package and the name of an interface of the graph, where it has both.
-pub fn full_name(resolve: &Resolve, id: InterfaceId) -> Option<(&PackageName, &str)> {
+/// The name of the package of an interface of the graph, and its own, where it has both.
+pub fn full_name(resolve: &Resolve, id: InterfaceId) -> Option<(&PackageName, &Text)>
+    ensures { option_map (λ names. (names.0.now, names.1.now)) result ≡ full_name resolve.now.graph id }
+{
     let interface = resolve.interfaces().get(id.index())?;
-    let owner = resolve.packages().get(interface.package?.index())?;
-    Some((&owner.name, interface.name.as_ref()?.as_str()))
+    let package = interface.package?;
+    let name = interface.name.as_ref()?;
+    let owner = resolve.packages().get(package.index())?;
+    Some((&owner.name, name))
 }

@@ -1,17 +1,10 @@
 //! What the lines of packages list.
-use crate::listing::Listing;
+use crate::listing::{Include, Listing};
 use crate::names::{interface_of, world_of};
 use std::alloc::{AllocError, Global};
 use wit_resolve_graph::{
     Resolve, UnresolvedPackage, UnresolvedPackageGroup, World, WorldId, WorldKey,
 };
-
-/// That a world includes another.
-#[derive(Clone, Copy)]
-struct Include {
-    world: WorldId,
-    included: WorldId,
-}
 
 /// Adds what the lines of groups list, which the graph has taken.
 pub fn list_groups(
@@ -30,8 +23,10 @@ pub fn list_groups(
     // A world that includes another gets what that has by then, so a chain of includes takes as many rounds as it has links.
     for _round in 0..includes.len() {
         for include in &includes {
-            let included = listing.imports_of(alloc, include.included)?;
-            listing.add_all(include.world, &included)?;
+            let imports = listing.imports_of(alloc, include.included)?;
+            listing.add_all(include.world, &imports)?;
+            let included = listing.includes_of(alloc, include.included)?;
+            listing.add_includes(include.world, &included)?;
         }
     }
     Ok(())
@@ -51,6 +46,7 @@ fn list_package(
         list_world(resolve, package, world, id, listing)?;
         for include in world.includes.iter() {
             if let Some(included) = world_of(resolve, package, include.id) {
+                listing.add_include(id, included)?;
                 includes.push(Include {
                     world: id,
                     included,

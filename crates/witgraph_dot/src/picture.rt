@@ -1,16 +1,19 @@
 //! The picture of a graph.
-use crate::arrows::{write_entries, write_uses};
+use crate::choice::Choice;
+use crate::drawing::write_arrows;
 use crate::frame::write_frame;
-use crate::listing::Listing;
+use crate::scene::Scene;
 use crate::stage::Stage;
 use crate::texts::Html;
 use std::alloc::{AllocError, Global};
 use std::fmt::Write;
-use wit_resolve_graph::{InterfaceId, Resolve, WorldId};
+use wit_resolve_graph::PackageId;
 
 /// What stands before the packages: what frames, interfaces and arrows look like.
 const HEAD: &str = "digraph wit {
   rankdir=LR;
+  compound=true;
+  outputorder=edgesfirst;
   ranksep=0.7;
   nodesep=0.3;
   fontname=\"Helvetica\";
@@ -20,10 +23,11 @@ const HEAD: &str = "digraph wit {
   edge [fontname=\"Helvetica\", fontsize=10, arrowsize=0.7, color=\"#8a8a8a\"];
 ";
 
-/// The line below the picture, which says what the arrows mean.
+/// The lines below the picture, which say what the arrows mean.
 const LEGEND: &str = "  labeljust=c;
   label=<<table border=\"0\" cellspacing=\"6\">
     <tr><td><font color=\"#6a6a6a\">&#8594; uses</font> &#160; <font color=\"#1f5fa8\">&#8594; imports</font> &#160; <font color=\"#d1660f\">&#8674; imports, added by elaboration</font> &#160; <font color=\"#2e7d32\">&#8594; exports</font></td></tr>
+    <tr><td><font color=\"#6a6a6a\" point-size=\"10\">to a frame: to all in it &#160; to a world: to all that it imports</font></td></tr>
 ";
 
 /// What stands after the notes.
@@ -31,35 +35,19 @@ const END: &str = "  </table>>;
 }
 ";
 
-/// The graph of a stage in DOT, with the notes. The only error is want of memory.
-pub fn draw(alloc: Global, stage: &Stage) -> Result<String, AllocError> {
+/// What a choice shows of the graph of a stage, in DOT, with the notes. The only error is want of memory.
+pub fn draw(alloc: Global, stage: &Stage, choice: &Choice) -> Result<String, AllocError> {
     let first = stage.first();
-    let resolve = &first.resolve;
+    let scene = Scene::of(alloc, &first.resolve, &first.listing, choice)?;
     let mut text = String::from_str(alloc, HEAD)?;
-    for (index, package) in resolve.packages().iter().enumerate() {
-        write_frame(resolve.worlds(), package, index, &mut text)?;
+    for (index, package) in scene.resolve.packages().iter().enumerate() {
+        write_frame(&scene, package, PackageId::from_index(index), &mut text)?;
     }
-    write_arrows(alloc, resolve, &first.listing, &mut text)?;
+    write_arrows(alloc, &scene, &mut text)?;
     text.push_str(LEGEND)?;
     write_notes(stage.notes(), &mut text)?;
     text.push_str(END)?;
     Ok(text)
-}
-
-/// Writes the arrows, those from interfaces first.
-fn write_arrows(
-    alloc: Global,
-    resolve: &Resolve,
-    listing: &Listing,
-    text: &mut String,
-) -> Result<(), AllocError> {
-    for index in 0..resolve.interfaces().len() {
-        write_uses(alloc, resolve, InterfaceId::from_index(index), text)?;
-    }
-    for (index, world) in resolve.worlds().iter().enumerate() {
-        write_entries(listing, WorldId::from_index(index), world, text)?;
-    }
-    Ok(())
 }
 
 /// Writes the notes, one below the other.

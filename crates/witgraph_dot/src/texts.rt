@@ -1,8 +1,9 @@
 //! Texts as they stand in a picture.
 ghost use Rattle.std.specs.Prelude.{Some};
-ghost use Rattle.witgraph_dot.specs.Texts.{html_char, html_text, quoted_char, quoted_text};
+ghost use Rattle.witgraph_dot.specs.Texts.{html_char, html_text, quoted_char, quoted_name, quoted_text};
 
 use std::fmt;
+use wit_resolve_graph::PackageName;
 
 /// A text between the quotes of a label: what DOT takes for more than itself stands for itself.
 #[derive(Clone, Copy)]
@@ -35,6 +36,24 @@ impl fmt::Display for QuotedChar {
             '&' => f.write_str("&amp;"),
             _ => write!(f, "{char}"),
         }
+    }
+}
+
+/// The name of a package between the quotes of a label.
+#[derive(Clone, Copy)]
+pub struct QuotedName<'a>(pub &'a PackageName);
+
+impl fmt::Display for QuotedName<'_> {
+    ghost output = { λ owner. Some (quoted_name owner.0.now) };
+
+    fn fmt<W: fmt::Write>(&self, f: &mut fmt::Formatter<W>) -> fmt::Result {
+        let namespace = Quoted(self.0.namespace.as_str());
+        let name = Quoted(self.0.name.as_str());
+        write!(f, "{namespace}:{name}")?;
+        if let Some(version) = &self.0.version {
+            write!(f, "@{version}")?;
+        }
+        Ok(())
     }
 }
 

@@ -1,13 +1,14 @@
 //! The commands that transform a world, and what counts as listed after them.
-ghost use Rattle.std.specs.Prelude.{◌≡◌, IfOk, OnOk, filter, nat_eq, not};
-ghost use Rattle.std.specs.List.{list_any};
+ghost use Rattle.std.specs.Prelude.{◌≡◌, IfOk, OnOk};
 ghost use Rattle.wit_resolve_graph.specs.declared.command.Command.TheVariants.{Exportize, Importize, Semver};
 ghost use Rattle.witgraph_dot.specs.Drawn.{Carries};
+ghost use Rattle.witgraph_dot.specs.Transformed.{IsListedAfter, exportized_imports, exports_of, importized_imports, semver_merged_imports, with_versions};
 
 use crate::entries::{own_exports, own_imports};
 use crate::listed_graph::ListedGraph;
 use crate::listing::Listing;
-use crate::track::are_versions_of_one;
+use crate::sets::without;
+use crate::track::is_version_of_any;
 use std::alloc::{AllocError, Global};
 use wit_resolve_graph::{
     Command, InterfaceId, Items, PackageName, Resolve, ResolveResult, Text, WorldId,
@@ -22,7 +23,9 @@ impl ListedGraph {
         world: Text,
         out: Option<Text>,
     ) -> ResolveResult<Option<String>>
-        ensures { OnOk result (Carries self.old.resolve (Importize «package» world out) self.new.resolve) }
+        ensures carried { OnOk result (Carries self.old.resolve (Importize «package» world out) self.new.resolve) }
+        ensures listed { IfOk result (λ note. IsListedAfter self.old (Importize «package» world out) note self.new) }
+        ensures included { self.new.listing.includes.items ≡ self.old.listing.includes.items }
     {
         let id = self.resolve.world_named(&package, world.as_str());
         let exports = exports_of(alloc, &self.resolve, &id)?;
@@ -33,9 +36,7 @@ impl ListedGraph {
         };
         let note = self.change(alloc, command)?;
         if note.is_none() {
-            if let Some(id) = id {
-                self.listing.replace(alloc, id, &exports)?;
-            }
+            list_exports(alloc, &mut self.listing, id, &exports)?;
         }
         Ok(note)
     }
@@ -49,7 +50,9 @@ impl ListedGraph {
         out: Option<Text>,
         keys: Option<Items<Text>>,
     ) -> ResolveResult<Option<String>>
-        ensures { OnOk result (Carries self.old.resolve (Exportize «package» world out keys) self.new.resolve) }
+        ensures carried { OnOk result (Carries self.old.resolve (Exportize «package» world out keys) self.new.resolve) }
+        ensures listed { IfOk result (λ note. IsListedAfter self.old (Exportize «package» world out keys) note self.new) }
+        ensures included { self.new.listing.includes.items ≡ self.old.listing.includes.items }
     {
         let id = self.resolve.world_named(&package, world.as_str());
         let command = Command::Exportize {
@@ -60,9 +63,7 @@ impl ListedGraph {
         };
         let note = self.change(alloc, command)?;
         if note.is_none() {
-            if let Some(id) = id {
-                list_unexported(alloc, &self.resolve, &mut self.listing, id)?;
-            }
+            list_unexported(alloc, &self.resolve, &mut self.listing, id)?;
         }
         Ok(note)
     }
@@ -74,16 +75,32 @@ impl ListedGraph {
         package: PackageName,
         world: Text,
     ) -> ResolveResult<Option<String>>
-        ensures { OnOk result (Carries self.old.resolve (Semver «package» world) self.new.resolve) }
+        ensures carried { OnOk result (Carries self.old.resolve (Semver «package» world) self.new.resolve) }
+        ensures listed { IfOk result (λ note. IsListedAfter self.old (Semver «package» world) note self.new) }
+        ensures included { self.new.listing.includes.items ≡ self.old.listing.includes.items }
     {
         let id = self.resolve.world_named(&package, world.as_str());
         let note = self.change(alloc, Command::Semver { package, world })?;
         if note.is_none() {
-            if let Some(id) = id {
-                list_newest(alloc, &self.resolve, &mut self.listing, id)?;
-            }
+            list_newest(alloc, &self.resolve, &mut self.listing, id)?;
         }
         Ok(note)
+    }
+}
+
+/// What is listed, where what a world exported before takes the place of what was listed for it.
+fn list_exports(
+    alloc: Global,
+    listing: &mut Listing,
+    world: Option<WorldId>,
+    exports: &[InterfaceId],
+) -> Result<(), AllocError>
+    ensures listed { OnOk result (listing.new.imports.items ≡ importized_imports world exports.now listing.old.imports.items) }
+    ensures included { listing.new.includes.items ≡ listing.old.includes.items }
+{
+    match world {
+        Some(world) => listing.replace(alloc, world, exports),
+        None => Ok(()),
     }
 }
 
@@ -92,8 +109,14 @@ fn list_unexported(
     alloc: Global,
     resolve: &Resolve,
     listing: &mut Listing,
-    world: WorldId,
-) -> Result<(), AllocError> {
+    world: Option<WorldId>,
+) -> Result<(), AllocError>
+    ensures listed { OnOk result (listing.new.imports.items ≡ exportized_imports world resolve.now.graph listing.old.imports.items) }
+    ensures included { listing.new.includes.items ≡ listing.old.includes.items }
+{
+    let Some(world) = world else {
+        return Ok(());
+    };
     let listed = listing.imports_of(alloc, world)?;
     let exports = own_exports(alloc, resolve, world)?;
     let left = without(alloc, &listed, &exports)?;
@@ -105,13 +128,33 @@ fn list_newest(
     alloc: Global,
     resolve: &Resolve,
     listing: &mut Listing,
+    world: Option<WorldId>,
+) -> Result<(), AllocError>
+    ensures listed { OnOk result (listing.new.imports.items ≡ semver_merged_imports world resolve.now.track_rule resolve.now.graph listing.old.imports.items) }
+    ensures included { listing.new.includes.items ≡ listing.old.includes.items }
+{
+    let Some(world) = world else {
+        return Ok(());
+    };
+    let imports = own_imports(alloc, resolve, world)?;
+    add_versions(alloc, resolve, listing, world, &imports)
+}
+
+/// Adds to what is listed for a world those of some interfaces that stand on the track of something listed for it.
+fn add_versions(
+    alloc: Global,
+    resolve: &Resolve,
+    listing: &mut Listing,
     world: WorldId,
-) -> Result<(), AllocError> {
-    for newest in own_imports(alloc, resolve, world)? {
-        for listed in listing.imports_of(alloc, world)? {
-            if are_versions_of_one(alloc, resolve, listed, newest)? {
-                listing.add(world, newest)?;
-            }
+    interfaces: &[InterfaceId],
+) -> Result<(), AllocError>
+    ensures listed { OnOk result (listing.new.imports.items ≡ with_versions resolve.now.track_rule resolve.now.graph listing.old.imports.items world interfaces.now) }
+    ensures included { listing.new.includes.items ≡ listing.old.includes.items }
+{
+    for id in interfaces {
+        let listed = listing.imports_of(alloc, world)?;
+        if is_version_of_any(alloc, resolve, &listed, *id)? {
+            listing.add(world, *id)?;
         }
     }
     Ok(())
@@ -122,33 +165,11 @@ fn exports_of(
     alloc: Global,
     resolve: &Resolve,
     world: &Option<WorldId>,
-) -> Result<Vec<InterfaceId>, AllocError> {
+) -> Result<Vec<InterfaceId>, AllocError>
+    ensures { IfOk result (λ exports. exports.items ≡ exports_of world.now resolve.now.graph) }
+{
     match world {
         Some(world) => own_exports(alloc, resolve, *world),
         None => Ok(Vec::new(alloc)),
     }
-}
-
-/// The interfaces that aren't among others.
-fn without(
-    alloc: Global,
-    interfaces: &[InterfaceId],
-    others: &[InterfaceId],
-) -> Result<Vec<InterfaceId>, AllocError>
-    ensures { IfOk result (λ left. left.items ≡ filter (λ i. not (list_any (nat_eq i) others.now)) interfaces.now) }
-{
-    let mut left = Vec::new(alloc);
-    for id in interfaces {
-        if !is_among(others, *id) {
-            left.push(*id)?;
-        }
-    }
-    Ok(left)
-}
-
-/// Whether an interface is one of some.
-fn is_among(interfaces: &[InterfaceId], id: InterfaceId) -> bool
-    ensures { result ≡ list_any (nat_eq id) interfaces.now }
-{
-    interfaces.iter().any(|other| id == *other)
 }

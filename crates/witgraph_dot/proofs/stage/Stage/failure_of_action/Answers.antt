@@ -4,7 +4,7 @@ use Rattle.witgraph_dot.proofs.stage.Stage.failure_of_action.Goals as goal
 
 pub returns-in-Run : goal.returns-in-Run
 returns-in-Run c =
-    runs-as c.carry_out.result c.args.self.now.active c.carry_out.new.self c.args.self.now.waiting c.args.action c.in-Run.command _ c.in-Run.is c.carry_out.ensures
+    runs-as c.carry_out.result c.args.self.now.active c.carry_out.new.self c.args.self.now.waiting c.args.action c.in-Run.command _ c.in-Run.is c.carry_out.ensures.carried
 
 pub returns-in-Open : goal.returns-in-Open
 returns-in-Open c =

@@ -1,0 +1,7 @@
+use Rattle.std.proofs.Common.{◌≡◌, filter, take}
+use Rattle.witgraph_dot.specs.Scene.{is_included, view_of}
+use Rattle.witgraph_dot.proofs.scene.Scene.included_worlds.Given as goal
+
+-- those of the worlds so far
+abbrev pub invariant-loop-other : goal.invariant-loop-other
+invariant-loop-other l = l.included.items ≡ filter (is_included (view_of l.self) l.world) (take l.other-index l.other-items)

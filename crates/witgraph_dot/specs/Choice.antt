@@ -1,0 +1,80 @@
+-- What the comment lines of a script choose for its picture.
+use Rattle.std.specs.Prelude.{◌&&◌, ℕ, Bool, true, false, List, [], ◌∷◌, ◌++◌, Option, Some, None, bytes_eq, codes, if◌then◌else◌}
+use Rattle.std.specs.List.{list_any}
+use Rattle.std.specs.Option.{option_eq, option_map_or}
+use Rattle.wit_names.specs.declared.package_name.PackageName.{PackageName}
+use Rattle.wit_script_lines.specs.Statement.{statement_of}
+use Rattle.wit_script_lines.specs.Token.{after_prefix}
+use Rattle.wit_script_lines.specs.declared.request.Request.TheVariants as request
+use Rattle.wit_script_lines.specs.declared.statement.Statement.{Statement}
+use Rattle.wit_script_lines.specs.declared.statement.Statement.TheVariants as says
+use Rattle.wit_values.specs.Version.{Parts, version_eq}
+use Rattle.witgraph_dot.specs.declared.choice.Choice.{Choice}
+use Rattle.witgraph_dot.specs.declared.choice.Pick.{Pick}
+
+-- ---- what a line picks
+
+-- the version of a pick, which stands for each where there is none
+abbrev pub is_version_of : Option Parts → Option Parts → Bool
+is_version_of None version = true
+is_version_of (Some picked) version = option_eq version_eq (Some picked) version
+
+-- the pick is of this package, or of something in it
+abbrev pub picks_package : Pick → PackageName → Bool
+picks_package pick owner =
+    bytes_eq pick.«package».namespace owner.namespace && (bytes_eq pick.«package».name owner.name && is_version_of pick.«package».version owner.version)
+
+-- the pick is of all in its package, or of this name alone
+abbrev pub picks_name : Pick → List ℕ → Bool
+picks_name pick name = option_map_or (λ picked. bytes_eq picked name) pick.name true
+
+-- the pick is of what has this name in this package
+abbrev pub picks : Pick → PackageName → List ℕ → Bool
+picks pick owner name = picks_package pick owner && picks_name pick name
+
+-- one of some picks is of it
+abbrev pub is_picked : List Pick → PackageName → List ℕ → Bool
+is_picked picked owner name = list_any (λ (pick : Pick). picks pick owner name) picked
+
+-- ---- lines
+
+-- what a statement picks: only `select` does
+abbrev pub pick_of_statement : Option (Option Statement) → Option Pick
+pick_of_statement (Some (Some (says.Request (request.Select owner name)))) = Some (record { «package» = owner; name = name })
+pick_of_statement _ = None
+
+-- what `# show` or `# hide` with this text picks: what `select` with it says
+abbrev pub pick_of : List ℕ → Option Pick
+pick_of text = pick_of_statement (statement_of (codes "select " ++ text))
+
+-- no line chooses anything: all is shown
+abbrev pub all_things : Choice
+all_things = record { shown = []; hidden = []; only_added = false }
+
+-- some picks, and one more where there is one
+abbrev pub and_pick : List Pick → Option Pick → List Pick
+and_pick picked None = picked
+and_pick picked (Some pick) = picked ++ pick ∷ []
+
+-- with what `# show` says with this text
+abbrev pub with_shown : Choice → List ℕ → Choice
+with_shown choice text = record { shown = and_pick choice.shown (pick_of text); hidden = choice.hidden; only_added = choice.only_added }
+
+-- with what `# hide` says with this text
+abbrev pub with_hidden : Choice → List ℕ → Choice
+with_hidden choice text = record { shown = choice.shown; hidden = and_pick choice.hidden (pick_of text); only_added = choice.only_added }
+
+-- with what a line chooses
+abbrev pub with_line : Choice → List ℕ → Choice
+with_line choice line =
+    if bytes_eq line (codes "# only-added") then record { shown = choice.shown; hidden = choice.hidden; only_added = true }
+    else option_map_or (with_shown choice) (after_prefix (codes "# show ") line) (option_map_or (with_hidden choice) (after_prefix (codes "# hide ") line) choice)
+
+-- with what lines choose, one after another
+abbrev pub with_lines : Choice → List (List ℕ) → Choice
+with_lines choice [] = choice
+with_lines choice (line ∷ lines) = with_lines (with_line choice line) lines
+
+-- the choice of a script of these lines
+abbrev pub choice_of : List (List ℕ) → Choice
+choice_of lines = with_lines all_things lines

@@ -1,0 +1,127 @@
+-- Which arrows a picture has.
+use Rattle.std.specs.Prelude.{◌&&◌, ◌==◌, ℕ, Bool, List, ◌++◌, filter, flat_map, if◌then◌else◌, length, map, not, slice_get}
+use Rattle.std.specs.List.{list_any}
+use Rattle.wit_data.specs.declared.world.World.{World}
+use Rattle.wit_digraph.specs.PostOrder.{first_of_each}
+use Rattle.wit_graph_data.specs.Queries.{interface_direct_deps}
+use Rattle.wit_graph_data.specs.declared.graph.Graph.{Graph}
+use Rattle.witgraph_dot.specs.Bundles.{bundle, frame_arrows, frames_but, whole_frames}
+use Rattle.witgraph_dot.specs.Drawn.{own_exports, own_imports}
+use Rattle.witgraph_dot.specs.Listed.{imports_of, includes, includes_of}
+use Rattle.witgraph_dot.specs.Sets.{are_among, is_among, within, without}
+use Rattle.witgraph_dot.specs.declared.arrow.Arrow.{Arrow}
+use Rattle.witgraph_dot.specs.declared.arrow.ArrowKind.TheVariants as kind
+use Rattle.witgraph_dot.specs.declared.arrow.Target.TheVariants as target
+use Rattle.witgraph_dot.specs.declared.listing.Import.{Import}
+use Rattle.witgraph_dot.specs.declared.listing.Include.{Include}
+use Rattle.witgraph_dot.specs.declared.scene.Scene.{Scene}
+
+-- a graph, what lines list and include, and what is shown: interfaces, worlds, the interfaces of each package
+pub record View : Type 0 where
+  pub graph : Graph
+  pub imports : List Import
+  pub includes : List Include
+  pub interfaces : List ℕ
+  pub worlds : List ℕ
+  pub frames : List (List ℕ)
+  pub only_added : Bool
+
+abbrev pub view_of : Scene → View
+view_of scene = record {
+  graph = scene.resolve.now.graph;
+  imports = scene.listing.now.imports.items;
+  includes = scene.listing.now.includes.items;
+  interfaces = scene.interfaces.items;
+  worlds = scene.worlds.items;
+  frames = scene.frames;
+  only_added = scene.only_added;
+}
+
+-- ---- from interfaces
+
+-- the interfaces that interface i uses and that are shown, each once
+abbrev pub shown_uses : View → ℕ → List ℕ
+shown_uses v i = first_of_each (filter (is_among v.interfaces) (interface_direct_deps v.graph.types v.graph.interfaces i))
+
+-- the arrows from interface i
+abbrev pub uses_arrows : View → ℕ → List Arrow
+uses_arrows v i = bundle v.frames kind.Used (shown_uses v i)
+
+-- ---- from worlds to worlds that they include
+
+-- what worlds import under the ids of interfaces
+abbrev pub included_imports : List World → List ℕ → List ℕ
+included_imports worlds some = flat_map (λ w. own_imports (slice_get worlds w)) some
+
+-- world w' is shown, imports something, and world w imports all that it imports
+abbrev pub is_included : View → ℕ → ℕ → Bool
+is_included v w w' =
+    is_among v.worlds w' && (not (length (own_imports (slice_get v.graph.worlds w')) == 0) && are_among (own_imports (slice_get v.graph.worlds w')) (own_imports (slice_get v.graph.worlds w)))
+
+-- one of some worlds includes world w
+abbrev pub is_included_by_any : List Include → List ℕ → ℕ → Bool
+is_included_by_any included worlds w = list_any (λ u. includes included u w) worlds
+
+-- the worlds that no other of them includes
+abbrev pub outermost : List Include → List ℕ → List ℕ
+outermost included worlds = filter (λ w. not (is_included_by_any included worlds w)) worlds
+
+-- the worlds to which one arrow leads in place of arrows to all that they import
+abbrev pub included_worlds : View → ℕ → List ℕ
+included_worlds v w = outermost v.includes (filter (is_included v w) (includes_of w v.includes))
+
+-- an arrow to each of some worlds
+abbrev pub included_arrows : List ℕ → List Arrow
+included_arrows worlds = map (λ w. record { kind = kind.Listed; target = target.World w }) worlds
+
+-- ---- from worlds to interfaces and frames
+
+-- what world w imports under the ids of interfaces that are shown
+abbrev pub shown_imports : View → ℕ → List ℕ
+shown_imports v w = within (own_imports (slice_get v.graph.worlds w)) v.interfaces
+
+-- the frames without what world w exports, since an arrow to a frame stands for all that is in it but that
+abbrev pub import_frames : View → ℕ → List (List ℕ)
+import_frames v w = frames_but (own_exports (slice_get v.graph.worlds w)) v.frames
+
+-- of what world w imports, that to which no arrow to an included world leads
+abbrev pub left_imports : View → ℕ → List ℕ
+left_imports v w = without (shown_imports v w) (included_imports v.graph.worlds (included_worlds v w))
+
+-- of that what some included world imports, shown or not
+abbrev pub brought_imports : View → ℕ → List ℕ
+brought_imports v w = within (left_imports v w) (included_imports v.graph.worlds (includes_of w v.includes))
+
+-- what stands in whole frames of what included worlds import
+abbrev pub bundled_imports : View → ℕ → List ℕ
+bundled_imports v w = whole_frames (import_frames v w) (brought_imports v w)
+
+-- of what is left that which stands in none of these
+abbrev pub single_imports : View → ℕ → List ℕ
+single_imports v w = without (left_imports v w) (bundled_imports v w)
+
+-- of what is left the arrows to what lines list, and to what elaboration added
+abbrev pub listed_arrows : View → ℕ → List Arrow
+listed_arrows v w = bundle (import_frames v w) kind.Listed (within (single_imports v w) (imports_of w v.imports))
+
+abbrev pub unlisted_arrows : View → ℕ → List Arrow
+unlisted_arrows v w = bundle (import_frames v w) kind.Added (without (single_imports v w) (imports_of w v.imports))
+
+-- the arrows to what world w imports: to included worlds, to whole frames that included worlds import, and then to what lines
+-- list and to what elaboration added
+abbrev pub import_arrows : View → ℕ → List Arrow
+import_arrows v w =
+    included_arrows (included_worlds v w) ++ (frame_arrows (import_frames v w) kind.Listed (brought_imports v w)
+    ++ (listed_arrows v w ++ unlisted_arrows v w))
+
+-- the arrows to what elaboration added alone
+abbrev pub added_arrows : View → ℕ → List Arrow
+added_arrows v w = bundle (import_frames v w) kind.Added (without (shown_imports v w) (imports_of w v.imports))
+
+-- the arrows to what world w exports
+abbrev pub export_arrows : View → ℕ → List Arrow
+export_arrows v w = bundle v.frames kind.Exported (within (own_exports (slice_get v.graph.worlds w)) v.interfaces)
+
+-- the arrows from world w
+abbrev pub world_arrows : View → ℕ → List Arrow
+world_arrows v w = if v.only_added then added_arrows v w else import_arrows v w ++ export_arrows v w

@@ -1,0 +1,38 @@
+//! The interfaces of a world that stand under labels.
+ghost use Rattle.std.specs.Prelude.{◌≡◌, IfOk, filter};
+ghost use Rattle.wit_digraph.specs.PostOrder.{first_of_each};
+ghost use Rattle.witgraph_dot.specs.Sets.{is_among};
+ghost use Rattle.witgraph_dot.specs.Labels.{labelled_interface, labelled_interfaces};
+
+use crate::sets::is_among;
+use std::alloc::{AllocError, Global};
+use wit_resolve_graph::{InterfaceId, Table, WorldItem, WorldKey};
+
+/// The interface of an entry under a label.
+pub fn labelled_interface(key: &WorldKey, item: &WorldItem) -> Option<InterfaceId>
+    ensures { result ≡ labelled_interface key.now item.now }
+{
+    match (key, item) {
+        (WorldKey::Name(_), WorldItem::Interface { id, .. }) => Some(*id),
+        _ => None,
+    }
+}
+
+/// The interfaces that entries have under labels and that are shown, each once. The only error is want of memory.
+pub fn labelled_interfaces(
+    alloc: Global,
+    entries: &Table<WorldKey, WorldItem>,
+    shown: &[InterfaceId],
+) -> Result<Vec<InterfaceId>, AllocError>
+    ensures { IfOk result (λ found. found.items ≡ first_of_each (filter (is_among shown.now) (labelled_interfaces entries.now))) }
+{
+    let mut found = Vec::new(alloc);
+    for (key, item) in entries.iter() {
+        if let Some(id) = labelled_interface(key, item) {
+            if is_among(shown, id) && !is_among(&found, id) {
+                found.push(id)?;
+            }
+        }
+    }
+    Ok(found)
+}

@@ -1,0 +1,358 @@
+//! A graph of which a picture is drawn, with what of it is shown, and which arrows there are.
+ghost use Rattle.std.specs.Prelude.{◌≡◌, ◌++◌, ◌<◌, IfOk, OnOk, length, slice_get};
+ghost use Rattle.wit_graph_data.specs.Queries.{interface_direct_deps};
+ghost use Rattle.witgraph_dot.specs.Bundles.{frame_arrows, frames_of};
+ghost use Rattle.witgraph_dot.specs.Scene.{added_arrows, brought_imports, bundled_imports, export_arrows, import_arrows, import_frames, included_arrows, included_imports, included_worlds, is_included, is_included_by_any, left_imports, listed_arrows, outermost, shown_imports, single_imports, unlisted_arrows, uses_arrows, view_of, world_arrows};
+ghost use Rattle.witgraph_dot.specs.declared.arrow.ArrowKind.TheVariants.{Listed};
+ghost use Rattle.witgraph_dot.specs.Shown.{shown_interfaces, shown_worlds};
+
+use crate::arrow::{Arrow, ArrowKind, Target};
+use crate::bundles::{add_bundle, add_frames, frames_but, frames_of, whole_frames};
+use crate::choice::Choice;
+use crate::entries::{own_exports, own_imports};
+use crate::listing::Listing;
+use crate::sets::{are_among, is_among, is_world_among, within, without};
+use crate::shown::{shown_interfaces, shown_worlds};
+use std::alloc::{AllocError, Global};
+use wit_resolve_graph::{InterfaceId, Items, Resolve, WorldId};
+
+/// A graph, with what lines list for its worlds, and what of it is shown.
+#[derive(Drop)]
+pub struct Scene<'a> {
+    pub resolve: &'a Resolve,
+    pub listing: &'a Listing,
+    /// The interfaces that are shown.
+    pub interfaces: Vec<InterfaceId>,
+    /// The worlds that are shown.
+    pub worlds: Vec<WorldId>,
+    /// The interfaces of each package that are shown.
+    pub frames: Items<Items<InterfaceId>>,
+    /// Whether of the entries of worlds the imports that elaboration added are shown alone.
+    pub only_added: bool,
+}
+
+impl<'a> Scene<'a> {
+    /// What a choice shows of a graph. The only error is want of memory.
+    pub fn of(
+        alloc: Global,
+        resolve: &'a Resolve,
+        listing: &'a Listing,
+        choice: &Choice,
+    ) -> Result<Scene<'a>, AllocError>
+        ensures graph { IfOk result (λ scene. scene.resolve.now ≡ resolve.now) }
+        ensures listing { IfOk result (λ scene. scene.listing.now ≡ listing.now) }
+        ensures interfaces { IfOk result (λ scene. scene.interfaces.items ≡ shown_interfaces choice.now resolve.now.graph) }
+        ensures worlds { IfOk result (λ scene. scene.worlds.items ≡ shown_worlds choice.now resolve.now.graph) }
+        ensures frames { IfOk result (λ scene. scene.frames ≡ frames_of (shown_interfaces choice.now resolve.now.graph) resolve.now.graph.packages) }
+        ensures only_added { IfOk result (λ scene. scene.only_added ≡ choice.now.only_added) }
+    {
+        let interfaces = shown_interfaces(alloc, resolve, choice)?;
+        let worlds = shown_worlds(alloc, resolve, choice)?;
+        let frames = frames_of(alloc, resolve.packages(), &interfaces)?;
+        Ok(Scene {
+            resolve,
+            listing,
+            interfaces,
+            worlds,
+            frames,
+            only_added: choice.only_added,
+        })
+    }
+
+    /// The arrows from an interface to what it uses.
+    pub fn uses_arrows(&self, alloc: Global, user: InterfaceId) -> Result<Vec<Arrow>, AllocError>
+        requires { user < length self.now.resolve.now.graph.interfaces }
+        ensures { IfOk result (λ arrows. arrows.items ≡ uses_arrows (view_of self.now) user) }
+    {
+        let mut used = Vec::new(alloc);
+        for interface in self.resolve.interface_direct_deps(user) {
+            if is_among(&self.interfaces, interface) && !is_among(&used, interface) {
+                used.push(interface)?;
+            }
+        }
+        let mut arrows = Vec::new(alloc);
+        add_bundle(
+            alloc,
+            self.frames.as_slice(),
+            ArrowKind::Used,
+            &used,
+            &mut arrows,
+        )?;
+        Ok(arrows)
+    }
+
+    /// The arrows from a world to what it imports and exports under the ids of interfaces.
+    pub fn world_arrows(&self, alloc: Global, world: WorldId) -> Result<Vec<Arrow>, AllocError>
+        ensures { IfOk result (λ arrows. arrows.items ≡ world_arrows (view_of self.now) world) }
+    {
+        let mut arrows = Vec::new(alloc);
+        if self.only_added {
+            self.add_added(alloc, world, &mut arrows)?;
+        } else {
+            self.add_imports(alloc, world, &mut arrows)?;
+            self.add_exports(alloc, world, &mut arrows)?;
+        }
+        Ok(arrows)
+    }
+
+    /// What a world imports that is shown.
+    fn shown_imports(&self, alloc: Global, world: WorldId) -> Result<Vec<InterfaceId>, AllocError>
+        ensures { IfOk result (λ imports. imports.items ≡ shown_imports (view_of self.now) world) }
+    {
+        let imports = own_imports(alloc, self.resolve, world)?;
+        within(alloc, &imports, &self.interfaces)
+    }
+
+    /// The frames without what a world exports.
+    fn import_frames(
+        &self,
+        alloc: Global,
+        world: WorldId,
+    ) -> Result<Items<Items<InterfaceId>>, AllocError>
+        ensures { IfOk result (λ frames. frames ≡ import_frames (view_of self.now) world) }
+    {
+        let exports = own_exports(alloc, self.resolve, world)?;
+        frames_but(alloc, self.frames.as_slice(), &exports)
+    }
+
+    /// Of what a world imports, that to which no arrow to an included world leads.
+    fn left_imports(&self, alloc: Global, world: WorldId) -> Result<Vec<InterfaceId>, AllocError>
+        ensures { IfOk result (λ left. left.items ≡ left_imports (view_of self.now) world) }
+    {
+        let included = self.included_worlds(alloc, world)?;
+        let meant = included_imports(alloc, self.resolve, &included)?;
+        let imports = self.shown_imports(alloc, world)?;
+        without(alloc, &imports, &meant)
+    }
+
+    /// Of that what included worlds import, shown or not.
+    fn brought_imports(&self, alloc: Global, world: WorldId) -> Result<Vec<InterfaceId>, AllocError>
+        ensures { IfOk result (λ brought. brought.items ≡ brought_imports (view_of self.now) world) }
+    {
+        let included = self.listing.includes_of(alloc, world)?;
+        let all = included_imports(alloc, self.resolve, &included)?;
+        let left = self.left_imports(alloc, world)?;
+        within(alloc, &left, &all)
+    }
+
+    /// What stands in whole frames of what included worlds import.
+    fn bundled_imports(&self, alloc: Global, world: WorldId) -> Result<Vec<InterfaceId>, AllocError>
+        ensures { IfOk result (λ bundled. bundled.items ≡ bundled_imports (view_of self.now) world) }
+    {
+        let frames = self.import_frames(alloc, world)?;
+        let brought = self.brought_imports(alloc, world)?;
+        whole_frames(alloc, frames.as_slice(), &brought)
+    }
+
+    /// Of what is left that which stands in none of these.
+    fn single_imports(&self, alloc: Global, world: WorldId) -> Result<Vec<InterfaceId>, AllocError>
+        ensures { IfOk result (λ single. single.items ≡ single_imports (view_of self.now) world) }
+    {
+        let bundled = self.bundled_imports(alloc, world)?;
+        let left = self.left_imports(alloc, world)?;
+        without(alloc, &left, &bundled)
+    }
+
+    /// Adds the arrows to the imports that elaboration added, where these are shown alone.
+    fn add_added(
+        &self,
+        alloc: Global,
+        world: WorldId,
+        arrows: &mut Vec<Arrow>,
+    ) -> Result<(), AllocError>
+        ensures { OnOk result (arrows.new.items ≡ arrows.old.items ++ added_arrows (view_of self.now) world) }
+    {
+        let frames = self.import_frames(alloc, world)?;
+        let imports = self.shown_imports(alloc, world)?;
+        let lines = self.listing.imports_of(alloc, world)?;
+        let added = without(alloc, &imports, &lines)?;
+        add_bundle(alloc, frames.as_slice(), ArrowKind::Added, &added, arrows)
+    }
+
+    /// Adds the arrows to worlds that a world includes.
+    fn add_included(
+        &self,
+        alloc: Global,
+        world: WorldId,
+        arrows: &mut Vec<Arrow>,
+    ) -> Result<(), AllocError>
+        ensures { OnOk result (arrows.new.items ≡ arrows.old.items ++ included_arrows (included_worlds (view_of self.now) world)) }
+    {
+        let included = self.included_worlds(alloc, world)?;
+        add_worlds(&included, arrows)
+    }
+
+    /// Adds the arrows to whole frames that included worlds import.
+    fn add_brought(
+        &self,
+        alloc: Global,
+        world: WorldId,
+        arrows: &mut Vec<Arrow>,
+    ) -> Result<(), AllocError>
+        ensures { OnOk result (arrows.new.items ≡ arrows.old.items ++ frame_arrows (import_frames (view_of self.now) world) Listed (brought_imports (view_of self.now) world)) }
+    {
+        let frames = self.import_frames(alloc, world)?;
+        let brought = self.brought_imports(alloc, world)?;
+        add_frames(frames.as_slice(), ArrowKind::Listed, &brought, arrows)
+    }
+
+    /// Adds the arrows to what lines list, of what is left.
+    fn add_listed(
+        &self,
+        alloc: Global,
+        world: WorldId,
+        arrows: &mut Vec<Arrow>,
+    ) -> Result<(), AllocError>
+        ensures { OnOk result (arrows.new.items ≡ arrows.old.items ++ listed_arrows (view_of self.now) world) }
+    {
+        let frames = self.import_frames(alloc, world)?;
+        let single = self.single_imports(alloc, world)?;
+        let lines = self.listing.imports_of(alloc, world)?;
+        let listed = within(alloc, &single, &lines)?;
+        add_bundle(alloc, frames.as_slice(), ArrowKind::Listed, &listed, arrows)
+    }
+
+    /// Adds the arrows to what elaboration added, of what is left.
+    fn add_unlisted(
+        &self,
+        alloc: Global,
+        world: WorldId,
+        arrows: &mut Vec<Arrow>,
+    ) -> Result<(), AllocError>
+        ensures { OnOk result (arrows.new.items ≡ arrows.old.items ++ unlisted_arrows (view_of self.now) world) }
+    {
+        let frames = self.import_frames(alloc, world)?;
+        let single = self.single_imports(alloc, world)?;
+        let lines = self.listing.imports_of(alloc, world)?;
+        let unlisted = without(alloc, &single, &lines)?;
+        add_bundle(
+            alloc,
+            frames.as_slice(),
+            ArrowKind::Added,
+            &unlisted,
+            arrows,
+        )
+    }
+
+    /// Adds the arrows to what a world imports.
+    fn add_imports(
+        &self,
+        alloc: Global,
+        world: WorldId,
+        arrows: &mut Vec<Arrow>,
+    ) -> Result<(), AllocError>
+        ensures { OnOk result (arrows.new.items ≡ arrows.old.items ++ import_arrows (view_of self.now) world) }
+    {
+        self.add_included(alloc, world, arrows)?;
+        self.add_brought(alloc, world, arrows)?;
+        self.add_listed(alloc, world, arrows)?;
+        self.add_unlisted(alloc, world, arrows)
+    }
+
+    /// Adds the arrows to what a world exports.
+    fn add_exports(
+        &self,
+        alloc: Global,
+        world: WorldId,
+        arrows: &mut Vec<Arrow>,
+    ) -> Result<(), AllocError>
+        ensures { OnOk result (arrows.new.items ≡ arrows.old.items ++ export_arrows (view_of self.now) world) }
+    {
+        let exports = own_exports(alloc, self.resolve, world)?;
+        let exports = within(alloc, &exports, &self.interfaces)?;
+        add_bundle(
+            alloc,
+            self.frames.as_slice(),
+            ArrowKind::Exported,
+            &exports,
+            arrows,
+        )
+    }
+
+    /// The worlds to which one arrow leads in place of arrows to their imports: those that are included, shown, and that
+    /// no other of them includes.
+    fn included_worlds(&self, alloc: Global, world: WorldId) -> Result<Vec<WorldId>, AllocError>
+        ensures { IfOk result (λ included. included.items ≡ included_worlds (view_of self.now) world) }
+    {
+        let all = self.listing.includes_of(alloc, world)?;
+        let mut included = Vec::new(alloc);
+        for other in &all {
+            if self.is_included(alloc, world, *other)? {
+                included.push(*other)?;
+            }
+        }
+        outermost(alloc, self.listing, &included)
+    }
+
+    /// Whether a world is shown, imports something, and another imports all that it imports.
+    fn is_included(
+        &self,
+        alloc: Global,
+        world: WorldId,
+        included: WorldId,
+    ) -> Result<bool, AllocError>
+        ensures { IfOk result (λ is. is ≡ is_included (view_of self.now) world included) }
+    {
+        let imports = own_imports(alloc, self.resolve, included)?;
+        let all = own_imports(alloc, self.resolve, world)?;
+        Ok(
+            is_world_among(&self.worlds, included)
+                && !imports.is_empty()
+                && are_among(&imports, &all),
+        )
+    }
+}
+
+/// The worlds that no other of them includes.
+fn outermost(
+    alloc: Global,
+    listing: &Listing,
+    worlds: &[WorldId],
+) -> Result<Vec<WorldId>, AllocError>
+    ensures { IfOk result (λ left. left.items ≡ outermost listing.now.includes.items worlds.now) }
+{
+    let mut left = Vec::new(alloc);
+    for world in worlds {
+        if !is_included_by_any(listing, worlds, *world) {
+            left.push(*world)?;
+        }
+    }
+    Ok(left)
+}
+
+/// Whether one of some worlds includes a world.
+fn is_included_by_any(listing: &Listing, worlds: &[WorldId], world: WorldId) -> bool
+    ensures { result ≡ is_included_by_any listing.now.includes.items worlds.now world }
+{
+    worlds.iter().any(|other| listing.includes(*other, world))
+}
+
+/// What worlds import under the ids of interfaces.
+fn included_imports(
+    alloc: Global,
+    resolve: &Resolve,
+    worlds: &[WorldId],
+) -> Result<Vec<InterfaceId>, AllocError>
+    ensures { IfOk result (λ imports. imports.items ≡ included_imports resolve.now.graph.worlds worlds.now) }
+{
+    let mut imports = Vec::new(alloc);
+    for world in worlds {
+        let own = own_imports(alloc, resolve, *world)?;
+        imports.extend_from_slice(&own)?;
+    }
+    Ok(imports)
+}
+
+/// Adds an arrow to each world.
+fn add_worlds(worlds: &[WorldId], arrows: &mut Vec<Arrow>) -> Result<(), AllocError>
+    ensures { OnOk result (arrows.new.items ≡ arrows.old.items ++ included_arrows worlds.now) }
+{
+    for world in worlds {
+        let target = Target::World(*world);
+        arrows.push(Arrow {
+            kind: ArrowKind::Listed,
+            target,
+        })?;
+    }
+    Ok(())
+}
