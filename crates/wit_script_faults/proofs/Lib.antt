@@ -1,0 +1,4 @@
+pub mod Explained
+pub mod Placed
+pub mod Staged
+pub mod Starts

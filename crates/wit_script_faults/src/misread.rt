@@ -1,0 +1,27 @@
+//! Why a script isn't understood, and at which line.
+ghost use Rattle.std.specs.Prelude.{◌≡◌, IfOk, List, ℕ, string_bytes};
+ghost use Rattle.wit_script_faults.specs.Misread.{misread_text};
+
+use crate::lines::ScriptLines;
+use crate::reason::reason;
+use crate::shown::snippet;
+use std::alloc::{AllocError, Global};
+
+/// `line N: REASON`, and the line with a mark, for the line of an index, where the line of a number isn't understood. The
+/// only error is want of memory.
+pub fn misread_text(
+    alloc: Global,
+    script: &ScriptLines,
+    number: usize,
+    index: usize,
+) -> Result<String, AllocError>
+    ensures { IfOk result (λ text. (reason : List ℕ) × (string_bytes text ≡ misread_text script.now index reason)) }
+{
+    let Some(line) = script.lines.get(index) else {
+        return Ok(String::new(alloc));
+    };
+    let reason = reason(alloc, script, number.saturating_sub(1), index)?;
+    let number = index + 1;
+    let snippet = snippet(alloc, number, line.as_str())?;
+    format!(in alloc; "line {number}: {reason}\n{snippet}")
+}
