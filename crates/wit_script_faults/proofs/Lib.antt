@@ -1,4 +1,4 @@
 pub mod Explained
-pub mod Placed
+pub mod Misread
 pub mod Staged
 pub mod Starts

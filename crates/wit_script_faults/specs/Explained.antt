@@ -20,13 +20,13 @@ use Rattle.wit_script_faults.specs.Lines.{script_lines_of}
 use Rattle.wit_script_faults.specs.Misread.{IsMisreadText}
 use Rattle.wit_script_faults.specs.Refusals.{refusal_text, reply_text, unless_refused}
 use Rattle.wit_script_faults.specs.declared.desk.Desk.{Desk}
-use Rattle.wit_script_faults.specs.declared.desk.Tracked.{Tracked}
+use Rattle.wit_script_faults.specs.declared.desk.TrackedGraph.{TrackedGraph}
 use Rattle.wit_script_faults.specs.declared.lines.CommandPlace.{CommandPlace}
 use Rattle.wit_script_faults.specs.declared.lines.ScriptLines.{ScriptLines}
 
 -- a run of one command whose files, where it brings any, begin with these lines, and the packages that it brings with those;
 -- and what is told of its replies
-abbrev pub ExplainsRun : ScriptLines → CommandPlace → Tracked → Command → List ℕ → List ℕ → List ℕ → Tracked → Type 0
+abbrev pub ExplainsRun : ScriptLines → CommandPlace → TrackedGraph → Command → List ℕ → List ℕ → List ℕ → TrackedGraph → Type 0
 ExplainsRun script place before command coming brought text after =
     (replies : List Reply) × (new : State) × Run before.resolve (command ∷ []) replies new
     × (after ≡ tracked_after before new coming (unless_refused replies brought))
@@ -35,21 +35,21 @@ ExplainsRun script place before command coming brought text after =
 -- a run of one command on the graph on which commands work
 abbrev pub ExplainsWork : ScriptLines → CommandPlace → Desk → Command → List ℕ → Desk → Type 0
 ExplainsWork script place before command text after =
-    (new : Tracked) × ExplainsRun script place (working before) command (coming_packages script place) (coming_packages script place) text new × (after ≡ with_working before new)
+    (new : TrackedGraph) × ExplainsRun script place (working before) command (coming_packages script place) (coming_packages script place) text new × (after ≡ with_working before new)
 
 -- `merge`: the second graph goes into the first, and is no longer there
-abbrev pub ExplainsMerge : ScriptLines → CommandPlace → Desk → Option Tracked → List ℕ → Desk → Type 0
+abbrev pub ExplainsMerge : ScriptLines → CommandPlace → Desk → Option TrackedGraph → List ℕ → Desk → Type 0
 ExplainsMerge script place before None text after = (text ≡ []) × (after ≡ before)
 ExplainsMerge script place before (Some second) text after =
-    (new : Tracked) × ExplainsRun script place before.first (Merge second.resolve) second.owners second.defined text new × (after ≡ only_first new)
+    (new : TrackedGraph) × ExplainsRun script place before.first (Merge second.resolve) second.file_starts second.package_starts text new × (after ≡ only_first new)
 
 -- what is told of a choice of a world
-abbrev pub choice_text : ScriptLines → CommandPlace → Tracked → Result ℕ ResolveErrorKind → List ℕ
+abbrev pub choice_text : ScriptLines → CommandPlace → TrackedGraph → Result ℕ ResolveErrorKind → List ℕ
 choice_text script place tracked (Ok world) = []
 choice_text script place tracked (Err kind) = refusal_text script place tracked kind
 
 -- `select`: a choice that may be made of a package; nothing where the package isn't there
-abbrev pub ExplainsSelect : ScriptLines → CommandPlace → Tracked → PackageName → Option (List ℕ) → List ℕ → Type 0
+abbrev pub ExplainsSelect : ScriptLines → CommandPlace → TrackedGraph → PackageName → Option (List ℕ) → List ℕ → Type 0
 ExplainsSelect script place tracked owner said text =
     MatchOption (package_named tracked.resolve.graph owner) (text ≡ []) (λ id. (choice : Result ℕ ResolveErrorKind) × IsChoice tracked.resolve.graph id said choice × (text ≡ choice_text script place tracked choice))
 

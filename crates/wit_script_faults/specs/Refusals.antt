@@ -12,22 +12,22 @@ use Rattle.wit_resolve_graph.specs.declared.command.Reply.{Reply}
 use Rattle.wit_resolve_graph.specs.declared.command.Reply.TheVariants as reply
 use Rattle.wit_script_faults.specs.Places.{defined_line, span_place}
 use Rattle.wit_script_faults.specs.Shown.{command_text, place_text}
-use Rattle.wit_script_faults.specs.declared.desk.Tracked.{Tracked}
+use Rattle.wit_script_faults.specs.declared.desk.TrackedGraph.{TrackedGraph}
 use Rattle.wit_script_faults.specs.declared.lines.CommandPlace.{CommandPlace}
 use Rattle.wit_script_faults.specs.declared.lines.ScriptLines.{ScriptLines}
 
 -- the line of a span, or nothing where it is unknown
-abbrev pub span_text : ScriptLines → Tracked → Option (ℕ × ℕ) → List ℕ
+abbrev pub span_text : ScriptLines → TrackedGraph → Option (ℕ × ℕ) → List ℕ
 span_text script tracked span = option_map_or (place_text script) (span_place script tracked span) []
 
 -- the line of the other package of a name: that of its span, or, where that is unknown since the graph has the package, the
 -- line that began it
-abbrev pub other_text : ScriptLines → Tracked → PackageName → Option (ℕ × ℕ) → List ℕ
+abbrev pub other_text : ScriptLines → TrackedGraph → PackageName → Option (ℕ × ℕ) → List ℕ
 other_text script tracked name (Some range) = span_text script tracked (Some range)
-other_text script tracked name None = option_map_or (λ index. place_text script (index, package_name_text name, index)) (defined_line script name tracked.defined) []
+other_text script tracked name None = option_map_or (λ index. place_text script (index, package_name_text name, index)) (defined_line script name tracked.package_starts) []
 
 -- the lines that a refusal names: of a package that is defined twice both
-abbrev pub spans_text : ScriptLines → Tracked → ResolveErrorKind → List ℕ
+abbrev pub spans_text : ScriptLines → TrackedGraph → ResolveErrorKind → List ℕ
 spans_text script tracked (DuplicatePackage name span1 span2) = span_text script tracked span1 ++ other_text script tracked name span2
 spans_text script tracked kind = span_text script tracked (error_span kind)
 
@@ -36,17 +36,17 @@ abbrev pub with_command : ScriptLines → CommandPlace → List ℕ → List ℕ
 with_command script place named = if not place.is_push || (length named == 0) then named ++ command_text script place.line else named
 
 -- the lines at which a refusal is: those that it names, and that of its command, where it is no `push` or no other is known
-abbrev pub places_text : ScriptLines → CommandPlace → Tracked → ResolveErrorKind → List ℕ
+abbrev pub places_text : ScriptLines → CommandPlace → TrackedGraph → ResolveErrorKind → List ℕ
 places_text script place tracked kind = with_command script place (spans_text script tracked kind)
 
 -- `refused N TEXT`, N being the number of the refusal, the lines at which it is, and the document that says more of N
-abbrev pub refusal_text : ScriptLines → CommandPlace → Tracked → ResolveErrorKind → List ℕ
+abbrev pub refusal_text : ScriptLines → CommandPlace → TrackedGraph → ResolveErrorKind → List ℕ
 refusal_text script place tracked kind =
     codes "refused " ++ (decimal (error_number kind) ++ (codes " " ++ (kind_text kind ++ (codes "\n" ++ (places_text script place tracked kind
     ++ (codes "      = " ++ (decimal (error_number kind) ++ codes " in docs/REFUSALS.md\n")))))))
 
 -- what is told of a reply, in the state after it
-abbrev pub reply_text : ScriptLines → CommandPlace → Tracked → Reply → List ℕ
+abbrev pub reply_text : ScriptLines → CommandPlace → TrackedGraph → Reply → List ℕ
 reply_text script place after (reply.Refused kind) = refusal_text script place after kind
 reply_text script place after _ = []
 

@@ -7,34 +7,34 @@ use std::alloc::{AllocError, Global};
 use wit_data::Items;
 use wit_resolve_graph::Resolve;
 
-/// A graph, and for each file of its sources the place of the file's first line among the lines of the script that go
-/// into files, from 0.
+/// A graph, and where in the script it comes from. A place counts the lines of the script that go into files, from 0.
 #[derive(Drop)]
-pub struct Tracked {
+pub struct TrackedGraph {
     pub resolve: Resolve,
-    pub owners: Items<usize>,
+    /// For each file of the graph's sources the place of its first line.
+    pub file_starts: Items<usize>,
     /// The places of the first lines of the packages that commands have brought, those of refused ones left out.
-    pub defined: Items<usize>,
+    pub package_starts: Items<usize>,
 }
 
 /// The graph of a script, and the second one between `other` and `merge`.
 #[derive(Drop)]
 pub struct Desk {
-    pub first: Tracked,
-    pub second: Option<Tracked>,
+    pub first: TrackedGraph,
+    pub second: Option<TrackedGraph>,
 }
 
-impl Tracked {
+impl TrackedGraph {
     ghost use Rattle.wit_script_faults.specs.Desk.{new_tracked};
 
     /// An empty graph.
-    pub fn new(alloc: Global) -> Tracked
+    pub fn new(alloc: Global) -> TrackedGraph
         ensures { result ≡ new_tracked }
     {
-        Tracked {
+        TrackedGraph {
             resolve: Resolve::new(alloc),
-            owners: Items::new(alloc),
-            defined: Items::new(alloc),
+            file_starts: Items::new(alloc),
+            package_starts: Items::new(alloc),
         }
     }
 
@@ -44,9 +44,9 @@ impl Tracked {
         ensures { OnOk result (self.new ≡ with_files self.old coming.now brought.now) }
     {
         let files = self.resolve.source_map().len();
-        let more = files.saturating_sub(self.owners.len());
-        extend(&mut self.owners, first_of(coming, more))?;
-        extend(&mut self.defined, first_of(brought, more))
+        let more = files.saturating_sub(self.file_starts.len());
+        extend(&mut self.file_starts, first_of(coming, more))?;
+        extend(&mut self.package_starts, first_of(brought, more))
     }
 }
 
@@ -78,13 +78,13 @@ impl Desk {
         ensures { result ≡ new_desk }
     {
         Desk {
-            first: Tracked::new(alloc),
+            first: TrackedGraph::new(alloc),
             second: None,
         }
     }
 
     /// The graph on which commands work: the second, where there is one.
-    pub fn working(&self) -> &Tracked
+    pub fn working(&self) -> &TrackedGraph
         ensures { result.now ≡ working self.now }
     {
         match &self.second {

@@ -17,10 +17,22 @@ pub fn misread_text(
 ) -> Result<String, AllocError>
     ensures { IfOk result (λ text. (reason : List ℕ) × (string_bytes text ≡ misread_text script.now index reason)) }
 {
+    let reason = reason(alloc, script, number.saturating_sub(1), index)?;
+    reason_text(alloc, script, index, reason.as_str())
+}
+
+/// The same with this reason.
+fn reason_text(
+    alloc: Global,
+    script: &ScriptLines,
+    index: usize,
+    reason: &str,
+) -> Result<String, AllocError>
+    ensures { IfOk result (λ text. string_bytes text ≡ misread_text script.now index reason.now) }
+{
     let Some(line) = script.lines.get(index) else {
         return Ok(String::new(alloc));
     };
-    let reason = reason(alloc, script, number.saturating_sub(1), index)?;
     let number = index + 1;
     let snippet = snippet(alloc, number, line.as_str())?;
     format!(in alloc; "line {number}: {reason}\n{snippet}")

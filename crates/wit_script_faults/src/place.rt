@@ -6,7 +6,7 @@ ghost use Rattle.wit_script_lines.specs.Statement.{statement_of};
 ghost use Rattle.wit_sources.specs.Lines.{is_line_feed};
 ghost use Rattle.wit_sources.specs.SourceMap.{files_of};
 
-use crate::desk::Tracked;
+use crate::desk::TrackedGraph;
 use crate::lines::ScriptLines;
 use std::alloc::{AllocError, Global};
 use wit_data::{PackageName, SourceMap, Span};
@@ -16,7 +16,7 @@ use wit_script_lines::{LineFault, Statement, read_line};
 /// that file's first line. None where the span is unknown or in no file.
 pub fn span_place<'a>(
     script: &ScriptLines,
-    tracked: &'a Tracked,
+    tracked: &'a TrackedGraph,
     span: Span,
 ) -> Option<(usize, &'a str, usize)>
     ensures { option_map (λ p. (p.0, p.1.now, p.2)) result ≡ span_place script.now tracked.now span }
@@ -26,7 +26,7 @@ pub fn span_place<'a>(
     }
     let position = span.start() as usize;
     let source_map = tracked.resolve.source_map();
-    let (path, start, line) = place_at(source_map, tracked.owners.as_slice(), position)?;
+    let (path, start, line) = place_at(source_map, tracked.file_starts.as_slice(), position)?;
     let own = script.filed.as_slice().get(start..)?;
     let index = own.get(line)?;
     let first = own.first()?;
@@ -38,13 +38,13 @@ pub fn span_place<'a>(
 /// positions.
 fn place_at<'a>(
     source_map: &'a SourceMap,
-    owners: &[usize],
+    file_starts: &[usize],
     position: usize,
 ) -> Option<(&'a str, usize, usize)>
-    ensures { option_map (λ p. (p.0.now, p.1, p.2)) result ≡ place_at (files_of source_map.now.files) owners.now position }
+    ensures { option_map (λ p. (p.0.now, p.1, p.2)) result ≡ place_at (files_of source_map.now.files) file_starts.now position }
 {
     let mut rest = position;
-    let mut left = owners;
+    let mut left = file_starts;
     for (path, contents) in source_map.files() {
         let (start, others) = left.split_first()?;
         if rest <= contents.len() {

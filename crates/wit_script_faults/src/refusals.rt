@@ -1,15 +1,16 @@
 //! The refusals of a script, each with the lines at which it is, and a script that isn't understood.
 ghost use Rattle.std.specs.Prelude.{◌≡◌, IfErr, IfOk, Err, Ok, string_bytes};
-ghost use Rattle.std.specs.List.{flat_map};
+ghost use Rattle.std.specs.List.{flat_map, list_any};
 ghost use Rattle.wit_resolve_graph.specs.Step.{IsCommandShaped};
 ghost use Rattle.wit_script.specs.Answer.{IsActionShaped, IsChoice};
 ghost use Rattle.wit_script_faults.specs.Desk.{new_desk};
 ghost use Rattle.wit_script_faults.specs.Explained.{Explains, ExplainsAction, ExplainsAll, ExplainsCommand, ExplainsMerge, ExplainsRun, ExplainsSelect, ExplainsWork, place_of, rest_of};
+ghost use Rattle.wit_script_faults.specs.Misread.{IsMisreadText};
 ghost use Rattle.wit_script_faults.specs.Refusals.{is_refusal, other_text, places_text, refusal_text, reply_text, span_text, spans_text, unless_refused};
 ghost use Rattle.wit_script_faults.specs.declared.desk.Desk.{Desk};
 
 use crate::culprit::fault_index;
-use crate::desk::{Desk, Tracked, coming_packages};
+use crate::desk::{Desk, TrackedGraph, coming_packages};
 use crate::lines::{CommandPlace, ScriptLines, script_lines};
 use crate::misread::misread_text;
 use crate::place::{defined_line, span_place};
@@ -33,12 +34,17 @@ pub fn explain_text(alloc: Global, script: &str) -> Result<(bool, String), Alloc
             Ok(text) => Ok((true, text)),
             Err(_) => Err(AllocError),
         },
-        Err(ReadFault::NotUnderstood { line }) => {
-            let index = fault_index(alloc, &lines, line)?;
-            Ok((false, misread_text(alloc, &lines, line, index)?))
-        }
+        Err(ReadFault::NotUnderstood { line }) => Ok((false, misread(alloc, &lines, line)?)),
         Err(ReadFault::OutOfMemory) => Err(AllocError),
     }
+}
+
+/// What there is to say of a script that isn't understood, where the line of this number isn't.
+fn misread(alloc: Global, script: &ScriptLines, number: usize) -> Result<String, AllocError>
+    ensures { IfOk result (λ text. IsMisreadText script.now number (string_bytes text)) }
+{
+    let index = fault_index(alloc, script, number)?;
+    misread_text(alloc, script, number, index)
 }
 
 /// The first of some commands and those after it; where there is none, one behind all lines.
@@ -117,7 +123,7 @@ fn refusal_to_action(
     match action {
         Action::Run { command, .. } => work(alloc, script, place, desk, command),
         Action::Open => {
-            desk.second = Some(Tracked::new(alloc));
+            desk.second = Some(TrackedGraph::new(alloc));
             Ok(String::new(alloc))
         }
         Action::Merge => merge(alloc, script, place, desk),
@@ -166,21 +172,21 @@ fn merge(
     let Some(second) = desk.second.take() else {
         return Ok(String::new(alloc));
     };
-    let Tracked {
+    let TrackedGraph {
         resolve,
-        owners,
-        defined,
+        file_starts,
+        package_starts,
     } = second;
     let command = Command::Merge(resolve);
-    let (owners, defined) = (owners.as_slice(), defined.as_slice());
+    let (file_starts, package_starts) = (file_starts.as_slice(), package_starts.as_slice());
     carry_out(
         alloc,
         script,
         place,
         &mut desk.first,
         command,
-        owners,
-        defined,
+        file_starts,
+        package_starts,
     )
 }
 
@@ -190,7 +196,7 @@ fn carry_out(
     alloc: Global,
     script: &ScriptLines,
     place: &CommandPlace,
-    tracked: &mut Tracked,
+    tracked: &mut TrackedGraph,
     command: Command,
     coming: &[usize],
     brought: &[usize],
@@ -209,10 +215,17 @@ fn carry_out(
 fn unless_refused<'a>(replies: &[Reply], brought: &'a [usize]) -> &'a [usize]
     ensures { result.now ≡ unless_refused replies.now brought.now }
 {
-    if replies.iter().any(|reply| is_refusal(reply)) {
+    if is_any_refused(replies) {
         return &[];
     }
     brought
+}
+
+/// Whether one of some replies is a refusal.
+fn is_any_refused(replies: &[Reply]) -> bool
+    ensures { result ≡ list_any is_refusal replies.now }
+{
+    replies.iter().any(|reply| is_refusal(reply))
 }
 
 /// Whether a reply is a refusal.
@@ -227,7 +240,7 @@ fn replies_text(
     alloc: Global,
     script: &ScriptLines,
     place: &CommandPlace,
-    tracked: &Tracked,
+    tracked: &TrackedGraph,
     replies: &[Reply],
 ) -> ResolveResult<String>
     ensures { IfOk result (λ text. string_bytes text ≡ flat_map (reply_text script.now place.now tracked.now) replies.now) }
@@ -245,7 +258,7 @@ fn reply_text(
     alloc: Global,
     script: &ScriptLines,
     place: &CommandPlace,
-    tracked: &Tracked,
+    tracked: &TrackedGraph,
     reply: &Reply,
 ) -> ResolveResult<String>
     ensures { IfOk result (λ text. string_bytes text ≡ reply_text script.now place.now tracked.now reply.now) }
@@ -261,7 +274,7 @@ fn refusal_text(
     alloc: Global,
     script: &ScriptLines,
     place: &CommandPlace,
-    tracked: &Tracked,
+    tracked: &TrackedGraph,
     refusal: &ResolveError,
 ) -> ResolveResult<String>
     ensures { IfOk result (λ text. string_bytes text ≡ refusal_text script.now place.now tracked.now refusal.now) }
@@ -279,7 +292,7 @@ fn places_text(
     alloc: Global,
     script: &ScriptLines,
     place: &CommandPlace,
-    tracked: &Tracked,
+    tracked: &TrackedGraph,
     kind: &ResolveErrorKind,
 ) -> Result<String, AllocError>
     ensures { IfOk result (λ text. string_bytes text ≡ places_text script.now place.now tracked.now kind.now) }
@@ -296,7 +309,7 @@ fn places_text(
 fn spans_text(
     alloc: Global,
     script: &ScriptLines,
-    tracked: &Tracked,
+    tracked: &TrackedGraph,
     kind: &ResolveErrorKind,
 ) -> Result<String, AllocError>
     ensures { IfOk result (λ text. string_bytes text ≡ spans_text script.now tracked.now kind.now) }
@@ -317,7 +330,7 @@ fn spans_text(
 fn other_text(
     alloc: Global,
     script: &ScriptLines,
-    tracked: &Tracked,
+    tracked: &TrackedGraph,
     name: &PackageName,
     span: Span,
 ) -> Result<String, AllocError>
@@ -326,7 +339,7 @@ fn other_text(
     if span.is_known() {
         return span_text(alloc, script, tracked, span);
     }
-    match defined_line(alloc, script, tracked.defined.as_slice(), name)? {
+    match defined_line(alloc, script, tracked.package_starts.as_slice(), name)? {
         Some(index) => {
             let path = name.to_string(alloc)?;
             place_text(alloc, script, index, path.as_str(), index)
@@ -339,7 +352,7 @@ fn other_text(
 fn span_text(
     alloc: Global,
     script: &ScriptLines,
-    tracked: &Tracked,
+    tracked: &TrackedGraph,
     span: Span,
 ) -> Result<String, AllocError>
     ensures { IfOk result (λ text. string_bytes text ≡ span_text script.now tracked.now span) }
@@ -355,7 +368,7 @@ fn select(
     alloc: Global,
     script: &ScriptLines,
     place: &CommandPlace,
-    tracked: &Tracked,
+    tracked: &TrackedGraph,
     owner: &PackageName,
     text: &Option<Text>,
 ) -> ResolveResult<String>
@@ -373,7 +386,7 @@ fn select(
 /// The world that is chosen of a package.
 fn chosen(
     alloc: Global,
-    tracked: &Tracked,
+    tracked: &TrackedGraph,
     id: PackageId,
     text: &Option<Text>,
 ) -> ResolveResult<WorldId>

@@ -3,7 +3,7 @@ ghost use Rattle.std.specs.Fmt.{is_char_start};
 ghost use Rattle.std.specs.Prelude.{◌≡◌, ◌≤◌, ◌<◌, Some, IfOk, count_by, length, replicate, string_bytes, take};
 ghost use Rattle.std.specs.Str.{IsCharBoundary};
 ghost use Rattle.wit_script_faults.specs.Shown.{command_text, place_text, shown_len, snippet_text};
-ghost use Rattle.wit_sources.specs.Locations.{in_four};
+ghost use Rattle.wit_sources.specs.Locations.{in_four, location_text};
 
 use crate::lines::ScriptLines;
 use std::alloc::{AllocError, Global};
@@ -28,8 +28,13 @@ pub fn place_text(
     let line = line.as_str();
     let (number, own) = (index + 1, index.saturating_sub(first) + 1);
     let column = content_range(line).0 + 1;
+    let location = Location {
+        path,
+        line: own,
+        column,
+    };
     let snippet = snippet(alloc, number, line)?;
-    format!(in alloc; "     --> line {number} ({path}:{own}:{column})\n{snippet}")
+    format!(in alloc; "     --> line {number} ({location})\n{snippet}")
 }
 
 /// The line of a command, by its index in the script.
@@ -102,6 +107,23 @@ fn is_char_start(byte: u8) -> bool
     ensures { result ≡ is_char_start byte }
 {
     byte < 0x80 || byte >= 0xC0
+}
+
+/// Where a line stands in the file of a package, and from which column on it says something.
+#[derive(Drop)]
+struct Location<'a> {
+    path: &'a str,
+    line: usize,
+    column: usize,
+}
+
+impl<'a> fmt::Display for Location<'a> {
+    ghost output = { λ l. Some (location_text l.path.now l.line l.column) };
+
+    fn fmt<W: fmt::Write>(&self, f: &mut fmt::Formatter<W>) -> fmt::Result {
+        let (path, line, column) = (self.path, self.line, self.column);
+        write!(f, "{path}:{line}:{column}")
+    }
 }
 
 /// So many spaces.

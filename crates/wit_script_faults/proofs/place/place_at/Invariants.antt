@@ -5,4 +5,4 @@ use Rattle.wit_script_faults.proofs.place.place_at.Given as goal
 
 -- in the files that are left it stands where it stands in all
 abbrev pub invariant-loop-path : goal.invariant-loop-path
-invariant-loop-path l = place_at l.path-iterator l.left l.rest ≡ place_at (files_of l.source_map.files) l.owners l.position
+invariant-loop-path l = place_at l.path-iterator l.left l.rest ≡ place_at (files_of l.source_map.files) l.file_starts l.position
