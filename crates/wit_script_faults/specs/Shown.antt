@@ -8,7 +8,7 @@ use Rattle.wit_sources.specs.Locations.{in_four, location_text, mark_text}
 use Rattle.wit_script_faults.specs.declared.lines.ScriptLines.{ScriptLines}
 
 -- the last position up to this one, where it isn't the first of all, at which a character begins
-abbrev pub start_up_to : ℕ → List ℕ → ℕ
+unfoldable pub start_up_to : ℕ → List ℕ → ℕ
 start_up_to zero text = zero
 start_up_to (suc k) text = if is_char_start (slice_index text (suc k)) then suc k else start_up_to k text
 
@@ -16,9 +16,13 @@ start_up_to (suc k) text = if is_char_start (slice_index text (suc k)) then suc 
 abbrev pub shown_len : List ℕ → ℕ
 shown_len line = if nat_le (length line) 500 then length line else start_up_to 500 line
 
--- what is shown of a line: `..` stands behind one that isn't shown whole
+-- what stands behind the first so many bytes of a line, where it isn't shown whole
+abbrev pub dots_text : ℕ → List ℕ → List ℕ
+dots_text len line = if nat_lt len (length line) then codes " .." else []
+
+-- what is shown of a line
 abbrev pub shown_text : List ℕ → List ℕ
-shown_text line = take (shown_len line) line ++ (if nat_lt (shown_len line) (length line) then codes " .." else [])
+shown_text line = take (shown_len line) line ++ dots_text (shown_len line) line
 
 -- a mark under what is shown of what a line says: a `^` under its first character, and a dash under each other
 abbrev pub mark_under : List ℕ → List ℕ

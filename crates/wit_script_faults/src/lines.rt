@@ -1,5 +1,5 @@
 //! The lines of a script, and which of them are commands and which go into the files of packages.
-ghost use Rattle.std.specs.Prelude.{◌≡◌, OnOk, IfOk, map};
+ghost use Rattle.std.specs.Prelude.{◌≡◌, ◌+◌, ◌<◌, ◌^◌, OnOk, IfOk, IfSome, map, option_map, slice_get};
 ghost use Rattle.wit_script_lines.specs.Line.{lines_of};
 ghost use Rattle.wit_script_faults.specs.Lines.{script_lines_of, sort_of, sort_of_statement, with_line};
 
@@ -68,6 +68,18 @@ fn numbered(alloc: Global, lines: &[&str]) -> Result<ScriptLines, AllocError>
 
 impl ScriptLines {
     ghost use Rattle.wit_script_faults.specs.Lines.{no_lines, with_command, with_sort};
+
+    /// The line of an index, where it is there; then it has a number, counted from 1.
+    pub fn line_at(&self, index: usize) -> Option<&str>
+        ensures line { option_map (λ line. line.now) result ≡ slice_get self.now.lines index }
+        ensures counted { IfSome result (λ _. index + 1 < 2 ^ 64) }
+    {
+        let lines = self.lines.as_slice();
+        if index < lines.len() {
+            return Some(lines[index].as_str());
+        }
+        None
+    }
 
     /// No line. It takes no memory.
     fn new(alloc: Global) -> ScriptLines

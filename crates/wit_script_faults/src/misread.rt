@@ -30,10 +30,10 @@ fn reason_text(
 ) -> Result<String, AllocError>
     ensures { IfOk result (λ text. string_bytes text ≡ misread_text script.now index reason.now) }
 {
-    let Some(line) = script.lines.get(index) else {
+    let Some(line) = script.line_at(index) else {
         return Ok(String::new(alloc));
     };
     let number = index + 1;
-    let snippet = snippet(alloc, number, line.as_str())?;
+    let snippet = snippet(alloc, number, line)?;
     format!(in alloc; "line {number}: {reason}\n{snippet}")
 }
