@@ -24,7 +24,7 @@ use Rattle.wit_script_faults.specs.declared.lines.CommandPlace.{CommandPlace}
 use Rattle.wit_script_faults.specs.declared.lines.ScriptLines.{ScriptLines}
 
 -- the places that are left after some commands
-pub rest_after : List CommandPlace → List ScriptCommand → List CommandPlace
+abbrev pub rest_after : List CommandPlace → List ScriptCommand → List CommandPlace
 rest_after places [] = places
 rest_after places (command ∷ commands) = rest_after (rest_of places) commands
 

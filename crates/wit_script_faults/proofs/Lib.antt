@@ -1,4 +1,5 @@
 pub mod Explained
-pub mod Misread
+pub mod Placed
+pub mod Reasons
 pub mod Staged
 pub mod Starts

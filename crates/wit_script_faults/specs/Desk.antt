@@ -1,5 +1,5 @@
 -- The graphs of a script, each with the lines of the script that its files have.
-use Rattle.std.specs.Prelude.{ℕ, ◌-◌, List, [], ◌∷◌, ◌++◌, length, take, drop, Option, None, Some}
+use Rattle.std.specs.Prelude.{ℕ, ◌-◌, List, [], ◌++◌, length, take, drop, Option, None, Some}
 use Rattle.wit_resolve_graph.specs.State.{State, new_state}
 use Rattle.wit_script_faults.specs.declared.desk.Desk.{Desk}
 use Rattle.wit_script_faults.specs.declared.desk.TrackedGraph.{TrackedGraph}

@@ -39,11 +39,14 @@ with_command script place named = if not place.is_push || (length named == 0) th
 abbrev pub places_text : ScriptLines → CommandPlace → TrackedGraph → ResolveErrorKind → List ℕ
 places_text script place tracked kind = with_command script place (spans_text script tracked kind)
 
--- `refused N TEXT`, N being the number of the refusal, the lines at which it is, and the document that says more of N
+-- `refused N TEXT`, the lines at which it is, and the document that says more of N
+abbrev pub told_text : ℕ → List ℕ → List ℕ → List ℕ
+told_text number text places =
+    codes "refused " ++ (decimal number ++ (codes " " ++ (text ++ (codes "\n" ++ (places ++ (codes "      = " ++ (decimal number ++ codes " in docs/REFUSALS.md\n")))))))
+
+-- what is told of a refusal, N being its number
 abbrev pub refusal_text : ScriptLines → CommandPlace → TrackedGraph → ResolveErrorKind → List ℕ
-refusal_text script place tracked kind =
-    codes "refused " ++ (decimal (error_number kind) ++ (codes " " ++ (kind_text kind ++ (codes "\n" ++ (places_text script place tracked kind
-    ++ (codes "      = " ++ (decimal (error_number kind) ++ codes " in docs/REFUSALS.md\n")))))))
+refusal_text script place tracked kind = told_text (error_number kind) (kind_text kind) (places_text script place tracked kind)
 
 -- what is told of a reply, in the state after it
 abbrev pub reply_text : ScriptLines → CommandPlace → TrackedGraph → Reply → List ℕ

@@ -64,9 +64,7 @@ impl Context {
                 let _is_added = self.is_added(alloc, said, gate, line)?;
             }
             Statement::Push => self.draft = None,
-            Statement::Request(Request::Other) => self.other = true,
-            Statement::Request(Request::Merge) => self.other = false,
-            Statement::Request(_) => {}
+            Statement::Request(request) => self.other = waits_after(&request, self.other),
         }
         Ok(())
     }
@@ -87,6 +85,15 @@ impl Context {
             Err(LineFault::NotUnderstood) => Ok(false),
             Err(LineFault::OutOfMemory) => Err(AllocError),
         }
+    }
+}
+
+/// Whether an `other` waits for its `merge` after a command, where one waited or none did.
+fn waits_after(request: &Request, other: bool) -> bool {
+    match request {
+        Request::Other => true,
+        Request::Merge => false,
+        _ => other,
     }
 }
 

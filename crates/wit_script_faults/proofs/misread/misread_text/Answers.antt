@@ -1,4 +1,4 @@
-use Rattle.wit_script_faults.proofs.Misread.{some_reason}
+use Rattle.wit_script_faults.proofs.Reasons.{some_reason}
 use Rattle.wit_script_faults.proofs.misread.misread_text.Goals as goal
 
 pub returns : goal.returns

@@ -1,5 +1,5 @@
 use native.Mathlib.Omega.{arith}
-use Rattle.std.proofs.Common.{◌≡◌, ◌∙◌, sym, rules}
+use Rattle.std.proofs.Common.{◌∙◌, sym, rules}
 use Rattle.wit_script_faults.proofs.Starts.{start_before, start_first, start_there}
 use Rattle.wit_script_faults.proofs.shown.start_up_to.Goals as goal
 
