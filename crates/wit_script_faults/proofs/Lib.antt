@@ -1,3 +1,4 @@
+pub mod CommandLines
 pub mod Explained
 pub mod Placed
 pub mod Reasons

@@ -6,3 +6,4 @@ pub mod Misread
 pub mod Places
 pub mod Refusals
 pub mod Shown
+pub mod laws

@@ -8,6 +8,7 @@
 mod context;
 mod culprit;
 mod desk;
+pub mod laws;
 mod lines;
 mod misread;
 mod name_reason;
