@@ -1,9 +1,9 @@
 -- Each command stands at its place, line by line.
-use Rattle.std.proofs.Common.{◌≡◌, ◌∙◌, ℕ, ◌+◌, if◌then◌else◌, Bool, true, false, is_some, List, [], ◌∷◌, ◌++◌, length, Option, None, Some, append_assoc, ap, refl, subst, sym}
+use Rattle.std.proofs.Common.{◌≡◌, ◌∙◌, ℕ, ◌+◌, if◌then◌else◌, Bool, true, false, is_some, List, [], ◌∷◌, ◌++◌, length, Option, None, Some, append_assoc, ap, refl, slice_get, subst, sym}
 use Rattle.std.proofs.lemmas.List.{append-nil}
+use Rattle.std.proofs.lemmas.Option.{slice_get_within}
 use Rattle.std.specs.List.{AllZip}
 use Rattle.std.specs.Option.{option_and_then, option_map}
-use Rattle.wit_values.specs.facts.Lists.{slice_get-append, slice_get-push}
 use Rattle.wit_data.specs.declared.unresolved.UnresolvedPackageGroup.{UnresolvedPackageGroup}
 use Rattle.wit_script_lines.specs.Line.{lines_of}
 use Rattle.wit_script_lines.specs.PackageLine.{each_of}
@@ -11,6 +11,7 @@ use Rattle.wit_script_lines.specs.Statement.{statement_of}
 use Rattle.wit_script_lines.specs.declared.statement.Statement.{Statement}
 use Rattle.wit_script_lines.specs.declared.statement.Statement.TheVariants as says
 use Rattle.wit_script_lines.specs.facts.OptionFacts.{map-of, same-some, step-of}
+use Rattle.wit_script_package.proofs.Places.{append_other}
 use Rattle.wit_script_package.specs.Draft.{as_group, new_draft}
 use Rattle.wit_script_package.specs.Lines.{with_line as with_draft_line}
 use Rattle.wit_script_package.specs.declared.draft.Draft.{Draft}
@@ -60,16 +61,20 @@ lines-kept s (line ∷ lines) =
 stands-before : (lines : List (List ℕ)) (line : List ℕ) (place : CommandPlace) (command : ScriptCommand) → StandsAt lines place command → StandsAt (lines ++ line ∷ []) place command
 stands-before lines line place command at = record {
   line = at.line;
-  there = slice_get-append lines (line ∷ []) place.line at.line at.there;
+  there = append_other lines (line ∷ []) place.line (slice_get_within lines place.line at.line at.there) ∙ at.there;
   said = at.said;
 }
+
+last-there : (lines : List (List ℕ)) (line : List ℕ) → slice_get (lines ++ line ∷ []) (length lines) ≡ Some line
+last-there [] line = refl
+last-there (first ∷ lines) line = last-there lines line
 
 -- the last of lines
 stands-last : (lines : List (List ℕ)) (line : List ℕ) (place : CommandPlace) (command : ScriptCommand) → place.line ≡ length lines → statement_of line ≡ Some (Some (said_of command))
     → StandsAt (lines ++ line ∷ []) place command
 stands-last lines line place command last said = record {
   line = line;
-  there = rw last (slice_get-push lines line);
+  there = rw last (last-there lines line);
   said = said;
 }
 
