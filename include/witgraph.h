@@ -22,7 +22,8 @@ extern "C" {
 enum {
   /* The script was understood and run; the output has its answers, refusals among them. */
   WITGRAPH_UNDERSTOOD = 0,
-  /* The script wasn't understood and wasn't run; the output is one line, `line N: not understood`. */
+  /* The script wasn't understood and wasn't run; the output is one line, `line N: not understood`, and of
+   * witgraph_explain that line with the reason. */
   WITGRAPH_NOT_UNDERSTOOD = 1,
   /* The output is shorter than what was to be written: nothing is written, and *needed says how long that is. Call
    * again with so many bytes. */
@@ -51,17 +52,29 @@ enum {
  * a capacity of 0 or a guess, and calls again at WITGRAPH_OUTPUT_TOO_SMALL. */
 uint32_t witgraph_execute(const uint8_t *input, size_t length, uint8_t *output, size_t capacity, size_t *needed);
 
-/* Runs a script on an empty graph, and writes its refusals alone, each with the line at which it is:
+/* Runs a script on an empty graph, and writes its refusals alone, each with the lines at which it is:
  *
  *     refused 11 found a reference to a interface which is excluded due to its feature not being activated
- *          --> p:q:4:1
+ *          --> line 6 (p:q:5:1)
  *           |
- *         4 | import i
+ *         6 | import i
  *           | ^-------
+ *           = 11 in docs/REFUSALS.md
  *
- * The position is the name of a package, a line counted from the first of that package, and a column. A refusal that has
- * no position, as of `select`, is its text alone. Nothing is written, and *needed is 0, where no command is refused;
- * where the script isn't understood, the line that witgraph_execute writes.
+ * `line 6` is the line of the script, counted from 1 as an editor counts, with lines that say nothing; in brackets stand
+ * the name of a package, the line counted from the first of that package, and the column. Of `merge`, `select`,
+ * `importize`, `exportize` and `semver` the line of the command stands below the lines that the refusal names; of `push`
+ * where no other line is known. docs/REFUSALS.md says more of each number. Nothing is written, and *needed is 0, where no
+ * command is refused.
+ *
+ * Where the script isn't understood, the line at which it isn't and why:
+ *
+ *     line 2: foo_bar is no kebab name
+ *           |
+ *         2 | interface foo_bar
+ *           | ^----------------
+ *
+ * (There witgraph_execute names the line of the `push`.)
  *
  * The arguments and the status are as there. */
 uint32_t witgraph_explain(const uint8_t *input, size_t length, uint8_t *output, size_t capacity, size_t *needed);

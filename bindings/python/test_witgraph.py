@@ -179,7 +179,14 @@ class Calls(unittest.TestCase):
     def test_scripts(self):
         self.assertEqual(wg.execute("package a:b\npush\n"), "pushed a:b\n")
         self.assertEqual(wg.explain("package a:b\npush\n"), "")
-        self.assertTrue(wg.explain("package a:b\npush\npackage a:b\npush\n").startswith("refused 5 "))
+        told = wg.explain("package a:b\npush\n\npackage a:b\npush\n")
+        self.assertTrue(told.startswith("refused 5 "))
+        self.assertIn("--> line 4 (a:b:1:1)\n", told)
+        self.assertIn("--> line 1 (a:b:1:1)\n", told)
+        with self.assertRaises(wg.NotUnderstood) as raised:
+            wg.explain("package a:b\ninterface i_i\npush\n")
+        self.assertEqual(raised.exception.line, 2)
+        self.assertTrue(raised.exception.text.startswith("line 2: i_i is no kebab name\n"))
         with self.assertRaises(wg.NotUnderstood) as raised:
             wg.execute("package a:b\npush\nhello\n")
         self.assertEqual(raised.exception.line, 3)

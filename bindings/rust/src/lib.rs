@@ -33,7 +33,7 @@
 //! ```
 //!
 //! A command that is refused is an answer, not an error: `refused N TEXT`, where `docs/REFUSALS.md` lists the numbers.
-//! [`explain`] shows at which line each refusal is.
+//! [`explain`] shows at which lines of the script each refusal is, and why a script isn't understood.
 //!
 //! # What stands behind it
 //!

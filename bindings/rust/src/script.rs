@@ -8,11 +8,12 @@ use std::fmt;
 #[derive(Clone, Debug, PartialEq, Eq, Hash)]
 pub enum Error {
     /// This line, counted from 1, is the first that isn't understood, and nothing was run. Where all are understood
-    /// but packages wait for their `push`, or an `other` for its `merge`, it is the last that says something.
+    /// but packages wait for their `push`, or an `other` for its `merge`, it is the last that says something. Where a
+    /// package isn't understood at its `push`, [`explain`] tells the line that breaks it.
     NotUnderstood {
         /// The number of the line.
         line: u64,
-        /// What is told: `line N: not understood`, by [`explain`] with the reason.
+        /// What is told: `line N: not understood`, by [`explain`] the reason, with the line.
         text: String,
     },
     /// The script isn't UTF-8.
@@ -80,7 +81,8 @@ pub fn execute_into(script: impl AsRef<[u8]>, output: &mut [u8]) -> Result<Writt
 }
 
 /// Runs a script on an empty graph, and gives its refusals alone, each with the lines at which it is: the text is empty
-/// where no command is refused.
+/// where no command is refused. Lines are those of the script as an editor counts them; in brackets stand the package,
+/// the line counted from its first, and the column.
 ///
 /// ```
 /// let script = "
@@ -91,7 +93,14 @@ pub fn execute_into(script: impl AsRef<[u8]>, output: &mut [u8]) -> Result<Writt
 /// ";
 /// let told = witgraph::explain(script)?;
 /// assert!(told.starts_with("refused 12 found a reference to a interface which is excluded"));
+/// assert!(told.contains("--> line 4 (p:q:3:3)"));
 /// assert!(told.contains("type t u32"));
+///
+/// let Err(witgraph::Error::NotUnderstood { line, text }) = witgraph::explain("package p:q\ninterface i_i\npush\n") else {
+///     unreachable!()
+/// };
+/// assert_eq!(line, 2);
+/// assert!(text.starts_with("line 2: i_i is no kebab name"));
 /// # Ok::<(), witgraph::Error>(())
 /// ```
 ///
@@ -155,7 +164,7 @@ fn text(bytes: Vec<u8>) -> String {
     String::from_utf8(bytes).expect("the library writes UTF-8")
 }
 
-/// The number in `line N: not understood`.
+/// The number in `line N: not understood`, or in `line N: REASON`.
 fn line_of(text: &str) -> u64 {
     let number = text
         .strip_prefix("line ")
@@ -173,5 +182,6 @@ mod tests {
     fn a_line_is_read() {
         assert_eq!(line_of("line 1: not understood\n"), 1);
         assert_eq!(line_of("line 4294967296: not understood\n"), 4_294_967_296);
+        assert_eq!(line_of("line 2: a:b is no path\n      |\n"), 2);
     }
 }

@@ -51,14 +51,19 @@ const CALLS: [(Call, &[u8], usize, &str); 17] = [
     (
         Call::Explain,
         b"package a:b\npush\nselect a:b\n",
-        54,
-        "0 53 refused 26 The main package `a:b` contains no worlds\n.",
+        147,
+        "0 146 refused 26 The main package `a:b` contains no worlds\n\
+        \x20    --> line 3\n\
+        \x20     |\n\
+        \x20   3 | select a:b\n\
+        \x20     | ^---------\n\
+        \x20     = 26 in docs/REFUSALS.md\n.",
     ),
     (
         Call::Explain,
         b"package a:b\npush\nselect a:b\n",
         3,
-        "2 53 ...",
+        "2 146 ...",
     ),
     (
         Call::Explain,
@@ -67,16 +72,25 @@ const CALLS: [(Call, &[u8], usize, &str); 17] = [
         world w\n\
         import i\n\
         push\n",
-        160,
-        "0 160 refused 11 found a reference to a interface which is excluded due to its feature not being activated\n\
-        \x20    --> p:q:4:1\n\
+        200,
+        "0 200 refused 11 found a reference to a interface which is excluded due to its feature not being activated\n\
+        \x20    --> line 4 (p:q:4:1)\n\
         \x20     |\n\
         \x20   4 | import i\n\
-        \x20     | ^-------\n",
+        \x20     | ^-------\n\
+        \x20     = 11 in docs/REFUSALS.md\n",
     ),
     (Call::Explain, b"package a:b\npush\n", 3, "0 0 ..."),
-    (Call::Explain, b"push", 24, "1 23 line 1: not understood\n."),
-    (Call::Explain, b"push", 22, "2 23 ......................"),
+    (
+        Call::Explain,
+        b"push",
+        71,
+        "1 70 line 1: no package stands before it\n\
+        \x20     |\n\
+        \x20   1 | push\n\
+        \x20     | ^---\n.",
+    ),
+    (Call::Explain, b"push", 22, "2 70 ......................"),
     (Call::Explain, b"push\xff", 3, "3 0 ..."),
     (Call::Explain, b"\xff", 0, "3 0 "),
 ];

@@ -6,7 +6,8 @@ ghost use Rattle.std.specs.Prelude.{◌≡◌, ◌≤◌, true, false};
 ghost use Rattle.std.specs.Str.{IsUtf8};
 ghost use Rattle.wit_json_runs.specs.Documents.{ComesOutOfBytes};
 ghost use Rattle.wit_script.specs.Prints.{PrintsByRun};
-ghost use Rattle.witgraph_calls.specs.Refusals.{Explains, IsTooLong, IsWritten};
+ghost use Rattle.wit_script_faults.specs.Explained.{Explains};
+ghost use Rattle.witgraph_calls.specs.Output.{IsTooLong, IsWritten};
 
 use std::alloc::Global;
 use witgraph_calls::{
@@ -34,7 +35,7 @@ pub extern "C" fn witgraph_execute(
     execute(alloc, input, output, needed)
 }
 
-/// `explain` of `witgraph_calls`: the refusals of a script, each with its line.
+/// `explain` of `witgraph_calls`: the refusals of a script, each with its lines.
 #[unsafe(no_mangle)]
 pub extern "C" fn witgraph_explain(
     alloc: Global,

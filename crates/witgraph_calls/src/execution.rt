@@ -2,7 +2,7 @@
 ghost use Rattle.std.specs.Prelude.{◌≡◌, ◌≤◌, true, false};
 ghost use Rattle.std.specs.Str.{IsUtf8};
 ghost use Rattle.wit_script.specs.Prints.{PrintsByRun};
-ghost use Rattle.witgraph_calls.specs.Refusals.{IsTooLong, IsWritten};
+ghost use Rattle.witgraph_calls.specs.Output.{IsTooLong, IsWritten};
 
 use crate::output::{none_needed, put_text};
 use crate::status::{INPUT_NOT_UTF8, NO_MEMORY, NOT_UNDERSTOOD, OUTPUT_TOO_SMALL, UNDERSTOOD};

@@ -1,17 +1,17 @@
 //! The refusals of a script, each with its line.
 ghost use Rattle.std.specs.Prelude.{◌≡◌, ◌≤◌, true, false};
 ghost use Rattle.std.specs.Str.{IsUtf8};
-ghost use Rattle.witgraph_calls.specs.Refusals.{Explains, IsTooLong, IsWritten};
+ghost use Rattle.wit_script_faults.specs.Explained.{Explains};
+ghost use Rattle.witgraph_calls.specs.Output.{IsTooLong, IsWritten};
 
 use crate::output::{none_needed, put_text};
-use crate::refusals::explain_text;
 use crate::status::{INPUT_NOT_UTF8, NO_MEMORY, NOT_UNDERSTOOD, OUTPUT_TOO_SMALL, UNDERSTOOD};
 use std::alloc::Global;
+use wit_script_faults::explain_text;
 
-/// Runs a script on an empty graph, and writes its refusals to the front of the output, each with the line at which it
-/// is: `refused N TEXT`, and below it the position, the line and a mark, where the refusal has a span. A position is
-/// the name of a package, a line counted from the first of that package, and a column. Nothing is written of a script
-/// without a refusal; of one that isn't understood, the line that a run of it writes.
+/// Runs a script on an empty graph, and writes its refusals to the front of the output, each with the lines at which it
+/// is, as `explain_text` of `wit_script_faults` tells them. Nothing is written of a script without a refusal; of one that
+/// isn't understood, the line at which it isn't and why.
 ///
 /// All else is as of `execute`.
 pub fn explain(alloc: Global, input: &[u8], output: &mut [u8], needed: &mut usize) -> u32

@@ -1,6 +1,6 @@
 //! What `witgraph_c` offers to programs in other languages, as functions from bytes to bytes: `execute` writes the answers
-//! of a script, `explain` its refusals with their lines, `carry_out` what comes out of a JSON document; each answers one of
-//! the numbers here.
+//! of a script, `explain` its refusals with their lines or where it isn't understood, `carry_out` what comes out of a JSON
+//! document; each answers one of the numbers here.
 //!
 //! No call keeps anything: what it allocates it frees, and calls share no state.
 #![tactic(auto)]
@@ -9,7 +9,6 @@ mod documents;
 mod execution;
 mod explanation;
 mod output;
-mod refusals;
 mod status;
 
 pub use crate::documents::carry_out;

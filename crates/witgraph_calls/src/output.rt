@@ -1,6 +1,6 @@
 //! What a call leaves in its output, and the status that tells it.
 ghost use Rattle.std.specs.Prelude.{◌≡◌, ◌<◌, ◌≤◌, length, true, false};
-ghost use Rattle.witgraph_calls.specs.Refusals.{HasFront};
+ghost use Rattle.witgraph_calls.specs.Output.{HasFront};
 
 use crate::status::{NOT_UNDERSTOOD, OUTPUT_TOO_SMALL, UNDERSTOOD};
 

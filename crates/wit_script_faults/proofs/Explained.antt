@@ -1,0 +1,92 @@
+-- Refusals that are told, one after another.
+use Rattle.std.proofs.Common.{◌≡◌, ℕ, List, [], ◌∷◌, ◌++◌, Option, Some, Result, Ok, Err, String, string_bytes, refl, sym, ap, ◌∙◌, subst, append_assoc}
+use Rattle.std.specs.Prelude.{IfOk, IsUtf8}
+use Rattle.std.specs.declared.alloc.Global.{Global}
+use Rattle.std.proofs.lemmas.List.{append-nil}
+use Rattle.wit_names.specs.declared.package_name.PackageName.{PackageName}
+use Rattle.wit_graph_data.specs.declared.error_kind.ResolveErrorKind.{ResolveErrorKind}
+use Rattle.wit_graph_data.specs.Named.{package_named}
+use Rattle.wit_script_lines.specs.declared.request.Request.{Request}
+use Rattle.wit_script.specs.Answer.{IsChoice, action_of}
+use Rattle.wit_script.specs.declared.answer.Action.{Action}
+use Rattle.wit_script.specs.declared.ready.ScriptCommand.{ScriptCommand}
+use Rattle.wit_script.specs.declared.ready.ScriptCommand.TheVariants as asks
+use Rattle.wit_script.specs.Script.{IsNotUnderstood, IsUnderstood}
+use Rattle.wit_script_lines.specs.Line.{lines_of}
+use Rattle.wit_script_faults.specs.Desk.{new_desk}
+use Rattle.wit_script_faults.specs.Explained.{ExplainsAction, ExplainsAll, ExplainsCommand, ExplainsMisread, ExplainsScript, ExplainsSelect, place_of, rest_of}
+use Rattle.wit_script_faults.specs.Lines.{script_lines_of}
+use Rattle.wit_script_faults.specs.Misread.{IsMisreadText}
+use Rattle.wit_script_faults.specs.Refusals.{refusal_text}
+use Rattle.wit_script_faults.specs.declared.desk.Desk.{Desk}
+use Rattle.wit_script_faults.specs.declared.desk.TrackedGraph.{TrackedGraph}
+use Rattle.wit_script_faults.specs.declared.lines.CommandPlace.{CommandPlace}
+use Rattle.wit_script_faults.specs.declared.lines.ScriptLines.{ScriptLines}
+
+-- the places that are left after some commands
+abbrev pub rest_after : List CommandPlace → List ScriptCommand → List CommandPlace
+rest_after places [] = places
+rest_after places (command ∷ commands) = rest_after (rest_of places) commands
+
+pub rest_after-more : (places : List CommandPlace) (commands : List ScriptCommand) (command : ScriptCommand)
+    → rest_of (rest_after places commands) ≡ rest_after places (commands ++ command ∷ [])
+rest_after-more places [] command = refl
+rest_after-more places (first ∷ commands) command = rest_after-more (rest_of places) commands command
+
+module _ (script : ScriptLines) where
+  -- one more command
+  pub ExplainsAll-more : (places : List CommandPlace) (before between after : Desk) (commands : List ScriptCommand) (command : ScriptCommand) (text more : List ℕ)
+      → ExplainsAll script places before commands text between → ExplainsCommand script (place_of script (rest_after places commands)) between command more after
+      → ExplainsAll script places before (commands ++ command ∷ []) (text ++ more) after
+  ExplainsAll-more places before between after [] command text more all one = (
+    after,
+    more,
+    [],
+    subst (λ (s : Desk). ExplainsCommand script (place_of script places) s command more after) all.1 one,
+    (refl, refl),
+    ap (λ (t : List ℕ). t ++ more) all.0 ∙ sym (append-nil more),
+  )
+  ExplainsAll-more places before between after (first ∷ commands) command text more all one = (
+    all.0,
+    all.1,
+    all.2 ++ more,
+    all.3,
+    ExplainsAll-more (rest_of places) all.0 between after commands command all.2 more all.4 one,
+    ap (λ (t : List ℕ). t ++ more) all.5 ∙ append_assoc all.1 all.2 more,
+  )
+
+  -- a command that pushes nothing, by what it does
+  pub acts-as : {E : Type 0} (place : CommandPlace) (told : Result (String Global) E) (before after : Desk) (asked : ScriptCommand) (request : Request) (done : Action)
+      → asked ≡ asks.Request request → done ≡ action_of request
+      → IfOk told (λ text. ExplainsAction script place before done (string_bytes text) after) → IfOk told (λ text. ExplainsCommand script place before asked (string_bytes text) after)
+  acts-as place told before after asked request done read is acts =
+      subst (λ (c : ScriptCommand). IfOk told (λ text. ExplainsCommand script place before c (string_bytes text) after)) (sym read)
+      (subst (λ (a : Action). IfOk told (λ text. ExplainsAction script place before a (string_bytes text) after)) is acts)
+
+  -- a choice that is refused, of a package that is there
+  pub select-refused : {E : Type 0} (place : CommandPlace) (tracked : TrackedGraph) (owner : PackageName) (text : Option (List ℕ)) (id : ℕ) (kind : ResolveErrorKind) (told : Result (String Global) E)
+      → package_named tracked.resolve.graph owner ≡ Some id → IsChoice tracked.resolve.graph id text (Err kind)
+      → IfOk told (λ out. string_bytes out ≡ refusal_text script place tracked kind) → IfOk told (λ out. ExplainsSelect script place tracked owner text (string_bytes out))
+  select-refused place tracked owner text id kind (Ok out) there refused said = rw there (Err kind, refused, said)
+  select-refused place tracked owner text id kind (Err e) there refused said = tt
+
+-- what is told of a script that is understood, by its lines
+pub told_understood : (input text : List ℕ) (script : ScriptLines) (commands : List ScriptCommand) (after : Desk) → IsUtf8 input → script ≡ script_lines_of (lines_of input)
+    → IsUnderstood input commands → ExplainsAll script script.commands new_desk commands text after → ExplainsScript input text
+told_understood input text script commands after utf8 is understood told = record {
+  utf8 = utf8;
+  commands = commands;
+  understood = understood;
+  after = after;
+  told = subst (λ (s : ScriptLines). ExplainsAll s s.commands new_desk commands text after) is told;
+}
+
+-- what is told of one that isn't, by its lines
+pub told_misread : (input text : List ℕ) (script : ScriptLines) (number : ℕ) → IsUtf8 input → script ≡ script_lines_of (lines_of input)
+    → IsNotUnderstood input number → IsMisreadText script number text → ExplainsMisread input text
+told_misread input text script number utf8 is bad told = record {
+  utf8 = utf8;
+  number = number;
+  bad = bad;
+  told = subst (λ (s : ScriptLines). IsMisreadText s number text) is told;
+}

@@ -1,0 +1,105 @@
+-- What is told of a script: its refusals, each with the lines at which it is, or the line at which it isn't understood.
+use Rattle.std.specs.Prelude.{◌≡◌, ℕ, Bool, true, false, List, [], ◌∷◌, ◌++◌, length, Option, None, Some, Result, Ok, Err, MatchOption, flat_map, IsUtf8}
+use Rattle.wit_names.specs.declared.package_name.PackageName.{PackageName}
+use Rattle.wit_graph_data.specs.Named.{package_named}
+use Rattle.wit_graph_data.specs.declared.error_kind.ResolveErrorKind.{ResolveErrorKind}
+use Rattle.wit_resolve_graph.specs.State.{State}
+use Rattle.wit_resolve_graph.specs.Step.{Run}
+use Rattle.wit_resolve_graph.specs.declared.command.Command.{Command}
+use Rattle.wit_resolve_graph.specs.declared.command.Command.TheVariants.{PushGroups, Merge}
+use Rattle.wit_resolve_graph.specs.declared.command.Reply.{Reply}
+use Rattle.wit_script.specs.Answer.{IsChoice, action_of}
+use Rattle.wit_script.specs.Script.{IsNotUnderstood, IsUnderstood}
+use Rattle.wit_script.specs.declared.answer.Action.{Action}
+use Rattle.wit_script.specs.declared.answer.Action.TheVariants as does
+use Rattle.wit_script.specs.declared.ready.ScriptCommand.{ScriptCommand}
+use Rattle.wit_script.specs.declared.ready.ScriptCommand.TheVariants as asks
+use Rattle.wit_script_lines.specs.Line.{lines_of}
+use Rattle.wit_script_faults.specs.Desk.{coming_packages, new_desk, new_tracked, only_first, tracked_after, with_working, working}
+use Rattle.wit_script_faults.specs.Lines.{script_lines_of}
+use Rattle.wit_script_faults.specs.Misread.{IsMisreadText}
+use Rattle.wit_script_faults.specs.Refusals.{refusal_text, reply_text, unless_refused}
+use Rattle.wit_script_faults.specs.declared.desk.Desk.{Desk}
+use Rattle.wit_script_faults.specs.declared.desk.TrackedGraph.{TrackedGraph}
+use Rattle.wit_script_faults.specs.declared.lines.CommandPlace.{CommandPlace}
+use Rattle.wit_script_faults.specs.declared.lines.ScriptLines.{ScriptLines}
+
+-- a run of one command whose files, where it brings any, begin with these lines, and the packages that it brings with those;
+-- and what is told of its replies
+abbrev pub ExplainsRun : ScriptLines → CommandPlace → TrackedGraph → Command → List ℕ → List ℕ → List ℕ → TrackedGraph → Type 0
+ExplainsRun script place before command coming brought text after =
+    (replies : List Reply) × (new : State) × Run before.resolve (command ∷ []) replies new
+    × (after ≡ tracked_after before new coming (unless_refused replies brought))
+    × (text ≡ flat_map (reply_text script place after) replies)
+
+-- a run of one command on the graph on which commands work
+abbrev pub ExplainsWork : ScriptLines → CommandPlace → Desk → Command → List ℕ → Desk → Type 0
+ExplainsWork script place before command text after =
+    (new : TrackedGraph) × ExplainsRun script place (working before) command (coming_packages script place) (coming_packages script place) text new × (after ≡ with_working before new)
+
+-- `merge`: the second graph goes into the first, and is no longer there
+abbrev pub ExplainsMerge : ScriptLines → CommandPlace → Desk → Option TrackedGraph → List ℕ → Desk → Type 0
+ExplainsMerge script place before None text after = (text ≡ []) × (after ≡ before)
+ExplainsMerge script place before (Some second) text after =
+    (new : TrackedGraph) × ExplainsRun script place before.first (Merge second.resolve) second.file_starts second.package_starts text new × (after ≡ only_first new)
+
+-- what is told of a choice of a world
+abbrev pub choice_text : ScriptLines → CommandPlace → TrackedGraph → Result ℕ ResolveErrorKind → List ℕ
+choice_text script place tracked (Ok world) = []
+choice_text script place tracked (Err kind) = refusal_text script place tracked kind
+
+-- `select`: a choice that may be made of a package; nothing where the package isn't there
+abbrev pub ExplainsSelect : ScriptLines → CommandPlace → TrackedGraph → PackageName → Option (List ℕ) → List ℕ → Type 0
+ExplainsSelect script place tracked owner said text =
+    MatchOption (package_named tracked.resolve.graph owner) (text ≡ []) (λ id. (choice : Result ℕ ResolveErrorKind) × IsChoice tracked.resolve.graph id said choice × (text ≡ choice_text script place tracked choice))
+
+-- what is told of what a command does that pushes nothing, and the desk after it
+abbrev pub ExplainsAction : ScriptLines → CommandPlace → Desk → Action → List ℕ → Desk → Type 0
+ExplainsAction script place before (does.Run command style) text after = ExplainsWork script place before command text after
+ExplainsAction script place before does.Open text after = (text ≡ []) × (after ≡ record { first = before.first; second = Some new_tracked })
+ExplainsAction script place before does.Merge text after = ExplainsMerge script place before before.second text after
+ExplainsAction script place before (does.Print owner world) text after = (text ≡ []) × (after ≡ before)
+ExplainsAction script place before (does.Select owner said) text after = (after ≡ before) × ExplainsSelect script place (working before) owner said text
+
+-- what is told of a command, and the desk after it
+abbrev pub ExplainsCommand : ScriptLines → CommandPlace → Desk → ScriptCommand → List ℕ → Desk → Type 0
+ExplainsCommand script place before (asks.Push main deps) text after = ExplainsWork script place before (PushGroups main deps) text after
+ExplainsCommand script place before (asks.Request asked) text after = ExplainsAction script place before (action_of asked) text after
+
+-- the first of some commands; where there is none, one behind all lines
+abbrev pub place_of : ScriptLines → List CommandPlace → CommandPlace
+place_of script [] = record { line = length script.lines; packages = length script.packages; is_push = false }
+place_of script (place ∷ places) = place
+
+-- those after it
+abbrev pub rest_of : List CommandPlace → List CommandPlace
+rest_of [] = []
+rest_of (place ∷ places) = places
+
+-- what is told of commands, one after another, which stand at these places
+abbrev pub ExplainsAll : ScriptLines → List CommandPlace → Desk → List ScriptCommand → List ℕ → Desk → Type 0
+ExplainsAll script places before [] text after = (text ≡ []) × (after ≡ before)
+ExplainsAll script places before (command ∷ commands) text after =
+    (between : Desk) × (first : List ℕ) × (rest : List ℕ)
+    × ExplainsCommand script (place_of script places) before command first between
+    × ExplainsAll script (rest_of places) between commands rest after × (text ≡ first ++ rest)
+
+-- what is told of a script that is understood: the refusals of its commands on an empty graph
+pub record ExplainsScript (input text : List ℕ) : Type 0 where
+  pub utf8 : IsUtf8 input
+  pub commands : List ScriptCommand
+  pub understood : IsUnderstood input commands
+  pub after : Desk
+  pub told : ExplainsAll (script_lines_of (lines_of input)) (script_lines_of (lines_of input)).commands new_desk commands text after
+
+-- what is told of a script that isn't understood: the line at which it isn't
+pub record ExplainsMisread (input text : List ℕ) : Type 0 where
+  pub utf8 : IsUtf8 input
+  pub number : ℕ
+  pub bad : IsNotUnderstood input number
+  pub told : IsMisreadText (script_lines_of (lines_of input)) number text
+
+-- what is told of a script, and whether it is understood
+abbrev pub Explains : List ℕ → Bool → List ℕ → Type 0
+Explains input true text = ExplainsScript input text
+Explains input false text = ExplainsMisread input text

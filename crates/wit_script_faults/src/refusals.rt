@@ -1,0 +1,401 @@
+//! The refusals of a script, each with the lines at which it is, and a script that isn't understood.
+ghost use Rattle.std.specs.Prelude.{◌≡◌, IfErr, IfOk, Err, Ok, string_bytes};
+ghost use Rattle.std.specs.List.{flat_map, list_any};
+ghost use Rattle.wit_resolve_graph.specs.Step.{IsCommandShaped};
+ghost use Rattle.wit_script.specs.Answer.{IsActionShaped, IsChoice};
+ghost use Rattle.wit_script_faults.specs.Desk.{new_desk};
+ghost use Rattle.wit_script_faults.specs.Explained.{Explains, ExplainsAction, ExplainsAll, ExplainsCommand, ExplainsMerge, ExplainsRun, ExplainsSelect, ExplainsWork, place_of, rest_of};
+ghost use Rattle.wit_script_faults.specs.Misread.{IsMisreadText};
+ghost use Rattle.wit_script_faults.specs.Refusals.{is_refusal, other_text, places_text, refusal_text, reply_text, span_text, spans_text, unless_refused};
+ghost use Rattle.wit_script_faults.specs.declared.desk.Desk.{Desk};
+
+use crate::culprit::fault_index;
+use crate::desk::{Desk, TrackedGraph, coming_packages};
+use crate::lines::{CommandPlace, ScriptLines, script_lines};
+use crate::misread::misread_text;
+use crate::place::{defined_line, span_place};
+use crate::shown::{command_text, place_text};
+use std::alloc::{AllocError, Global};
+use wit_data::Span;
+use wit_resolve_graph::{
+    Command, Items, PackageId, PackageName, Reply, ResolveError, ResolveErrorKind, ResolveResult,
+    Text, WorldId, run,
+};
+use wit_script::{Action, ReadFault, ReadyCommand, ScriptCommand, action_of, read_script};
+
+/// What there is to say of a script: whether it is understood, and its refusals where it is, each with its lines, or else
+/// the line at which it isn't. The only error is want of memory outside a command.
+pub fn explain_text(alloc: Global, script: &str) -> Result<(bool, String), AllocError>
+    ensures { IfOk result (λ answer. Explains script.now answer.0 (string_bytes answer.1)) }
+{
+    let lines = script_lines(alloc, script)?;
+    match read_script(alloc, script) {
+        Ok(commands) => match refusals_to(alloc, &lines, commands) {
+            Ok(text) => Ok((true, text)),
+            Err(_) => Err(AllocError),
+        },
+        Err(ReadFault::NotUnderstood { line }) => Ok((false, misread(alloc, &lines, line)?)),
+        Err(ReadFault::OutOfMemory) => Err(AllocError),
+    }
+}
+
+/// What there is to say of a script that isn't understood, where the line of this number isn't.
+fn misread(alloc: Global, script: &ScriptLines, number: usize) -> Result<String, AllocError>
+    ensures { IfOk result (λ text. IsMisreadText script.now number (string_bytes text)) }
+{
+    let index = fault_index(alloc, script, number)?;
+    misread_text(alloc, script, number, index)
+}
+
+/// The first of some commands and those after it; where there is none, one behind all lines.
+fn next_place<'a>(
+    script: &ScriptLines,
+    places: &'a [CommandPlace],
+) -> (CommandPlace, &'a [CommandPlace])
+    ensures first { result.0 ≡ place_of script.now places.now }
+    ensures rest { result.1.now ≡ rest_of places.now }
+{
+    match places.split_first() {
+        Some((place, rest)) => (*place, rest),
+        None => {
+            let nowhere = CommandPlace {
+                line: script.lines.len(),
+                packages: script.packages.len(),
+                is_push: false,
+            };
+            (nowhere, places)
+        }
+    }
+}
+
+/// The refusals of commands on an empty graph, in order. The only error is want of memory outside a command.
+fn refusals_to(
+    alloc: Global,
+    script: &ScriptLines,
+    commands: Items<ReadyCommand>,
+) -> ResolveResult<String>
+    ensures { IfOk result (λ text. (after : Desk) × ExplainsAll script.now script.now.commands new_desk commands (string_bytes text) after) }
+{
+    let mut desk = Desk::new(alloc);
+    let mut all = String::new(alloc);
+    let mut places = script.commands.as_slice();
+    for command in commands.into_vec() {
+        let (place, rest) = next_place(script, places);
+        let text = refusal_to(alloc, script, &place, &mut desk, command)?;
+        all.push_str(&text)?;
+        places = rest;
+    }
+    Ok(all)
+}
+
+/// The refusal of a command, if it is refused.
+fn refusal_to(
+    alloc: Global,
+    script: &ScriptLines,
+    place: &CommandPlace,
+    desk: &mut Desk,
+    command: ReadyCommand,
+) -> ResolveResult<String>
+    ensures { IfOk result (λ text. ExplainsCommand script.now place.now desk.old command (string_bytes text) desk.new) }
+{
+    match command.into_command() {
+        ScriptCommand::Push { main, deps } => {
+            let command = Command::PushGroups { main, deps };
+            work(alloc, script, place, desk, command)
+        }
+        ScriptCommand::Request(request) => {
+            refusal_to_action(alloc, script, place, desk, action_of(request))
+        }
+    }
+}
+
+/// The same of what a command does that pushes nothing.
+fn refusal_to_action(
+    alloc: Global,
+    script: &ScriptLines,
+    place: &CommandPlace,
+    desk: &mut Desk,
+    action: Action,
+) -> ResolveResult<String>
+    requires { IsActionShaped action }
+    ensures { IfOk result (λ text. ExplainsAction script.now place.now desk.old action (string_bytes text) desk.new) }
+{
+    match action {
+        Action::Run { command, .. } => work(alloc, script, place, desk, command),
+        Action::Open => {
+            desk.second = Some(TrackedGraph::new(alloc));
+            Ok(String::new(alloc))
+        }
+        Action::Merge => merge(alloc, script, place, desk),
+        Action::Print { .. } => Ok(String::new(alloc)),
+        Action::Select { package, text } => {
+            select(alloc, script, place, desk.working(), &package, &text)
+        }
+    }
+}
+
+/// Carries out a command on the graph on which commands work, and answers its refusal, or an empty text.
+fn work(
+    alloc: Global,
+    script: &ScriptLines,
+    place: &CommandPlace,
+    desk: &mut Desk,
+    command: Command,
+) -> ResolveResult<String>
+    requires { IsCommandShaped command }
+    ensures { IfOk result (λ text. ExplainsWork script.now place.now desk.old command (string_bytes text) desk.new) }
+{
+    let coming = coming_packages(script, place);
+    match &mut desk.second {
+        Some(second) => carry_out(alloc, script, place, second, command, coming, coming),
+        None => carry_out(
+            alloc,
+            script,
+            place,
+            &mut desk.first,
+            command,
+            coming,
+            coming,
+        ),
+    }
+}
+
+/// `merge`: the second graph goes into the first, and is no longer there, whether it is refused or not.
+fn merge(
+    alloc: Global,
+    script: &ScriptLines,
+    place: &CommandPlace,
+    desk: &mut Desk,
+) -> ResolveResult<String>
+    ensures { IfOk result (λ text. ExplainsMerge script.now place.now desk.old desk.old.second (string_bytes text) desk.new) }
+{
+    let Some(second) = desk.second.take() else {
+        return Ok(String::new(alloc));
+    };
+    let TrackedGraph {
+        resolve,
+        file_starts,
+        package_starts,
+    } = second;
+    let command = Command::Merge(resolve);
+    let (file_starts, package_starts) = (file_starts.as_slice(), package_starts.as_slice());
+    carry_out(
+        alloc,
+        script,
+        place,
+        &mut desk.first,
+        command,
+        file_starts,
+        package_starts,
+    )
+}
+
+/// Carries out a command, and answers its refusal, or an empty text. The files that come begin with these lines, and the
+/// packages that come with those.
+fn carry_out(
+    alloc: Global,
+    script: &ScriptLines,
+    place: &CommandPlace,
+    tracked: &mut TrackedGraph,
+    command: Command,
+    coming: &[usize],
+    brought: &[usize],
+) -> ResolveResult<String>
+    requires { IsCommandShaped command }
+    ensures { IfOk result (λ text. ExplainsRun script.now place.now tracked.old command coming.now brought.now (string_bytes text) tracked.new) }
+{
+    let mut commands = Items::new(alloc);
+    commands.push(command)?;
+    let replies = run(alloc, &mut tracked.resolve, commands.into_vec())?;
+    tracked.track(coming, unless_refused(&replies, brought))?;
+    replies_text(alloc, script, place, tracked, &replies)
+}
+
+/// These, unless a reply is a refusal.
+fn unless_refused<'a>(replies: &[Reply], brought: &'a [usize]) -> &'a [usize]
+    ensures { result.now ≡ unless_refused replies.now brought.now }
+{
+    if is_any_refused(replies) {
+        return &[];
+    }
+    brought
+}
+
+/// Whether one of some replies is a refusal.
+fn is_any_refused(replies: &[Reply]) -> bool
+    ensures { result ≡ list_any is_refusal replies.now }
+{
+    replies.iter().any(|reply| is_refusal(reply))
+}
+
+/// Whether a reply is a refusal.
+fn is_refusal(reply: &Reply) -> bool
+    ensures { result ≡ is_refusal reply.now }
+{
+    matches!(reply, Reply::Refused(_))
+}
+
+/// What is told of replies.
+fn replies_text(
+    alloc: Global,
+    script: &ScriptLines,
+    place: &CommandPlace,
+    tracked: &TrackedGraph,
+    replies: &[Reply],
+) -> ResolveResult<String>
+    ensures { IfOk result (λ text. string_bytes text ≡ flat_map (reply_text script.now place.now tracked.now) replies.now) }
+{
+    let mut text = String::new(alloc);
+    for reply in replies {
+        let shown = reply_text(alloc, script, place, tracked, reply)?;
+        text.push_str(&shown)?;
+    }
+    Ok(text)
+}
+
+/// What is told of a reply.
+fn reply_text(
+    alloc: Global,
+    script: &ScriptLines,
+    place: &CommandPlace,
+    tracked: &TrackedGraph,
+    reply: &Reply,
+) -> ResolveResult<String>
+    ensures { IfOk result (λ text. string_bytes text ≡ reply_text script.now place.now tracked.now reply.now) }
+{
+    match reply {
+        Reply::Refused(refusal) => refusal_text(alloc, script, place, tracked, refusal),
+        _ => Ok(String::new(alloc)),
+    }
+}
+
+/// `refused N TEXT`, N being the number of the refusal, the lines at which it is, and where more is said of N.
+fn refusal_text(
+    alloc: Global,
+    script: &ScriptLines,
+    place: &CommandPlace,
+    tracked: &TrackedGraph,
+    refusal: &ResolveError,
+) -> ResolveResult<String>
+    ensures { IfOk result (λ text. string_bytes text ≡ refusal_text script.now place.now tracked.now refusal.now) }
+{
+    let number = refusal.number();
+    let places = places_text(alloc, script, place, tracked, refusal.kind())?;
+    Ok(format!(in alloc;
+        "refused {number} {refusal}\n{places}      = {number} in docs/REFUSALS.md\n"
+    )?)
+}
+
+/// The lines at which a refusal is: those that it names, and that of its command, where it is no `push` or no other line is
+/// known.
+fn places_text(
+    alloc: Global,
+    script: &ScriptLines,
+    place: &CommandPlace,
+    tracked: &TrackedGraph,
+    kind: &ResolveErrorKind,
+) -> Result<String, AllocError>
+    ensures { IfOk result (λ text. string_bytes text ≡ places_text script.now place.now tracked.now kind.now) }
+{
+    let mut text = spans_text(alloc, script, tracked, kind)?;
+    if !place.is_push || text.is_empty() {
+        let command = command_text(alloc, script, place.line)?;
+        text.push_str(&command)?;
+    }
+    Ok(text)
+}
+
+/// The lines that a refusal names: of a package that is defined twice both.
+fn spans_text(
+    alloc: Global,
+    script: &ScriptLines,
+    tracked: &TrackedGraph,
+    kind: &ResolveErrorKind,
+) -> Result<String, AllocError>
+    ensures { IfOk result (λ text. string_bytes text ≡ spans_text script.now tracked.now kind.now) }
+{
+    match kind {
+        ResolveErrorKind::DuplicatePackage { name, span1, span2 } => {
+            let mut text = span_text(alloc, script, tracked, *span1)?;
+            let second = other_text(alloc, script, tracked, name, *span2)?;
+            text.push_str(&second)?;
+            Ok(text)
+        }
+        kind => span_text(alloc, script, tracked, kind.span()),
+    }
+}
+
+/// The line of the other package of a name: that of its span, or, where that is unknown since the graph has the package,
+/// the line that began it.
+fn other_text(
+    alloc: Global,
+    script: &ScriptLines,
+    tracked: &TrackedGraph,
+    name: &PackageName,
+    span: Span,
+) -> Result<String, AllocError>
+    ensures { IfOk result (λ text. string_bytes text ≡ other_text script.now tracked.now name.now span) }
+{
+    if span.is_known() {
+        return span_text(alloc, script, tracked, span);
+    }
+    match defined_line(alloc, script, tracked.package_starts.as_slice(), name)? {
+        Some(index) => {
+            let path = name.to_string(alloc)?;
+            place_text(alloc, script, index, path.as_str(), index)
+        }
+        None => Ok(String::new(alloc)),
+    }
+}
+
+/// The line of a span, or nothing where it is unknown.
+fn span_text(
+    alloc: Global,
+    script: &ScriptLines,
+    tracked: &TrackedGraph,
+    span: Span,
+) -> Result<String, AllocError>
+    ensures { IfOk result (λ text. string_bytes text ≡ span_text script.now tracked.now span) }
+{
+    match span_place(script, tracked, span) {
+        Some((index, path, first)) => place_text(alloc, script, index, path, first),
+        None => Ok(String::new(alloc)),
+    }
+}
+
+/// What is told of the choice of a world of a package, and nothing where the package isn't there.
+fn select(
+    alloc: Global,
+    script: &ScriptLines,
+    place: &CommandPlace,
+    tracked: &TrackedGraph,
+    owner: &PackageName,
+    text: &Option<Text>,
+) -> ResolveResult<String>
+    ensures { IfOk result (λ out. ExplainsSelect script.now place.now tracked.now owner.now text.now (string_bytes out)) }
+{
+    let Some(id) = tracked.resolve.package_names().get(owner) else {
+        return Ok(String::new(alloc));
+    };
+    match chosen(alloc, tracked, *id, text) {
+        Ok(_) => Ok(String::new(alloc)),
+        Err(refusal) => refusal_text(alloc, script, place, tracked, &refusal),
+    }
+}
+
+/// The world that is chosen of a package.
+fn chosen(
+    alloc: Global,
+    tracked: &TrackedGraph,
+    id: PackageId,
+    text: &Option<Text>,
+) -> ResolveResult<WorldId>
+    ensures ok { IfOk result (λ world. IsChoice tracked.now.resolve.graph id text.now (Ok world)) }
+    ensures err { IfErr result (λ kind. IsChoice tracked.now.resolve.graph id text.now (Err kind)) }
+{
+    let text = match text {
+        Some(text) => Some(text.as_str()),
+        None => None,
+    };
+    tracked.resolve.select_world(alloc, &[id], text)
+}
