@@ -5,7 +5,7 @@ use std::fmt::Write;
 use std::process::Abort;
 use wit_items::{
     InterfaceId, Items, Names, PackageName, ParsedUsePath, Shape, Span, Table, Text, TrackRule,
-    is_kebab_name, parse_use_path,
+    TryClone, is_kebab_name, parse_use_path,
 };
 
 const SCRIPT: &str = "package foo:bar\ninterface i\ntype t u32\npush\n";
@@ -240,4 +240,93 @@ fn nothing_has_ends(alloc: Global) -> bool {
 fn ends_are_found(rt: HostRuntime) {
     assert_text(&rt, ends(&rt, rt.alloc()), "1 3 2 4 0 6 2 a 0 b 1 c 2");
     assert!(rt; nothing_has_ends(rt.alloc()));
+}
+
+/// A table with so many pairs, the first of them under 1, the next under 2, and so on.
+fn numbered(rt: &impl Abort, alloc: Global, count: usize) -> Table<InterfaceId, usize> {
+    let mut table = Table::new(alloc);
+    for index in 0..count {
+        let key = InterfaceId::from_index(index + 1);
+        if !table.contains_key(&key) {
+            table.push(key, index).expect(rt, "memory");
+        }
+    }
+    table
+}
+
+/// Whether each look-up tells of each pair what was put there, and misses a key that isn't there.
+fn is_found(table: &Table<InterfaceId, usize>) -> bool {
+    for (index, (key, value)) in table.iter().enumerate() {
+        let there = table.get(key) == Some(value) && table.get_index_of(key) == Some(index);
+        if !there || *value != index || *table.entry_at(index).1 != index {
+            return false;
+        }
+    }
+    let other = InterfaceId::from_index(0);
+    table.get(&other).is_none() && table.get_index_of(&other).is_none()
+}
+
+/// How many pairs a table has, and whether they are found; none where they aren't.
+fn found(table: &Table<InterfaceId, usize>) -> usize {
+    if is_found(table) { table.len() } else { 0 }
+}
+
+/// The same of a table of so many pairs, of its copy, of the table of its `IndexMap`, of the table with room for as many
+/// more, and of its first 15 pairs.
+fn found_in_each(rt: &impl Abort, alloc: Global, count: usize) -> [usize; 5] {
+    let table = numbered(rt, alloc, count);
+    let copy = table.try_clone().expect(rt, "memory");
+    let map = copy.into_map().expect(rt, "memory");
+    let mapped = Table::from_map(map).expect(rt, "memory");
+    let mut roomy = table.try_clone().expect(rt, "memory");
+    roomy.reserve(count).expect(rt, "memory");
+    let mut first = table.try_clone().expect(rt, "memory");
+    first.truncate(15);
+    let copy = table.try_clone().expect(rt, "memory");
+    [
+        found(&table),
+        found(&copy),
+        found(&mapped),
+        found(&roomy),
+        found(&first),
+    ]
+}
+
+#[test]
+fn tables_of_few_and_of_many_pairs_answer_alike(rt: HostRuntime) {
+    for count in [16, 17, 40] {
+        assert!(rt; found_in_each(&rt, rt.alloc(), count) == [count, count, count, count, 15]);
+    }
+}
+
+/// How many names there are, of which each is `n` so many times, where each is found under itself and no other is.
+fn found_names(rt: &impl Abort, alloc: Global, count: usize) -> usize {
+    let mut names: Names<usize> = Names::new(alloc);
+    let mut name = String::new(alloc);
+    for index in 0..count {
+        name.push('n').expect(rt, "memory");
+        let key = name.clone().expect(rt, "memory");
+        if !names.contains_key(key.as_str()) {
+            names.push(key, index).expect(rt, "memory");
+        }
+    }
+    let names = names.try_clone().expect(rt, "memory");
+    for (index, (name, value)) in names.iter().enumerate() {
+        let there = names.get(name) == Some(value) && names.get_index_of(name) == Some(index);
+        if !there || *value != index {
+            return 0;
+        }
+    }
+    if names.get("").is_none() && !names.contains_key("m") {
+        names.len()
+    } else {
+        0
+    }
+}
+
+#[test]
+fn few_and_many_names_answer_alike(rt: HostRuntime) {
+    for count in [16, 17, 40] {
+        assert!(rt; found_names(&rt, rt.alloc(), count) == count);
+    }
 }
