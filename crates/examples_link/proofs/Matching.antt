@@ -30,7 +30,7 @@ use Rattle.wit_link_spec.specs.Include.{EntryLists, IsListCalled, PartiallyLinke
 use Rattle.wit_link_spec.specs.Reasons.{ForeignTypeMissing, HasExcludedOwner, IsDuplicate, IsNoResource, IsUnreleased, LacksInterface, LacksPackage, LacksVersion, LacksWorld, RefersToExcluded, ReturnsBorrow}
 use Rattle.wit_link_spec.specs.WorldReasons as world
 use Rattle.examples_link.proofs.AtWorlds.{HaveLists, made, written}
-use Rattle.wit_link_spec.specs.steps.Parts.{AdditionOverflows, WorldIsInConflict}
+use Rattle.wit_link_spec.specs.steps.Parts.{AdditionOverflows, WorldIsInConflict, IsReached}
 
 -- ---- an include, and a world that is finished
 
@@ -240,7 +240,7 @@ module _ (a : Addition) where
       by span message (world.of_finish _ image includes is) =
           absurd (false≢true (finish_number _ _ (4 ∷ 17 ∷ 18 ∷ []) refl refl refl (Semantic span message cause.RenameUnmatched) is.cause))
 
-  pub of_alike : (span : OptionalSpan) (message : List ℕ) → IsAdditionCause a (Semantic span message cause.NotStronglyUnique) → (k : ℕ) × reason.IsReached a k × ClashAt a k
+  pub of_alike : (span : OptionalSpan) (message : List ℕ) → IsAdditionCause a (Semantic span message cause.NotStronglyUnique) → (k : ℕ) × IsReached a k × ClashAt a k
   of_alike span message (reason.of_world k _ reached c) = (k, reached, clash_at a k span message c)
 
   pub of_getter : (span : OptionalSpan) (message : List ℕ) → IsAdditionCause a (Semantic span message cause.NoGetter) → (k : ℕ) × LonelySetterAt a k

@@ -25,6 +25,7 @@ use Rattle.examples_merge.proofs.Passing.{are_one, fits, in_no_conflict, results
 use Rattle.examples_merge.proofs.Stabilities.{disagreeing, nowhere}
 use Rattle.examples_merge.specs.Graphs.{merge_of_graphs}
 use Rattle.examples_merge.specs.Refusals.{ExamplesOfRefusals, b_alone, c_uses_b, exports_two}
+use Rattle.wit_merge_spec.specs.steps.Parts.{MergeOverflows}
 
 module _ (m : GraphMerge) where
   pub of_conflict : (span : OptionalSpan) (name : List ℕ) → IsMergeCause m (InvalidTransitiveDependency span name) → HasWorldInConflict (joined_graph m) span name
@@ -39,7 +40,7 @@ module _ (m : GraphMerge) where
   of_circle : (span : OptionalSpan) (message : List ℕ) → IsMergeCause m (Semantic span message cause.InterfaceCycle) → UsesItself (joined_graph m) message
   of_circle _ _ (merging.interface_cycle_22 message one c) = c
 
-  of_overflow : IsMergeCause m OffsetOverflow → merging.MergeOverflows m
+  of_overflow : IsMergeCause m OffsetOverflow → MergeOverflows m
   of_overflow (merging.offset_overflow_27 from to known past) = record { from = from; to = to; known = known; past = past }
 
   none_of_memory : IsMergeCause m OutOfMemory → ⊥

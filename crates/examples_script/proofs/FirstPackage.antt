@@ -131,7 +131,7 @@ module _ (features : Features) (g : Graph) (offset : ℕ) where
     packages = λ span requested known c. nowhere c.at (requested, c.items) c.names;
     worlds = λ span requested home c. Contains-nil c.names;
     interfaces = λ span requested home c. Contains-nil c.names;
-    version = λ span message c. asks_nothing c.note c.place c.asked;
+    version = λ span message c. asks_nothing (Stable c.since c.deprecated) c.place c.asked;
     released = λ span message c. asks_nothing (Stable c.since c.deprecated) c.place c.asked;
     references = λ span message c. refers_to_nothing c.thing c.place c.refers;
     owners = λ span message c. nowhere c.t c.def c.is;
