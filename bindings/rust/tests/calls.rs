@@ -97,14 +97,15 @@ fn a_refusal_is_shown_at_its_line() {
     let shown = explain(script).expect("refusals");
     let text = "refused 11 found a reference to a interface which is excluded due to its feature not being activated\n";
     assert!(shown.starts_with(text), "{shown}");
-    assert!(shown.contains("p:q:4:1"), "{shown}");
+    assert!(shown.contains("--> line 4 (p:q:4:1)\n"), "{shown}");
     assert!(
         shown.contains(" 4 | import i\n") && shown.contains(" | ^-------\n"),
         "{shown}"
     );
     let script = "package p:q\nworld w\npush\nselect p:q v\nselect p:q w\nprint p:q w\n";
     let shown = explain(script).expect("refusals");
-    assert!(shown.starts_with("refused 26 World `v` not found in package `p:q`\n"));
+    let text = "refused 26 World `v` not found in package `p:q`\n     --> line 4\n";
+    assert!(shown.starts_with(text), "{shown}");
     assert_eq!(shown.matches("refused").count(), 1);
     assert_eq!(
         explain_into(script, &mut [0; 40]),
