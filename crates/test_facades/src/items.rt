@@ -256,9 +256,10 @@ fn numbered(rt: &impl Abort, alloc: Global, count: usize) -> Table<InterfaceId, 
 
 /// Whether each look-up tells of each pair what was put there, and misses a key that isn't there.
 fn is_found(table: &Table<InterfaceId, usize>) -> bool {
-    for (index, (key, value)) in table.iter().enumerate() {
+    for index in 0..table.len() {
+        let (key, value) = table.entry_at(index);
         let there = table.get(key) == Some(value) && table.get_index_of(key) == Some(index);
-        if !there || *value != index || *table.entry_at(index).1 != index {
+        if !there || *value != index {
             return false;
         }
     }
@@ -311,7 +312,8 @@ fn found_names(rt: &impl Abort, alloc: Global, count: usize) -> usize {
         }
     }
     let names = names.try_clone().expect(rt, "memory");
-    for (index, (name, value)) in names.iter().enumerate() {
+    for index in 0..names.len() {
+        let (name, value) = names.entry_at(index);
         let there = names.get(name) == Some(value) && names.get_index_of(name) == Some(index);
         if !there || *value != index {
             return 0;
