@@ -1,7 +1,7 @@
 #!/bin/sh
 # check/c_example.sh: builds what is written in C on the static library, with gcc or another C compiler and nothing else:
 # the example prints what each worked script is to print and ends with the status of `witgraph`, tells a script that isn't
-# UTF-8, and an allocation that is refused is told. `.ci/run` runs it after `rt ci`, over whose libraries it builds the static one.
+# UTF-8, a document is carried out, and its graph read again, and an allocation that is refused is told. `.ci/run` runs it after `rt ci`, over whose libraries it builds the static one.
 #
 # WITGRAPH_LIBRARY, the folder of a libwitgraph_c.a that is there, spares the build of the library.
 set -eu
@@ -44,7 +44,9 @@ P
 
 "$compiler" $flags bindings/c/json.c $libraries -o "$work/json"
 "$work/json" < crates/witgraph_json/stdin | cmp - crates/witgraph_json/stdout
-echo "c_example: the document of witgraph_json comes out as stored"
+sed 's/^.*,"resolve":/{"replies":[],"resolve":/' crates/witgraph_json/stdout > "$work/again"
+sed 's/^.*,"resolve":/{"commands":[],"resolve":/' crates/witgraph_json/stdout | "$work/json" | cmp - "$work/again"
+echo "c_example: the document of witgraph_json comes out as stored, and its graph again"
 
 # Each allocation is refused in turn.
 "$compiler" $flags -Wl,--wrap=malloc,--wrap=realloc,--wrap=free bindings/c/no_memory.c $libraries -o "$work/no_memory"

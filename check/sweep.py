@@ -20,9 +20,10 @@ understood, else 0. In the round of number N the Nth request of the whole run is
 out of memory`, and the others what they print where that command isn't there, with status 0; or nothing is printed, with
 status 1.
 
-Documents. Every eighth script that has a document (`check/script_documents.py`) is given to `witgraph_json` as that. In the round of
-number N the Nth request of the whole run is refused. One command is answered by 28, and the others and the graph are as
-where that command isn't there; or nothing is written, with status 1.
+Documents. Every eighth script that has a document (`check/script_documents.py`) is given to `witgraph_json` as that; of every
+sixteenth the second half, too, in a document that begins with the graph of the first. In the round of number N the Nth
+request of the whole run is refused. One command is answered by 28, and the others and the graph are as where that command
+isn't there; or nothing is written, with status 1.
 
 `--planted` plants the wrong bodies of `check/planted` in a copy of the repository and ends with status 1 where the
 sweep of the calls doesn't tell one of them. No proof lets them pass, so `BUILD FOLDER OUT` is a command that builds the
@@ -332,18 +333,23 @@ def wants(replies):
     return sum(map(is_want, [*replies, *inner]))
 
 
+def document_of(commands, resolve):
+    """A document of commands, which begins with a graph where there is one. That is a text: two of its members may have one name."""
+    return (f'{{"resolve":{resolve},' if resolve else "{") + f'"commands":{json.dumps(commands)}}}'
+
+
 class Document:
     """The rounds of one document."""
 
-    def __init__(self, program, commands):
-        self.program, self.given = program, json.dumps({"commands": commands})
+    def __init__(self, program, commands, resolve=None):
+        self.program, self.given = program, document_of(commands, resolve)
         self.plain = program.run(self.given)
         self.faults = list(self.plain.faults())
         if self.plain.status:
             self.faults.append(f"without refusals: status {self.plain.status}, prints\n{self.plain.out}")
         self.may = []
         for left, with_want in without_each(commands):
-            ran = program.run(json.dumps({"commands": left}))
+            ran = program.run(document_of(left, resolve))
             self.may.append((told_of(ran.out), with_want))
 
     def is_right(self, out):
@@ -421,7 +427,13 @@ class Sweep:
         chosen = [name for name, document in made.items() if document][::8]
         for name in chosen:
             self.add(f"document {name}", Document(program, made[name]["commands"]))
-        self.tell(f"{len(chosen)} documents more")
+        halved = [name for name in chosen[::2] if len(made[name]["commands"]) > 1]
+        for name in halved:
+            commands = made[name]["commands"]
+            middle = len(commands) // 2
+            resolve = program.run(document_of(commands[:middle], None)).out.partition(',"resolve":')[2].strip()[:-1]
+            self.add(f"second half of {name}", Document(program, commands[middle:], resolve))
+        self.tell(f"{len(chosen)} documents and {len(halved)} second halves more")
 
     def tell(self, what):
         print(f"sweep: {what}: {self.rounds} rounds with a refusal, {len(self.faults)} wrong, {time.time() - self.begun:.0f} s", flush=True)

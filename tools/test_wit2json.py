@@ -376,6 +376,29 @@ class Files(Case):
         self.assertEqual(list(commands[0]), ["push-groups"])
         self.assertEqual(commands[1:], [{"select": {"packages": ["a:b"]}}])
 
+    def test_a_graph_to_begin_with(self):
+        resolve = {"graph": {"worlds": [], "interfaces": [], "types": [], "packages": []}, "track-rule": "published"}
+        self.write("out.json", json.dumps({"replies": [], "resolve": resolve}))
+        self.write("p.wit", "package a:b; world w {}")
+        status, document, _ = self.run_tool("--on", "out.json", "p.wit")
+        self.assertEqual((status, list(json.loads(document))), (0, ["resolve", "commands"]))
+        self.assertEqual(json.loads(document)["resolve"], resolve)
+        if PROGRAM:
+            with open("out.json", "w", encoding="utf-8") as file:
+                json.dump(replies_to(document), file)
+            self.write("q.wit", "package c:d; world v { include a:b/w; }")
+            output = replies_to(self.run_tool("--on", "out.json", "q.wit")[1])
+            self.assertEqual(output["replies"], [{"pushed": 1}])
+            self.assertEqual([it["path"] for it in output["resolve"]["sources"]], ["p.wit", "q.wit"])
+
+    def test_no_graph_to_begin_with(self):
+        self.write("p.wit", "package a:b;")
+        twice = '{"resolve": {"graph": {"interface-1": 0, "interface-1": 0}}}'
+        told = {'{"fault": {}}': "out.json: no graph came out", twice: "two members of an object have one name"}
+        for text, what in told.items():
+            self.write("out.json", text)
+            self.assertEqual(self.run_tool("--on", "out.json", "p.wit"), (1, "", f"wit2json.py: {what}\n"))
+
     def test_what_cannot_be_read(self):
         self.assertEqual(self.run_tool("nowhere.wit")[:2], (1, ""))
         self.refused("interface i {}", "1: no line says which package it is")

@@ -1,12 +1,13 @@
 #!/usr/bin/env python3
 """Writes packages of WIT as a document of commands for `witgraph_json` (docs/JSON.md).
 
-    tools/wit2json.py [-o DOCUMENT] [--then COMMANDS] PACKAGE..
+    tools/wit2json.py [-o DOCUMENT] [--on OUTPUT] [--then COMMANDS] PACKAGE..
 
 A PACKAGE is a file of WIT, or a folder whose `.wit` files are one package; the folder `deps` of such a folder has files
 and folders of further packages. The document has one command, `push-groups`: the first PACKAGE is the main group, all
 others and what is in `deps` are its dependencies, in whatever order. What is there twice with the same texts is read
-once. COMMANDS is a file with a JSON list of commands, which come behind the push.
+once. COMMANDS is a file with a JSON list of commands, which come behind the push. OUTPUT is a file with what
+`witgraph_json` wrote of another document: this one begins with the graph there.
 
 Everything is kept: each kind of type, documentation, `@since`, `@unstable` and `@deprecated`, interfaces that worlds
 write in place, `async`, external ids, the place of each name in its file. Types, interfaces and worlds are numbered as
@@ -474,10 +475,27 @@ def push_of(paths, report):
     return None if report.problems else {"push-groups": {"main": main, "deps": deps}}
 
 
+def object_of(members):
+    """An object. In a world a label `interface-1` has the name of interface 1, and a dict can't have both."""
+    made = dict(members)
+    if len(made) < len(members):
+        raise ValueError("two members of an object have one name")
+    return made
+
+
+def graph_of(path):
+    """The graph that an output has, as the member with which a document begins."""
+    output = json.loads(wit.opened(path).text, object_pairs_hook=object_of)
+    if not isinstance(output, dict) or "resolve" not in output:
+        raise ValueError(f"{path}: no graph came out")
+    return {"resolve": output["resolve"]}
+
+
 def main(arguments=None):
     usage = argparse.ArgumentParser(description=__doc__, formatter_class=argparse.RawDescriptionHelpFormatter)
     usage.add_argument("packages", metavar="PACKAGE", nargs="+", help="a file of WIT, or a folder of such files")
     usage.add_argument("-o", metavar="DOCUMENT", dest="output", help="the file to write, standard output where it lacks")
+    usage.add_argument("--on", metavar="OUTPUT", help="what came out of a document: its graph is the one to begin with")
     usage.add_argument("--then", metavar="COMMANDS", help="a file with a list of commands that come behind the push")
     asked = usage.parse_args(arguments)
     report = wit.Report()
@@ -488,13 +506,14 @@ def main(arguments=None):
         if push is None:
             return 1
         then = json.loads(wit.opened(asked.then).text) if asked.then else []
-        document = json.dumps({"commands": [push, *then]}, ensure_ascii=False, separators=(",", ":"))
+        begin = graph_of(asked.on) if asked.on else {}
+        document = json.dumps(begin | {"commands": [push, *then]}, ensure_ascii=False, separators=(",", ":"))
         if asked.output:
             with open(asked.output, "w", encoding="utf-8", newline="") as file:
                 file.write(f"{document}\n")
         else:
             sys.stdout.write(f"{document}\n")
-    except (OSError, json.JSONDecodeError) as fault:
+    except (OSError, ValueError) as fault:
         print(f"wit2json.py: {fault}", file=sys.stderr)
         return 1
     except RecursionError:

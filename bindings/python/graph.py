@@ -73,7 +73,9 @@ class Shown:
 
 
 def main():
-    run = wg.run(json.load(sys.stdin)["commands"])
+    document = json.load(sys.stdin)
+    begin = wg.graph_of(document["resolve"]) if "resolve" in document else None
+    run = wg.run(document["commands"], begin)
     for reply in run.replies:
         wg.accepted(reply)
     print("\n".join(Shown(run.graph).lines()))

@@ -28,7 +28,12 @@ def stored(name):
 
 def runners():
     """All that carries out commands here."""
-    return [wg.run] * bool(SHARED) + [lambda commands: wg.run_by(PROGRAM, commands)] * bool(PROGRAM)
+    return [wg.run] * bool(SHARED) + [lambda *asked: wg.run_by(PROGRAM, *asked)] * bool(PROGRAM)
+
+
+def push(package, *deps):
+    """The command that pushes packages, each a group of its own."""
+    return wg.PushGroups(wg.UnresolvedPackageGroup(package), [wg.UnresolvedPackageGroup(it) for it in deps])
 
 
 class Documents(unittest.TestCase):
@@ -90,14 +95,19 @@ class Documents(unittest.TestCase):
         self.assertEqual(str(raised.exception), "expected a command at byte 13, at commands[0]")
 
     def test_a_package_without_its_shape_is_raised(self):
-        with self.assertRaises(wg.ShapeFault):
-            wg.accepted(wg.from_json(wg.Reply, "not-shaped"))
+        parts = {"path": ["deps", 0, "nested", 1], "clause": "lengths", "place": "unknown_type_spans", "text": "so many"}
+        reply = wg.from_json(wg.Reply, {"not-shaped": parts})
+        self.assertEqual(reply, wg.NotShaped(["deps", 0, "nested", 1], "lengths", "unknown_type_spans", "so many"))
+        with self.assertRaises(wg.ShapeFault) as raised:
+            wg.accepted(reply)
+        fault = raised.exception
+        self.assertEqual(str(fault), "deps[0].nested[1]: unknown_type_spans breaks lengths: so many")
+        self.assertEqual((fault.path, fault.clause, fault.place, fault.text), tuple(parts.values()))
 
     def test_other_forms_are_told(self):
         for hint, value in ((wg.TypeDefKind, {"no": 1}), (wg.Type, None), (wg.Field, {"name": "x"}), (wg.Type, True)):
             with self.assertRaises(wg.Unreadable):
                 wg.from_json(hint, value)
-
 
     def test_a_graph_is_the_same_again(self):
         value = json.loads(stored("kinds.out.json"))["resolve"]
@@ -106,6 +116,15 @@ class Documents(unittest.TestCase):
         self.assertEqual(wg.graph_of(wg.whole_of(graph)), graph)
         alone = wg.graph_of({"graph": value["graph"]})
         self.assertEqual([it.name for it in alone.types], [it.name for it in graph.types])
+        self.assertEqual((alone.track_rule, alone.sources), ("published", []))
+        value["track-rule"] = "with-prereleases"
+        graph = wg.graph_of(value)
+        self.assertEqual((graph.track_rule, wg.whole_of(graph)), ("with-prereleases", value))
+        self.assertEqual(json.loads(wg.document_of(["package-order"], graph)), {"resolve": value, "commands": ["package-order"]})
+
+    def test_two_members_of_one_name_are_told(self):
+        with self.assertRaises(wg.Unreadable):
+            wg.run_of('{"replies": [], "resolve": {"graph": {"interface-1": {}, "interface-1": {}}}}')
 
 
 class Graphs(unittest.TestCase):
@@ -183,9 +202,8 @@ class Calls(unittest.TestCase):
         record = wg.TypeDef("t", wg.Record([wg.Field("a", "u8")]), wg.InterfaceOwner(0))
         world = wg.World("w", {"interface-0": wg.InterfaceItem(0)}, includes=[])
         package = wg.UnresolvedPackage("a:b", worlds=[world], interfaces=[interface], types=[record])
-        push = wg.PushGroups(wg.UnresolvedPackageGroup(package))
         for run in runners():
-            made = run([push, push, wg.Select(["a:b"]), wg.AddFeature("f")])
+            made = run([push(package), push(package), wg.Select(["a:b"]), wg.AddFeature("f")])
             self.assertEqual([type(it) for it in made.replies], [wg.Pushed, wg.Refused, wg.WorldReply, wg.Done])
             self.assertEqual(made.replies[1].error.number, 5)
             self.assertEqual(made.graph.features, ["f"])
@@ -196,13 +214,45 @@ class Calls(unittest.TestCase):
             with self.assertRaises(wg.Fault):
                 run([{"no": "command"}])
 
+    def test_commands_go_on_where_others_ended(self):
+        def package(name):
+            record = wg.TypeDef("t", wg.Record([wg.Field("a", "u8")]), wg.InterfaceOwner(0))
+            return wg.UnresolvedPackage(name, interfaces=[wg.Interface("i", {"t": 0})], types=[record])
+
+        begun = push(package("a:b"))
+        begun.main.sources = [wg.Source("a.wit", "interface i {}\n")]
+        one = [wg.SetTrackRule("with-prereleases"), wg.AddFeature("f"), begun]
+        two = [begun, push(package("a:c@1.0.0"), package("d:e")), wg.PackageOrder()]
+        for run in runners():
+            whole, first = run(one + two), run(one)
+            last = run(two, first.graph)
+            self.assertEqual(wg.Run(first.replies + last.replies, last.graph), whole)
+            self.assertEqual([type(it) for it in last.replies], [wg.Refused, wg.Pushed, wg.Packages])
+            # each push brings its files, one that is refused too
+            self.assertEqual((last.graph.track_rule, len(last.graph.sources)), ("with-prereleases", 2))
+
+    def test_a_graph_that_is_not_valid_is_a_fault(self):
+        graph = wg.Resolve(packages=[wg.Package("a:b", interfaces={"i": 0})])
+        for run in runners():
+            with self.assertRaises(wg.Fault) as raised:
+                run([], graph)
+            self.assertEqual(raised.exception.path, ["resolve", "graph"])
+
+    def test_a_package_that_lacks_its_shape_is_told(self):
+        functions = {"f": wg.Function("g", "freestanding", [])}
+        other = wg.UnresolvedPackage("a:b", interfaces=[wg.Interface("first"), wg.Interface("second", {}, functions)])
+        expected = (["deps", 0, "main"], "owners.functions", "interfaces[1].functions[0]", "a function stands under its name")
+        for run in runners():
+            made = run([push(wg.UnresolvedPackage("a:c"), other)])
+            self.assertEqual(made, wg.Run([wg.NotShaped(*expected)], wg.Resolve()))
+
 
 class Walk(unittest.TestCase):
     @unittest.skipUnless(runners(), "nothing that carries out commands")
     def test_readme(self):
         """The walk through in README.md prints what stands there."""
         if not SHARED:
-            wg.run = lambda commands: wg.run_by(PROGRAM, commands)
+            wg.run = lambda *asked: wg.run_by(PROGRAM, *asked)
         at = os.getcwd()
         os.chdir(TOP)
         self.addCleanup(os.chdir, at)

@@ -5,7 +5,7 @@
     run = wg.run([{"push-groups": ..}, wg.Select(["wasi:cli@0.2.0"], "command")])
     command = run.graph.worlds[run.replies[1].id]
 
-`run` carries out commands on an empty graph. A command is one of the classes here, or a
+`run` carries out commands on an empty graph, or on one that came out before. A command is one of the classes here, or a
 dict as docs/JSON.md says and as `tools/wit2json.py` writes. It gives a `Run`: a reply for each command, and the graph. The
 classes have the names of wit-parser; an id is an index in its list. `execute` and `explain` run scripts (docs/SCRIPT.md).
 
@@ -454,7 +454,8 @@ class Resolve:
     packages: list[Package] = field(default_factory=list)
     features: list[str] = field(default_factory=list)
     all_features: bool = False
-    source_names: list[str] = field(default_factory=list)
+    track_rule: str = "published"  # or "with-prereleases"
+    sources: list[Source] = field(default_factory=list)
 
     @property
     def package_names(self) -> dict[str, PackageId]:
@@ -635,17 +636,27 @@ class NotFound:
 
 
 class ShapeFault(Exception):
-    """A pushed package hasn't the shape that it must have."""
+    """A pushed package hasn't the shape that it must have: `path` leads to it from the push, `place` in it to what breaks
+    the `clause`, of which `text` says what it asks."""
+
+    def __init__(self, path: list[Union[str, int]], clause: str, place: str, text: str):
+        super().__init__(f"{path_text(path)}: {place} breaks {clause}: {text}")
+        self.path, self.clause, self.place, self.text = path, clause, place, text
 
 
-@tagged("not-shaped", "alone-tag")
+@tagged("not-shaped")
 @dataclass
 class NotShaped:
-    """A package hasn't its shape, and nothing is added."""
+    """A package hasn't its shape, and nothing is added: the first such package, and what it lacks first."""
+
+    path: list[Union[str, int]]
+    clause: str
+    place: str
+    text: str
 
     @property
     def fault(self) -> ShapeFault:
-        return ShapeFault("a package hasn't the shape that it must have")
+        return ShapeFault(self.path, self.clause, self.place, self.text)
 
 
 @tagged("pushed", "field")
@@ -925,17 +936,18 @@ def graph_of(whole: dict[str, Any]) -> Resolve:
     features = whole.get("features", {"all": False, "names": []})
     made = Resolve(
         *(from_json(list[it], graph[name]) for it, name in zip((World, Interface, TypeDef, Package), GRAPH_LISTS)),
-        features["names"], features["all"], whole.get("files", []),
+        features["names"], features["all"], whole.get("track-rule", "published"),
+        from_json(list[Source], whole.get("sources", [])),
     )  # fmt: skip
     for world, more in zip(made.worlds, details.get("worlds", [])):
         world.span = span_of(more)
         for entries, of in ((world.imports, more["imports"]), (world.exports, more["exports"])):
             for key, item in entries.items():
-                add_details(item.function if isinstance(item, FunctionItem) else item, of.get(key, {}))
+                add_details(item.function if isinstance(item, FunctionItem) else item, of[key])
     for interface, more in zip(made.interfaces, details.get("interfaces", [])):
         interface.span = span_of(more)
         for name, function in interface.functions.items():
-            add_details(function, more["functions"].get(name, {}))
+            add_details(function, more["functions"][name])
     for ty, more in zip(made.types, details.get("types", [])):
         add_details(ty, more)
     return made
@@ -975,7 +987,8 @@ def whole_of(graph: Resolve) -> dict[str, Any]:
             "types": [take_parts(it) | taken(it) for it in made["types"]],
         },
         "features": {"all": graph.all_features, "names": graph.features},
-        "files": graph.source_names,
+        "track-rule": graph.track_rule,
+        "sources": to_json(graph.sources),
     }
 
 
@@ -1041,14 +1054,24 @@ class NotUnderstood(Exception):
         self.line, self.text = line, text
 
 
-def document_of(commands: list[Any]) -> bytes:
-    """The document of commands, as `witgraph_json` reads it."""
-    return json.dumps({"commands": to_json(commands)}, ensure_ascii=False, separators=(",", ":")).encode()
+def document_of(commands: list[Any], graph: Optional[Resolve] = None) -> bytes:
+    """The document of commands on a graph, an empty one where it lacks, as `witgraph_json` reads it."""
+    begin = {} if graph is None else {"resolve": whole_of(graph)}
+    return json.dumps(begin | {"commands": to_json(commands)}, ensure_ascii=False, separators=(",", ":")).encode()
+
+
+def object_with_names(members: list[tuple[str, Any]]) -> dict[str, Any]:
+    """An object. In a world a label `interface-1` has the name of interface 1, and a dict can't have both."""
+    made = dict(members)
+    if len(made) != len(members):
+        names = [name for name, _ in members]
+        raise Unreadable(f"two members are called {next(it for it in names if names.count(it) > 1)}")
+    return made
 
 
 def run_of(output: Union[str, bytes]) -> Run:
     """What a document says that comes out. Raises a `Fault` where it tells one."""
-    value = json.loads(output)
+    value = json.loads(output, object_pairs_hook=object_with_names)
     if "fault" in value:
         raise Fault(**value["fault"])
     return Run([from_json(Reply, it) for it in value["replies"]], graph_of(value["resolve"]))
@@ -1081,9 +1104,10 @@ class Library:
             raise MemoryError("witgraph: memory was refused")
         return status, ctypes.string_at(output, needed.value)
 
-    def run(self, commands: list[Any]) -> Run:
-        """Carries out commands on an empty graph. Raises a `Fault` where one isn't a command."""
-        return run_of(self._call("witgraph_json", document_of(commands))[1])
+    def run(self, commands: list[Any], graph: Optional[Resolve] = None) -> Run:
+        """Carries out commands on a graph that came out before, or an empty one. Raises a `Fault` where one isn't a command,
+        or the graph isn't valid."""
+        return run_of(self._call("witgraph_json", document_of(commands, graph))[1])
 
     def _script(self, name: str, script: str) -> str:
         status, output = self._call(name, script.encode())
@@ -1107,9 +1131,10 @@ def library() -> Library:
     return Library()
 
 
-def run(commands: list[Any]) -> Run:
-    """Carries out commands on an empty graph. Raises a `Fault` where one isn't a command."""
-    return library().run(commands)
+def run(commands: list[Any], graph: Optional[Resolve] = None) -> Run:
+    """Carries out commands on a graph that came out before, or an empty one. Raises a `Fault` where one isn't a command, or
+    the graph isn't valid."""
+    return library().run(commands, graph)
 
 
 def execute(script: str) -> str:
@@ -1122,9 +1147,9 @@ def explain(script: str) -> str:
     return library().explain(script)
 
 
-def run_by(program: str, commands: list[Any]) -> Run:
+def run_by(program: str, commands: list[Any], graph: Optional[Resolve] = None) -> Run:
     """As `run`, by a build of the program `witgraph_json`."""
-    ran = subprocess.run([program], input=document_of(commands), stdout=subprocess.PIPE, check=False)
+    ran = subprocess.run([program], input=document_of(commands, graph), stdout=subprocess.PIPE, check=False)
     if not ran.stdout:
         raise MemoryError("witgraph: memory was refused")
     return run_of(ran.stdout)

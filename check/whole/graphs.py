@@ -18,7 +18,7 @@ class Graph:
     def __init__(self, resolve):
         graph, details = resolve["graph"], resolve["details"]
         self.raw = graph["types"]
-        self.rest = {"features": resolve["features"], "files": [it["path"] for it in resolve["sources"]]}
+        self.rest = {"features": resolve["features"], "sources": resolve["sources"]}
         self.kept = [at for at, it in enumerate(self.raw) if not is_own(it)]
         self.ranks = {at: rank for rank, at in enumerate(self.kept)}
         self.things = {
@@ -226,14 +226,28 @@ class Pairing:
 
 def without_gated(ours, theirs):
     """A graph without the functions that are gated off and that the other doesn't have."""
-    made, features = copy.deepcopy(ours), ours["features"]
-    listed = zip(made["graph"]["interfaces"], made["details"]["interfaces"], theirs["graph"]["interfaces"])
-    for it, more, other in listed:
-        for name in it["functions"].keys() - other["functions"].keys():
-            gate = it["functions"][name].get("stability", {}).get("unstable")
-            if gate and not features["all"] and gate["feature"] not in features["names"]:
-                del it["functions"][name], more["functions"][name]
+    made, others = copy.deepcopy(ours), theirs["graph"]["interfaces"]
+    for at, (it, more) in enumerate(zip(made["graph"]["interfaces"], made["details"]["interfaces"])):
+        gated = gated_off(it["functions"], ours["features"])
+        for name in gated - other_of(at, it, gated, others)["functions"].keys():
+            del it["functions"][name], more["functions"][name]
     return made
+
+
+def gated_off(functions, features):
+    """The names of the functions whose feature is off."""
+    gates = ((name, it.get("stability", {}).get("unstable")) for name, it in functions.items())
+    return {name for name, gate in gates if gate and not features["all"] and gate["feature"] not in features["names"]}
+
+
+def other_of(at, interface, gated, others):
+    """The interface of this number, or, as a copy may have another number, the first one with the same other functions."""
+
+    def named(it):
+        return it["name"], [name for name in it["functions"] if name not in gated]
+
+    fits = (it for it in [others[at], *others] if named(it) == named(interface))
+    return next(fits, others[at])
 
 
 def is_reference(value):

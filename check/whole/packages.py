@@ -114,7 +114,7 @@ class Read:
         for side, (_, entries) in zip(("imports", "exports"), made.lists()):
             entries += [self.entry(key, of) for key, of in it[side].items()]
         made.types = {of.label: of.item for of in made.imports if isinstance(of.item, data.Type)}
-        for of in it["includes"]:
+        for of in it.get("includes", []):
             names = [(name["name"], name["as"]) for name in of["names"]]
             made.includes.append(self.at(of, data.Include(self.worlds[of["id"]], names, note(of.get("stability")))))
         self.made.worlds[made.name] = made

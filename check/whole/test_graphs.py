@@ -4,8 +4,8 @@ turn, and the order of each table.
 
     python3 check/whole/test_graphs.py PATH/TO/witgraph_json [--many N]
 
-What may stay unseen is told: the span, docs and gate of an `own` that a value needs, numbers of copies, the rule of tracks,
-and texts of files.
+What may stay unseen is told: the span, docs and gate of an `own` that a value needs, numbers of copies, and the rule of
+tracks.
 """
 import argparse
 import copy
@@ -70,8 +70,7 @@ def unseen(resolve, other):
     """The paths of leaves whose change isn't seen, but for those of `own`s."""
     owns = {at for at, it in enumerate(resolve["graph"]["types"]) if is_own(it)}
     for path in leaves(resolve):
-        is_beside = path[0] == "track-rule" or path[0] == "sources" and path[-1] == "text"
-        is_free = is_beside or path[1] == "types" and path[2] in owns
+        is_free = path[0] == "track-rule" or path[1] == "types" and path[2] in owns
         if not is_free and not is_change_seen(resolve, other, path):
             yield path
 

@@ -5,7 +5,8 @@
     python3 check/whole/whole.py PATH/TO/witgraph_json PATH/TO/witgraph-original DOCUMENT..
 
 With `--texts` packages are texts of WIT, read by tools/wit2json.py. With `--scripts` documents are those of random scripts
-of check/compare.py, with `--stored` those of a file of cases; files with documents may be named.
+of check/compare.py, with `--stored` those of a file of cases; files with documents may be named. With `--in-two`
+`witgraph_json` carries out each document in two, of which the second begins with the graph that came out of the first.
 
 Replies are compared with texts, spans and how they are shown, graphs in all data (check/whole/graphs.py says what is
 free), of the second graphs of merges, too. Where the two differ the tool tells of which row of docs/DIFFERENCES.md that
@@ -14,6 +15,7 @@ is 1 then.
 """
 import argparse
 import collections
+import copy
 import functools
 import json
 import multiprocessing
@@ -33,7 +35,7 @@ class Answers:
     """What a program writes: the replies, and the graph with what stands beside it, as text and read."""
 
     def __init__(self, text):
-        self.text = text.partition(',"resolve":')[2]
+        self.text = text.partition(',"resolve":')[2].strip()[:-1]
         read = json.loads(text)
         self.replies, self.resolve = read["replies"], read["resolve"]
 
@@ -52,8 +54,19 @@ def run_text(program, text):
     return None, tuple(int(it) for it in places[-1].split(".")) if places else ()
 
 
+class InTwo(str):
+    """The path of a program that carries out commands in two documents."""
+
+
 def run(program, commands):
-    return run_text(program, json.dumps({"commands": commands}))
+    if not isinstance(program, InTwo) or not commands:
+        return run_text(program, json.dumps({"commands": commands}))
+    middle = len(commands) // 2
+    first, _ = run_text(program, json.dumps({"commands": commands[:middle]}))
+    last, _ = run_text(program, f'{{"resolve":{first.text},"commands":{json.dumps(commands[middle:])}}}')
+    last = copy.copy(last)
+    last.replies = first.replies + last.replies
+    return last, None
 
 
 class Difference:
@@ -212,17 +225,17 @@ def rows_of(programs, commands):
 def script_document(number):
     """The document of a random script, an empty one where that isn't understood."""
     import compare
-    import documents
+    import script_documents
 
-    return documents.document_of(compare.written(number, compare.KINDS)) or {"commands": []}
+    return script_documents.document_of(compare.written(number, compare.KINDS)) or {"commands": []}
 
 
 def case_document(name, path):
     """The document of a case of a file, an empty one where that isn't understood."""
     import compare
-    import documents
+    import script_documents
 
-    return documents.document_of(compare.stored(compare.read(path))[0][name]) or {"commands": []}
+    return script_documents.document_of(compare.stored(compare.read(path))[0][name]) or {"commands": []}
 
 
 def case_names(path):
@@ -266,6 +279,7 @@ def main():
     parser.add_argument("--texts", action="store_true")
     parser.add_argument("--scripts", action="store_true")
     parser.add_argument("--stored")
+    parser.add_argument("--in-two", action="store_true")
     parser.add_argument("--first", type=int, default=1)
     parser.add_argument("--many", type=int, default=100)
     parser.add_argument("--jobs", type=int, default=1)
@@ -276,7 +290,8 @@ def main():
         made = file_document if asked.documents else script_document
     if asked.stored:
         names, made = case_names(asked.stored), functools.partial(case_document, path=asked.stored)
-    tell = functools.partial(told, programs=(asked.program, asked.original), made=made)
+    program = InTwo(asked.program) if asked.in_two else asked.program
+    tell = functools.partial(told, programs=(program, asked.original), made=made)
     firsts, differences = collections.Counter(), collections.Counter()
     with multiprocessing.Pool(asked.jobs) as pool:
         for found, text in pool.imap(tell, names, 8):

@@ -9,7 +9,7 @@ use witgraph::{Document, Function, Handle, Interface, Resolve, Type, TypeDef, Ty
 
 fn main() -> Result<(), Box<dyn Error>> {
     let document = Document::from_json(&io::read_to_string(io::stdin())?)?;
-    let run = witgraph::run(&document.commands)?;
+    let run = document.run()?;
     for reply in run.replies {
         reply.accepted()?;
     }

@@ -158,7 +158,7 @@ pub enum Reply {
     /// What a question names isn't there.
     NotFound,
     /// A package hasn't the shape that it must have, and nothing is added.
-    NotShaped,
+    NotShaped(ShapeFault),
     /// The main package that was added.
     Pushed(PackageId),
     /// The answers to the commands of another graph, and to its merge, which is [`Reply::Merged`] where it is done.
@@ -204,7 +204,7 @@ impl Reply {
     pub fn accepted(self) -> Result<Reply, CommandError> {
         match self {
             Reply::Refused(refusal) => Err(CommandError::Refused(refusal)),
-            Reply::NotShaped => Err(CommandError::NotShaped),
+            Reply::NotShaped(fault) => Err(CommandError::NotShaped(fault)),
             Reply::Merge { reply, .. } => reply.accepted(),
             other => Ok(other),
         }
@@ -217,19 +217,56 @@ pub enum CommandError {
     /// It is refused.
     Refused(Refusal),
     /// It pushes a package that hasn't its shape.
-    NotShaped,
+    NotShaped(ShapeFault),
 }
 
 impl fmt::Display for CommandError {
     fn fmt(&self, f: &mut fmt::Formatter<'_>) -> fmt::Result {
         match self {
             CommandError::Refused(refusal) => refusal.fmt(f),
-            CommandError::NotShaped => f.write_str("a package hasn't the shape that it must have"),
+            CommandError::NotShaped(fault) => fault.fmt(f),
         }
     }
 }
 
 impl Error for CommandError {}
+
+/// The first package of a push that hasn't the shape that it must have, and what is wrong with it.
+///
+/// ```
+/// # use witgraph::{CommandError, Reply};
+/// let reply: Reply = serde_json::from_str(r#"{"not-shaped": {"path": ["deps", 0, "main"], "clause": "owners.functions",
+///     "place": "interfaces[1].functions[0]", "text": "a function stands under its name"}}"#)?;
+/// let Err(CommandError::NotShaped(fault)) = reply.accepted() else { panic!() };
+/// assert_eq!((fault.path.to_string().as_str(), fault.clause.as_str()), ("deps[0].main", "owners.functions"));
+/// # Ok::<(), serde_json::Error>(())
+/// ```
+#[derive(Clone, Debug, PartialEq, Eq, Hash, Deserialize)]
+pub struct ShapeFault {
+    /// What leads from the push to the package.
+    pub path: JsonPath,
+    /// The clause of the shape that is broken first.
+    pub clause: String,
+    /// The first thing in the package that breaks it, by the names of the fields of
+    /// [`UnresolvedPackage`](crate::UnresolvedPackage).
+    pub place: String,
+    /// What the clause says.
+    pub text: String,
+}
+
+impl fmt::Display for ShapeFault {
+    fn fmt(&self, f: &mut fmt::Formatter<'_>) -> fmt::Result {
+        let ShapeFault {
+            path,
+            clause,
+            place,
+            text,
+        } = self;
+        write!(f, "{path}: {place} breaks {clause}: {text}")
+    }
+}
+
+impl Error for ShapeFault {}
 
 /// The names and the numbers that lead to a value of a document: `commands[0].select`, say.
 #[derive(Clone, Debug, Default, PartialEq, Eq, Hash, Serialize, Deserialize)]

@@ -658,7 +658,9 @@ mod type_entry {
 /// The entries of a world by their names in JSON.
 pub(crate) mod entries {
     use super::{WorldItem, WorldKey};
+    use crate::members::Members;
     use indexmap::IndexMap;
+    use serde::de::Error as _;
     use serde::{Deserialize, Deserializer, Serializer};
 
     type Entries = IndexMap<WorldKey, WorldItem>;
@@ -668,11 +670,16 @@ pub(crate) mod entries {
     }
 
     pub fn deserialize<'de, D: Deserializer<'de>>(deserializer: D) -> Result<Entries, D::Error> {
-        let named = IndexMap::<String, WorldItem>::deserialize(deserializer)?;
-        let keyed = |(name, item): (String, WorldItem)| {
-            (WorldKey::from_text(name, item.interface_id()), item)
-        };
-        Ok(named.into_iter().map(keyed).collect())
+        let Members(named) = Members::<WorldItem>::deserialize(deserializer)?;
+        let mut entries = IndexMap::new();
+        for (name, item) in named {
+            let key = WorldKey::from_text(name, item.interface_id());
+            let text = key.to_text();
+            if entries.insert(key, item).is_some() {
+                return Err(D::Error::custom(format!("`{text}` stands twice")));
+            }
+        }
+        Ok(entries)
     }
 }
 

@@ -5,7 +5,7 @@
 //!
 //! **By commands**: [`PackageBuilder`] makes packages, [`Document::from_json`] reads them as `tools/wit2json.py` of the
 //! repository writes them of WIT. [`run`] and [`run_by`] carry out [`Command`]s and give a [`Run`]: a
-//! [`Reply`] for each, and the graph, a [`Resolve`] with the names of wit-parser.
+//! [`Reply`] for each, and the graph, a [`Resolve`] with the names of wit-parser, on which [`Run::then`] goes on.
 //!
 //! **By scripts**, in the language of `docs/SCRIPT.md`: [`execute`] runs one on an empty graph and gives its answers:
 //!
@@ -54,6 +54,7 @@ mod commands;
 mod data;
 #[cfg(feature = "library")]
 mod ffi;
+mod members;
 mod names;
 mod renumber;
 mod resolve;
@@ -68,7 +69,7 @@ pub use arena::{Arena, Id};
 pub use builder::PackageBuilder;
 pub use commands::{
     Command, CommandError, CoreExport, CoreImport, CoreNames, FunctionName, FunctionPlace,
-    JsonPath, JsonStep, Mangling, Refusal, Remap, Reply, TrackRule,
+    JsonPath, JsonStep, Mangling, Refusal, Remap, Reply, ShapeFault, TrackRule,
 };
 pub use data::*;
 pub use indexmap::{IndexMap, IndexSet};

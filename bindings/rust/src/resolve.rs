@@ -1,11 +1,13 @@
 //! A graph of packages.
 
 use crate::arena::{Arena, Id};
+use crate::commands::TrackRule;
 use crate::data::{
     Interface, InterfaceId, PackageId, Type, TypeDef, TypeDefKind, TypeId, World, WorldId, WorldKey,
 };
 use crate::names::{Docs, PackageName};
 use crate::renumber::NewIds;
+use crate::sources::SourceMap;
 use crate::whole::Whole;
 use indexmap::{IndexMap, IndexSet};
 use serde::{Deserialize, Serialize, Serializer};
@@ -46,7 +48,7 @@ pub struct Package {
 /// # Ok::<(), Box<dyn std::error::Error>>(())
 /// ```
 #[derive(Clone, Debug, Default, PartialEq, Eq, Deserialize)]
-#[serde(from = "Whole")]
+#[serde(try_from = "Whole")]
 pub struct Resolve {
     /// The worlds.
     pub worlds: Arena<World>,
@@ -62,8 +64,10 @@ pub struct Resolve {
     pub features: IndexSet<String>,
     /// Whether all features are on.
     pub all_features: bool,
-    /// The paths of the files, in the order of their positions.
-    pub source_names: Vec<String>,
+    /// Which versions are of one track.
+    pub track_rule: TrackRule,
+    /// The files, one behind the other; spans are positions in them.
+    pub source_map: SourceMap,
 }
 
 impl Serialize for Resolve {

@@ -26,7 +26,7 @@ impl Run {
     ///     {"replies": ["done"], "resolve": {
     ///         "graph": {"worlds": [], "interfaces": [], "types": [], "packages": []},
     ///         "details": {"worlds": [], "interfaces": [], "types": []},
-    ///         "features": {"all": false, "names": ["fancy"]}, "files": []}}"#)?;
+    ///         "features": {"all": false, "names": ["fancy"]}, "track-rule": "published", "sources": []}}"#)?;
     /// assert_eq!(run.replies, [witgraph::Reply::Done]);
     /// assert!(run.graph.features.contains("fancy"));
     /// # Ok::<(), witgraph::RunError>(())
@@ -46,6 +46,15 @@ impl Run {
                 resolve: graph,
                 ..
             } => Ok(Run { replies, graph }),
+        }
+    }
+
+    /// The document that goes on with more commands on this graph: its replies, and the graph that it leaves, are those of
+    /// one document with all commands.
+    pub fn then(self, commands: Vec<Command>) -> Document {
+        Document {
+            resolve: Some(self.graph),
+            commands,
         }
     }
 }
@@ -112,7 +121,8 @@ impl Error for RunError {
     }
 }
 
-/// A document of commands, as `witgraph_json` reads it and `tools/wit2json.py` of the repository writes it of WIT.
+/// A document of commands, as `witgraph_json` reads it and `tools/wit2json.py` of the repository writes it of WIT: it may
+/// begin with a graph, as what comes out of another document has one.
 ///
 /// ```
 /// use witgraph::{Command, Document};
@@ -124,6 +134,9 @@ impl Error for RunError {
 /// ```
 #[derive(Clone, Debug, Default, PartialEq, Eq, Serialize, Deserialize)]
 pub struct Document {
+    /// The graph to begin with; an empty one where it lacks.
+    #[serde(default, skip_serializing_if = "Option::is_none")]
+    pub resolve: Option<Resolve>,
     /// The commands, in order.
     pub commands: Vec<Command>,
 }
@@ -140,16 +153,33 @@ impl Document {
 
     /// The document.
     pub fn to_json(&self) -> String {
-        json_of(&self.commands)
+        json_of(self)
+    }
+
+    /// Carries it out, by the static library.
+    ///
+    /// ```
+    /// use witgraph::{Command, Reply};
+    ///
+    /// let first = witgraph::run(&[Command::AddFeature("fancy".to_owned())])?;
+    /// let second = first.then(vec![Command::AddFeature("new".to_owned())]).run()?;
+    /// assert_eq!(second.replies, [Reply::Done]);
+    /// assert!(second.graph.features.iter().eq(["fancy", "new"]));
+    /// # Ok::<(), witgraph::RunError>(())
+    /// ```
+    ///
+    /// # Errors
+    ///
+    /// [`RunError::Fault`] where the graph that it begins with isn't valid, and else where memory is refused outside a
+    /// command. Refusals of commands are replies.
+    #[cfg(feature = "library")]
+    pub fn run(&self) -> Result<Run, RunError> {
+        carried_out(&self.to_json())
     }
 }
 
-fn json_of(commands: &[Command]) -> String {
-    #[derive(Serialize)]
-    struct Borrowed<'a> {
-        commands: &'a [Command],
-    }
-    serde_json::to_string(&Borrowed { commands }).expect("texts, numbers and names as keys")
+fn json_of(document: &impl Serialize) -> String {
+    serde_json::to_string(document).expect("texts, numbers and names as keys")
 }
 
 /// Carries out commands on an empty graph, by the static library.
@@ -181,7 +211,11 @@ fn json_of(commands: &[Command]) -> String {
 /// Where memory is refused outside a command. Refusals of commands are replies.
 #[cfg(feature = "library")]
 pub fn run(commands: &[Command]) -> Result<Run, RunError> {
-    carried_out(&json_of(commands))
+    #[derive(Serialize)]
+    struct Borrowed<'a> {
+        commands: &'a [Command],
+    }
+    carried_out(&json_of(&Borrowed { commands }))
 }
 
 #[cfg(feature = "library")]
@@ -205,7 +239,7 @@ fn carried_out(document: &str) -> Result<Run, RunError> {
 /// use std::process;
 /// use witgraph::{Command, Document, Reply};
 ///
-/// let document = Document { commands: vec![Command::PackageOrder] };
+/// let document = Document { resolve: None, commands: vec![Command::PackageOrder] };
 /// let run = witgraph::run_by(&mut process::Command::new("/tmp/witgraph_json"), &document)?;
 /// assert_eq!(run.replies, [Reply::Packages(vec![])]);
 /// # Ok::<(), witgraph::RunError>(())

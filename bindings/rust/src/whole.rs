@@ -1,24 +1,31 @@
 //! A graph in JSON: in the layout that other tools read, and beside it what that leaves out.
 
 use crate::arena::Arena;
+use crate::commands::TrackRule;
 use crate::data::*;
+use crate::members::Members;
 use crate::names::{Docs, Span, Stability};
 use crate::resolve::{Package, Resolve};
+use crate::sources::SourceMap;
 use indexmap::{IndexMap, IndexSet};
 use serde::{Deserialize, Serialize};
+use std::fmt;
 use std::mem::take;
 
 type Entries = IndexMap<WorldKey, WorldItem>;
 
 #[derive(Serialize, Deserialize)]
+#[serde(rename_all = "kebab-case")]
 pub(crate) struct Whole {
     graph: Graph,
-    #[serde(default)]
-    details: Details,
+    /// What the layout leaves out; it may stand in the graph where this lacks.
+    details: Option<Details>,
     #[serde(default)]
     features: Features,
     #[serde(default)]
-    files: Vec<String>,
+    track_rule: TrackRule,
+    #[serde(default)]
+    sources: SourceMap,
 }
 
 #[derive(Serialize, Deserialize)]
@@ -42,6 +49,8 @@ struct GraphWorld {
     docs: Docs,
     #[serde(default, skip_serializing_if = "Stability::is_unknown")]
     stability: Stability,
+    #[serde(default, skip_serializing_if = "Span::is_unknown")]
+    span: Span,
 }
 
 #[derive(Default, Serialize, Deserialize)]
@@ -50,7 +59,7 @@ struct Features {
     names: IndexSet<String>,
 }
 
-#[derive(Default, Serialize, Deserialize)]
+#[derive(Serialize, Deserialize)]
 struct Details {
     worlds: Vec<WorldDetails>,
     interfaces: Vec<InterfaceDetails>,
@@ -62,8 +71,8 @@ struct Details {
 struct WorldDetails {
     #[serde(skip_serializing_if = "Span::is_unknown")]
     span: Span,
-    imports: IndexMap<String, ItemDetails>,
-    exports: IndexMap<String, ItemDetails>,
+    imports: Members<ItemDetails>,
+    exports: Members<ItemDetails>,
 }
 
 #[derive(Default, Serialize, Deserialize)]
@@ -71,7 +80,7 @@ struct WorldDetails {
 struct InterfaceDetails {
     #[serde(skip_serializing_if = "Span::is_unknown")]
     span: Span,
-    functions: IndexMap<String, ItemDetails>,
+    functions: Members<ItemDetails>,
 }
 
 /// What is left out of a type, a function or an entry of a world.
@@ -92,35 +101,70 @@ struct ItemDetails {
     params: Option<Vec<Span>>,
 }
 
-impl From<Whole> for Resolve {
-    fn from(whole: Whole) -> Self {
+/// Details that aren't those of the graph: of other things, or of more or fewer.
+pub(crate) struct OtherDetails(&'static str);
+
+impl fmt::Display for OtherDetails {
+    fn fmt(&self, f: &mut fmt::Formatter<'_>) -> fmt::Result {
+        write!(f, "the details of {} aren't those of the graph", self.0)
+    }
+}
+
+impl TryFrom<Whole> for Resolve {
+    type Error = OtherDetails;
+
+    fn try_from(whole: Whole) -> Result<Self, OtherDetails> {
         let Graph {
             worlds,
-            mut interfaces,
-            mut types,
+            interfaces,
+            types,
             packages,
         } = whole.graph;
-        let mut worlds: Arena<World> = worlds.into_items().map(World::from).collect();
-        for (world, details) in worlds.items_mut().zip(whole.details.worlds) {
-            world.give(details);
-        }
-        for (interface, details) in interfaces.items_mut().zip(whole.details.interfaces) {
-            interface.give(details);
-        }
-        for (ty, details) in types.items_mut().zip(whole.details.types) {
-            ty.give(details);
-        }
         let names = packages.iter().map(|(id, it)| (it.name.clone(), id));
-        Resolve {
+        let mut graph = Resolve {
             package_names: names.collect(),
-            worlds,
+            worlds: worlds.into_items().map(World::from).collect(),
             interfaces,
             types,
             packages,
             features: whole.features.names,
             all_features: whole.features.all,
-            source_names: whole.files,
+            track_rule: whole.track_rule,
+            source_map: whole.sources,
+        };
+        if let Some(details) = whole.details {
+            graph.give(details)?;
         }
+        Ok(graph)
+    }
+}
+
+impl Resolve {
+    /// Gives back what is left out.
+    fn give(&mut self, details: Details) -> Result<(), OtherDetails> {
+        for (world, details) in both("worlds", &mut self.worlds, details.worlds)? {
+            world.give(details)?;
+        }
+        for (interface, details) in both("interfaces", &mut self.interfaces, details.interfaces)? {
+            interface.give(details)?;
+        }
+        for (ty, details) in both("types", &mut self.types, details.types)? {
+            ty.give(details)?;
+        }
+        Ok(())
+    }
+}
+
+/// Each thing with its details.
+fn both<'a, T, D>(
+    sort: &'static str,
+    things: &'a mut Arena<T>,
+    details: Vec<D>,
+) -> Result<impl Iterator<Item = (&'a mut T, D)>, OtherDetails> {
+    if things.len() == details.len() {
+        Ok(things.items_mut().zip(details))
+    } else {
+        Err(OtherDetails(sort))
     }
 }
 
@@ -138,12 +182,13 @@ impl From<Resolve> for Whole {
                 types: graph.types,
                 packages: graph.packages,
             },
-            details,
+            details: Some(details),
             features: Features {
                 all: graph.all_features,
                 names: graph.features,
             },
-            files: graph.source_names,
+            track_rule: graph.track_rule,
+            sources: graph.source_map,
         }
     }
 }
@@ -157,6 +202,7 @@ impl From<GraphWorld> for World {
             package: world.package,
             docs: world.docs,
             stability: world.stability,
+            span: world.span,
             ..World::default()
         }
     }
@@ -171,6 +217,7 @@ impl From<World> for GraphWorld {
             package: world.package,
             docs: world.docs,
             stability: world.stability,
+            span: world.span,
         }
     }
 }
@@ -184,7 +231,7 @@ trait Split {
     fn take(&mut self) -> Self::Details;
 
     /// Gives it back.
-    fn give(&mut self, details: Self::Details);
+    fn give(&mut self, details: Self::Details) -> Result<(), OtherDetails>;
 }
 
 impl Split for World {
@@ -193,56 +240,67 @@ impl Split for World {
     fn take(&mut self) -> WorldDetails {
         WorldDetails {
             span: take(&mut self.span),
-            imports: take_entries(&mut self.imports),
-            exports: take_entries(&mut self.exports),
+            imports: take_each(entries_mut(&mut self.imports)),
+            exports: take_each(entries_mut(&mut self.exports)),
         }
     }
 
-    fn give(&mut self, details: WorldDetails) {
+    fn give(&mut self, details: WorldDetails) -> Result<(), OtherDetails> {
         self.span = details.span;
-        give_entries(&mut self.imports, details.imports);
-        give_entries(&mut self.exports, details.exports);
+        give_each("imports", entries_mut(&mut self.imports), details.imports)?;
+        give_each("exports", entries_mut(&mut self.exports), details.exports)
     }
 }
 
-fn take_entries(entries: &mut Entries) -> IndexMap<String, ItemDetails> {
-    let entries = entries.iter_mut();
-    entries
-        .map(|(key, item)| (key.to_text(), item.take()))
-        .collect()
+/// The entries of a world under their names in JSON.
+fn entries_mut(entries: &mut Entries) -> impl ExactSizeIterator<Item = (String, &mut WorldItem)> {
+    entries.iter_mut().map(|(key, item)| (key.to_text(), item))
 }
 
-fn give_entries(entries: &mut Entries, mut details: IndexMap<String, ItemDetails>) {
-    for (key, item) in entries {
-        item.give(
-            details
-                .get_mut(&key.to_text())
-                .map(take)
-                .unwrap_or_default(),
-        );
+/// Takes what is left out of things with names.
+fn take_each<'a, T: Split + 'a>(
+    things: impl Iterator<Item = (String, &'a mut T)>,
+) -> Members<T::Details> {
+    Members(things.map(|(name, it)| (name, it.take())).collect())
+}
+
+/// Gives it back: the details stand under the same names in the same order.
+fn give_each<'a, T: Split + 'a>(
+    sort: &'static str,
+    things: impl ExactSizeIterator<Item = (String, &'a mut T)>,
+    Members(details): Members<T::Details>,
+) -> Result<(), OtherDetails> {
+    if things.len() != details.len() {
+        return Err(OtherDetails(sort));
     }
+    for ((name, thing), (of, details)) in things.zip(details) {
+        if name != of {
+            return Err(OtherDetails(sort));
+        }
+        thing.give(details)?;
+    }
+    Ok(())
 }
 
 impl Split for Interface {
     type Details = InterfaceDetails;
 
     fn take(&mut self) -> InterfaceDetails {
-        let functions = self.functions.iter_mut();
         InterfaceDetails {
             span: take(&mut self.span),
-            functions: functions
-                .map(|(name, it)| (name.clone(), it.take()))
-                .collect(),
+            functions: take_each(functions_mut(self)),
         }
     }
 
-    fn give(&mut self, mut details: InterfaceDetails) {
+    fn give(&mut self, details: InterfaceDetails) -> Result<(), OtherDetails> {
         self.span = details.span;
-        for (name, function) in &mut self.functions {
-            let found = details.functions.get_mut(name);
-            function.give(found.map(take).unwrap_or_default());
-        }
+        give_each("functions", functions_mut(self), details.functions)
     }
+}
+
+fn functions_mut(of: &mut Interface) -> impl ExactSizeIterator<Item = (String, &mut Function)> {
+    let functions = of.functions.iter_mut();
+    functions.map(|(name, it)| (name.clone(), it))
 }
 
 impl Split for WorldItem {
@@ -267,9 +325,9 @@ impl Split for WorldItem {
         }
     }
 
-    fn give(&mut self, details: ItemDetails) {
+    fn give(&mut self, details: ItemDetails) -> Result<(), OtherDetails> {
         match self {
-            WorldItem::Function(function) => function.give(details),
+            WorldItem::Function(function) => return function.give(details),
             WorldItem::Type { span, .. } => *span = details.span,
             WorldItem::Interface {
                 docs,
@@ -278,6 +336,7 @@ impl Split for WorldItem {
                 ..
             } => (*docs, *span, *external_id) = (details.docs, details.span, details.external_id),
         }
+        Ok(())
     }
 }
 
@@ -293,10 +352,10 @@ impl Split for Function {
         }
     }
 
-    fn give(&mut self, details: ItemDetails) {
+    fn give(&mut self, details: ItemDetails) -> Result<(), OtherDetails> {
         (self.span, self.external_id) = (details.span, details.external_id);
-        let spans = details.params.unwrap_or_default();
-        given(self.params.iter_mut().map(|it| &mut it.span), spans);
+        let params = self.params.iter_mut().map(|it| &mut it.span);
+        given("parameters", params, details.params.unwrap_or_default())
     }
 }
 
@@ -312,10 +371,11 @@ impl Split for TypeDef {
         }
     }
 
-    fn give(&mut self, details: ItemDetails) {
+    fn give(&mut self, details: ItemDetails) -> Result<(), OtherDetails> {
         (self.span, self.external_id) = (details.span, details.external_id);
         let parts = part_spans(&mut self.kind).unwrap_or_default();
-        given(parts.into_iter(), details.parts.unwrap_or_default());
+        let spans = details.parts.unwrap_or_default();
+        given("parts", parts.into_iter(), spans)
     }
 }
 
@@ -334,8 +394,16 @@ fn taken<'a>(spans: impl Iterator<Item = &'a mut Span>) -> Vec<Span> {
     spans.map(take).collect()
 }
 
-fn given<'a>(places: impl Iterator<Item = &'a mut Span>, spans: Vec<Span>) {
+fn given<'a>(
+    sort: &'static str,
+    places: impl ExactSizeIterator<Item = &'a mut Span>,
+    spans: Vec<Span>,
+) -> Result<(), OtherDetails> {
+    if places.len() != spans.len() {
+        return Err(OtherDetails(sort));
+    }
     for (place, span) in places.zip(spans) {
         *place = span;
     }
+    Ok(())
 }

@@ -21,19 +21,24 @@ fn name(text: &str) -> PackageName {
 }
 
 /// What comes out of a document, where something is here that carries it out.
-fn carried_out(document: &Document) -> Option<Run> {
+fn outcome(document: &Document) -> Option<Result<Run, RunError>> {
     if let Some(program) = env::var_os("WITGRAPH_JSON") {
-        let run = run_by(&mut process::Command::new(program), document);
-        return Some(run.expect("a run"));
+        return Some(run_by(&mut process::Command::new(program), document));
     }
     #[cfg(feature = "library")]
-    return Some(run(&document.commands).expect("a run"));
+    return Some(document.run());
     #[cfg(not(feature = "library"))]
     None
 }
 
+/// The same of one that is understood.
+fn carried_out(document: &Document) -> Option<Run> {
+    outcome(document).map(|it| it.expect("a run"))
+}
+
 fn of_commands(commands: &[Command]) -> Document {
     Document {
+        resolve: None,
         commands: commands.to_vec(),
     }
 }
@@ -149,7 +154,10 @@ fn each_reply_is_read_as_docs_json_says() {
         (r#"{"world":0}"#, Reply::World(Id::from_index(0))),
         (r#"{"packages":[1,0]}"#, Reply::Packages(vec![id(1), id(0)])),
         (r#"{"text":"a:b/i"}"#, Reply::Text("a:b/i".to_owned())),
-        (r#""not-shaped""#, Reply::NotShaped),
+        (
+            r#"{"not-shaped":{"path":["deps",0,"nested",1],"clause":"lengths","place":"unknown_type_spans","text":"so many"}}"#,
+            Reply::NotShaped(lengths()),
+        ),
         (
             r#"{"merge":{"replies":["done"],"reply":{"merged":{"types":[null,2],"interfaces":[],"worlds":[],"packages":[0]}}}}"#,
             Reply::Merge {
@@ -184,7 +192,33 @@ fn a_refusal_is_an_error() {
     };
     assert_eq!((refusal.number, refusal.span), (26, Span::new(1, 2)));
     assert_eq!(Reply::Done.accepted(), Ok(Reply::Done));
-    assert_eq!(Reply::NotShaped.accepted(), Err(CommandError::NotShaped));
+}
+
+/// A fault of a shape.
+fn lengths() -> ShapeFault {
+    let member = |it: &str| JsonStep::Member(it.to_owned());
+    let path = vec![
+        member("deps"),
+        JsonStep::Element(0),
+        member("nested"),
+        JsonStep::Element(1),
+    ];
+    ShapeFault {
+        path: JsonPath(path),
+        clause: "lengths".to_owned(),
+        place: "unknown_type_spans".to_owned(),
+        text: "so many".to_owned(),
+    }
+}
+
+#[test]
+fn a_package_without_its_shape_is_an_error() {
+    let error = Reply::NotShaped(lengths()).accepted().expect_err("a fault");
+    assert_eq!(error, CommandError::NotShaped(lengths()));
+    assert_eq!(
+        error.to_string(),
+        "deps[0].nested[1]: unknown_type_spans breaks lengths: so many"
+    );
 }
 
 #[test]
@@ -274,6 +308,149 @@ fn the_stored_graph_is_what_comes_out() {
             "another graph"
         );
     }
+}
+
+#[test]
+fn a_document_may_begin_with_a_graph() {
+    let first = whole();
+    let graph = first.graph.clone();
+    let second = first.then(vec![Command::PackageOrder]);
+    let written = second.to_json();
+    assert_eq!(
+        value(&written)["resolve"],
+        value(&stored("kinds.out.json"))["resolve"]
+    );
+    assert_eq!(Document::from_json(&written).expect("a document"), second);
+    if let Some(run) = carried_out(&second) {
+        let order = [0, 1].map(PackageId::from_index);
+        assert_eq!(run.replies, [Reply::Packages(order.to_vec())]);
+        assert_eq!(format!("{:?}", run.graph), format!("{graph:?}"));
+    }
+}
+
+#[test]
+fn what_goes_on_is_what_one_document_says() {
+    let push = |text: &str| {
+        let mut made = PackageBuilder::new(name(text));
+        let types = made.interface("types");
+        made.record(types, "item", [("name", Type::String)]);
+        let mut group = UnresolvedPackageGroup::from(made.finish());
+        group.source_map.push_str("a.wit", "interface types {}\n");
+        Command::PushGroups {
+            main: group,
+            deps: vec![],
+        }
+    };
+    let rule = Command::SetTrackRule(TrackRule::WithPrereleases);
+    let feature = Command::AddFeature("fancy".to_owned());
+    let (one, two) = (
+        [rule, feature, push("a:b")],
+        [push("a:b"), push("a:c@1.0.0")],
+    );
+    let all: Vec<_> = one.iter().chain(&two).cloned().collect();
+    let (Some(first), Some(whole)) = (
+        carried_out(&of_commands(&one)),
+        carried_out(&of_commands(&all)),
+    ) else {
+        return;
+    };
+    let before = first.replies.clone();
+    assert_eq!(first.graph.track_rule, TrackRule::WithPrereleases);
+    let last = carried_out(&first.then(two.to_vec())).expect("a run");
+    assert_eq!([before, last.replies].concat(), whole.replies);
+    assert_eq!(format!("{:?}", last.graph), format!("{:?}", whole.graph));
+    // each push brings its file, one that is refused too
+    assert_eq!(whole.graph.source_map.source_names().count(), 3);
+}
+
+#[test]
+fn a_package_that_lacks_its_shape_is_told() {
+    let mut made = PackageBuilder::new(name("a:b"));
+    made.interface("first");
+    let second = made.interface("second");
+    made.function(second, "f", [], None).name = "g".to_owned();
+    let push = Command::PushGroups {
+        main: PackageBuilder::new(name("a:c")).finish().into(),
+        deps: vec![made.finish().into()],
+    };
+    let Some(Run { replies, graph }) = carried_out(&of_commands(&[push])) else {
+        return;
+    };
+    let Reply::NotShaped(fault) = &replies[0] else {
+        panic!("{replies:?}")
+    };
+    assert_eq!(fault.path.to_string(), "deps[0].main");
+    assert_eq!(fault.clause, "owners.functions");
+    assert_eq!(fault.place, "interfaces[1].functions[0]");
+    assert_eq!(fault.text, "a function stands under its name");
+    assert_eq!(graph, Resolve::default());
+}
+
+#[test]
+fn a_graph_that_is_not_valid_is_a_fault() {
+    let text = r#"{"resolve": {"graph": {"worlds": [], "interfaces": [], "types": [],
+        "packages": [{"name": "a:b", "interfaces": {"i": 0}, "worlds": {}}]}}, "commands": []}"#;
+    let document = Document::from_json(text).expect("a document");
+    let Some(run) = outcome(&document) else {
+        return;
+    };
+    let Err(RunError::Fault(fault)) = run else {
+        panic!("{run:?}")
+    };
+    assert_eq!(fault.path.to_string(), "resolve.graph");
+    assert_eq!(fault.expected, "a valid graph");
+}
+
+#[test]
+fn an_interface_may_have_the_name_of_a_label() {
+    let graph = r#"{"worlds":[{"name":"w","imports":{"interface-1":{"interface":{"id":0}},"interface-1":{"interface":{"id":1}}},"exports":{},"package":0}],"#;
+    let details = r#""details":{"worlds":[{"imports":{"interface-1":{"span":[1,2]},"interface-1":{"span":[3,4]}},"exports":{}}],"#;
+    let text = format!(
+        r#"{{"graph":{graph}"interfaces":[{}],"types":[],"packages":[{}]}},{details}"interfaces":[{}],"types":[]}}}}"#,
+        [
+            r#"{"name":"i","types":{},"functions":{},"package":0}"#,
+            r#"{"name":"j","types":{},"functions":{},"package":0}"#
+        ]
+        .join(","),
+        r#"{"name":"a:b","interfaces":{"i":0,"j":1},"worlds":{"w":0}}"#,
+        [r#"{"functions":{}}"#; 2].join(","),
+    );
+    let graph: Resolve = serde_json::from_str(&text).expect("a graph");
+    let (_, world) = graph.worlds.iter().next().expect("a world");
+    let spans = world.imports.values().map(|it| it.span().start());
+    assert!(spans.eq([Some(1), Some(3)]));
+    let keys: Vec<_> = world.imports.keys().cloned().collect();
+    let label = WorldKey::Name("interface-1".to_owned());
+    assert_eq!(keys, [label, WorldKey::Interface(Id::from_index(1))]);
+    let written = serde_json::to_string(&graph).expect("JSON");
+    assert!(written.contains(&text[1..text.len() - 1]), "{written}");
+}
+
+#[test]
+fn details_may_stand_in_the_graph_and_are_of_it() {
+    let read = |details: &str| {
+        let text = format!(
+            r#"{{"graph":{{"worlds":[{{"name":"w","imports":{{}},"exports":{{}},"package":0,"span":[5,6]}}],"interfaces":[],"types":[],
+            "packages":[{{"name":"a:b","interfaces":{{}},"worlds":{{"w":0}}}}]}}{details}}}"#
+        );
+        serde_json::from_str::<Resolve>(&text)
+    };
+    let graph = read("").expect("a graph");
+    let world = &graph.worlds[Id::from_index(0)];
+    assert_eq!(world.span, Span::new(5, 6));
+    assert_eq!(graph.track_rule, TrackRule::Published);
+    let beside = |worlds: &str| {
+        let rest = r#""interfaces":[],"types":[]"#;
+        read(&format!(
+            r#","details":{{"worlds":[{worlds}],{rest}}},"track-rule":"with-prereleases""#
+        ))
+    };
+    let graph = beside(r#"{"span":[7,8],"imports":{},"exports":{}}"#).expect("a graph");
+    assert_eq!(graph.worlds[Id::from_index(0)].span, Span::new(7, 8));
+    assert_eq!(graph.track_rule, TrackRule::WithPrereleases);
+    assert!(beside("").is_err());
+    let error = beside(r#"{"imports":{"x":{}},"exports":{}}"#).expect_err("no import");
+    assert!(error.to_string().contains("the details of imports"));
 }
 
 /// A package that uses another one, with something of most kinds.

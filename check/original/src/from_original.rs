@@ -3,7 +3,8 @@
 use wit_parser as wp;
 use witgraph as wg;
 
-pub fn resolve(from: &wp::Resolve) -> wg::Resolve {
+/// A graph, with the files that it has: wit-parser tells their paths alone.
+pub fn resolve(from: &wp::Resolve, source_map: wg::SourceMap) -> wg::Resolve {
     wg::Resolve {
         worlds: from.worlds.iter().map(|(_, it)| world(it)).collect(),
         interfaces: from
@@ -20,7 +21,8 @@ pub fn resolve(from: &wp::Resolve) -> wg::Resolve {
             .collect(),
         features: from.features.iter().cloned().collect(),
         all_features: from.all_features,
-        source_names: from.source_map.source_names().map(str::to_owned).collect(),
+        track_rule: wg::TrackRule::Published,
+        source_map,
     }
 }
 

@@ -1,18 +1,78 @@
-//! Unresolved packages as wit-parser's own.
+//! Unresolved packages, and graphs, as wit-parser's own.
 
 use crate::ids::Ids;
 use wit_parser as wp;
 use witgraph as wg;
 
 pub fn group(from: &wg::UnresolvedPackageGroup) -> wp::UnresolvedPackageGroup {
-    let mut source_map = wp::SourceMap::default();
-    for source in from.source_map.sources() {
-        source_map.push_str(&source.path, source.text.clone());
-    }
     wp::UnresolvedPackageGroup {
         main: package(&from.main),
         nested: from.nested.iter().map(package).collect(),
-        source_map,
+        source_map: source_map(&from.source_map),
+    }
+}
+
+fn source_map(from: &wg::SourceMap) -> wp::SourceMap {
+    let mut made = wp::SourceMap::default();
+    for source in from.sources() {
+        made.push_str(&source.path, source.text.clone());
+    }
+    made
+}
+
+/// A graph with its features and files. Of which interface another one is a copy no document tells.
+pub fn resolve(from: &wg::Resolve) -> wp::Resolve {
+    let mut made = wp::Resolve::new();
+    let ids = Ids {
+        types: places(&mut made.types, from.types.len(), no_type),
+        interfaces: places(&mut made.interfaces, from.interfaces.len(), no_interface),
+        worlds: places(&mut made.worlds, from.worlds.len(), no_world),
+    };
+    let packages = from.packages.iter();
+    let packages: Vec<_> = packages
+        .map(|(_, it)| made.packages.alloc(package_of_graph(it, &ids)))
+        .collect();
+    let package_of = |id: Option<wg::PackageId>| id.map(|it| packages[it.index()]);
+    for (id, it) in from.types.iter() {
+        made.types[ids.ty(id)] = type_def(it, &ids);
+    }
+    for (id, it) in from.interfaces.iter() {
+        made.interfaces[ids.interface(id)] = wp::Interface {
+            package: package_of(it.package),
+            ..interface(it, &ids)
+        };
+    }
+    for (id, it) in from.worlds.iter() {
+        made.worlds[ids.world(id)] = wp::World {
+            package: package_of(it.package),
+            ..world(it, &ids)
+        };
+    }
+    let names = from.packages.iter().map(|(_, it)| package_name(&it.name));
+    made.package_names = names.zip(packages).collect();
+    made.features.extend(from.features.iter().cloned());
+    made.all_features = from.all_features;
+    made.source_map = source_map(&from.source_map);
+    made
+}
+
+/// So many places of an arena, to be filled.
+fn places<T>(arena: &mut wp::Arena<T>, count: usize, empty: fn() -> T) -> Vec<wp::Id<T>> {
+    (0..count).map(|_| arena.alloc(empty())).collect()
+}
+
+fn package_of_graph(from: &wg::Package, ids: &Ids) -> wp::Package {
+    let interfaces = from.interfaces.iter();
+    let worlds = from.worlds.iter();
+    wp::Package {
+        name: package_name(&from.name),
+        docs: docs(&from.docs),
+        interfaces: interfaces
+            .map(|(name, it)| (name.clone(), ids.interface(*it)))
+            .collect(),
+        worlds: worlds
+            .map(|(name, it)| (name.clone(), ids.world(*it)))
+            .collect(),
     }
 }
 
@@ -27,15 +87,9 @@ pub fn package_name(from: &wg::PackageName) -> wp::PackageName {
 fn package(from: &wg::UnresolvedPackage) -> wp::UnresolvedPackage {
     let mut made = empty(from);
     let ids = Ids {
-        types: (from.types.iter())
-            .map(|_| made.types.alloc(no_type()))
-            .collect(),
-        interfaces: (from.interfaces.iter())
-            .map(|_| made.interfaces.alloc(no_interface()))
-            .collect(),
-        worlds: (from.worlds.iter())
-            .map(|_| made.worlds.alloc(no_world()))
-            .collect(),
+        types: places(&mut made.types, from.types.len(), no_type),
+        interfaces: places(&mut made.interfaces, from.interfaces.len(), no_interface),
+        worlds: places(&mut made.worlds, from.worlds.len(), no_world),
     };
     for (id, it) in from.types.iter() {
         made.types[ids.ty(id)] = type_def(it, &ids);

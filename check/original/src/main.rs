@@ -1,7 +1,9 @@
-//! Reads a document of docs/JSON.md from standard input, carries out its commands by wit-parser's `Resolve`, and writes
-//! what it answers and the graph that it has then, as `witgraph_json` does.
+//! Reads a document of docs/JSON.md from standard input, carries out its commands by wit-parser's `Resolve`, on the graph
+//! with which it begins or an empty one, and writes what it answers and the graph that it has then, as `witgraph_json`
+//! does.
 //!
-//! - A document is one that `witgraph_json` reads, with packages that have their shape; neither is asked again.
+//! - A document is one that `witgraph_json` reads, with a graph that is valid and packages that have their shape; none of
+//!   this is asked again.
 //! - Of a refusal it has the text, the span, how it is shown, and the number where wit-parser has a kind of its own for
 //!   it (1 to 8), else `null`.
 //! - Where a call panics the reply is `{"panic": TEXT}`. Before each command its place is written to standard error, as
@@ -13,6 +15,7 @@ mod from_original;
 mod ids;
 mod into_original;
 mod questions;
+mod texts;
 
 use serde_json::{json, Value};
 use std::collections::HashSet;
@@ -20,6 +23,7 @@ use std::error::Error;
 use std::io;
 use std::panic::{catch_unwind, set_hook, AssertUnwindSafe};
 use std::sync::Mutex;
+use texts::Texts;
 use wit_parser::*;
 use witgraph::{Command, Document};
 
@@ -29,10 +33,15 @@ static TOLD: Mutex<String> = Mutex::new(String::new());
 fn main() -> Result<(), Box<dyn Error>> {
     let document = Document::from_json(&io::read_to_string(io::stdin())?)?;
     set_hook(Box::new(|it| tell(it.to_string())));
-    let mut resolve = Resolve::new();
-    let replies = run(&mut resolve, &document.commands, "");
+    let (mut resolve, mut texts) = (Resolve::new(), Texts::default());
+    if let Some(begin) = document.resolve {
+        resolve = into_original::resolve(&begin);
+        texts = Texts::of(begin.source_map);
+    }
+    let replies = run(&mut resolve, &mut texts, &document.commands, "");
     let replies = serde_json::to_string(&replies)?;
-    let resolve = serde_json::to_string(&from_original::resolve(&resolve))?;
+    let resolve = from_original::resolve(&resolve, texts.into_sources());
+    let resolve = serde_json::to_string(&resolve)?;
     println!("{{\"replies\":{replies},\"resolve\":{resolve}}}");
     Ok(())
 }
@@ -46,26 +55,29 @@ fn tell(text: String) {
 
 /// The replies to commands. Each is told on standard error before it is begun, so that a reader knows which one ends
 /// the process, or doesn't end.
-fn run(resolve: &mut Resolve, commands: &[Command], above: &str) -> Vec<Value> {
+fn run(resolve: &mut Resolve, texts: &mut Texts, commands: &[Command], above: &str) -> Vec<Value> {
     let mut replies = Vec::new();
     for (number, command) in commands.iter().enumerate() {
         let place = format!("{above}{number}");
         eprintln!("{place}");
-        replies.push(reply(resolve, command, &place));
+        replies.push(reply(resolve, texts, command, &place));
     }
     replies
 }
 
-fn reply(resolve: &mut Resolve, command: &Command, place: &str) -> Value {
+fn reply(resolve: &mut Resolve, texts: &mut Texts, command: &Command, place: &str) -> Value {
     let Command::Merge(commands) = command else {
-        return guarded(resolve, |it| step(it, command));
+        let answer = guarded(resolve, |it| step(it, command));
+        texts.follow(&resolve.source_map, texts::of_command(command));
+        return answer;
     };
-    let mut other = Resolve::new();
-    let replies = run(&mut other, commands, &format!("{place}."));
+    let (mut other, mut other_texts) = (Resolve::new(), Texts::default());
+    let replies = run(&mut other, &mut other_texts, commands, &format!("{place}."));
     eprintln!("{place}");
     let last = guarded(resolve, |it| {
         Ok(json!({ "merged": remap(&it.merge(other)?) }))
     });
+    texts.follow(&resolve.source_map, other_texts.into_sources().sources());
     json!({ "merge": { "replies": replies, "reply": last } })
 }
 

@@ -1,5 +1,6 @@
 -- Lists and tables of which the first things are completed, one more at a time.
-use Rattle.std.proofs.Common.{◌≡◌, ◌∙◌, ◌<◌, ◌≤◌, ◌+◌, ℕ, zero, suc, Bool, true, false, List, [], ◌∷◌, ◌++◌, drop, length, map, Some, Ok, Err, refl, sym, ap, subst, slice_get, slice_set, bytes_eq, append-nil, append_assoc, arith, if◌then◌else◌}
+use Rattle.std.proofs.Common.{◌≡◌, ◌∙◌, ◌<◌, ◌≤◌, ◌+◌, ℕ, zero, suc, Bool, true, false, List, [], ◌∷◌, ◌++◌, drop, length, Some, Ok, Err, refl, sym, ap, subst, slice_get, slice_set, bytes_eq, append_assoc, arith, if◌then◌else◌}
+use Rattle.std.specs.Map.{values_of}
 use Rattle.indexmap.specs.IndexMap.{set_value_at}
 use Rattle.wit_values.specs.facts.Lists.{slice_get-behind}
 use Rattle.json.specs.Json.{Items, Json, Members}
@@ -27,7 +28,7 @@ module _ {A : Type 0} where
   one_more done x (Err fault) = refl
 
   -- what stands at an index, and what is behind it
-  next_of : (xs : List A) (i : ℕ) → i < length xs → (x : A) × (drop i xs ≡ x ∷ drop (suc i) xs)
+  pub next_of : (xs : List A) (i : ℕ) → i < length xs → (x : A) × (drop i xs ≡ x ∷ drop (suc i) xs)
   next_of [] i small = absurd (omega (arith, small))
   next_of (x ∷ xs) zero small = (x, refl)
   next_of (x ∷ xs) (suc i) small = next_of xs i (omega (arith, small))
@@ -59,6 +60,12 @@ module _ {K A : Type 0} where
   set_value_behind : (done rest : List (K × A)) (k : K) (x y : A) → set_value_at (done ++ (k, x) ∷ rest) (length done) y ≡ done ++ (k, y) ∷ rest
   set_value_behind [] rest k x y = refl
   set_value_behind (d ∷ done) rest k x y = ap (λ (es : List (K × A)). d ∷ es) (set_value_behind done rest k x y)
+
+  -- the value that is lent is that of the entry
+  pub lent_at : (es : List (K × A)) (i : ℕ) (k : K) (x lent : A) → slice_get (values_of es) i ≡ Some lent → slice_get es i ≡ Some (k, x) → slice_get es i ≡ Some (k, lent)
+  lent_at [] i k x lent held at = cc
+  lent_at (e ∷ es) zero k x lent held at = cc
+  lent_at (e ∷ es) (suc i) k x lent held at = lent_at es i k x lent held at
 
 -- ---- lists
 

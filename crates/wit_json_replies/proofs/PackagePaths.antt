@@ -1,5 +1,5 @@
 -- The path to a package, and members that are written last.
-use Rattle.std.proofs.Common.{◌≡◌, ◌∙◌, ℕ, List, [], ◌∷◌, ◌++◌, Option, None, Some, OnOk, Result, Ok, Err, refl, sym, ap, append_assoc}
+use Rattle.std.proofs.Common.{◌≡◌, ◌∙◌, ℕ, List, [], ◌∷◌, ◌++◌, Option, None, Some, OnOk, Result, Ok, Err, refl, ap, append_assoc}
 use Rattle.json.specs.Token.{Token}
 use Rattle.json.specs.Token as token
 use Rattle.json.specs.Tree.{json_tokens}
@@ -29,6 +29,6 @@ path_closed (Ok x) a e group nested opens first second ends =
 path_closed (Err x) a e group nested opens first second ends = tt
 
 -- some members and then the last ones
-pub added_last : {E : Type 0} (r : Result (Unit {0}) E) {a b c : List Token} {ms ns : List Member} → Adds a b ms → OnOk r (Adds b c ns) → OnOk r (Adds a c (ms ++ ns))
-added_last (Ok x) first last = then_more first last
-added_last (Err x) first last = tt
+pub added_last : {E : Type 0} (r : Result (Unit {0}) E) {a b : List Token} {ms : List Member} (c : List Token) (ns : List Member) → Adds a b ms → OnOk r (Adds b c ns) → OnOk r (Adds a c (ms ++ ns))
+added_last (Ok x) c ns first last = then_more first last
+added_last (Err x) c ns first last = tt

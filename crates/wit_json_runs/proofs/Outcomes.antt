@@ -1,5 +1,5 @@
 -- From a text to what comes out.
-use Rattle.std.proofs.Common.{◌≡◌, ℕ, List, Result, Ok, Err, inl, inr, sym, subst}
+use Rattle.std.proofs.Common.{◌≡◌, ℕ, List, Ok, Err, inl, inr, subst}
 use Rattle.wit_resolve_graph.specs.State.{State}
 use Rattle.wit_json_reading.specs.Documents.{reading_of}
 use Rattle.wit_json_reading.specs.Reading.{Reads}
@@ -27,7 +27,7 @@ understood input text document state reads begins writes = record {
 }
 
 -- it can't be read
-pub read_faults : (input : List ℕ) (e : ReadError) → Reads {Document} (Err e) (reading_of document_of input) → TellsFaultOf input e
+pub read_faults : (input : List ℕ) (e : ReadError) → Reads {A = Document} (Err e) (reading_of document_of input) → TellsFaultOf input e
 read_faults input (error.Fault fault) reads = inl reads
 read_faults input error.OutOfMemory reads = tt
 

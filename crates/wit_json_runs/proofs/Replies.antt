@@ -1,5 +1,5 @@
 -- Answers one after another, and the answers to commands.
-use Rattle.std.proofs.Common.{◌≡◌, ℕ, suc, List, [], ◌∷◌, ◌++◌, Result, Ok, Err, refl, sym, ap, ◌∙◌, subst}
+use Rattle.std.proofs.Common.{◌≡◌, suc, List, [], ◌∷◌, ◌++◌, refl, sym, subst}
 use Rattle.std.specs.List.{AllByRecursion}
 use Rattle.wit_data.specs.Each.{Each}
 use Rattle.wit_data.specs.Shape.{IsGroupShaped}

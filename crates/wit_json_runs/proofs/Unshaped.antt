@@ -1,22 +1,20 @@
 -- The steps of searches for the first package that lacks its shape.
-use Rattle.std.proofs.Common.{◌≡◌, ◌∙◌, ◌<◌, ◌≤◌, ◌+◌, ℕ, List, Bool, false, length, get_or, Option, None, Some, Result, Ok, Err, slice_get, is_some, refl, sym, ap, subst, inl, inr}
+use Rattle.std.proofs.Common.{◌≡◌, ◌∙◌, ◌+◌, ℕ, List, false, Option, None, Some, Result, Ok, Err, slice_get, is_some, refl, sym, ap, subst, inr}
 use Rattle.std.specs.Prelude.{◌↔◌, IfOk, IsNone}
-use Rattle.std.proofs.lemmas.Option.{slice_get_read}
-use Rattle.wit_data.specs.Each.{Each, SomeAt}
+use Rattle.wit_data.specs.Each.{Each}
 use Rattle.wit_data.specs.Shape.{IsGroupShaped, IsShaped}
 use Rattle.wit_data.specs.declared.unresolved.UnresolvedPackage.{UnresolvedPackage}
 use Rattle.wit_data.specs.declared.unresolved.UnresolvedPackageGroup.{UnresolvedPackageGroup}
-use Rattle.wit_data.specs.facts.EachFacts.{EachBelow, SomeAt-is, SomeAt-of, all_of, one_more}
+use Rattle.wit_data.specs.facts.EachFacts.{EachBelow, SomeAt-is, SomeAt-of, one_more}
 use Rattle.wit_shape_faults.specs.Faults.{IsFirstFault}
 use Rattle.wit_shape_faults.specs.First.{IsFirstWithout}
 use Rattle.wit_shape_faults.specs.declared.fault.ShapeFault.{ShapeFault}
 use Rattle.wit_json_commands.specs.declared.changes.Change.{Change}
-use Rattle.wit_json_commands.specs.declared.changes.Change.TheVariants as change
 use Rattle.wit_json_replies.specs.declared.unshaped.Unshaped.{Unshaped}
 use Rattle.wit_json_replies.specs.declared.answers.Answer.TheVariants as answer
 use Rattle.wit_json_runs.specs.Runs.{AnswersChange}
 use Rattle.wit_json_runs.specs.Unshaped.{IsChangeShaped, IsGroupFault, IsPushFault}
-use Rattle.wit_json_runs.specs.steps.Searching.{IsAmongDeps, TellsChange, TellsDeps, TellsGroup, TellsNested, TellsPush, TellsUnless}
+use Rattle.wit_json_runs.specs.steps.Searching.{IsAmongDeps, TellsChange, TellsDeps, TellsGroup, TellsNested, TellsPush}
 use Rattle.wit_resolve_graph.specs.State.{State}
 
 -- what `find_shape_fault` ensures of a package
@@ -71,7 +69,7 @@ pub group_told : (g : UnresolvedPackageGroup) (inner : Option (ℕ × ShapeFault
     → TellsGroup g (Some (Some i, fault))
 group_told g inner i fault main told is =
     let there : TellsNested g.nested (Some (i, fault)) = subst (λ (o : Option (ℕ × ShapeFault)). TellsNested g.nested o) is told in
-    (λ shaped. there.0 shaped.nested, (main, there.1))
+    (λ shaped. there.0 shaped.nested, (main, there.1.0, there.1.1))
 
 -- all have it
 pub group_shaped : (g : UnresolvedPackageGroup) (inner : Option (ℕ × ShapeFault)) → IsShaped g.main → TellsNested g.nested inner → inner ≡ None → IsGroupShaped g
@@ -113,7 +111,7 @@ push_deps main deps shaped (Some it) told = (λ both. told.0 both.1, among it.gr
   where
     among : (group : Option ℕ) → IsAmongDeps deps group it.«package» it.fault → IsPushFault main deps group it.«package» it.fault
     among None is = absurd is
-    among (Some i) is = (shaped, is)
+    among (Some i) is = (shaped, is.0, is.1)
 
 -- the main one has it, and the others tell
 pub push_told : {E : Type 0} (main : UnresolvedPackageGroup) (deps : List UnresolvedPackageGroup) (inner : Option (Option ℕ × ShapeFault)) (r : Result (Option Unshaped) E) → TellsGroup main inner

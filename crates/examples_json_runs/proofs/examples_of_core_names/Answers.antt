@@ -1,11 +1,12 @@
-use Rattle.std.proofs.Common.{◌≡◌, ◌∷◌, [], ℕ, List, refl}
+use Rattle.std.proofs.Common.{◌∷◌, [], ℕ, List, ap, refl}
 use Rattle.std.specs.Fmt.{digits}
 use Rattle.wit_values.specs.facts.Lists.{differ}
-use Rattle.examples_json_runs.specs.Questions.{exported}
+use Rattle.wit_json_replies.specs.declared.core_names.CoreExport.{CoreExport}
 use Rattle.examples_json_runs.proofs.examples_of_core_names.Goals as goal
 
-name_inside : {a b : List ℕ} → exported a ∷ [] ≡ exported b ∷ [] → a ≡ b
-name_inside same = cc
+abbrev first_name : List CoreExport → List ℕ
+first_name [] = []
+first_name (e ∷ es) = e.name
 
 pub returns : goal.returns
 unfolding digits
@@ -14,6 +15,6 @@ returns c = record {
   exports = refl;
   standard = refl;
   lifted = refl;
-  not_stackful = λ same. differ _ _ refl (name_inside same);
+  not_stackful = λ same. differ _ _ refl (ap first_name same);
   no_world = refl;
 }

@@ -1,5 +1,6 @@
 use Rattle.std.proofs.Common.{◌≡◌, ℕ, List, refl}
 use Rattle.std.specs.Fmt.{digits}
+use Rattle.wit_digraph.specs.PostOrder.{post_order, post_order_within}
 use Rattle.wit_values.specs.facts.Lists.{differ}
 use Rattle.wit_json_replies.specs.declared.answers.Answer.TheVariants as answer
 use Rattle.examples_json_runs.proofs.examples_of_questions.Goals as goal
@@ -8,7 +9,7 @@ text_inside : {a b : List ℕ} → answer.Text a ≡ answer.Text b → a ≡ b
 text_inside same = cc
 
 pub returns : goal.returns
-unfolding digits
+unfolding digits post_order post_order_within
 returns c = record {
   both = refl;
   not_one = λ same. cc;

@@ -7,8 +7,8 @@ use Rattle.wit_json_runs.proofs.changes.answer_change.Goals as goal
 
 pub carry_out-requires : goal.carry_out-requires
 carry_out-requires c =
-    let shaped = change_shaped c.args.change _ c.in_ok-find_unshaped.ensures c.in-None.is in
+    let shaped = change_shaped c.args.change _ c.in_ok-unshaped.ensures c.in-None.is in
     subst (λ (it : Command). IsCommandShaped it) (sym c.command_of.ensures) (shaped_command c.args.change shaped)
 
 pub returns-in-Some : goal.returns-in-Some
-returns-in-Some c = lack_answered c.args.resolve.now c.args.change _ c.in-Some.unshaped c.in_ok-find_unshaped.ensures c.in-Some.is
+returns-in-Some c = lack_answered c.args.resolve.now c.args.change _ c.in-Some.unshaped c.in_ok-unshaped.ensures c.in-Some.is
