@@ -115,12 +115,20 @@ def reply_difference(programs, commands):
     ours, _ = run(programs[0], commands)
     theirs, ended = run(programs[1], commands)
     if theirs is None:
-        before = reply_difference(programs, commands[: ended[0]])
+        before = reply_difference(programs, commands[: ended[0]]) or inner_difference(programs, commands, ended[0])
         reply = dict(replies_of(commands, ours.replies)).get(ended)
         return before or Difference(commands, ended, reply, "no return")
     pairs = zip(replies_of(commands, ours.replies), replies_of(commands, theirs.replies))
     differ = (Difference(commands, place, one, other) for (place, one), (_, other) in pairs if is_otherwise(one, other))
     return next(differ, None)
+
+
+def inner_difference(programs, commands, at):
+    """The first command within a merge that the two answer otherwise, None where there is none: what the original makes of
+    one may be what it can't merge."""
+    command = commands[at]
+    inner = reply_difference(programs, command["merge"]) if isinstance(command, dict) and "merge" in command else None
+    return inner and Difference(commands, (at, *inner.place), inner.ours, inner.theirs)
 
 
 def is_otherwise(ours, theirs):
