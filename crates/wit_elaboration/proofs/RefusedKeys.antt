@@ -12,6 +12,7 @@ use Rattle.wit_digraph.specs.Relation.{direct, IsAcyclic}
 use Rattle.wit_digraph.specs.PostOrder.{post_order}
 use Rattle.wit_elaboration.specs.Entries.{Entry, item_interface}
 use Rattle.wit_elaboration.specs.laws.ElaborationLaws.{ConflictsAreRefused}
+use Rattle.wit_data.specs.Each.{First}
 use Rattle.wit_elaboration.specs.Imported.{IsEntryInConflict, IsRefusedKey, is_exported}
 use Rattle.wit_elaboration.proofs.ConflictIs.{conflict_found, conflict_from}
 use Rattle.wit_elaboration.proofs.ElaboratedIs.{own_keys}
@@ -104,9 +105,14 @@ module _ (uses : List (List ℕ)) (acyclic : IsAcyclic uses) (exports : List Ent
   -- where some export is in conflict there is a first
   pub refused_key : (e : Entry) → Contains exports e → IsEntryInConflict uses exports e → (k : WorldKey) × IsRefusedKey uses exports k
   refused_key e has conflict =
-      let first = first_of conflicts exports e has (is_conflicts e conflict) in (
+      let first = first_of conflicts exports e has (is_conflicts e conflict) in
+      let refused : First (IsEntryInConflict uses exports) exports first.found = record {
+        before = first.before; after = first.after; are = first.parts;
+        earlier = λ f among at. false≢true (sym (first.none f among) ∙ is_conflicts f at);
+        holds = conflicts_is first.found first.pass;
+      } in (
         first.found.0,
-        (first.before, first.found, first.after, first.parts, λ f among at. false≢true (sym (first.none f among) ∙ is_conflicts f at), conflicts_is first.found first.pass, refl),
+        (first.found, refused, refl),
       )
 
 pub conflicts_are_refused : ConflictsAreRefused
@@ -114,6 +120,7 @@ conflicts_are_refused types uses imports exports acyclic listed =
     let order = in_order types (length uses) imports exports listed in (
       λ conflict. let found = conflict_found uses exports conflict in refused_key uses acyclic exports found.0 found.1 found.2,
       λ refused.
-          let parts = refused.1 in
-          conflict_from uses exports (own_keys types uses acyclic imports exports order) parts.1 (subst (λ (es : List Entry). Contains es parts.1) (sym parts.3) (Contains-append_right parts.0 (parts.1 ∷ parts.2) parts.1 (Contains-here parts.1 parts.2))) parts.5,
+          let e = refused.1.0 in
+          let first = refused.1.1 in
+          conflict_from uses exports (own_keys types uses acyclic imports exports order) e (subst (λ (es : List Entry). Contains es e) (sym first.are) (Contains-append_right first.before (e ∷ first.after) e (Contains-here e first.after))) first.holds,
     )

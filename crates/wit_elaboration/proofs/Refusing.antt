@@ -12,7 +12,8 @@ use Rattle.wit_elaboration.specs.steps.Elaborating.{IsFirstConflict}
 use Rattle.wit_elaboration.specs.Elaboration.{graph_uses, HasConflictAt, IsConflictError, IsErrorAt}
 use Rattle.wit_elaboration.specs.Entries.{Entry}
 use Rattle.wit_graph_data.specs.IdText.{key_text}
-use Rattle.wit_elaboration.specs.Imported.{HasTransitiveConflict, IsRefusedKey, IsRefusedName}
+use Rattle.wit_data.specs.Each.{First}
+use Rattle.wit_elaboration.specs.Imported.{HasTransitiveConflict, IsEntryInConflict, IsRefusedKey, IsRefusedName}
 use Rattle.wit_elaboration.specs.Sound.{HasSoundEntries}
 use Rattle.wit_elaboration.proofs.ConflictIs.{conflict_found, conflict_from}
 use Rattle.wit_elaboration.proofs.ElaboratedIs.{interfaces_below, keys_below, own_keys}
@@ -54,7 +55,10 @@ module _ (g : Graph) (uses : List (List ℕ)) (w : World) (acyclic : IsAcyclic u
       let own = own_keys g.types uses acyclic w.imports w.exports (in_order g.types (length uses) w.imports w.exports listed) in
       let same : found.0 ≡ error.0 = one_at w.exports at found.0 error.0 found.1 error.1 in
       let conflict = conflict_from uses w.exports own found.0 (contains_at w.exports at found.0 found.1) found.2 in
-      let refused : IsRefusedKey uses w.exports error.0.0 = (take at w.exports, found.0, drop (suc at) w.exports, split_at w.exports at found.0 found.1, found.3, found.2, ap (λ (f : Entry). f.0) (sym same)) in
+      let first : First (IsEntryInConflict uses w.exports) w.exports found.0 = record {
+        before = take at w.exports; after = drop (suc at) w.exports; are = split_at w.exports at found.0 found.1; earlier = found.3; holds = found.2;
+      } in
+      let refused : IsRefusedKey uses w.exports error.0.0 = (found.0, first, ap (λ (f : Entry). f.0) (sym same)) in
       subst (λ (kind : ResolveErrorKind). IsConflictError g w kind) (sym error.2)
       (subst (λ us. HasTransitiveConflict us w.exports) uses_are conflict, refl, subst (λ us. IsRefusedName g.packages g.interfaces us w.exports (key_text g.packages g.interfaces error.0.0)) uses_are (error.0.0, refused, refl))
     where

@@ -127,39 +127,23 @@ a_under_label conflict =
 pub worked_conflicts : WorkedConflicts
 worked_conflicts = record {
   c_refused = (
-    a ∷ [],
     c,
-    [],
-    refl,
-    only_a (a ∷ c ∷ []),
-    (2, Contains-here 2 [], c_leads (a ∷ c ∷ []) (lacks 1 (0 ∷ 2 ∷ []) refl) (Contains-here 0 (2 ∷ []))),
+    record { before = a ∷ []; after = []; are = refl; earlier = only_a (a ∷ c ∷ []); holds = (2, Contains-here 2 [], c_leads (a ∷ c ∷ []) (lacks 1 (0 ∷ 2 ∷ []) refl) (Contains-here 0 (2 ∷ []))) },
     refl,
   );
   d_refused = (
-    [],
     d,
-    a ∷ [],
-    refl,
-    λ f has conflict. Contains-nil has,
-    (3, Contains-here 3 [], d_leads (d ∷ a ∷ []) (lacks 1 (3 ∷ 0 ∷ []) refl) (Contains-there 3 0 (0 ∷ []) (Contains-here 0 []))),
+    record { before = []; after = a ∷ []; are = refl; earlier = λ f has conflict. Contains-nil has; holds = (3, Contains-here 3 [], d_leads (d ∷ a ∷ []) (lacks 1 (3 ∷ 0 ∷ []) refl) (Contains-there 3 0 (0 ∷ []) (Contains-here 0 []))) },
     refl,
   );
   d_refused_last = (
-    a ∷ [],
     d,
-    [],
-    refl,
-    only_a (a ∷ d ∷ []),
-    (3, Contains-here 3 [], d_leads (a ∷ d ∷ []) (lacks 1 (0 ∷ 3 ∷ []) refl) (Contains-here 0 (3 ∷ []))),
+    record { before = a ∷ []; after = []; are = refl; earlier = only_a (a ∷ d ∷ []); holds = (3, Contains-here 3 [], d_leads (a ∷ d ∷ []) (lacks 1 (0 ∷ 3 ∷ []) refl) (Contains-here 0 (3 ∷ []))) },
     refl,
   );
   label_passed = (
-    labelled 1 ∷ a ∷ [],
     c,
-    [],
-    refl,
-    b_and_a (labelled 1 ∷ a ∷ c ∷ []) (Contains-here 0 (2 ∷ [])),
-    (2, Contains-here 2 [], c_leads (labelled 1 ∷ a ∷ c ∷ []) (lacks 1 (0 ∷ 2 ∷ []) refl) (Contains-here 0 (2 ∷ []))),
+    record { before = labelled 1 ∷ a ∷ []; after = []; are = refl; earlier = b_and_a (labelled 1 ∷ a ∷ c ∷ []) (Contains-here 0 (2 ∷ [])); holds = (2, Contains-here 2 [], c_leads (labelled 1 ∷ a ∷ c ∷ []) (lacks 1 (0 ∷ 2 ∷ []) refl) (Contains-here 0 (2 ∷ []))) },
     refl,
   );
   c_in_conflict = (

@@ -2,8 +2,9 @@
 -- Source: the documentation of `elaborate_world_exports` of wit-parser 0.263.0. Here only keys that
 -- are interfaces can be in conflict, and the refused name is that of the first export that reaches
 -- the conflict.
-use Rattle.std.specs.Prelude.{ℕ, ◌≡◌, Bool, List, ◌∷◌, ◌++◌, nat_eq, Contains}
+use Rattle.std.specs.Prelude.{ℕ, ◌≡◌, Bool, List, nat_eq, Contains}
 use Rattle.std.specs.List.{list_any}
+use Rattle.wit_data.specs.Each.{First}
 use Rattle.wit_data.specs.declared.interface.Interface.{Interface}
 use Rattle.wit_data.specs.declared.world.WorldKey.{WorldKey}
 use Rattle.wit_digraph.specs.Relation.{direct, Reaches}
@@ -44,12 +45,7 @@ IsEntryInConflict uses exports e =
 
 -- the refused key is that of the first export that leads to the conflict
 abbrev pub IsRefusedKey : List (List ℕ) → List Entry → WorldKey → Type 0
-IsRefusedKey uses exports k =
-    (before : List Entry) × (e : Entry) × (after : List Entry)
-    × (exports ≡ before ++ e ∷ after)
-    × ((f : Entry) → Contains before f → IsEntryInConflict uses exports f → ⊥)
-    × IsEntryInConflict uses exports e
-    × (k ≡ e.0)
+IsRefusedKey uses exports k = (e : Entry) × First (IsEntryInConflict uses exports) exports e × (k ≡ e.0)
 
 -- the refused name: the key as it is named
 abbrev pub IsRefusedName : List Package → List Interface → List (List ℕ) → List Entry → List ℕ → Type 0
