@@ -22,5 +22,5 @@ IsInRange uses = (i : ℕ) → All (λ j. j < length uses) (direct uses i)
 
 -- every use is of a node that is there, and no path leads from a node by its uses back to it
 pub record IsAcyclic (uses : List (List ℕ)) : Type 0 where
-  pub in_range : (i : ℕ) → All (λ j. j < length uses) (direct uses i)
+  pub in_range : IsInRange uses
   pub no_cycle : (i k : ℕ) (path : List ℕ) → IsPath uses i (k ∷ path) i → ⊥

@@ -21,25 +21,16 @@ contains_at (y ∷ ys) zero x at = (0, omega arith, cc)
 contains_at (y ∷ ys) (suc i) x at = let there = contains_at ys i x at in (suc there.0, omega (arith, there.1), there.2)
 
 -- the error of one world is that of the graph
-pub refused_world : (g : Graph) (i : ℕ) (world : World) (e : ResolveErrorKind) → slice_get g.worlds i ≡ Some world → IsConflictError g world e → (e ≡ OutOfMemory) ⊎ IsRefusedWorld g e
-refused_world g i world (InvalidTransitiveDependency span name) at cause = inr (record {
+pub refused_world : (g : Graph) (i : ℕ) (world : World) (e : ResolveErrorKind) → slice_get g.worlds i ≡ Some world → (e ≡ OutOfMemory) ⊎ IsConflictError g world e → (e ≡ OutOfMemory) ⊎ IsRefusedWorld g e
+refused_world g i world e at (inl none) = inl none
+refused_world g i world e at (inr cause) = inr (record {
   world = world;
   there = contains_at g.worlds i world at;
-  conflict = cause.0;
-  name = name;
-  name_is = cause.2;
-  error_is = ap (λ (s : Option (ℕ × ℕ)). InvalidTransitiveDependency s name) cause.1;
+  conflict = cause.2;
+  name = cause.0;
+  name_is = cause.3;
+  error_is = cause.1;
 })
-refused_world g i world OutOfMemory at cause = inl refl
-refused_world g i world (PackageNotFound span requested known) at cause = absurd cause
-refused_world g i world (WorldNotFound span requested home) at cause = absurd cause
-refused_world g i world (InterfaceNotFound span requested home) at cause = absurd cause
-refused_world g i world (DuplicatePackage name span1 span2) at cause = absurd cause
-refused_world g i world (PackageCycle span home) at cause = absurd cause
-refused_world g i world (ItemShadowing span item_type name) at cause = absurd cause
-refused_world g i world (StabilityMismatch span from into) at cause = absurd cause
-refused_world g i world (Semantic span message c) at cause = absurd cause
-refused_world g i world OffsetOverflow at cause = absurd cause
 
 -- ---- lists that are put in place
 

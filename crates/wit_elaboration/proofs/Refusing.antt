@@ -59,8 +59,12 @@ module _ (g : Graph) (uses : List (List ℕ)) (w : World) (acyclic : IsAcyclic u
         before = take at w.exports; after = drop (suc at) w.exports; are = split_at w.exports at found.0 found.1; earlier = found.3; holds = found.2;
       } in
       let refused : IsRefusedKey uses w.exports error.0.0 = (found.0, first, ap (λ (f : Entry). f.0) (sym same)) in
-      subst (λ (kind : ResolveErrorKind). IsConflictError g w kind) (sym error.2)
-      (subst (λ us. HasTransitiveConflict us w.exports) uses_are conflict, refl, subst (λ us. IsRefusedName g.packages g.interfaces us w.exports (key_text g.packages g.interfaces error.0.0)) uses_are (error.0.0, refused, refl))
+      let named : IsRefusedName g.packages g.interfaces uses w.exports (key_text g.packages g.interfaces error.0.0) = (error.0.0, refused, refl) in (
+        key_text g.packages g.interfaces error.0.0,
+        error.2,
+        subst (λ us. HasTransitiveConflict us w.exports) uses_are conflict,
+        subst (λ us. IsRefusedName g.packages g.interfaces us w.exports (key_text g.packages g.interfaces error.0.0)) uses_are named,
+      )
     where
       one_at : (es : List Entry) (i : ℕ) (a b : Entry) → slice_get es i ≡ Some a → slice_get es i ≡ Some b → a ≡ b
       one_at es i a b first second = cc

@@ -7,7 +7,7 @@ use Rattle.wit_digraph.specs.Relation.{IsAcyclic}
 use Rattle.wit_elaboration.specs.declared.entries.Lists.{Lists}
 use Rattle.wit_graph_data.specs.declared.graph.Graph.{Graph}
 use Rattle.wit_graph_data.specs.declared.error_kind.ResolveErrorKind.{ResolveErrorKind}
-use Rattle.wit_graph_data.specs.declared.error_kind.ResolveErrorKind.TheVariants.{InvalidTransitiveDependency, OutOfMemory}
+use Rattle.wit_graph_data.specs.declared.error_kind.ResolveErrorKind.TheVariants.{InvalidTransitiveDependency}
 use Rattle.wit_elaboration.specs.Elaborated.{Elaborated, with_elaborated_lists}
 use Rattle.wit_elaboration.specs.Entries.{Entry}
 use Rattle.wit_graph_data.specs.IdText.{key_text}
@@ -33,17 +33,16 @@ ElaboratesWorld old id new =
     (before : World) × (after : World) × (slice_get old.worlds id ≡ Some before) × Elaborated old.types (graph_uses old) before after
     × (new ≡ record old { worlds = slice_set old.worlds id after })
 
--- memory is wanting, or the world has a conflict, and the error has the world's span and the name of the first export
--- that leads to it
+-- the exports of a world are in conflict, and the error has its span and the name of the first export that leads there
 abbrev pub IsConflictError : Graph → World → ResolveErrorKind → Type 0
-IsConflictError g world (InvalidTransitiveDependency span name) =
-    HasTransitiveConflict (graph_uses g) world.exports × (span ≡ world.span) × IsRefusedName g.packages g.interfaces (graph_uses g) world.exports name
-IsConflictError g world OutOfMemory = Unit {0}
-IsConflictError g world _ = ⊥
+IsConflictError g world error =
+    (name : List ℕ) × (error ≡ InvalidTransitiveDependency world.span name)
+    × HasTransitiveConflict (graph_uses g) world.exports
+    × IsRefusedName g.packages g.interfaces (graph_uses g) world.exports name
 
--- an error by which the elaboration of world id is refused
+-- the exports of world id are in conflict, and the error says so
 abbrev pub IsElaborationError : Graph → ℕ → ResolveErrorKind → Type 0
-IsElaborationError g id kind = ForSome (slice_get g.worlds id) (λ (world : World). IsConflictError g world kind)
+IsElaborationError g id error = ForSome (slice_get g.worlds id) (λ (world : World). IsConflictError g world error)
 
 -- the error that names the export at a place
 abbrev pub IsErrorAt : Graph → World → ℕ → ResolveErrorKind → Type 0

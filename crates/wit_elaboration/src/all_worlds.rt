@@ -69,7 +69,7 @@ fn new_lists(
     requires listed { HasSoundEntries graph.now.types (length graph.now.interfaces) world.now.imports world.now.exports }
     ensures lists { IfOk result (λ lists. with_lists world.now lists ≡ elaborated_world graph.now world.now) }
     ensures no_conflict { OnOk result (HasTransitiveConflict (graph_uses graph.now) world.now.exports → ⊥) }
-    ensures cause { IfErr result (IsConflictError graph.now world.now) }
+    ensures cause { IfErr result (λ e. (e ≡ OutOfMemory) ⊎ IsConflictError graph.now world.now e) }
     ensures same { elaborator.new ≡ elaborator.old }
 {
     let complete = elaborator.is_complete(graph, world)?;

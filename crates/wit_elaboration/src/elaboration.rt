@@ -2,7 +2,7 @@
 //!
 //! A listed world says what it imports and exports; its elaboration adds what these need. Imports
 //! get what they use before them, exports too, and what exports need from outside is imported.
-ghost use Rattle.std.specs.Prelude.{◌≡◌, ◌<◌, ◌++◌, ◌∷◌, [], IfOk, IfErr, IsTrue, OnOk, OnErr, length, take};
+ghost use Rattle.std.specs.Prelude.{◌≡◌, ◌⊎◌, ◌<◌, ◌++◌, ◌∷◌, [], IfOk, IfErr, IsTrue, OnOk, OnErr, length, take};
 ghost use Rattle.wit_elaboration.specs.Elaboration.{elaborated_world, ElaboratesWorld, HasConflictAt, IsConflictError, IsElaborationError, IsErrorAt, HasSoundEntriesAt, graph_uses};
 ghost use Rattle.wit_elaboration.specs.Elaborated.{elaborated_exports, elaborated_imports};
 ghost use Rattle.wit_elaboration.specs.steps.Elaborating.{HaveNodes, IsExportedList};
@@ -157,7 +157,7 @@ impl Elaborator {
         requires listed { HasSoundEntriesAt graph.old world }
         ensures ok { OnOk result (ElaboratesWorld graph.old world graph.new) }
         ensures err { OnErr result (graph.new ≡ graph.old) }
-        ensures cause { IfErr result (IsElaborationError graph.old world) }
+        ensures cause { IfErr result (λ e. (e ≡ OutOfMemory) ⊎ IsElaborationError graph.old world e) }
         ensures refuses { HasConflictAt graph.old world → OnOk result ⊥ }
         ensures same { self.new ≡ self.old }
     {
@@ -178,7 +178,7 @@ impl Elaborator {
         ensures no_conflict { OnOk result (HasTransitiveConflict (graph_uses graph.now) world.now.exports → ⊥) }
         ensures imports { IfOk result (λ lists. lists.imports ≡ elaborated_imports graph.now.types (graph_uses graph.now) world.now.imports world.now.exports) }
         ensures exports { IfOk result (λ lists. lists.exports ≡ elaborated_exports graph.now.types (graph_uses graph.now) world.now.exports) }
-        ensures cause { IfErr result (IsConflictError graph.now world.now) }
+        ensures cause { IfErr result (λ e. (e ≡ OutOfMemory) ⊎ IsConflictError graph.now world.now e) }
         ensures same { self.new ≡ self.old }
     {
         let uses = self.uses.as_slice();
@@ -309,7 +309,7 @@ pub fn elaborate(alloc: Global, graph: &mut Graph, world: WorldId) -> ResolveRes
     requires listed { HasSoundEntriesAt graph.old world }
     ensures ok { OnOk result (ElaboratesWorld graph.old world graph.new) }
     ensures err { OnErr result (graph.new ≡ graph.old) }
-    ensures cause { IfErr result (IsElaborationError graph.old world) }
+    ensures cause { IfErr result (λ e. (e ≡ OutOfMemory) ⊎ IsElaborationError graph.old world e) }
     ensures refuses { HasConflictAt graph.old world → OnOk result ⊥ }
 {
     let closure = Closure::of(alloc, graph)?;

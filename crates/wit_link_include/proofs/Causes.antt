@@ -63,19 +63,9 @@ label_cause g world kind (inr (inr error)) = inr (list_cause g world (codes "exp
 
 -- ---- the conflict
 
-pub conflict_cause : (g : Graph) (world : World) (kind : ResolveErrorKind) → IsConflictError g (with_setters_placed world) kind → (kind ≡ OutOfMemory) ⊎ IsFinishCause g world kind
-conflict_cause g world (PackageNotFound span requested known) is = absurd is
-conflict_cause g world (WorldNotFound span requested home) is = absurd is
-conflict_cause g world (InterfaceNotFound span requested home) is = absurd is
-conflict_cause g world (InvalidTransitiveDependency span name) is =
-    inr (subst (λ s. IsFinishCause g world (InvalidTransitiveDependency s name)) (sym is.1) (conflict_4 name is.0 is.2))
-conflict_cause g world (DuplicatePackage name span1 span2) is = absurd is
-conflict_cause g world (PackageCycle span home) is = absurd is
-conflict_cause g world (ItemShadowing span word name) is = absurd is
-conflict_cause g world (StabilityMismatch span from into) is = absurd is
-conflict_cause g world (Semantic span message why) is = absurd is
-conflict_cause g world OffsetOverflow is = absurd is
-conflict_cause g world OutOfMemory is = inl refl
+pub conflict_cause : (g : Graph) (world : World) (kind : ResolveErrorKind) → (kind ≡ OutOfMemory) ⊎ IsConflictError g (with_setters_placed world) kind → (kind ≡ OutOfMemory) ⊎ IsFinishCause g world kind
+conflict_cause g world kind (inl none) = inl none
+conflict_cause g world kind (inr is) = inr (subst (λ k. IsFinishCause g world k) (sym is.1) (conflict_4 is.0 is.2 is.3))
 
 -- ---- a world that is refused for nothing
 

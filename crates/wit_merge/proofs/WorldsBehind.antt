@@ -20,22 +20,14 @@ clear_more g worlds world clear here w has =
     ]
 
 -- the error of one of them is theirs
-pub refused_one : (g : Graph) (worlds : List World) (world : World) (e : ResolveErrorKind) → Contains worlds world → IsConflictError g world e → (e ≡ OutOfMemory) ⊎ IsRefusedWorld (record g { worlds = worlds }) e
-refused_one g worlds world (InvalidTransitiveDependency span name) there cause = inr (record {
+pub refused_one : (g : Graph) (worlds : List World) (world : World) (e : ResolveErrorKind) → Contains worlds world → (e ≡ OutOfMemory) ⊎ IsConflictError g world e → (e ≡ OutOfMemory) ⊎ IsRefusedWorld (record g { worlds = worlds }) e
+refused_one g worlds world e there (inl none) = inl none
+refused_one g worlds world e there (inr cause) = inr (record {
   world = world;
   there = there;
-  conflict = cause.0;
-  name = name;
-  name_is = cause.2;
-  error_is = ap (λ (s : Option (ℕ × ℕ)). InvalidTransitiveDependency s name) cause.1;
+  conflict = cause.2;
+  name = cause.0;
+  name_is = cause.3;
+  error_is = cause.1;
 })
-refused_one g worlds world OutOfMemory there cause = inl refl
-refused_one g worlds world (PackageNotFound span requested known) there cause = absurd cause
-refused_one g worlds world (WorldNotFound span requested home) there cause = absurd cause
-refused_one g worlds world (InterfaceNotFound span requested home) there cause = absurd cause
-refused_one g worlds world (DuplicatePackage name span1 span2) there cause = absurd cause
-refused_one g worlds world (PackageCycle span home) there cause = absurd cause
-refused_one g worlds world (ItemShadowing span item_type name) there cause = absurd cause
-refused_one g worlds world (StabilityMismatch span from into) there cause = absurd cause
-refused_one g worlds world (Semantic span message c) there cause = absurd cause
-refused_one g worlds world OffsetOverflow there cause = absurd cause
+

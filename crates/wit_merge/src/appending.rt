@@ -146,7 +146,7 @@ fn elaborated_world(
     requires listed { HasSoundEntries graph.now.types (length graph.now.interfaces) world.imports world.exports }
     ensures ok { IfOk result (λ new. new ≡ elaborated_by graph.now world) }
     ensures no_conflict { OnOk result (HasTransitiveConflict (graph_uses graph.now) world.exports → ⊥) }
-    ensures cause { IfErr result (IsConflictError graph.now world) }
+    ensures cause { IfErr result (λ e. (e ≡ OutOfMemory) ⊎ IsConflictError graph.now world e) }
     ensures same { elaborator.new ≡ elaborator.old }
 {
     let complete = elaborator.is_complete(graph, &world)?;

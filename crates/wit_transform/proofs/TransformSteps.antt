@@ -62,19 +62,10 @@ exportized_in_order g valid w current answers out there count fine =
 -- ---- reasons
 
 -- a conflict of the transformed world, told as one of these exports
-pub conflict_told : (g : Graph) (w : ℕ) (current : World) (transform : WorldLists) (error : ResolveErrorKind) → slice_get g.worlds w ≡ Some current → IsConflictError g (listed_world current transform) error
-    → (error ≡ OutOfMemory) ⊎ ExportsAreInConflict g w transform.exports error
-conflict_told g w current transform (InvalidTransitiveDependency span name) there told = inr (current, name, there, told.0, told.2, λ i. InvalidTransitiveDependency (told.1 i) name)
-conflict_told g w current transform OutOfMemory there told = inl refl
-conflict_told g w current transform (PackageNotFound span requested known) there told = absurd told
-conflict_told g w current transform (WorldNotFound span requested home) there told = absurd told
-conflict_told g w current transform (InterfaceNotFound span requested home) there told = absurd told
-conflict_told g w current transform (DuplicatePackage name span1 span2) there told = absurd told
-conflict_told g w current transform (PackageCycle span home) there told = absurd told
-conflict_told g w current transform (ItemShadowing span item_type name) there told = absurd told
-conflict_told g w current transform (StabilityMismatch span from into) there told = absurd told
-conflict_told g w current transform (Semantic span message cause) there told = absurd told
-conflict_told g w current transform OffsetOverflow there told = absurd told
+pub conflict_told : (g : Graph) (w : ℕ) (current : World) (transform : WorldLists) (error : ResolveErrorKind) → slice_get g.worlds w ≡ Some current
+    → (error ≡ OutOfMemory) ⊎ IsConflictError g (listed_world current transform) error → (error ≡ OutOfMemory) ⊎ ExportsAreInConflict g w transform.exports error
+conflict_told g w current transform error there (inl none) = inl none
+conflict_told g w current transform error there (inr told) = inr (current, told.0, there, told.2, told.3, told.1)
 
 -- no cause holds against an import of the exports
 pub importize_clear : (g : Graph) (w : ℕ) (current : World) (out : Option (List ℕ)) → slice_get g.worlds w ≡ Some current → NameIsFreeAt g w (importized out current).name → ((label : List ℕ) → HasClash current label → ⊥)

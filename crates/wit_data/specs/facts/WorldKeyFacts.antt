@@ -1,17 +1,18 @@
 -- Facts on keys of worlds that are the same, for the proofs of this crate and of the crates above. They say
 -- nothing about this crate's code.
-use Rattle.std.proofs.Common.{◌≡◌, Bool, refl, ap, sym}
+use Rattle.std.proofs.Common.{◌≡◌, refl, ap, sym}
 use Rattle.std.specs.Bool.{Decides}
 use Rattle.std.specs.Cmp.{IsEquivalence}
 use Rattle.std.proofs.lemmas.Bool.Decides.{Decides-like, Decides-eqb, same_from_decides}
 use Rattle.std.proofs.lemmas.Slice.Eq.{bytes_eq-Decides}
+pub use Rattle.wit_data.specs.Entries.{same_key}
 use Rattle.wit_data.specs.contracts.world.WorldKeyPartialEq.TheImpl.{eq-value}
 use Rattle.wit_data.specs.declared.world.WorldKey.{WorldKey}
 use Rattle.wit_data.specs.declared.world.WorldKey.TheVariants as key
 
--- what `==` says of two keys
-abbrev pub same_key : WorldKey → WorldKey → Bool
-same_key = eq-value.it
+-- `==` of two keys says just this
+pub key_test : (j k : WorldKey) → eq-value.it j k ≡ same_key j k
+key_test j k = refl
 
 -- the test is exact
 pub key_is : (j k : WorldKey) → Decides (same_key j k) (j ≡ k)

@@ -17,7 +17,7 @@ returns-in_err-transformed-clause-cause c =
     let there : slice_get c.args.graph.now.worlds c.args.world ≡ Some c.at.result.now = subst (λ (i : ℕ). slice_get c.args.graph.now.worlds i ≡ Some c.at.result.now) c.index.ensures c.at.ensures in
     let transform : WorldLists = record { name = c.args.name; imports = c.args.lists.imports; exports = c.args.lists.exports } in
     let told = conflict_told c.args.graph.now c.args.world c.at.result.now transform c.in_err-transformed.field-0.0 there
-    (subst (λ (x : World). IsConflictError c.args.graph.now x c.in_err-transformed.field-0.0) c.in_ok-listed.ensures c.in_err-transformed.ensures.cause) in
+    (subst (λ (x : World). (c.in_err-transformed.field-0.0 ≡ OutOfMemory) ⊎ IsConflictError c.args.graph.now x c.in_err-transformed.field-0.0) c.in_ok-listed.ensures c.in_err-transformed.ensures.cause) in
     residual_error c.from_residual-in_err-transformed.result c.from_residual-in_err-transformed.ensures.1
     (λ e is.
     let same : e ≡ c.in_err-transformed.field-0.0 = is in

@@ -1,4 +1,4 @@
-use Rattle.std.proofs.Common.{◌≡◌, ◌∙◌, sym, subst, ℕ, List, length}
+use Rattle.std.proofs.Common.{◌≡◌, ◌∙◌, sym, subst, ℕ, List, length, inr}
 use Rattle.wit_digraph.specs.Relation.{IsAcyclic}
 use Rattle.wit_elaboration.specs.steps.Elaborating.{IsFirstConflict}
 use Rattle.wit_elaboration.specs.Elaboration.{graph_uses}
@@ -36,7 +36,7 @@ returns-in_ok-conflict_error-in-Some-clause-cause c =
     let acyclic : IsAcyclic c.as_slice-uses.result.now = subst IsAcyclic (sym uses) c.requires.acyclic in
     let listed = listed_over c.args.graph.now c.as_slice-uses.result.now c.args.world.now uses c.requires.listed in
     let found = subst (IsFirstConflict c.as_slice-uses.result.now c.args.world.now.exports) c.in-Some.is c.in_ok-found.ensures.found in
-    conflict_cause c.args.graph.now c.as_slice-uses.result.now c.args.world.now acyclic listed uses c.in-Some.index c.in_ok-conflict_error-in-Some.field-0 found c.in_ok-conflict_error-in-Some.ensures.error
+    inr (conflict_cause c.args.graph.now c.as_slice-uses.result.now c.args.world.now acyclic listed uses c.in-Some.index c.in_ok-conflict_error-in-Some.field-0 found c.in_ok-conflict_error-in-Some.ensures.error)
 
 pub returns-in_ok-lists_of-in-None-clause-no_conflict : goal.returns-in_ok-lists_of-in-None-clause-no_conflict
 returns-in_ok-lists_of-in-None-clause-no_conflict c =
