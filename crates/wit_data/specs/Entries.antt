@@ -1,5 +1,5 @@
 -- What worlds import, export and include.
-use Rattle.std.specs.Prelude.{◌≡◌, ℕ, ◌<◌, Bool, false, List, [], ◌∷◌, ◌++◌, length, nat_eq, bytes_eq, slice_get, not, is_some, filter, flat_map, if◌then◌else◌, Option, None, Some}
+use Rattle.std.specs.Prelude.{◌≡◌, ℕ, ◌<◌, Bool, false, List, [], ◌∷◌, ◌++◌, length, nat_eq, slice_get, not, is_some, filter, flat_map, if◌then◌else◌, Option, None, Some}
 use Rattle.std.specs.List.{IsDistinct}
 use Rattle.std.specs.Option.{option_map_or}
 use Rattle.wit_data.specs.Each.{Each}
@@ -12,13 +12,6 @@ use Rattle.wit_data.specs.declared.world.WorldKey.{WorldKey}
 use Rattle.wit_data.specs.declared.types.TypeOwner.TheVariants as owner
 use Rattle.wit_data.specs.declared.world.WorldItem.TheVariants as item
 use Rattle.wit_data.specs.declared.world.WorldKey.TheVariants as key
-
--- the same label, or the same interface
-abbrev pub same_key : WorldKey → WorldKey → Bool
-same_key (key.Name m) (key.Name n) = bytes_eq m n
-same_key (key.Interface i) (key.Interface j) = nat_eq i j
-same_key (key.Name m) (key.Interface j) = false
-same_key (key.Interface i) (key.Name n) = false
 
 -- an entry of a world
 abbrev pub Entry : Type 0

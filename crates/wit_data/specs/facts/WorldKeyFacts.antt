@@ -1,18 +1,25 @@
 -- Facts on keys of worlds that are the same, for the proofs of this crate and of the crates above. They say
 -- nothing about this crate's code.
-use Rattle.std.proofs.Common.{◌≡◌, refl, ap, sym}
+use Rattle.std.proofs.Common.{◌≡◌, ℕ, List, false, bytes_eq, nat_eq, refl, ap, sym}
 use Rattle.std.specs.Bool.{Decides}
 use Rattle.std.specs.Cmp.{IsEquivalence}
 use Rattle.std.proofs.lemmas.Bool.Decides.{Decides-like, Decides-eqb, same_from_decides}
 use Rattle.std.proofs.lemmas.Slice.Eq.{bytes_eq-Decides}
-pub use Rattle.wit_data.specs.Entries.{same_key}
-use Rattle.wit_data.specs.contracts.world.WorldKeyPartialEq.TheImpl.{eq-value}
+pub use Rattle.wit_data.specs.Keys.{same_key}
 use Rattle.wit_data.specs.declared.world.WorldKey.{WorldKey}
 use Rattle.wit_data.specs.declared.world.WorldKey.TheVariants as key
 
--- `==` of two keys says just this
-pub key_test : (j k : WorldKey) → eq-value.it j k ≡ same_key j k
-key_test j k = refl
+pub same_labels : (m n : List ℕ) → same_key (key.Name m) (key.Name n) ≡ bytes_eq m n
+same_labels m n = refl
+
+pub same_interfaces : (i j : ℕ) → same_key (key.Interface i) (key.Interface j) ≡ nat_eq i j
+same_interfaces i j = refl
+
+pub label_is_no_interface : (m : List ℕ) (j : ℕ) → same_key (key.Name m) (key.Interface j) ≡ false
+label_is_no_interface m j = refl
+
+pub interface_is_no_label : (i : ℕ) (n : List ℕ) → same_key (key.Interface i) (key.Name n) ≡ false
+interface_is_no_label i n = refl
 
 -- the test is exact
 pub key_is : (j k : WorldKey) → Decides (same_key j k) (j ≡ k)
