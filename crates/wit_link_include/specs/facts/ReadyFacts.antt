@@ -1,6 +1,6 @@
 -- A world of an addition that is reached can be added with its includes, as the laws of stages have it. For the proofs of
 -- the crates above.
-use Rattle.std.proofs.Common.{◌≡◌, ℕ, ◌<◌, List, [], ◌∷◌, map, length, take, None, Some, slice_get, refl, sym, ap, subst, suc, arith, Contains}
+use Rattle.std.proofs.Common.{◌≡◌, ℕ, ◌<◌, List, [], ◌∷◌, map, length, take, None, Some, slice_get, refl, sym, ap, subst, suc, arith}
 use Rattle.std.proofs.lemmas.Option.{slice_get_within}
 use Rattle.std.specs.List.{AllByRecursion}
 use Rattle.wit_values.specs.facts.Lists.{AllByRecursion-at}
@@ -8,9 +8,6 @@ use Rattle.wit_data.specs.Entries.{Entry}
 use Rattle.wit_data.specs.Shape.{IsShaped}
 use Rattle.wit_data.specs.declared.world.World.{World}
 use Rattle.wit_data.specs.declared.world.WorldInclude.{WorldInclude}
-use Rattle.wit_data.specs.declared.world.WorldItem.{WorldItem}
-use Rattle.wit_data.specs.declared.world.WorldKey.{WorldKey}
-use Rattle.wit_data.specs.declared.world.WorldKey.TheVariants as key
 use Rattle.wit_elaboration.specs.Sound.{HasSoundEntries, IsUnderOwnKey}
 use Rattle.wit_elaboration.specs.Valid.{IsValid}
 use Rattle.wit_graph_data.specs.declared.graph.Graph.{Graph}
