@@ -47,8 +47,8 @@ def label_causes(world, word, entries):
 
 
 def place_setters(entries):
-    """Puts each setter that stands before its getter right after it."""
-    for setter in [it for it in entries if getter_of(it)]:
+    """Puts each setter that stands before its getter right after it, the last one first."""
+    for setter in reversed([it for it in entries if getter_of(it)]):
         labels = [it.label for it in entries]
         getter = labels.index(getter_of(setter)) if getter_of(setter) in labels else -1
         if entries.index(setter) < getter:

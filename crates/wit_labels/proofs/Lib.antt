@@ -3,6 +3,7 @@ mod Examples
 mod FirstSteps
 mod GroupSteps
 mod NewLabels
+mod OrderSteps
 mod PlacingSteps
 mod SetterSteps
 mod UnplacedSetters

@@ -1,17 +1,15 @@
 -- Setters placed by numbers.
-use Rattle.std.proofs.Common.{◌≡◌, ◌∙◌, ◌<◌, ◌≤◌, ◌+◌, ℕ, zero, suc, Bool, true, false, cond, List, [], ◌∷◌, ◌++◌, length, take, refl, ap, sym, subst, inl, inr, add-one, arith, Option, Some, None, map, slice_get, slice_set, get_or, Contains, All, is_some, filter_map, nat_eq}
-use Rattle.std.proofs.lemmas.Bool.{cases_eq, eq-eqb, eqb-false, eqb-true, ne_eqb}
-use Rattle.std.proofs.lemmas.Grind.{flat_map-append}
-use Rattle.std.proofs.lemmas.List.{append-nil, append_assoc, length-map, length-set, map-append, set-set, take_all}
-use Rattle.std.proofs.lemmas.List.Elements.{Contains-append_cases, Contains-get_or, filter-append, filter_map-append}
-use Rattle.std.proofs.lemmas.List.FromFn.{length-enumerate_from, length-range_with_len}
+use Rattle.std.proofs.Common.{◌≡◌, ◌∙◌, ◌<◌, ◌≤◌, ◌+◌, ◌-◌, ℕ, zero, suc, Bool, true, false, cond, List, [], ◌∷◌, ◌++◌, length, take, refl, ap, sym, subst, inl, inr, arith, Option, Some, None, map, slice_get, get_or, All, nat_eq}
+use Rattle.std.proofs.lemmas.Bool.{cases_eq, eq-eqb, eqb-false, ltb-false, ltb-true, ne_eqb}
+use Rattle.std.proofs.lemmas.List.{append-nil, append_assoc, length-map, take_all}
+use Rattle.std.proofs.lemmas.List.FromFn.{length-enumerate_from}
 use Rattle.std.proofs.lemmas.List.Quantifiers.{position-Some}
-use Rattle.std.specs.Prelude.{filter, nat_lt, position, flat_map, option_and_then}
-use Rattle.std.specs.List.{AllByRecursion, AllZip, IsDistinct, cons_option, enumerate_from, range_with_len}
+use Rattle.std.specs.Cmp.Lexicographic.{same_text}
+use Rattle.std.specs.Prelude.{◌||◌, not, nat_lt, position, option_and_then}
+use Rattle.std.specs.List.{AllByRecursion, AllZip, IsDistinct, enumerate_from, list_any, position_or_len}
 use Rattle.std.specs.Map.{keys_of, lookup}
-use Rattle.std.specs.Option.{option_eq}
+use Rattle.std.specs.Option.{option_map_or}
 use Rattle.wit_values.specs.facts.Lists.{key_at, lookup-before, map-next}
-use Rattle.wit_digraph.specs.facts.MemberFacts.{Contains-cons_cases, Contains-flat_map_cases, Contains-here, Contains-nil, Contains-there}
 use Rattle.wit_data.specs.Entries.{Entry}
 use Rattle.wit_data.specs.facts.WorldKeyFacts.{key_laws}
 use Rattle.wit_data.specs.contracts.world.WorldKeyPartialEq.TheImpl.{eq-value}
@@ -19,30 +17,10 @@ use Rattle.wit_data.specs.declared.world.WorldItem.{WorldItem}
 use Rattle.wit_data.specs.declared.world.WorldKey.{WorldKey}
 use Rattle.wit_data.specs.declared.world.WorldItem.TheVariants as item
 use Rattle.wit_data.specs.declared.world.WorldKey.TheVariants as key
-use Rattle.wit_labels.specs.steps.Placing.{getters_of, order_after_getters, stand_at, waiters, waits_for}
-use Rattle.wit_labels.specs.Setters.{is_under, later_getter, setters_placed, waiting_setters, wanted_getter}
+use Rattle.wit_labels.specs.steps.Placing.{AreLater, getters_of, later_getter, order_after_getters, order_from, put_index}
+use Rattle.wit_labels.specs.Setters.{is_getter_of, is_under, put_behind, setters_placed, wanted_getter}
+use Rattle.wit_labels.proofs.OrderSteps.{order-below, order-once, zip-put}
 use Rattle.wit_labels.specs.steps.Parts.{indexed_entries, after}
-
--- ---- numbers from one on
-
-range-push : (a n j : ℕ) → a + n ≡ j → range_with_len a (suc n) ≡ range_with_len a n ++ j ∷ []
-range-push a zero j is = let same : a ≡ j = omega arith in ap (λ (m : ℕ). m ∷ []) same
-range-push a (suc n) j is = ap (λ (l : List ℕ). a ∷ l) (range-push (a + 1) n j (omega arith))
-
-range-next : (n : ℕ) → range_with_len 0 (n + 1) ≡ range_with_len 0 n ++ n ∷ []
-range-next n = ap (range_with_len 0) (add-one n) ∙ range-push 0 n n (omega arith)
-
-range-at : {X : Type 0} (f : ℕ → X) (a n g j : ℕ) → g < n → a + g ≡ j → slice_get (map f (range_with_len a n)) g ≡ Some (f j)
-range-at f a zero g j within is = absurd (omega arith)
-range-at f a (suc n) zero j within is = let same : a ≡ j = omega arith in ap (λ (m : ℕ). Some (f m)) same
-range-at f a (suc n) (suc g) j within is = range-at f (a + 1) n g j (omega arith) (omega arith)
-
-range-low : (a n x : ℕ) → Contains (range_with_len a n) x → (a ≤ x) × (x < a + n)
-range-low a zero x has = absurd (Contains-nil has)
-range-low a (suc n) x has = elim (Contains-cons_cases a x (range_with_len (a + 1) n) has) [
-  | inl same ↦ (omega arith, omega arith)
-  | inr there ↦ let rest = range-low (a + 1) n x there in (omega (arith, rest.0), omega (arith, rest.1))
-]
 
 -- ---- lists by their places
 
@@ -60,233 +38,6 @@ within_at : {X : Type 0} (xs : List X) (i : ℕ) (x : X) → slice_get xs i ≡ 
 within_at [] i x at = cc
 within_at (y ∷ ys) zero x at = omega arith
 within_at (y ∷ ys) (suc i) x at = let rest = within_at ys i x at in omega arith
-
-set_same : {X : Type 0} (xs : List X) (i : ℕ) (y : X) → i < length xs → slice_get (slice_set xs i y) i ≡ Some y
-set_same [] i y within = absurd (omega arith)
-set_same (x ∷ xs) zero y within = refl
-set_same (x ∷ xs) (suc i) y within = set_same xs i y (omega arith)
-
-set_other : {X : Type 0} (xs : List X) (i j : ℕ) (y : X) → (j ≡ i → ⊥) → slice_get (slice_set xs i y) j ≡ slice_get xs j
-set_other [] i j y apart = refl
-set_other (x ∷ xs) zero zero y apart = absurd (apart refl)
-set_other (x ∷ xs) zero (suc j) y apart = refl
-set_other (x ∷ xs) (suc i) zero y apart = refl
-set_other (x ∷ xs) (suc i) (suc j) y apart = set_other xs i j y (λ same. apart (ap suc same))
-
-same_gets : {X : Type 0} (xs ys : List X) → length xs ≡ length ys → ((i : ℕ) → i < length xs → slice_get xs i ≡ slice_get ys i) → xs ≡ ys
-same_gets {X} [] [] long same = refl
-same_gets {X} [] (y ∷ ys) long same = absurd (omega arith)
-same_gets {X} (x ∷ xs) [] long same = absurd (omega arith)
-same_gets {X} (x ∷ xs) (y ∷ ys) long same =
-    let first : Some x ≡ Some y = same 0 (omega arith) in
-    let one : x ≡ y = cc in
-    let rest : xs ≡ ys = same_gets xs ys (omega arith) (λ i within. same (suc i) (omega (arith, within))) in
-    ap (λ (z : X). z ∷ xs) one ∙ ap (λ (l : List X). y ∷ l) rest
-
--- ---- rows of those that wait
-
-module _ (getters : List (Option ℕ)) where
-  waiters-next : (i g : ℕ) (b : Bool) → waits_for getters g i ≡ b → waiters getters (i + 1) g ≡ waiters getters i g ++ cond b (i ∷ []) []
-  waiters-next i g b test =
-      ap (filter (waits_for getters g)) (range-next i) ∙ filter-append (waits_for getters g) (range_with_len 0 i) (i ∷ [])
-      ∙ ap (λ (c : Bool). waiters getters i g ++ cond c (i ∷ []) []) test
-
-  -- the rows of the first n places
-  pub record AreRows (n : ℕ) (rows : List (List ℕ)) : Type 0 where
-    pub long : length rows ≡ length getters
-    pub rows_are : (g : ℕ) → g < length getters → slice_get rows g ≡ Some (waiters getters n g)
-
-  pub rows-none : AreRows 0 (map (λ _. []) (range_with_len 0 (length getters)))
-  rows-none = record {
-    long = length-map (range_with_len 0 (length getters)) (λ _. []) ∙ length-range_with_len 0 (length getters);
-    rows_are = λ g within. range-at (λ _. []) 0 (length getters) g g within (omega arith);
-  }
-
-  pub rows-some : (n : ℕ) (rows : List (List ℕ)) (getter : ℕ) → AreRows n rows → slice_get getters n ≡ Some (Some getter) → getter < length getters
-      → AreRows (n + 1) (slice_set rows getter (get_or rows getter [] ++ n ∷ []))
-  rows-some n rows getter are at inside =
-      let now : get_or getters n None ≡ Some getter = get_at getters n (Some getter) None at in
-      let row : get_or rows getter [] ≡ waiters getters n getter = get_at rows getter (waiters getters n getter) [] (are.rows_are getter inside) in
-      record {
-        long = length-set rows getter (get_or rows getter [] ++ n ∷ []) ∙ are.long;
-        rows_are = λ g within. elim (cases_eq g getter) [
-          | inl same ↦
-              let test : waits_for getters getter n ≡ true = ap (λ (o : Option ℕ). option_eq nat_eq o (Some getter)) now ∙ eq-eqb getter getter refl in
-              let long : length rows ≡ length getters = are.long in
-              subst (λ (m : ℕ). slice_get (slice_set rows getter (get_or rows getter [] ++ n ∷ [])) m ≡ Some (waiters getters (n + 1) m)) (sym same)
-              (set_same rows getter (get_or rows getter [] ++ n ∷ []) (omega arith)
-              ∙ ap (λ (l : List ℕ). Some (l ++ n ∷ [])) row ∙ ap (λ (l : List ℕ). Some l) (sym (waiters-next n getter true test)))
-          | inr apart ↦
-              let test : waits_for getters g n ≡ false = ap (λ (o : Option ℕ). option_eq nat_eq o (Some g)) now ∙ ne_eqb getter g (λ same. apart (sym same)) in
-              set_other rows getter g (get_or rows getter [] ++ n ∷ []) apart ∙ are.rows_are g within
-              ∙ ap (λ (l : List ℕ). Some l) (sym (waiters-next n g false test ∙ append-nil (waiters getters n g)))
-        ];
-      }
-
-  pub rows-other : (n : ℕ) (rows : List (List ℕ)) → AreRows n rows → slice_get getters n ≡ Some None → AreRows (n + 1) rows
-  rows-other n rows are at =
-      let now : get_or getters n None ≡ None = get_at getters n None None at in
-      record {
-        long = are.long;
-        rows_are = λ g within. are.rows_are g within
-            ∙ ap (λ (l : List ℕ). Some l) (sym (waiters-next n g false (ap (λ (o : Option ℕ). option_eq nat_eq o (Some g)) now) ∙ append-nil (waiters getters n g)));
-      }
-
-  pub rows-next : (n : ℕ) (rows new : List (List ℕ)) (getter : Option ℕ) → AreRows n rows → slice_get getters n ≡ Some getter → ((s g : ℕ) → slice_get getters s ≡ Some (Some g) → g < length getters)
-      → ((g : ℕ) → getter ≡ Some g → new ≡ slice_set rows g (get_or rows g [] ++ n ∷ [])) → (getter ≡ None → new ≡ rows) → AreRows (n + 1) new
-  rows-next n rows new None are at inside waits none = subst (AreRows (n + 1)) (sym (none refl)) (rows-other n rows are at)
-  rows-next n rows new (Some g) are at inside waits none = subst (AreRows (n + 1)) (sym (waits g refl)) (rows-some n rows g are at (inside n g at))
-
-  pub rows-all : (n : ℕ) (rows : List (List ℕ)) → AreRows n rows → n ≡ length getters → rows ≡ map (waiters getters (length getters)) (range_with_len 0 (length getters))
-  rows-all n rows are done =
-      let whole = map (waiters getters (length getters)) (range_with_len 0 (length getters)) in
-      let long : length whole ≡ length getters = length-map (range_with_len 0 (length getters)) (waiters getters (length getters)) ∙ length-range_with_len 0 (length getters) in
-      same_gets rows whole (are.long ∙ sym long) (λ i within.
-      let inside : i < length getters = omega (arith, are.long, within) in
-      are.rows_are i inside ∙ ap (λ (m : ℕ). Some (waiters getters m i)) done ∙ sym (range-at (waiters getters (length getters)) 0 (length getters) i i inside (omega arith)))
-
-  -- ---- the order
-
-  -- the first n places are listed, and the other rows are left
-  pub record IsOrdering (n : ℕ) (order : List ℕ) (rows : List (List ℕ)) : Type 0 where
-    pub long : length rows ≡ length getters
-    pub left : (g : ℕ) → n ≤ g → g < length getters → slice_get rows g ≡ Some (waiters getters (length getters) g)
-    pub so_far : order ≡ flat_map (stand_at getters) (range_with_len 0 n)
-
-  pub ordering-none : (rows : List (List ℕ)) → rows ≡ map (waiters getters (length getters)) (range_with_len 0 (length getters)) → IsOrdering 0 [] rows
-  ordering-none rows are = record {
-    long = ap length are ∙ length-map (range_with_len 0 (length getters)) (waiters getters (length getters)) ∙ length-range_with_len 0 (length getters);
-    left = λ g low within. ap (λ (r : List (List ℕ)). slice_get r g) are ∙ range-at (waiters getters (length getters)) 0 (length getters) g g within (omega arith);
-    so_far = refl;
-  }
-
-  pub ordering-next : (n : ℕ) (order : List ℕ) (rows : List (List ℕ)) (getter : Option ℕ) (row : List ℕ) → IsOrdering n order rows → slice_get getters n ≡ Some getter → slice_get rows n ≡ Some row
-      → IsOrdering (n + 1) ((order ++ cond (is_some getter) [] (n ∷ [])) ++ row) (slice_set rows n [])
-  ordering-next n order rows getter row is at there =
-      let within : n < length getters = within_at getters n getter at in
-      let full : Some row ≡ Some (waiters getters (length getters) n) = sym there ∙ is.left n (omega arith) within in
-      let row_is : row ≡ waiters getters (length getters) n = cc in
-      let own : cond (is_some getter) [] (n ∷ []) ≡ cond (is_some (get_or getters n None)) [] (n ∷ []) = ap (λ (o : Option ℕ). cond (is_some o) [] (n ∷ [])) (sym (get_at getters n getter None at)) in
-      let more : flat_map (stand_at getters) (range_with_len 0 (n + 1)) ≡ flat_map (stand_at getters) (range_with_len 0 n) ++ stand_at getters n =
-      ap (flat_map (stand_at getters)) (range-next n) ∙ flat_map-append (stand_at getters) (range_with_len 0 n) (n ∷ [])
-      ∙ ap (λ (l : List ℕ). flat_map (stand_at getters) (range_with_len 0 n) ++ l) (append-nil (stand_at getters n)) in
-      record {
-        long = length-set rows n [] ∙ is.long;
-        left = λ g low inside. set_other rows n g [] (λ same. omega (arith, low, same)) ∙ is.left g (omega (arith, low)) inside;
-        so_far = ap (λ (l : List ℕ). (l ++ cond (is_some getter) [] (n ∷ [])) ++ row) is.so_far
-            ∙ append_assoc (flat_map (stand_at getters) (range_with_len 0 n)) (cond (is_some getter) [] (n ∷ [])) row
-            ∙ ap (λ (l : List ℕ). flat_map (stand_at getters) (range_with_len 0 n) ++ (l ++ row)) own
-            ∙ ap (λ (l : List ℕ). flat_map (stand_at getters) (range_with_len 0 n) ++ (cond (is_some (get_or getters n None)) [] (n ∷ []) ++ l)) row_is
-            ∙ sym more;
-      }
-
--- ---- no place comes twice
-
--- no member comes twice
-abbrev Differ : List ℕ → Type 0
-Differ [] = Unit {0}
-Differ (x ∷ xs) = (Contains xs x → ⊥) × Differ xs
-
-Differ-append : (xs ys : List ℕ) → Differ xs → Differ ys → ((x : ℕ) → Contains xs x → Contains ys x → ⊥) → Differ (xs ++ ys)
-Differ-append [] ys one two apart = two
-Differ-append (x ∷ xs) ys one two apart = (
-  λ has. elim (Contains-append_cases xs ys x has) [ inl here ↦ one.0 here | inr there ↦ apart x (Contains-here x xs) there ],
-  Differ-append xs ys one.1 two (λ y has. apart y (Contains-there x y xs has)),
-)
-
-filter-cases : (p : ℕ → Bool) (xs : List ℕ) (x : ℕ) → Contains (filter p xs) x → Contains xs x × (p x ≡ true)
-filter-cases p [] x has = absurd (Contains-nil has)
-filter-cases p (y ∷ ys) x has = by (p y) refl (filter-cases p ys x) has
-  where
-    by : (b : Bool) → p y ≡ b → (Contains (filter p ys) x → Contains ys x × (p x ≡ true)) → Contains (cond b (y ∷ filter p ys) (filter p ys)) x → Contains (y ∷ ys) x × (p x ≡ true)
-    by true test others has = elim (Contains-cons_cases y x (filter p ys) has) [
-      | inl same ↦ (subst (Contains (y ∷ ys)) same (Contains-here y ys), subst (λ z. p z ≡ true) same test)
-      | inr there ↦ let rest = others there in (Contains-there y x ys rest.0, rest.1)
-    ]
-    by false test others has = let rest = others has in (Contains-there y x ys rest.0, rest.1)
-
-Differ-filter : (p : ℕ → Bool) (xs : List ℕ) → Differ xs → Differ (filter p xs)
-Differ-filter p [] differ = tt
-Differ-filter p (x ∷ xs) differ = by (p x) (λ has. differ.0 (filter-cases p xs x has).0) (Differ-filter p xs differ.1)
-  where
-    by : (b : Bool) → (Contains (filter p xs) x → ⊥) → Differ (filter p xs) → Differ (cond b (x ∷ filter p xs) (filter p xs))
-    by true new rest = (new, rest)
-    by false new rest = rest
-
-Differ-range : (a n : ℕ) → Differ (range_with_len a n)
-Differ-range a zero = tt
-Differ-range a (suc n) = ((λ has. let low = (range-low (a + 1) n a has).0 in omega (arith, low)), Differ-range (a + 1) n)
-
-Differ-flat_map : (f : ℕ → List ℕ) (home : ℕ → ℕ) → ((x y : ℕ) → Contains (f x) y → home y ≡ x) → ((x : ℕ) → Differ (f x)) → (xs : List ℕ) → Differ xs → Differ (flat_map f xs)
-Differ-flat_map f home at each [] differ = tt
-Differ-flat_map f home at each (x ∷ xs) differ =
-    Differ-append (f x) (flat_map f xs) (each x) (Differ-flat_map f home at each xs differ.1) (λ y here there.
-    let part = Contains-flat_map_cases f xs y there in
-    differ.0 (subst (Contains xs) (sym (at part.0 y part.1.1) ∙ at x y here) part.1.0))
-
-IsDistinct-from_differ : (xs : List ℕ) → Differ xs → IsDistinct nat_eq xs
-unfolding IsDistinct
-IsDistinct-from_differ [] differ = tt
-IsDistinct-from_differ (x ∷ xs) differ = (each xs differ.0, IsDistinct-from_differ xs differ.1)
-  where
-    each : (ys : List ℕ) → (Contains ys x → ⊥) → AllByRecursion (λ y. nat_eq x y ≡ false) ys
-    each [] none = tt
-    each (y ∷ ys) none = (ne_eqb x y (λ same. none (subst (Contains (y ∷ ys)) (sym same) (Contains-here y ys))), each ys (λ has. none (Contains-there y x ys has)))
-
-module _ (getters : List (Option ℕ)) where
-  -- the place at which a place is listed
-  home_of : ℕ → Option ℕ → ℕ
-  home_of s None = s
-  home_of s (Some g) = g
-
-  waits-is : (g s : ℕ) (o : Option ℕ) → option_eq nat_eq o (Some g) ≡ true → o ≡ Some g
-  waits-is g s None test = cc
-  waits-is g s (Some h) test = ap (λ (m : ℕ). Some m) (eqb-true h g test)
-
-  own-is : (i y : ℕ) (o : Option ℕ) → Contains (cond (is_some o) [] (i ∷ [])) y → (o ≡ None) × (i ≡ y)
-  own-is i y None has = elim (Contains-cons_cases i y [] has) [ inl same ↦ (refl, same) | inr none ↦ absurd (Contains-nil none) ]
-  own-is i y (Some g) has = absurd (Contains-nil has)
-
-  home-at : (i y : ℕ) → Contains (stand_at getters i) y → home_of y (get_or getters y None) ≡ i
-  unfolding home_of
-  home-at i y has = elim (Contains-append_cases (cond (is_some (get_or getters i None)) [] (i ∷ [])) (waiters getters (length getters) i) y has) [
-    | inl own ↦
-        let is = own-is i y (get_or getters i None) own in
-        let none : get_or getters y None ≡ None = subst (λ (m : ℕ). get_or getters m None ≡ None) is.1 is.0 in
-        ap (home_of y) none ∙ sym is.1
-    | inr wait ↦ ap (home_of y) (waits-is i y (get_or getters y None) (filter-cases (waits_for getters i) (range_with_len 0 (length getters)) y wait).1)
-  ]
-
-  Differ-own : (i : ℕ) (o : Option ℕ) → Differ (cond (is_some o) [] (i ∷ []))
-  Differ-own i None = ((λ has. Contains-nil has), tt)
-  Differ-own i (Some g) = tt
-
-  Differ-stand : (i : ℕ) → Differ (stand_at getters i)
-  Differ-stand i =
-      Differ-append (cond (is_some (get_or getters i None)) [] (i ∷ [])) (waiters getters (length getters) i) (Differ-own i (get_or getters i None))
-      (Differ-filter (waits_for getters i) (range_with_len 0 (length getters)) (Differ-range 0 (length getters)))
-      (λ y own wait.
-      let is = own-is i y (get_or getters i None) own in
-      let waits = waits-is i y (get_or getters y None) (filter-cases (waits_for getters i) (range_with_len 0 (length getters)) y wait).1 in
-      let none : get_or getters y None ≡ None = subst (λ (m : ℕ). get_or getters m None ≡ None) is.1 is.0 in
-      let clash : None ≡ Some i = sym none ∙ waits in
-      cc)
-
-  pub order-once : IsDistinct nat_eq (order_after_getters getters)
-  order-once = IsDistinct-from_differ (order_after_getters getters)
-      (Differ-flat_map (stand_at getters) (λ (y : ℕ). home_of y (get_or getters y None)) home-at Differ-stand (range_with_len 0 (length getters)) (Differ-range 0 (length getters)))
-
-  below : (y : ℕ) → Contains (order_after_getters getters) y → y < length getters
-  below y has =
-      let part = Contains-flat_map_cases (stand_at getters) (range_with_len 0 (length getters)) y has in
-      let root = range-low 0 (length getters) part.0 part.1.0 in
-      elim (Contains-append_cases (cond (is_some (get_or getters part.0 None)) [] (part.0 ∷ [])) (waiters getters (length getters) part.0) y part.1.1) [
-        | inl own ↦ let is = own-is part.0 y (get_or getters part.0 None) own in omega (arith, root.1, is.1)
-        | inr wait ↦ let low = range-low 0 (length getters) y (filter-cases (waits_for getters part.0) (range_with_len 0 (length getters)) y wait).0 in omega (arith, low.1)
-      ]
-
-  pub order-below : All (λ place. place < length getters) (order_after_getters getters)
-  order-below k d within = below (get_or (order_after_getters getters) k d) (Contains-get_or (order_after_getters getters) k d within)
 
 -- ---- the entries in that order
 
@@ -313,109 +64,8 @@ mapped-at f [] i x at = cc
 mapped-at f (y ∷ ys) zero x at = let same : y ≡ x = cc in ap (λ z. Some (f z)) same
 mapped-at f (y ∷ ys) (suc i) x at = mapped-at f ys i x at
 
-getter-at : (entries : List Entry) (i : ℕ) (e : Entry) → slice_get entries i ≡ Some e → get_or (getters_of entries) i None ≡ later_getter entries i e
-getter-at entries i e at =
-    get_at (getters_of entries) i (later_getter entries i e) None (mapped-at (λ (p : ℕ × Entry). later_getter entries p.0 p.1) (indexed_entries entries) i (i, e) (indexed_entries-at entries i e at))
-
--- a getter that is waited for is there
-after-is : (i g : ℕ) (o : Option ℕ) → after i o ≡ Some g → o ≡ Some g
-after-is i g None is = cc
-after-is i g (Some h) is = by (nat_lt i h) is
-  where
-    by : (b : Bool) → cond b (Some h) None ≡ Some g → Some h ≡ Some g
-    by true is = is
-    by false is = cc
-
-found-is : (entries : List Entry) (o : Option (List ℕ)) (g : ℕ) → option_and_then (λ (label : List ℕ). position (is_under label) (keys_of entries)) o ≡ Some g → g < length (keys_of entries)
-found-is entries None g is = cc
-found-is entries (Some label) g is = (position-Some (is_under label) (keys_of entries) g (key.Interface 0) is).0
-
-pub getters-below : (entries : List Entry) (s g : ℕ) → slice_get (getters_of entries) s ≡ Some (Some g) → g < length (getters_of entries)
-getters-below entries s g at =
-    let long = length-getters entries in
-    let wide : length (keys_of entries) ≡ length entries = length-map entries (λ (e : Entry). e.0) in
-    let inside : s < length entries = omega (arith, long, within_at (getters_of entries) s (Some g) at) in
-    let e = get_or entries s none_entry in
-    let same : get_or (getters_of entries) s None ≡ later_getter entries s e = getter-at entries s e (got_at entries s none_entry inside) in
-    let is : later_getter entries s e ≡ Some g = sym same ∙ get_at (getters_of entries) s (Some g) None at in
-    let found = found-is entries (wanted_getter e.0 e.1) g (after-is s g (option_and_then (λ (label : List ℕ). position (is_under label) (keys_of entries)) (wanted_getter e.0 e.1)) is) in
-    omega (arith, found, long, wide)
-  where
-    none_entry : Entry
-    none_entry = (key.Interface 0, item.Type_ 0 None)
-
--- lists that go over the same places
-flat-same : {Y : Type 0} (f : ℕ → List Y) (F : ℕ × Entry → List Y) (a : ℕ) (xs : List Entry) → ((i j : ℕ) (e : Entry) → a + i ≡ j → slice_get xs i ≡ Some e → f j ≡ F (j, e))
-    → flat_map f (range_with_len a (length xs)) ≡ flat_map F (enumerate_from a xs)
-flat-same {Y} f F a [] same = refl
-flat-same {Y} f F a (x ∷ xs) same =
-    let first : f a ≡ F (a, x) = same 0 a x (omega arith) refl in
-    let rest : flat_map f (range_with_len (a + 1) (length xs)) ≡ flat_map F (enumerate_from (a + 1) xs) = flat-same f F (a + 1) xs (λ i j e is at. same (suc i) j e (omega (arith, is)) at) in
-    ap (λ (l : List Y). l ++ flat_map f (range_with_len (a + 1) (length xs))) first ∙ ap (λ (l : List Y). F (a, x) ++ l) rest
-
-filter-same : (p : ℕ → Bool) (q : ℕ × Entry → Bool) (h : ℕ → Option Entry) (a : ℕ) (xs : List Entry) → ((i j : ℕ) (e : Entry) → a + i ≡ j → slice_get xs i ≡ Some e → (p j ≡ q (j, e)) × (h j ≡ Some e))
-    → filter_map h (filter p (range_with_len a (length xs))) ≡ map (λ (s : ℕ × Entry). s.1) (filter q (enumerate_from a xs))
-filter-same p q h a [] same = refl
-filter-same p q h a (x ∷ xs) same =
-    let first = same 0 a x (omega arith) refl in
-    let rest = filter-same p q h (a + 1) xs (λ i j e is at. same (suc i) j e (omega (arith, is)) at) in
-    by (p a) (q (a, x)) first.0 first.1 rest
-  where
-    by : (b c : Bool) → b ≡ c → h a ≡ Some x → filter_map h (filter p (range_with_len (a + 1) (length xs))) ≡ map (λ (s : ℕ × Entry). s.1) (filter q (enumerate_from (a + 1) xs))
-        → filter_map h (cond b (a ∷ filter p (range_with_len (a + 1) (length xs))) (filter p (range_with_len (a + 1) (length xs))))
-        ≡ map (λ (s : ℕ × Entry). s.1) (cond c ((a, x) ∷ filter q (enumerate_from (a + 1) xs)) (filter q (enumerate_from (a + 1) xs)))
-    by true true is there rest = ap (λ (o : Option Entry). cons_option o (filter_map h (filter p (range_with_len (a + 1) (length xs))))) there ∙ ap (λ (l : List Entry). x ∷ l) rest
-    by true false is there rest = cc
-    by false true is there rest = cc
-    by false false is there rest = rest
-
-filter_map-flat_map : {X Y : Type 0} (h : X → Option Y) (f : ℕ → List X) (xs : List ℕ) → filter_map h (flat_map f xs) ≡ flat_map (λ (x : ℕ). filter_map h (f x)) xs
-filter_map-flat_map {X} {Y} h f [] = refl
-filter_map-flat_map {X} {Y} h f (x ∷ xs) = filter_map-append h (f x) (flat_map f xs) ∙ ap (λ (l : List Y). filter_map h (f x) ++ l) (filter_map-flat_map h f xs)
-
--- the entries at the places of an order
-zipped-are : (entries : List Entry) (order : List ℕ) (arranged : List Entry) → AllZip (λ place (x : Entry). slice_get entries place ≡ Some x) order arranged → arranged ≡ filter_map (slice_get entries) order
-zipped-are entries [] [] all = refl
-zipped-are entries [] (x ∷ xs) all = absurd all
-zipped-are entries (p ∷ ps) [] all = absurd all
-zipped-are entries (p ∷ ps) (x ∷ xs) all =
-    ap (λ (l : List Entry). x ∷ l) (zipped-are entries ps xs all.1) ∙ ap (λ (o : Option Entry). cons_option o (filter_map (slice_get entries) ps)) (sym all.0)
-
-waiting_setters-same : (entries : List Entry) (g : ℕ) → filter_map (slice_get entries) (waiters (getters_of entries) (length entries) g) ≡ waiting_setters entries g
-waiting_setters-same entries g =
-    filter-same (waits_for (getters_of entries) g) (λ (s : ℕ × Entry). option_eq nat_eq (later_getter entries s.0 s.1) (Some g)) (slice_get entries) 0 entries (λ i j e is at.
-    let same : i ≡ j = omega (arith, is) in
-    let there : slice_get entries j ≡ Some e = subst (λ (m : ℕ). slice_get entries m ≡ Some e) same at in
-    (ap (λ (o : Option ℕ). option_eq nat_eq o (Some g)) (getter-at entries j e there), there))
-
-own-same : (entries : List Entry) (i : ℕ) (e : Entry) (o : Option ℕ) → slice_get entries i ≡ Some e → filter_map (slice_get entries) (cond (is_some o) [] (i ∷ [])) ≡ cond (is_some o) [] (e ∷ [])
-own-same entries i e None at = ap (λ (x : Option Entry). cons_option x []) at
-own-same entries i e (Some g) at = refl
-
-pub setters_placed-are : (entries arranged : List Entry) → AllZip (λ place (x : Entry). slice_get entries place ≡ Some x) (order_after_getters (getters_of entries)) arranged → arranged ≡ setters_placed entries
-setters_placed-are entries arranged all =
-    let getters = getters_of entries in
-    let h = slice_get entries in
-    let long : length getters ≡ length entries = length-getters entries in
-    zipped-are entries (order_after_getters getters) arranged all
-    ∙ filter_map-flat_map h (stand_at getters) (range_with_len 0 (length getters))
-    ∙ ap (λ (n : ℕ). flat_map (λ (i : ℕ). filter_map h (stand_at getters i)) (range_with_len 0 n)) long
-    ∙ flat-same (λ (i : ℕ). filter_map h (stand_at getters i)) (λ (p : ℕ × Entry). cond (is_some (later_getter entries p.0 p.1)) [] (p.1 ∷ []) ++ waiting_setters entries p.0) 0 entries (λ i j e is at.
-    let same : i ≡ j = omega (arith, is) in
-    let there : h j ≡ Some e = subst (λ (m : ℕ). h m ≡ Some e) same at in
-    filter_map-append h (cond (is_some (get_or getters j None)) [] (j ∷ [])) (waiters getters (length getters) j)
-    ∙ ap (λ (l : List Entry). l ++ filter_map h (waiters getters (length getters) j)) (own-same entries j e (get_or getters j None) there)
-    ∙ ap (λ (o : Option ℕ). cond (is_some o) [] (e ∷ []) ++ filter_map h (waiters getters (length getters) j)) (getter-at entries j e there)
-    ∙ ap (λ (n : ℕ). cond (is_some (later_getter entries j e)) [] (e ∷ []) ++ filter_map h (waiters getters n j)) long
-    ∙ ap (λ (l : List Entry). cond (is_some (later_getter entries j e)) [] (e ∷ []) ++ l) (waiting_setters-same entries j))
-
--- a row that was taken out and put back with one more
-pub row-added : (rows taken new : List (List ℕ)) (index place : ℕ) (row longer none : List ℕ) → slice_get rows index ≡ Some row → taken ≡ slice_set rows index none → longer ≡ row ++ place ∷ []
-    → new ≡ slice_set taken index longer → new ≡ slice_set rows index (get_or rows index [] ++ place ∷ [])
-row-added rows taken new index place row longer none at out more back =
-    let was : row ≡ get_or rows index [] = sym (get_at rows index row [] at) in
-    back ∙ ap (λ (l : List (List ℕ)). slice_set l index longer) out ∙ set-set rows index none longer
-    ∙ ap (λ (r : List ℕ). slice_set rows index r) (more ∙ ap (λ (r : List ℕ). r ++ place ∷ []) was)
+getter-at : (entries : List Entry) (i : ℕ) (e : Entry) → slice_get entries i ≡ Some e → slice_get (getters_of entries) i ≡ Some (later_getter entries i e)
+getter-at entries i e at = mapped-at (λ (p : ℕ × Entry). later_getter entries p.0 p.1) (indexed_entries entries) i (i, e) (indexed_entries-at entries i e at)
 
 -- ---- what one entry waits for
 
@@ -443,6 +93,227 @@ pub later_getter-none : (entries : List Entry) (i : ℕ) (k : WorldKey) (held : 
 later_getter-none entries i k held at wanted e there =
     ap (λ (o : Option (List ℕ)). after i (option_and_then (λ (l : List ℕ). position (is_under l) (keys_of entries)) o)) (sym wanted)
     ∙ ap (later_getter entries i) (same_entry entries i (k, held) e at there)
+
+-- two entries of one list have different keys
+keys-apart : (es : List Entry) (p q : ℕ) (x y : Entry) → IsDistinct eq-value.it (keys_of es) → slice_get es p ≡ Some x → slice_get es q ≡ Some y → (p ≡ q → ⊥) → eq-value.it x.0 y.0 ≡ false
+unfolding IsDistinct
+keys-apart [] p q x y distinct first second apart = cc
+keys-apart (e ∷ es) zero zero x y distinct first second apart = absurd (apart refl)
+keys-apart (e ∷ es) zero (suc q) x y distinct first second apart =
+    let same : e ≡ x = cc in
+    subst (λ (z : Entry). eq-value.it z.0 y.0 ≡ false) same (key_at (λ k. eq-value.it e.0 k ≡ false) es q y.0 y.1 distinct.0 second)
+keys-apart (e ∷ es) (suc p) zero x y distinct first second apart =
+    let same : e ≡ y = cc in
+    key_laws.symm x.0 y.0 ∙ subst (λ (z : Entry). eq-value.it z.0 x.0 ≡ false) same (key_at (λ k. eq-value.it e.0 k ≡ false) es p x.0 x.1 distinct.0 first)
+keys-apart (e ∷ es) (suc p) (suc q) x y distinct first second apart = keys-apart es p q x y distinct.1 first second (λ same. apart (ap suc same))
+
+-- the getter that is waited for stands later
+after-is : (i g : ℕ) (o : Option ℕ) → after i o ≡ Some g → (o ≡ Some g) × (i < g)
+after-is i g None is = cc
+after-is i g (Some h) is = by (nat_lt i h) refl is
+  where
+    by : (b : Bool) → nat_lt i h ≡ b → cond b (Some h) None ≡ Some g → (Some h ≡ Some g) × (i < g)
+    by true test same = let one : h ≡ g = cc in (same, subst (λ (m : ℕ). i < m) one (ltb-true i h test))
+    by false test same = cc
+
+-- the entry under the label that is asked for
+pub record IsLater (entries : List Entry) (i : ℕ) (e : Entry) (g : ℕ) : Type 0 where
+  pub later : i < g
+  pub getter : Entry
+  pub at : slice_get entries g ≡ Some getter
+  pub asked : is_getter_of e getter ≡ true
+
+none_key : WorldKey
+none_key = key.Interface 0
+
+key-entry : (entries : List Entry) (g : ℕ) → g < length (keys_of entries) → (x : Entry) × (slice_get entries g ≡ Some x) × (get_or (keys_of entries) g none_key ≡ x.0)
+key-entry [] g within = absurd (omega arith)
+key-entry (x ∷ xs) zero within = (x, refl, refl)
+key-entry (x ∷ xs) (suc g) within = key-entry xs g (omega arith)
+
+pub later-is : (entries : List Entry) (i g : ℕ) (e : Entry) → later_getter entries i e ≡ Some g → IsLater entries i e g
+later-is entries i g e is = by (wanted_getter e.0 e.1) refl is
+  where
+    by : (o : Option (List ℕ)) → wanted_getter e.0 e.1 ≡ o → after i (option_and_then (λ (label : List ℕ). position (is_under label) (keys_of entries)) o) ≡ Some g → IsLater entries i e g
+    by None wanted found = cc
+    by (Some label) wanted found =
+        let place = after-is i g (position (is_under label) (keys_of entries)) found in
+        let one = position-Some (is_under label) (keys_of entries) g none_key place.0 in
+        let x = key-entry entries g one.0 in
+        record {
+          later = place.1;
+          getter = x.0;
+          at = x.1;
+          asked = ap (λ (o : Option (List ℕ)). option_map_or (λ (l : List ℕ). is_under l x.0.0) o false) wanted ∙ ap (is_under label) (sym x.2) ∙ one.1;
+        }
+
+-- each getter that is waited for stands later, in the list
+pub getters-later : (entries : List Entry) → AreLater (getters_of entries)
+getters-later entries s g at =
+    let long = length-getters entries in
+    let inside : s < length entries = omega (arith, long, within_at (getters_of entries) s (Some g) at) in
+    let e = some_at entries s inside in
+    let same : Some (Some g) ≡ Some (later_getter entries s e.0) = sym at ∙ getter-at entries s e.0 e.1 in
+    let is = later-is entries s g e.0 (some_same same) in
+    let low = within_at entries g is.getter is.at in
+    (is.later, omega (arith, low, long))
+  where
+    some_same : {X : Type 0} {x y : X} → Some x ≡ Some y → y ≡ x
+    some_same same = cc
+
+-- of two entries of one list at most one is under a label
+one_under : (entries : List Entry) (label : List ℕ) (p q : ℕ) (x y : Entry) → IsDistinct eq-value.it (keys_of entries) → slice_get entries p ≡ Some x → slice_get entries q ≡ Some y
+    → is_under label x.0 ≡ true → (p ≡ q → ⊥) → is_under label y.0 ≡ false
+one_under entries label p q x y distinct first second under apart =
+    sym (key_under label y.0) ∙ ap (λ (k : WorldKey). eq-value.it k y.0) (sym (is_label x.0 under)) ∙ keys-apart entries p q x y distinct first second apart
+  where
+    is_label : (k : WorldKey) → is_under label k ≡ true → k ≡ key.Name label
+    is_label (key.Name name) test = ap (λ (n : List ℕ). key.Name n) (sym (same_text label name (sym test)))
+    is_label (key.Interface i) test = cc
+
+-- of a list at most one is asked for
+one_asked : (entries : List Entry) (e : Entry) (p q : ℕ) (x y : Entry) → IsDistinct eq-value.it (keys_of entries) → slice_get entries p ≡ Some x → slice_get entries q ≡ Some y
+    → is_getter_of e x ≡ true → (p ≡ q → ⊥) → is_getter_of e y ≡ false
+one_asked entries e p q x y distinct first second asked apart = by (wanted_getter e.0 e.1) asked
+  where
+    by : (o : Option (List ℕ)) → option_map_or (λ (l : List ℕ). is_under l x.0) o false ≡ true → option_map_or (λ (l : List ℕ). is_under l y.0) o false ≡ false
+    by None test = refl
+    by (Some label) test = one_under entries label p q x y distinct first second test apart
+
+all_fail : (p : WorldKey → Bool) (es : List Entry) (j : ℕ) (x : Entry) → length (keys_of es) ≤ position_or_len p (keys_of es) → slice_get es j ≡ Some x → p x.0 ≡ false
+all_fail p [] j x all at = cc
+all_fail p (e ∷ es) j x all at = first (p e.0) refl all (λ m low there. all_fail p es m x low there)
+  where
+    first : (b : Bool) → p e.0 ≡ b → suc (length (keys_of es)) ≤ cond (not b) (1 + position_or_len p (keys_of es)) 0
+        → ((m : ℕ) → length (keys_of es) ≤ position_or_len p (keys_of es) → slice_get es m ≡ Some x → p x.0 ≡ false) → p x.0 ≡ false
+    first true test all rest = absurd (omega arith)
+    first false test all rest = place j at
+      where
+        place : (m : ℕ) → slice_get (e ∷ es) m ≡ Some x → p x.0 ≡ false
+        place zero here = let same : e ≡ x = cc in subst (λ (y : Entry). p y.0 ≡ false) same test
+        place (suc m) there = rest m (omega (arith, all)) there
+
+no_position : (p : WorldKey → Bool) (entries : List Entry) (k : ℕ) (x : Entry) → position p (keys_of entries) ≡ None → slice_get entries k ≡ Some x → p x.0 ≡ false
+no_position p entries k x absent at = by (nat_lt (position_or_len p (keys_of entries)) (length (keys_of entries))) refl absent
+  where
+    by : (b : Bool) → nat_lt (position_or_len p (keys_of entries)) (length (keys_of entries)) ≡ b → cond b (Some (position_or_len p (keys_of entries))) None ≡ None → p x.0 ≡ false
+    by true test is = cc
+    by false test is = all_fail p entries k x (ltb-false (position_or_len p (keys_of entries)) (length (keys_of entries)) test) at
+
+-- where none is waited for, none that stands later is asked for
+none-later : (entries : List Entry) (i k : ℕ) (e x : Entry) → IsDistinct eq-value.it (keys_of entries) → later_getter entries i e ≡ None → i < k → slice_get entries k ≡ Some x → is_getter_of e x ≡ false
+none-later entries i k e x distinct is behind at = by (wanted_getter e.0 e.1) is
+  where
+    by : (o : Option (List ℕ)) → after i (option_and_then (λ (label : List ℕ). position (is_under label) (keys_of entries)) o) ≡ None → option_map_or (λ (l : List ℕ). is_under l x.0) o false ≡ false
+    by None none = refl
+    by (Some label) none = found (position (is_under label) (keys_of entries)) refl none
+      where
+        found : (p : Option ℕ) → position (is_under label) (keys_of entries) ≡ p → after i p ≡ None → is_under label x.0 ≡ false
+        found None absent none = no_position (is_under label) entries k x absent at
+        found (Some p) there none =
+            let one = position-Some (is_under label) (keys_of entries) p none_key there in
+            let y = key-entry entries p one.0 in
+            one_under entries label p k y.0 x distinct y.1 at (ap (is_under label) (sym y.2) ∙ one.1) (λ same. early (nat_lt i p) refl none (omega (arith, same, behind)))
+          where
+            early : (b : Bool) → nat_lt i p ≡ b → cond b (Some p) None ≡ None → i < p → ⊥
+            early true test same later = cc
+            early false test same later = let low : p ≤ i = ltb-false i p test in omega (arith, low, later)
+
+-- ---- the entries in the order of the indices
+
+-- the entries from index i on, and what they wait for
+record IsSuffix (entries : List Entry) (i : ℕ) (es : List Entry) (os : List (Option ℕ)) : Type 0 where
+  pub long : length os ≡ length es
+  pub ends : i + length es ≡ length entries
+  pub at : (j k : ℕ) → i + j ≡ k → slice_get entries k ≡ slice_get es j
+  pub waits : (j k : ℕ) (e : Entry) → i + j ≡ k → slice_get es j ≡ Some e → slice_get os j ≡ Some (later_getter entries k e)
+
+some-any : {X : Type 0} (p : X → Bool) (xs : List X) (j : ℕ) (x : X) → slice_get xs j ≡ Some x → p x ≡ true → list_any p xs ≡ true
+some-any p [] j x at test = cc
+some-any p (y ∷ ys) zero x at test = let same : y ≡ x = cc in rw (same, test) refl
+some-any p (y ∷ ys) (suc j) x at test = by (p y) (some-any p ys j x at test)
+  where
+    by : (b : Bool) → list_any p ys ≡ true → (b || list_any p ys) ≡ true
+    by true rest = refl
+    by false rest = rest
+
+none-any : {X : Type 0} (p : X → Bool) (xs : List X) → ((j : ℕ) (x : X) → slice_get xs j ≡ Some x → p x ≡ false) → list_any p xs ≡ false
+none-any p [] none = refl
+none-any p (y ∷ ys) none = rw (none 0 y refl) (none-any p ys (λ j x at. none (suc j) x at))
+
+abbrev Stands : List Entry → ℕ → Entry → Type 0
+Stands entries place e = slice_get entries place ≡ Some e
+
+-- one entry more
+entry-placed : (entries : List Entry) (i : ℕ) (e : Entry) (es placed : List Entry) (os : List (Option ℕ)) → IsDistinct eq-value.it (keys_of entries) → IsSuffix entries i (e ∷ es) (later_getter entries i e ∷ os)
+    → AllZip (Stands entries) (order_from (i + 1) os) placed
+    → AllZip (Stands entries) (put_index i (later_getter entries i e) (order_from (i + 1) os)) (cond (list_any (is_getter_of e) es) (put_behind (is_getter_of e) e placed) (e ∷ placed))
+entry-placed entries i e es placed os distinct is rest = by (later_getter entries i e) refl
+  where
+    here : slice_get entries i ≡ Some e
+    here = is.at 0 i (omega arith)
+
+    by : (o : Option ℕ) → later_getter entries i e ≡ o
+        → AllZip (Stands entries) (put_index i o (order_from (i + 1) os)) (cond (list_any (is_getter_of e) es) (put_behind (is_getter_of e) e placed) (e ∷ placed))
+    by None waits =
+        let none : list_any (is_getter_of e) es ≡ false =
+        none-any (is_getter_of e) es (λ j x at. none-later entries i (i + suc j) e x distinct waits (omega arith) (is.at (suc j) (i + suc j) refl ∙ at)) in
+        subst (λ (b : Bool). AllZip (Stands entries) (i ∷ order_from (i + 1) os) (cond b (put_behind (is_getter_of e) e placed) (e ∷ placed))) (sym none) (here, rest)
+    by (Some g) waits =
+        let later = later-is entries i g e waits in
+        let j : ℕ = g - (i + 1) in
+        let there : slice_get es j ≡ Some later.getter = sym (is.at (suc j) g (let low = later.later in omega arith)) ∙ later.at in
+        let some : list_any (is_getter_of e) es ≡ true = some-any (is_getter_of e) es j later.getter there later.asked in
+        subst (λ (b : Bool). AllZip (Stands entries) (put_behind (nat_eq g) i (order_from (i + 1) os)) (cond b (put_behind (is_getter_of e) e placed) (e ∷ placed))) (sym some)
+        (zip-put (Stands entries) (nat_eq g) (is_getter_of e) i e here (order_from (i + 1) os) placed (λ place x has at. alike place x at) rest)
+      where
+        alike : (place : ℕ) (x : Entry) → slice_get entries place ≡ Some x → nat_eq g place ≡ is_getter_of e x
+        alike place x at = elim (cases_eq g place) [
+          | inl same ↦
+              let later = later-is entries i g e waits in
+              let one : x ≡ later.getter = same_entry entries place x later.getter at (subst (λ (m : ℕ). slice_get entries m ≡ Some later.getter) same later.at) in
+              eq-eqb g place same ∙ sym later.asked ∙ ap (is_getter_of e) (sym one)
+          | inr apart ↦ let later = later-is entries i g e waits in ne_eqb g place apart ∙ sym (one_asked entries e g place later.getter x distinct later.at at later.asked apart)
+        ]
+
+suffix-placed : (entries : List Entry) (i : ℕ) (es : List Entry) (os : List (Option ℕ)) → IsDistinct eq-value.it (keys_of entries) → IsSuffix entries i es os → AllZip (Stands entries) (order_from i os) (setters_placed es)
+suffix-placed entries i [] [] distinct is = tt
+suffix-placed entries i [] (o ∷ os) distinct is = absurd (let long = is.long in omega arith)
+suffix-placed entries i (e ∷ es) [] distinct is = absurd (let long = is.long in omega arith)
+suffix-placed entries i (e ∷ es) (o ∷ os) distinct is =
+    let first : Some o ≡ Some (later_getter entries i e) = is.waits 0 i e (omega arith) refl in
+    let o_is : later_getter entries i e ≡ o = cc in
+    let rest : IsSuffix entries (i + 1) es os = record {
+      long = let long = is.long in omega arith;
+      ends = let ends = is.ends in omega arith;
+      at = λ j k sum. is.at (suc j) k (omega (arith, sum));
+      waits = λ j k x sum at. is.waits (suc j) k x (omega (arith, sum)) at;
+    } in
+    subst (λ (p : Option ℕ). AllZip (Stands entries) (put_index i p (order_from (i + 1) os)) (setters_placed (e ∷ es))) o_is
+    (entry-placed entries i e es (setters_placed es) os distinct (subst (λ (p : Option ℕ). IsSuffix entries i (e ∷ es) (p ∷ os)) (sym o_is) is) (suffix-placed entries (i + 1) es os distinct rest))
+
+order-placed : (entries : List Entry) → IsDistinct eq-value.it (keys_of entries) → AllZip (Stands entries) (order_after_getters (getters_of entries)) (setters_placed entries)
+order-placed entries distinct = suffix-placed entries 0 entries (getters_of entries) distinct (record {
+  long = length-getters entries;
+  ends = omega arith;
+  at = λ j k sum. let same : k ≡ j = omega (arith, sum) in ap (slice_get entries) same;
+  waits = λ j k e sum at.
+      let same : j ≡ k = omega (arith, sum) in
+      getter-at entries j e at ∙ ap (λ (m : ℕ). Some (later_getter entries m e)) same;
+})
+
+-- the entries at the places of an order
+stands-once : (entries : List Entry) (order : List ℕ) (xs ys : List Entry) → AllZip (Stands entries) order xs → AllZip (Stands entries) order ys → xs ≡ ys
+stands-once entries [] [] [] first second = refl
+stands-once entries [] [] (y ∷ ys) first second = absurd second
+stands-once entries [] (x ∷ xs) ys first second = absurd first
+stands-once entries (p ∷ ps) [] ys first second = absurd first
+stands-once entries (p ∷ ps) (x ∷ xs) [] first second = absurd second
+stands-once entries (p ∷ ps) (x ∷ xs) (y ∷ ys) first second =
+    ap (λ (e : Entry). e ∷ xs) (same_entry entries p x y first.0 second.0) ∙ ap (λ (es : List Entry). y ∷ es) (stands-once entries ps xs ys first.1 second.1)
+
+pub setters_placed-are : (entries arranged : List Entry) → IsDistinct eq-value.it (keys_of entries) → AllZip (Stands entries) (order_after_getters (getters_of entries)) arranged → arranged ≡ setters_placed entries
+setters_placed-are entries arranged distinct all = stands-once entries (order_after_getters (getters_of entries)) arranged (setters_placed entries) all (order-placed entries distinct)
 
 -- ---- lists that are gone through
 
@@ -472,23 +343,7 @@ getters-all entries n getters reached so_far =
     let long = length-indexed_entries entries in
     so_far ∙ ap (map (λ (p : ℕ × Entry). later_getter entries p.0 p.1)) (take_all n (indexed_entries entries) (omega arith))
 
-pub empty-next : (n : ℕ) (rows new : List (List ℕ)) → rows ≡ map (λ _. []) (range_with_len 0 n) → new ≡ rows ++ [] ∷ [] → new ≡ map (λ _. []) (range_with_len 0 (n + 1))
-empty-next n rows new so_far made =
-    made ∙ ap (λ (l : List (List ℕ)). l ++ [] ∷ []) so_far ∙ sym (ap (map (λ _. [])) (range-next n) ∙ map-append (λ _. []) (range_with_len 0 n) (n ∷ []))
-
 -- ---- keys still differ
-
-keys-apart : (es : List Entry) (p q : ℕ) (x y : Entry) → IsDistinct eq-value.it (keys_of es) → slice_get es p ≡ Some x → slice_get es q ≡ Some y → (p ≡ q → ⊥) → eq-value.it x.0 y.0 ≡ false
-unfolding IsDistinct
-keys-apart [] p q x y distinct first second apart = cc
-keys-apart (e ∷ es) zero zero x y distinct first second apart = absurd (apart refl)
-keys-apart (e ∷ es) zero (suc q) x y distinct first second apart =
-    let same : e ≡ x = cc in
-    subst (λ (z : Entry). eq-value.it z.0 y.0 ≡ false) same (key_at (λ k. eq-value.it e.0 k ≡ false) es q y.0 y.1 distinct.0 second)
-keys-apart (e ∷ es) (suc p) zero x y distinct first second apart =
-    let same : e ≡ y = cc in
-    key_laws.symm x.0 y.0 ∙ subst (λ (z : Entry). eq-value.it z.0 x.0 ≡ false) same (key_at (λ k. eq-value.it e.0 k ≡ false) es p x.0 x.1 distinct.0 first)
-keys-apart (e ∷ es) (suc p) (suc q) x y distinct first second apart = keys-apart es p q x y distinct.1 first second (λ same. apart (ap suc same))
 
 pub arranged-differ : (es : List Entry) (order : List ℕ) (arranged : List Entry) → IsDistinct eq-value.it (keys_of es) → IsDistinct nat_eq order
     → AllZip (λ place (x : Entry). slice_get es place ≡ Some x) order arranged → IsDistinct eq-value.it (keys_of arranged)
@@ -530,8 +385,9 @@ pub placing-differ : (entries items arranged : List Entry) (order : List ℕ) �
 placing-differ entries items arranged order is distinct all =
     arranged-differ entries (order_after_getters (getters_of entries)) arranged distinct (order-once (getters_of entries)) (zip-of entries items arranged order is all)
 
-pub placing-setters_placed : (entries items arranged : List Entry) (order : List ℕ) → IsPlacing entries items order → AllZip (λ place (x : Entry). slice_get items place ≡ Some x) order arranged → arranged ≡ setters_placed entries
-placing-setters_placed entries items arranged order is all = setters_placed-are entries arranged (zip-of entries items arranged order is all)
+pub placing-setters_placed : (entries items arranged : List Entry) (order : List ℕ) → IsPlacing entries items order → IsDistinct eq-value.it (keys_of entries)
+    → AllZip (λ place (x : Entry). slice_get items place ≡ Some x) order arranged → arranged ≡ setters_placed entries
+placing-setters_placed entries items arranged order is distinct all = setters_placed-are entries arranged distinct (zip-of entries items arranged order is all)
 
 pub placing-of : (entries kept items : List Entry) (getters : List (Option ℕ)) (order places_of : List ℕ) → kept ≡ entries → getters ≡ getters_of kept → order ≡ order_after_getters getters → items ≡ kept
     → places_of ≡ order → IsPlacing entries items places_of

@@ -1,9 +1,9 @@
 -- Where setters stand in a list of a world: beside their getters.
 -- Source: getters and setters on the WIT page of the component model; `process_world_includes` of wit-parser
 -- 0.263.0. That a setter is told by its label is a rule of this project.
-use Rattle.std.specs.Prelude.{◌≡◌, ℕ, ◌&&◌, Bool, not, false, List, [], ◌∷◌, ◌++◌, map, length, drop, filter, nat_eq, nat_lt, codes, Contains, Option, Some, None, is_some, position, slice_get, if◌then◌else◌, flat_map, option_and_then, bytes_eq}
-use Rattle.std.specs.List.{list_any, enumerate_from, starts_with}
-use Rattle.std.specs.Option.{option_eq}
+use Rattle.std.specs.Prelude.{◌≡◌, ℕ, ◌&&◌, Bool, not, false, List, [], ◌∷◌, ◌++◌, length, drop, nat_eq, codes, Contains, Option, Some, None, slice_get, if◌then◌else◌, bytes_eq}
+use Rattle.std.specs.List.{list_any, starts_with}
+use Rattle.std.specs.Option.{option_map_or}
 use Rattle.std.specs.Map.{keys_of}
 use Rattle.wit_data.specs.Entries.{Entry}
 use Rattle.wit_data.specs.declared.world.WorldItem.{WorldItem}
@@ -61,17 +61,16 @@ abbrev pub is_under : List ℕ → WorldKey → Bool
 is_under label (key.Name name) = bytes_eq label name
 is_under label (key.Interface i) = false
 
--- the index of the getter of the setter at index i, where it stands after i
-abbrev pub later_getter : List Entry → ℕ → Entry → Option ℕ
-later_getter entries i e =
-    option_and_then (λ g. if nat_lt i g then Some g else None) (option_and_then (λ (label : List ℕ). position (is_under label) (keys_of entries)) (wanted_getter e.0 e.1))
+-- does the second entry stand under the label of the getter that the first one asks for?
+abbrev pub is_getter_of : Entry → Entry → Bool
+is_getter_of setter e = option_map_or (λ (label : List ℕ). is_under label e.0) (wanted_getter setter.0 setter.1) false
 
--- the setters whose getter, later in the list, is the entry at index g
-abbrev pub waiting_setters : List Entry → ℕ → List Entry
-waiting_setters entries g =
-    map (λ (s : ℕ × Entry). s.1) (filter (λ (s : ℕ × Entry). option_eq nat_eq (later_getter entries s.0 s.1) (Some g)) (enumerate_from 0 entries))
+-- a list with x put just behind the first element that passes a test
+abbrev pub put_behind : {X : Type 0} → (X → Bool) → X → List X → List X
+put_behind passes x [] = x ∷ []
+put_behind passes x (y ∷ ys) = if passes y then y ∷ x ∷ ys else y ∷ put_behind passes x ys
 
--- the list with each setter that stands before its getter moved to just after it; nothing else moves
+-- the list with each setter that stands before its getter moved to just behind it; nothing else moves
 abbrev pub setters_placed : List Entry → List Entry
-setters_placed entries =
-    flat_map (λ (p : ℕ × Entry). (if is_some (later_getter entries p.0 p.1) then [] else p.1 ∷ []) ++ waiting_setters entries p.0) (enumerate_from 0 entries)
+setters_placed [] = []
+setters_placed (e ∷ es) = if list_any (is_getter_of e) es then put_behind (is_getter_of e) e (setters_placed es) else e ∷ setters_placed es

@@ -1,12 +1,12 @@
 //! Setters that stand before their getters are moved to just after them.
-ghost use Rattle.std.specs.Prelude.{◌≡◌, ℕ, ◌<◌, ◌++◌, ◌∷◌, ◌↔◌, [], IfOk, IsTrue, None, OnOk, Some, is_some, length, map, slice_get, slice_index_or, slice_set, if◌then◌else◌};
-ghost use Rattle.std.specs.List.{IsDistinct, range_with_len};
+ghost use Rattle.std.specs.Prelude.{◌≡◌, ℕ, ◌<◌, ◌↔◌, IfOk, IsTrue, None, Some, length, slice_get, slice_index, slice_set};
+ghost use Rattle.std.specs.List.{IsDistinct};
 ghost use Rattle.std.specs.Map.{keys_of};
 ghost use Rattle.wit_data.specs.Each.{Each};
 ghost use Rattle.wit_data.specs.Entries.{Entry};
 ghost use Rattle.wit_data.specs.contracts.world.WorldKeyPartialEq.TheImpl.{eq-value};
-ghost use Rattle.wit_labels.specs.steps.Placing.{getters_of, order_after_getters, waiters};
-ghost use Rattle.wit_labels.specs.Setters.{later_getter, setters_placed, wanted_getter};
+ghost use Rattle.wit_labels.specs.steps.Placing.{AreLater, IsRing, getters_of, later_getter, order_after_getters};
+ghost use Rattle.wit_labels.specs.Setters.{setters_placed, wanted_getter};
 ghost use Rattle.wit_labels.specs.steps.Parts.{after};
 
 use crate::setters::{is_setter, wanted_getter};
@@ -97,94 +97,48 @@ fn after(index: usize, found: Option<usize>) -> Option<usize>
     }
 }
 
-/// The indices with each setter after its getter.
+/// The indices with each setter just after its getter.
 fn order_after_getters(
     alloc: Global,
     getters: &Items<Option<usize>>,
 ) -> Result<Items<usize>, AllocError>
-    requires { (s g : ℕ) → slice_get getters.now s ≡ Some (Some g) → g < length getters.now }
+    requires { AreLater getters.now }
     ensures { IfOk result (λ order. order ≡ order_after_getters getters.now) }
 {
-    let mut rows = waiting_rows(alloc, getters)?;
+    let next = next_indices(alloc, getters)?;
+    let end = getters.len();
     let mut order = Items::new(alloc);
-    for (index, getter) in getters.as_slice().iter().enumerate() {
-        push_unless_waiting(&mut order, *getter, index)?;
-        order.append(rows.replace(index, Items::new(alloc)))?;
+    let mut index = *next.at(end);
+    for _ in 0..end {
+        order.push(index)?;
+        index = *next.at(index);
     }
     Ok(order)
 }
 
-/// Adds an index that waits for none.
-fn push_unless_waiting(
-    order: &mut Items<usize>,
-    getter: Option<usize>,
-    index: usize,
-) -> Result<(), AllocError>
-    ensures { OnOk result (order.new ≡ order.old ++ (if is_some getter then [] else index ∷ [])) }
+/// For each index the one that comes after it, where each setter comes just after its getter: a ring, in which the end
+/// stands between the last index and the first.
+fn next_indices(alloc: Global, getters: &Items<Option<usize>>) -> Result<Items<usize>, AllocError>
+    requires { AreLater getters.now }
+    ensures { IfOk result (λ next. IsRing next (order_after_getters getters.now) (length getters.now)) }
 {
-    match getter {
-        Some(_) => Ok(()),
-        None => order.push(index),
+    let end = getters.len();
+    let mut next = Items::from_vec(vec![in alloc; end; end]?);
+    next.push(end)?;
+    for index in (0..end).rev() {
+        put_after(&mut next, getters.at(index).unwrap_or(end), index);
     }
+    Ok(next)
 }
 
-/// For each index those that wait for it.
-fn waiting_rows(
-    alloc: Global,
-    getters: &Items<Option<usize>>,
-) -> Result<Items<Items<usize>>, AllocError>
-    requires { (s g : ℕ) → slice_get getters.now s ≡ Some (Some g) → g < length getters.now }
-    ensures { IfOk result (λ rows. rows ≡ map (waiters getters.now (length getters.now)) (range_with_len 0 (length getters.now))) }
+/// Puts an index just after another.
+fn put_after(next: &mut Items<usize>, before: usize, index: usize)
+    requires before { before < length next.old }
+    requires index { index < length next.old }
+    ensures { next.new ≡ slice_set (slice_set next.old before index) index (slice_index next.old before) }
 {
-    let mut rows = empty_rows(alloc, getters.len())?;
-    for (index, getter) in getters.as_slice().iter().enumerate() {
-        add_waiter(alloc, &mut rows, *getter, index)?;
-    }
-    Ok(rows)
-}
-
-/// Adds an index to the row of the getter that it waits for.
-fn add_waiter(
-    alloc: Global,
-    rows: &mut Items<Items<usize>>,
-    getter: Option<usize>,
-    place: usize,
-) -> Result<(), AllocError>
-    requires { (g : ℕ) → getter ≡ Some g → g < length rows.old }
-    ensures waits { OnOk result ((g : ℕ) → getter ≡ Some g → rows.new ≡ slice_set rows.old g (slice_index_or rows.old g [] ++ place ∷ [])) }
-    ensures none { getter ≡ None → rows.new ≡ rows.old }
-{
-    match getter {
-        Some(index) => add_to_row(alloc, rows, index, place),
-        None => Ok(()),
-    }
-}
-
-/// Adds an index to the end of a row.
-fn add_to_row(
-    alloc: Global,
-    rows: &mut Items<Items<usize>>,
-    index: usize,
-    place: usize,
-) -> Result<(), AllocError>
-    requires { index < length rows.old }
-    ensures { OnOk result (rows.new ≡ slice_set rows.old index (slice_index_or rows.old index [] ++ place ∷ [])) }
-{
-    let mut row = rows.replace(index, Items::new(alloc));
-    row.push(place)?;
-    rows.set(index, row);
-    Ok(())
-}
-
-/// So many rows of nothing.
-fn empty_rows(alloc: Global, count: usize) -> Result<Items<Items<usize>>, AllocError>
-    ensures { IfOk result (λ rows. rows ≡ map (λ _. []) (range_with_len 0 count)) }
-{
-    let mut rows = Items::new(alloc);
-    for index in 0..count {
-        rows.push(Items::new(alloc))?;
-    }
-    Ok(rows)
+    let after = next.replace(before, index);
+    next.set(index, after);
 }
 
 /// The entries as a list.

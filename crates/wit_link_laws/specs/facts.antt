@@ -30,7 +30,6 @@ pub mod PackageFacts
 pub mod PartiallyLinked
 pub mod Parts
 pub mod PartsStand
-pub mod PlacedFacts
 pub mod PlacedWorlds
 pub mod Remains
 pub mod SourcesGood

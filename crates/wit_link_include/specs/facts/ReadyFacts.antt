@@ -1,6 +1,6 @@
 -- A world of an addition that is reached can be added with its includes, as the laws of stages have it. For the proofs of
 -- the crates above.
-use Rattle.std.proofs.Common.{◌≡◌, ℕ, ◌<◌, List, [], ◌∷◌, map, length, take, None, Some, slice_get, refl, sym, ap, subst, suc, arith, Contains}
+use Rattle.std.proofs.Common.{◌≡◌, ℕ, ◌<◌, List, [], ◌∷◌, map, length, take, None, Some, slice_get, refl, sym, ap, subst, suc, arith}
 use Rattle.std.proofs.lemmas.Option.{slice_get_within}
 use Rattle.std.specs.List.{AllByRecursion}
 use Rattle.wit_values.specs.facts.Lists.{AllByRecursion-at}
@@ -8,15 +8,12 @@ use Rattle.wit_data.specs.Entries.{Entry}
 use Rattle.wit_data.specs.Shape.{IsShaped}
 use Rattle.wit_data.specs.declared.world.World.{World}
 use Rattle.wit_data.specs.declared.world.WorldInclude.{WorldInclude}
-use Rattle.wit_data.specs.declared.world.WorldItem.{WorldItem}
-use Rattle.wit_data.specs.declared.world.WorldKey.{WorldKey}
-use Rattle.wit_data.specs.declared.world.WorldKey.TheVariants as key
 use Rattle.wit_elaboration.specs.Sound.{HasSoundEntries, IsUnderOwnKey}
 use Rattle.wit_elaboration.specs.Valid.{IsValid}
 use Rattle.wit_graph_data.specs.declared.graph.Graph.{Graph}
 use Rattle.wit_graph_theory.specs.facts.ListFacts.{contained_at, from_map, place_of}
 use Rattle.wit_labels.specs.Setters.{setters_placed}
-use Rattle.wit_link_laws.specs.facts.PlacedFacts.{placed_into}
+use Rattle.wit_labels.specs.facts.PlacedFacts.{placed_into}
 use Rattle.wit_link_spec.specs.Addition.{Addition, active_includes, remapped_world}
 use Rattle.wit_link_spec.specs.facts.Linked.{IncludeIsReached}
 use Rattle.wit_link_spec.specs.Include.{PartiallyLinked}
@@ -37,13 +34,10 @@ each_of P [] each = tt
 each_of P (x ∷ xs) each = (each 0 x refl, each_of P xs (λ i. each (suc i)))
 
 own_from_placed : (es : List Entry) → AllByRecursion (λ (e : Entry). IsUnderOwnKey e.0 e.1) (setters_placed es) → AllByRecursion (λ (e : Entry). IsUnderOwnKey e.0 e.1) es
-own_from_placed es own = each_of (λ (e : Entry). IsUnderOwnKey e.0 e.1) es (λ i e at. one e.0 e.1 (contained_at es i e at))
-  where
-    one : (k : WorldKey) (held : WorldItem) → Contains es (k, held) → IsUnderOwnKey k held
-    one (key.Name label) held has = tt
-    one (key.Interface f) held has =
-        let place = place_of (setters_placed es) (key.Interface f, held) (placed_into es (key.Interface f, held) has refl) in
-        AllByRecursion-at (λ (e : Entry). IsUnderOwnKey e.0 e.1) (setters_placed es) place.0 (key.Interface f, held) own place.1
+own_from_placed es own =
+    each_of (λ (e : Entry). IsUnderOwnKey e.0 e.1) es (λ i e at.
+    let place = place_of (setters_placed es) e (placed_into es e (contained_at es i e at)) in
+    AllByRecursion-at (λ (e : Entry). IsUnderOwnKey e.0 e.1) (setters_placed es) place.0 e own place.1)
 
 module _ (there : IncludedAreThere) (includes : IncludesCanBe) (worlds : WorldsCanBe) (a : Addition) (valid : IsValid a.graph) (shaped : IsShaped a.unresolved) (image : IsResolved a) (k : ℕ) (reached : IsReached a k) (at : AtWorld a k) where
   abbrev here : Graph

@@ -36,7 +36,7 @@ use Rattle.wit_graph_theory.specs.steps.Sources.{Carries, IsGoodSource, Source}
 use Rattle.wit_labels.specs.Setters.{setters_placed}
 use Rattle.wit_link_laws.specs.facts.ListedTypes.{lists_type}
 use Rattle.wit_link_laws.specs.facts.PartiallyLinked.{IsSoundSoFar}
-use Rattle.wit_link_laws.specs.facts.PlacedFacts.{placed_in, placed_into}
+use Rattle.wit_labels.specs.facts.PlacedFacts.{placed_in, placed_into}
 use Rattle.wit_link_laws.specs.facts.PlacedWorlds.{exported_named, exports_distinct, imports_distinct, placed_in_order, used_named}
 use Rattle.wit_link_laws.specs.facts.Remains.{beside, export_remains, import_remains, interface_remains, type_remains, world_remains}
 use Rattle.wit_remap_spec.specs.steps.Parts.{identity}
@@ -95,7 +95,7 @@ module _ (laws : LawsOfElaboration) (g : Graph) (stands : IsSoundSoFar g) (into 
       let lists = lists_type d.0 e.0 e.1 d.1.1 in
       let type_entry : Entry = (key.Name e.0, item.Type_ e.1 lists.span) in
       let is : d.0 ≡ type_entry = λ i. (lists.key_is i, lists.held_is i) in
-      let listed : Contains (setters_placed host.imports) type_entry = placed_into host.imports type_entry (subst (Contains host.imports) is d.1.0) refl in
+      let listed : Contains (setters_placed host.imports) type_entry = placed_into host.imports type_entry (subst (Contains host.imports) is d.1.0) in
       let sorted = in_by_class g.types (setters_placed host.imports) type_entry listed in
       let under : Contains (labelled (by_class g.types (setters_placed host.imports))) type_entry = Contains-filtered (λ (x : Entry). is_label x.0) (by_class g.types (setters_placed host.imports)) type_entry sorted refl in
       let stays = laws.labels g.types uses (with_setters_placed host) done stands.uses (placed_in_order g stands into host host_at) (imports_distinct g stands into host host_at) elaborated in

@@ -34,7 +34,7 @@ use Rattle.wit_link_spec.specs.Reasons.{IsResolved}
 use Rattle.wit_link_laws.specs.facts.NamedAliases.{aliases_named, interface_within, named_goes}
 use Rattle.wit_link_laws.specs.facts.Parts.{HasParts}
 use Rattle.wit_link_laws.specs.facts.PartsStand.{type_stands}
-use Rattle.wit_link_laws.specs.facts.PlacedFacts.{placed_distinct, placed_in}
+use Rattle.wit_labels.specs.facts.PlacedFacts.{placed_distinct, placed_in}
 use Rattle.wit_link_spec.specs.steps.Parts.{with_setters_placed}
 
 -- ---- which worlds

@@ -22,7 +22,7 @@ use Rattle.wit_graph_theory.specs.facts.ListFacts.{contained_at, place_of}
 use Rattle.wit_graph_theory.specs.facts.NamedUses.{IsUsed_named}
 use Rattle.wit_labels.specs.Setters.{setters_placed}
 use Rattle.wit_link_laws.specs.facts.PartiallyLinked.{IsSoundSoFar}
-use Rattle.wit_link_laws.specs.facts.PlacedFacts.{placed_distinct, placed_in}
+use Rattle.wit_labels.specs.facts.PlacedFacts.{placed_distinct, placed_in}
 use Rattle.wit_elaboration.specs.steps.Parts.{exported_keys}
 use Rattle.wit_link_spec.specs.steps.Parts.{with_setters_placed}
 

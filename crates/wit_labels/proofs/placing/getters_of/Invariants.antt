@@ -1,6 +1,6 @@
 use Rattle.std.proofs.Common.{◌≡◌, ℕ, map, take}
 use Rattle.wit_data.specs.Entries.{Entry}
-use Rattle.wit_labels.specs.Setters.{later_getter}
+use Rattle.wit_labels.specs.steps.Placing.{later_getter}
 use Rattle.wit_labels.proofs.placing.getters_of.Given as goal
 use Rattle.wit_labels.specs.steps.Parts.{indexed_entries}
 

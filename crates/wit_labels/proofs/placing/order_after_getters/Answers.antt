@@ -1,16 +1,26 @@
-use Rattle.std.proofs.Common.{◌≡◌, ◌++◌, ◌∷◌, [], ℕ, List, Option, None, Some, arith, cond, get_or, is_some, slice_get, slice_set, subst, rules}
-use Rattle.wit_labels.proofs.PlacingSteps.{got_at, ordering-next, ordering-none}
+use Rattle.std.proofs.Common.{◌≡◌, ◌<◌, ◌≤◌, ℕ, List, Some, arith, length, rules, slice_get, subst}
+use Rattle.wit_labels.specs.steps.Placing.{order_after_getters}
+use Rattle.wit_labels.proofs.OrderSteps.{IsListing, listing-all, listing-next, listing-within}
 use Rattle.wit_labels.proofs.placing.order_after_getters.Goals as goal
 
-pub loop-index-init : goal.loop-index-init
-loop-index-init c = rw c.new-order.ensures (ordering-none c.args.getters.now c.in_ok-rows.rows c.in_ok-rows.ensures)
+pub at-index-requires-in-loop : goal.at-index-requires-in-loop
+at-index-requires-in-loop c =
+    let getters = c.args.getters.now in
+    let same : c.next.inside.inner.items ≡ c.in_ok-next.next = search rules in
+    listing-within getters c.in_ok-next.next c.loop.order c.loop.index c.loop.counter
+    (subst (λ (next : List ℕ). IsListing next (order_after_getters getters) c.loop.order c.loop.index c.loop.counter (length getters)) same c.loop.invariant) c.in_ok-next.ensures
 
-pub loop-index-preserved : goal.loop-index-preserved
-loop-index-preserved c =
-    let getters = c.as_slice-getter-items.result.now in
-    let getter : Option ℕ = get_or getters c.loop-index.index None in
-    let at : slice_get c.args.getters.now c.loop-index.index ≡ Some getter =
-    subst (λ (gs : List (Option ℕ)). slice_get gs c.loop-index.index ≡ Some getter) c.as_slice-getter-items.ensures (got_at getters c.loop-index.index None (omega arith)) in
-    let rows : c.replace.new.self ≡ slice_set c.loop-index.rows c.loop-index.index [] = search rules in
-    let order : c.append.new.self ≡ (c.loop-index.order ++ cond (is_some getter) [] (c.loop-index.index ∷ [])) ++ c.replace.result = search rules in
-    rw (rows, order) (ordering-next c.args.getters.now c.loop-index.index c.loop-index.order c.loop-index.rows getter c.replace.result c.loop-index.invariant at c.replace.ensures.old)
+pub loop-preserved : goal.loop-preserved
+loop-preserved c =
+    let getters = c.args.getters.now in
+    let same : c.in_ok-next.next ≡ c.next.inside.inner.items = search rules in
+    let at : slice_get c.next.inside.inner.items c.loop.index ≡ Some c.at-index-in-loop.result.now =
+    subst (λ (next : List ℕ). slice_get next c.loop.index ≡ Some c.at-index-in-loop.result.now) same c.at-index-in-loop.ensures in
+    let more : c.loop.counter < length getters = omega (arith, c.loop-test.true, c.len-end.ensures) in
+    listing-next getters c.next.inside.inner.items c.loop.order c.push.new.self c.loop.index c.at-index-in-loop.result.now c.loop.counter c.loop.invariant c.in_ok-push.ensures.ok more at
+
+pub returns : goal.returns
+returns c =
+    let getters = c.args.getters.now in
+    let reached : length getters ≤ c.loop.counter = omega (arith, c.loop-test.false, c.len-end.ensures) in
+    listing-all getters c.next.inside.inner.items c.loop.order c.loop.index c.loop.counter c.loop.invariant reached
