@@ -1,9 +1,7 @@
-//! Packages that are added to a bare graph with an elaborator of it, which then is one of the new graph, and with what is
-//! known of its types: what each call answers, and the whole graph behind it.
-ghost use Rattle.std.specs.Prelude.{◌≡◌};
-ghost use Rattle.wit_elaboration.specs.Elaboration.{graph_uses};
+//! Packages that are added to a bare graph with its caches, which then are those of the new graph: what each call answers,
+//! and the whole graph behind it.
 ghost use Rattle.wit_elaboration.specs.Valid.{IsValid};
-ghost use Rattle.wit_link.specs.Appending.{KnowsLeads};
+ghost use Rattle.wit_link.specs.Appending.{AreCachesOf};
 
 use crate::parts::assert_text;
 use crate::scripts::{group, pushed};
@@ -12,10 +10,9 @@ use crate::told::write_refusal;
 use std::alloc::{AllocError, Global};
 use std::fmt::Write;
 use std::process::Abort;
-use wit_data::{Items, PackageId, Table, TryClone, TypeId};
-use wit_elaboration::Elaborator;
+use wit_data::{Items, PackageId, TryClone};
 use wit_graph_data::{Features, Graph, ResolveResult};
-use wit_link::{append_all_with, append_with};
+use wit_link::{GraphCaches, append_all_with, append_with};
 use wit_resolve_graph::Shape;
 use wit_validity::is_valid;
 
@@ -110,34 +107,24 @@ fn assert_valid(rt: &impl Abort, alloc: Global, graph: &Graph)
     assert!(rt; is_valid(alloc, graph).expect(rt, "memory"));
 }
 
-/// Before anything is known of the types of a graph.
-fn nothing_met(alloc: Global, graph: &Graph) -> Table<TypeId, bool>
-    ensures { KnowsLeads graph.now.types result }
-{
-    Table::new(alloc)
-}
-
 /// Adds the package that these lines write, its spans moved so far, and writes its id or how it is refused.
 fn add(
     rt: &impl Abort,
     alloc: Global,
     graph: &mut Graph,
-    elaborator: &mut Elaborator,
-    met: &mut Table<TypeId, bool>,
+    caches: &mut GraphCaches,
     text: &str,
     offset: u32,
 ) -> String
     requires valid { IsValid graph.old }
-    requires uses { elaborator.old ≡ graph_uses graph.old }
-    requires met { KnowsLeads graph.old.types met.old }
+    requires caches { AreCachesOf graph.old caches.old }
     ensures valid { IsValid graph.new }
-    ensures uses { elaborator.new ≡ graph_uses graph.new }
-    ensures met { KnowsLeads graph.new.types met.new }
+    ensures caches { AreCachesOf graph.new caches.new }
 {
     let package = group(rt, alloc, text).main;
     assert!(rt; package.is_shaped(alloc).expect(rt, "memory"));
     let features = Features::new(alloc);
-    let added = append_with(alloc, graph, elaborator, met, &features, package, offset);
+    let added = append_with(alloc, graph, caches, &features, package, offset);
     told_id(rt, alloc, added)
 }
 
@@ -151,26 +138,15 @@ fn told_id(rt: &impl Abort, alloc: Global, added: ResolveResult<PackageId>) -> S
     out
 }
 
-/// One package after another; the second is refused when the graph and the elaborator have grown. In the end the graph
+/// One package after another; the second is refused when the graph and its caches have grown. In the end the graph
 /// has the others.
 fn one_by_one(rt: &impl Abort, alloc: Global) -> String {
     let mut graph = first(rt, alloc);
-    let types = graph.types.as_slice();
-    let elaborator = Elaborator::new(alloc, types, graph.interfaces.as_slice());
-    let mut elaborator = elaborator.expect(rt, "memory");
-    let mut met = nothing_met(alloc, &graph);
     assert_valid(rt, alloc, &graph);
-    let main = add(rt, alloc, &mut graph, &mut elaborator, &mut met, MAIN, 100);
-    let refused = add(
-        rt,
-        alloc,
-        &mut graph,
-        &mut elaborator,
-        &mut met,
-        REFUSED,
-        300,
-    );
-    let last = add(rt, alloc, &mut graph, &mut elaborator, &mut met, LAST, 300);
+    let mut caches = GraphCaches::of(alloc, &graph).expect(rt, "memory");
+    let main = add(rt, alloc, &mut graph, &mut caches, MAIN, 100);
+    let refused = add(rt, alloc, &mut graph, &mut caches, REFUSED, 300);
+    let last = add(rt, alloc, &mut graph, &mut caches, LAST, 300);
     assert_text(rt, shown(rt, alloc, &graph), GRAPH);
     format!(in alloc; "{main}, {refused}, {last}").expect(rt, "memory")
 }
@@ -181,16 +157,13 @@ fn add_two(
     rt: &impl Abort,
     alloc: Global,
     graph: &mut Graph,
-    elaborator: &mut Elaborator,
-    met: &mut Table<TypeId, bool>,
+    caches: &mut GraphCaches,
     text: &str,
 ) -> String
     requires valid { IsValid graph.old }
-    requires uses { elaborator.old ≡ graph_uses graph.old }
-    requires met { KnowsLeads graph.old.types met.old }
+    requires caches { AreCachesOf graph.old caches.old }
     ensures valid { IsValid graph.new }
-    ensures uses { elaborator.new ≡ graph_uses graph.new }
-    ensures met { KnowsLeads graph.new.types met.new }
+    ensures caches { AreCachesOf graph.new caches.new }
 {
     let (main, other) = (group(rt, alloc, MAIN).main, group(rt, alloc, text).main);
     assert!(rt; main.is_shaped(alloc).expect(rt, "memory"));
@@ -199,7 +172,7 @@ fn add_two(
     packages.push((main, 100)).expect(rt, "memory");
     packages.push((other, 300)).expect(rt, "memory");
     let features = Features::new(alloc);
-    let added = append_all_with(alloc, graph, elaborator, met, &features, packages);
+    let added = append_all_with(alloc, graph, caches, &features, packages);
     told_ids(rt, alloc, added)
 }
 
@@ -225,19 +198,16 @@ fn write_ids(out: &mut String, ids: &[PackageId]) -> Result<(), AllocError> {
 /// these.
 fn two_at_once(rt: &impl Abort, alloc: Global) -> String {
     let mut graph = first(rt, alloc);
-    let types = graph.types.as_slice();
-    let elaborator = Elaborator::new(alloc, types, graph.interfaces.as_slice());
-    let mut elaborator = elaborator.expect(rt, "memory");
-    let mut met = nothing_met(alloc, &graph);
     assert_valid(rt, alloc, &graph);
-    let refused = add_two(rt, alloc, &mut graph, &mut elaborator, &mut met, REFUSED);
-    let two = add_two(rt, alloc, &mut graph, &mut elaborator, &mut met, LAST);
+    let mut caches = GraphCaches::of(alloc, &graph).expect(rt, "memory");
+    let refused = add_two(rt, alloc, &mut graph, &mut caches, REFUSED);
+    let two = add_two(rt, alloc, &mut graph, &mut caches, LAST);
     assert_text(rt, shown(rt, alloc, &graph), GRAPH);
     format!(in alloc; "{refused}, {two}").expect(rt, "memory")
 }
 
 #[test]
-fn an_elaborator_goes_with_its_graph(rt: HostRuntime) {
+fn caches_go_with_their_graph(rt: HostRuntime) {
     assert_text(
         &rt,
         one_by_one(&rt, rt.alloc()),

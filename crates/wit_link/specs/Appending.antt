@@ -1,9 +1,8 @@
 -- What adding has to make of a graph: of one package, of several one after another, all or none, and of groups: their
 -- order, and why none of them is added.
 -- Source: `append`, `sort_unresolved_packages` and `visit` of wit-parser 0.263.0.
-use Rattle.std.specs.Prelude.{◌≡◌, ℕ, Bool, length, List, [], ◌∷◌, ◌++◌, ◌⊎◌, ◌≤◌, ◌^◌, ◌+◌, map}
+use Rattle.std.specs.Prelude.{◌≡◌, ℕ, length, List, [], ◌∷◌, ◌++◌, ◌⊎◌, ◌≤◌, ◌^◌, ◌+◌, map}
 use Rattle.wit_data.specs.Shape.{IsShaped}
-use Rattle.wit_data.specs.declared.types.TypeDef.{TypeDef}
 use Rattle.wit_data.specs.declared.unresolved.UnresolvedPackage.{UnresolvedPackage}
 use Rattle.wit_data.specs.declared.unresolved.UnresolvedPackageGroup.{UnresolvedPackageGroup}
 use Rattle.wit_graph_data.specs.Error.{NoCause}
@@ -12,7 +11,7 @@ use Rattle.wit_graph_data.specs.declared.graph.Graph.{Graph}
 use Rattle.wit_graph_data.specs.declared.error_kind.ResolveErrorKind.{ResolveErrorKind}
 use Rattle.wit_graph_data.specs.declared.error_kind.ResolveErrorKind.TheVariants.{OffsetOverflow}
 use Rattle.wit_link.specs.GroupOrder.{AreSorted, IsSortCause, Unresolved}
-use Rattle.wit_link_resources.specs.steps.Leading.{AreRight}
+pub use Rattle.wit_link.specs.Caches.{AreCachesOf, HaveGrown}
 use Rattle.wit_link_spec.specs.Addition.{Addition}
 use Rattle.wit_link_spec.specs.Cause.{IsAdditionCause}
 use Rattle.wit_link_spec.specs.Added.{added}
@@ -26,10 +25,6 @@ pub record IsAdded (a : Addition) (new : Graph) (id : ℕ) : Type 0 where
   pub accepted : NoCause (IsAdditionCause a)
   pub graph_is : new ≡ added a
   pub id_is : id ≡ length a.graph.packages
-
--- of types of a graph it is known whether they lead to a resource along aliases
-abbrev pub KnowsLeads : List TypeDef → List (ℕ × Bool) → Type 0
-KnowsLeads types met = AreRight types met
 
 -- a package, with the offset of its spans, that has its shape
 abbrev pub CanAppend : Unresolved → Type 0

@@ -1,3 +1,5 @@
 pub mod Appending
+pub mod Caches
 pub mod GroupOrder
+pub mod facts
 pub mod steps

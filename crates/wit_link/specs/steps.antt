@@ -1,3 +1,4 @@
+pub mod CachesMarks
 pub mod Checked
 pub mod GroupOrderSteps
 pub mod Including

@@ -7,17 +7,19 @@ ghost use Rattle.wit_elaboration.specs.Valid.{IsValid};
 ghost use Rattle.wit_graph_data.specs.declared.error_kind.ResolveErrorKind.{ResolveErrorKind};
 ghost use Rattle.wit_graph_data.specs.declared.error_kind.ResolveErrorKind.TheVariants.{OutOfMemory};
 ghost use Rattle.wit_data.specs.Shape.{IsShaped};
-ghost use Rattle.wit_link.specs.Appending.{IsAdded, KnowsLeads, addition};
+ghost use Rattle.wit_link.specs.Appending.{IsAdded, addition};
+ghost use Rattle.wit_link.specs.Caches.{AreCachesOf, HaveGrown};
 ghost use Rattle.wit_link.specs.steps.Checked.{IsChecked, IsNameTaken, IsNew};
 ghost use Rattle.wit_link_spec.specs.Added.{with_parts};
 ghost use Rattle.wit_link.specs.steps.Including.{ready_worlds};
 ghost use Rattle.wit_remap.specs.Grown.{Begins, Grown};
 
+use crate::caches::{CachesMark, GraphCaches};
 use crate::checking::{Checked, check};
 use crate::fits::spans_fit;
 use crate::including::update_includes;
 use std::alloc::{AllocError, Global};
-use wit_data::{Items, PackageId, Span, Table, TypeId, UnresolvedPackage};
+use wit_data::{Items, PackageId, Span, UnresolvedPackage};
 use wit_elaboration::Elaborator;
 use wit_graph_data::{Features, Graph, ResolveError, ResolveErrorKind, ResolveResult};
 use wit_link_include::add_world;
@@ -52,46 +54,31 @@ pub fn append(
     ensures cause { IfErr result (λ kind. (kind ≡ OutOfMemory) ⊎ IsAdditionCause (addition features.now graph.old «package» span_offset) kind) }
     ensures refuses { (kind : ResolveErrorKind) → IsAdditionCause (addition features.now graph.old «package» span_offset) kind → OnOk result ⊥ }
 {
-    let types = graph.types.as_slice();
-    let mut elaborator = Elaborator::new(alloc, types, graph.interfaces.as_slice())?;
-    let mut met = Table::new(alloc);
-    append_with(
-        alloc,
-        graph,
-        &mut elaborator,
-        &mut met,
-        features,
-        package,
-        span_offset,
-    )
+    let mut caches = GraphCaches::of(alloc, graph)?;
+    append_with(alloc, graph, &mut caches, features, package, span_offset)
 }
 
-/// As `append`, with an elaborator of the graph, which becomes one of the new graph, and with types of the graph that
-/// were met along aliases, each with whether it leads to a resource; what is met more comes behind these. It costs what
-/// is added. After a refusal the graph is as before, and the elaborator is one of it.
+/// As `append`, with caches of the graph, which become those of the new graph: so it costs what is added. After a refusal
+/// the graph is as before, and the caches are those of it.
 ///
 /// Source: `append` of wit-parser 0.263.0.
 pub fn append_with(
     alloc: Global,
     graph: &mut Graph,
-    elaborator: &mut Elaborator,
-    met: &mut Table<TypeId, bool>,
+    caches: &mut GraphCaches,
     features: &Features,
     package: UnresolvedPackage,
     span_offset: u32,
 ) -> ResolveResult<PackageId>
     requires shaped { IsShaped «package» }
     requires valid { IsValid graph.old }
-    requires uses { elaborator.old ≡ graph_uses graph.old }
-    requires met { KnowsLeads graph.old.types met.old }
-    ensures met { KnowsLeads graph.new.types met.new }
-    ensures met_before { Begins met.old met.new }
+    requires caches { AreCachesOf graph.old caches.old }
     ensures ok { IfOk result (λ id. IsAdded (addition features.now graph.old «package» span_offset) graph.new id) }
     ensures valid { IsValid graph.new }
-    ensures uses { elaborator.new ≡ graph_uses graph.new }
+    ensures caches { AreCachesOf graph.new caches.new }
     ensures err { OnErr result (graph.new ≡ graph.old) }
     ensures grown { Grown graph.old graph.new }
-    ensures rows { Begins elaborator.old elaborator.new }
+    ensures known { HaveGrown caches.old caches.new }
     ensures cause { IfErr result (λ kind. (kind ≡ OutOfMemory) ⊎ IsAdditionCause (addition features.now graph.old «package» span_offset) kind) }
     ensures refuses { (kind : ResolveErrorKind) → IsAdditionCause (addition features.now graph.old «package» span_offset) kind → OnOk result ⊥ }
 {
@@ -109,14 +96,14 @@ pub fn append_with(
             unresolved: &package,
             offset: span_offset,
         },
-        met,
+        &mut caches.met,
     )?;
     let mark = Mark::of(graph);
-    let rows = elaborator.interfaces();
+    let known = CachesMark::of(caches);
     let added = add_checked(
         alloc,
         graph,
-        elaborator,
+        &mut caches.elaborator,
         features,
         checked,
         package,
@@ -124,7 +111,7 @@ pub fn append_with(
     );
     if added.is_err() {
         mark.cut(graph);
-        elaborator.cut(rows);
+        known.cut(caches);
     }
     added
 }

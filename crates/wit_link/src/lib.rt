@@ -3,7 +3,8 @@
 //! [`append`] adds one package at the ends of a valid graph: what its gates leave in gets the next ids, what it names of
 //! other packages is found there, its worlds take in what they include and are made canonical. A refusal leaves the
 //! graph as it was. [`sort_groups`] puts packages into an order in which each can be added, [`append_all`] adds several
-//! of them all or none. A [`Remap`] tells under which ids the things of a package or of another graph are now, and
+//! of them all or none. Who keeps [`GraphCaches`] beside a graph adds by [`append_with`] and [`append_all_with`], which cost
+//! what is added. A [`Remap`] tells under which ids the things of a package or of another graph are now, and
 //! [`rename`] is how an `include` renames a label.
 //!
 //! ```text
@@ -21,6 +22,7 @@
 #![tactic(auto)]
 
 mod adding;
+mod caches;
 mod checking;
 mod depends;
 mod fits;
@@ -33,6 +35,7 @@ mod several;
 mod sort;
 
 pub use crate::adding::{append, append_with};
+pub use crate::caches::{CachesMark, GraphCaches};
 pub use crate::labels::rename;
 pub use crate::several::{append_all, append_all_with};
 pub use crate::sort::sort_groups;

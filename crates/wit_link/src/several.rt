@@ -1,17 +1,17 @@
 //! Adding packages one after another, all or none.
 ghost use Rattle.std.specs.Prelude.{◌≡◌, ◌⊎◌, IfErr, IfOk, OnErr, OnOk};
 ghost use Rattle.std.specs.List.{AllByRecursion};
-ghost use Rattle.wit_elaboration.specs.Elaboration.{graph_uses};
 ghost use Rattle.wit_elaboration.specs.Valid.{IsValid};
 ghost use Rattle.wit_graph_data.specs.declared.error_kind.ResolveErrorKind.{ResolveErrorKind};
 ghost use Rattle.wit_graph_data.specs.declared.error_kind.ResolveErrorKind.TheVariants.{OutOfMemory};
-ghost use Rattle.wit_link.specs.Appending.{AreAdded, CanAppend, IsOneRefused, KnowsLeads};
-ghost use Rattle.wit_remap.specs.Grown.{Begins, Grown};
+ghost use Rattle.wit_link.specs.Appending.{AreAdded, CanAppend, IsOneRefused};
+ghost use Rattle.wit_link.specs.Caches.{AreCachesOf, HaveGrown};
+ghost use Rattle.wit_remap.specs.Grown.{Grown};
 
 use crate::adding::append_with;
+use crate::caches::{CachesMark, GraphCaches};
 use std::alloc::Global;
-use wit_data::{Items, PackageId, Table, TypeId, UnresolvedPackage};
-use wit_elaboration::Elaborator;
+use wit_data::{Items, PackageId, UnresolvedPackage};
 use wit_graph_data::{Features, Graph, ResolveResult};
 use wit_remap::Mark;
 
@@ -33,46 +33,37 @@ pub fn append_all(
     ensures cause { IfErr result (λ kind. (kind ≡ OutOfMemory) ⊎ IsOneRefused features.now graph.old packages kind) }
     ensures refuses { (kind : ResolveErrorKind) → IsOneRefused features.now graph.old packages kind → OnOk result ⊥ }
 {
-    let types = graph.types.as_slice();
-    let mut elaborator = Elaborator::new(alloc, types, graph.interfaces.as_slice())?;
-    let mut met = Table::new(alloc);
-    append_all_with(alloc, graph, &mut elaborator, &mut met, features, packages)
+    let mut caches = GraphCaches::of(alloc, graph)?;
+    append_all_with(alloc, graph, &mut caches, features, packages)
 }
 
-/// As `append_all`, with an elaborator of the graph, which becomes one of the new graph, and with types of the graph
-/// that were met along aliases, as `append_with` takes them. It costs what is added. After a refusal the graph is as
-/// before, and the elaborator is one of it.
+/// As `append_all`, with caches of the graph, which become those of the new graph: so it costs what is added. After a
+/// refusal graph and caches are as before.
 pub fn append_all_with(
     alloc: Global,
     graph: &mut Graph,
-    elaborator: &mut Elaborator,
-    met: &mut Table<TypeId, bool>,
+    caches: &mut GraphCaches,
     features: &Features,
     packages: Items<(UnresolvedPackage, u32)>,
 ) -> ResolveResult<Items<PackageId>>
     requires packages { AllByRecursion CanAppend packages }
     requires valid { IsValid graph.old }
-    requires uses { elaborator.old ≡ graph_uses graph.old }
-    requires met { KnowsLeads graph.old.types met.old }
-    ensures met { KnowsLeads graph.new.types met.new }
-    ensures met_before { Begins met.old met.new }
+    requires caches { AreCachesOf graph.old caches.old }
     ensures ok { IfOk result (λ ids. AreAdded features.now graph.old packages graph.new ids) }
     ensures valid { IsValid graph.new }
-    ensures uses { elaborator.new ≡ graph_uses graph.new }
+    ensures caches { AreCachesOf graph.new caches.new }
     ensures err { OnErr result (graph.new ≡ graph.old) }
     ensures grown { Grown graph.old graph.new }
-    ensures rows { Begins elaborator.old elaborator.new }
+    ensures known { HaveGrown caches.old caches.new }
     ensures cause { IfErr result (λ kind. (kind ≡ OutOfMemory) ⊎ IsOneRefused features.now graph.old packages kind) }
     ensures refuses { (kind : ResolveErrorKind) → IsOneRefused features.now graph.old packages kind → OnOk result ⊥ }
 {
     let mark = Mark::of(graph);
-    let rows = elaborator.interfaces();
-    let known = met.len();
-    let added = append_each(alloc, graph, elaborator, met, features, packages);
+    let known = CachesMark::of(caches);
+    let added = append_each(alloc, graph, caches, features, packages);
     if added.is_err() {
         mark.cut(graph);
-        elaborator.cut(rows);
-        met.truncate(known);
+        known.cut(caches);
     }
     added
 }
@@ -81,28 +72,23 @@ pub fn append_all_with(
 fn append_each(
     alloc: Global,
     graph: &mut Graph,
-    elaborator: &mut Elaborator,
-    met: &mut Table<TypeId, bool>,
+    caches: &mut GraphCaches,
     features: &Features,
     packages: Items<(UnresolvedPackage, u32)>,
 ) -> ResolveResult<Items<PackageId>>
     requires packages { AllByRecursion CanAppend packages }
     requires valid { IsValid graph.old }
-    requires uses { elaborator.old ≡ graph_uses graph.old }
-    requires met { KnowsLeads graph.old.types met.old }
-    ensures met { KnowsLeads graph.new.types met.new }
-    ensures met_before { Begins met.old met.new }
+    requires caches { AreCachesOf graph.old caches.old }
     ensures ok { IfOk result (λ ids. AreAdded features.now graph.old packages graph.new ids) }
     ensures valid { IsValid graph.new }
-    ensures uses { elaborator.new ≡ graph_uses graph.new }
+    ensures caches { AreCachesOf graph.new caches.new }
     ensures grown { Grown graph.old graph.new }
-    ensures rows { Begins elaborator.old elaborator.new }
+    ensures known { HaveGrown caches.old caches.new }
     ensures cause { IfErr result (λ kind. (kind ≡ OutOfMemory) ⊎ IsOneRefused features.now graph.old packages kind) }
 {
     let mut ids = Items::new(alloc);
-    for package in packages.into_vec() {
-        let (package, offset) = package;
-        let id = append_with(alloc, graph, elaborator, met, features, package, offset)?;
+    for (package, offset) in packages.into_vec() {
+        let id = append_with(alloc, graph, caches, features, package, offset)?;
         ids.push(id)?;
     }
     Ok(ids)

@@ -1,20 +1,24 @@
 -- What is kept beside a graph, after a transformation of a world, after its imports are merged and after packages came.
-use Rattle.std.proofs.Common.{◌≡◌, ◌∙◌, ℕ, List, [], Bool, Contains, Option, None, Some, length, take, slice_get, OnOk, OnErr, Result, Ok, Err, refl, sym, ap, subst}
+use Rattle.std.proofs.Common.{◌≡◌, ◌∙◌, ℕ, List, [], Bool, Option, None, Some, slice_get, OnOk, OnErr, Result, Ok, Err, refl, sym, ap, subst}
 use Rattle.std.specs.Option.{option_map_or}
-use Rattle.wit_digraph.specs.facts.MemberFacts.{Contains-nil}
 use Rattle.wit_data.specs.declared.types.TypeDef.{TypeDef}
 use Rattle.wit_data.specs.declared.world.World.{World}
 use Rattle.wit_elaboration.specs.Elaboration.{graph_uses}
 use Rattle.wit_elaboration.specs.Entries.{Entry}
 use Rattle.wit_elaboration.specs.Valid.{IsValid}
 use Rattle.wit_graph_data.specs.declared.graph.Graph.{Graph}
-use Rattle.wit_remap.specs.Grown.{Begins, Grown, cut_at, mark_of}
+use Rattle.wit_remap.specs.Grown.{Grown, cut_at, mark_of}
 use Rattle.wit_remap.specs.facts.GrownFacts.{cut_back}
 use Rattle.wit_remap.specs.declared.mark.Mark.{Mark}
 use Rattle.wit_queries.specs.ValidBits.{AreValidBits, AreValidBitsOf}
 use Rattle.wit_queries.specs.facts.ValidBitsFacts.{flags_stay}
 use Rattle.wit_transform.specs.Transformed.{WorldLists, transformed, transformed_at}
-use Rattle.wit_link.specs.Appending.{KnowsLeads}
+use Rattle.wit_link.specs.Caches.{AreCachesOf, HaveGrown}
+use Rattle.wit_link.specs.declared.caches.CachesMark.{CachesMark}
+use Rattle.wit_link.specs.declared.caches.GraphCaches.{GraphCaches}
+use Rattle.wit_link.specs.facts.CachesFacts.{caches_back, caches_of_same}
+use Rattle.wit_link.specs.steps.CachesMarks.{caches_cut_at, caches_mark_of}
+use Rattle.wit_link_resources.specs.steps.Leading.{AreRight}
 use Rattle.wit_semver.specs.steps.Replacing.{with_imports}
 use Rattle.wit_resolve_graph.specs.State.{AreKept}
 use Rattle.wit_resolve_graph.specs.declared.kept.Kept.{Kept}
@@ -31,31 +35,33 @@ transformed_leaves g w turn = of (slice_get g.worlds w)
     of None = record { uses = refl; types = refl }
     of (Some world) = record { uses = refl; types = refl }
 
+-- what is kept, with these adjacency lists of interfaces
+abbrev with_rows : Kept → List (List ℕ) → Kept
+with_rows kept rows = record kept { caches = record kept.caches { elaborator = rows } }
+
 -- what was kept of a graph is of another with the same types and uses, whose adjacency lists stay
-module _ (g new : Graph) (kept : Kept) (uses : List (List ℕ)) (same_uses : uses ≡ kept.elaborator) (of : AreKept g kept) (valid : IsValid new) where
-  same_kept : LeavesTypes g new → AreKept new (record kept { elaborator = uses })
+module _ (g new : Graph) (kept : Kept) (uses : List (List ℕ)) (same_uses : uses ≡ kept.caches.elaborator) (of : AreKept g kept) (valid : IsValid new) where
+  same_kept : LeavesTypes g new → AreKept new (with_rows kept uses)
   same_kept leaves = record {
     valid = valid;
-    uses = same_uses ∙ of.uses ∙ sym leaves.uses;
-    met = subst (λ (types : List TypeDef). KnowsLeads types kept.met) (sym leaves.types) of.met;
+    caches = record {
+      uses = same_uses ∙ of.caches.uses ∙ sym leaves.uses;
+      met = subst (λ (types : List TypeDef). AreRight types kept.caches.met) (sym leaves.types) of.caches.met;
+    };
     bits = subst (λ (types : List TypeDef). AreValidBitsOf types kept.valid_bits) (sym leaves.types) of.bits;
   }
 
   -- and so where it is transformed or the turn is refused
-  pub kept_after : {T E P : Type 0} (r : Result T E) → OnOk r P → (P → LeavesTypes g new) → OnErr r (new ≡ g) → AreKept new (record kept { elaborator = uses })
+  pub kept_after : {T E P : Type 0} (r : Result T E) → OnOk r P → (P → LeavesTypes g new) → OnErr r (new ≡ g) → AreKept new (with_rows kept uses)
   kept_after (Ok x) told leaves same = same_kept (leaves told)
   kept_after (Err e) told leaves same = same_kept (record { uses = ap graph_uses same; types = ap (λ (h : Graph). h.types) same })
 
-  pub kept_transformed : {T E : Type 0} (r : Result T E) (w : ℕ) (turn : World → WorldLists) → OnOk r (new ≡ transformed g w turn) → OnErr r (new ≡ g) → AreKept new (record kept { elaborator = uses })
+  pub kept_transformed : {T E : Type 0} (r : Result T E) (w : ℕ) (turn : World → WorldLists) → OnOk r (new ≡ transformed g w turn) → OnErr r (new ≡ g) → AreKept new (with_rows kept uses)
   kept_transformed r w turn ok = kept_after r ok (λ is. subst (λ (h : Graph). LeavesTypes g h) (sym is) (transformed_leaves g w turn))
 
 -- a world that lists other imports leaves them, too
 pub kept_imports : (g : Graph) (w : ℕ) (imports : List Entry) (kept : Kept) → AreKept g kept → IsValid (with_imports g w imports) → AreKept (with_imports g w imports) kept
-kept_imports g w imports kept of valid = same_kept g (with_imports g w imports) kept kept.elaborator refl of valid (record { uses = refl; types = refl })
-
--- where no types were met nothing is known
-pub none_met : (types : List TypeDef) (met : List (ℕ × Bool)) → met ≡ [] → KnowsLeads types met
-none_met types met none = λ t leads has. absurd (Contains-nil (subst (λ (es : List (ℕ × Bool)). Contains es (t, leads)) none has))
+kept_imports g w imports kept of valid = same_kept g (with_imports g w imports) kept kept.caches.elaborator refl of valid (record { uses = refl; types = refl })
 
 -- no flags tell nothing
 pub none_known : (types : List TypeDef) (flags : List Bool) → flags ≡ [] → AreValidBits types flags
@@ -69,25 +75,22 @@ pub flags_known : (g new : Graph) (kept : Kept) → AreKept g kept → Grown g n
 flags_known g new kept of grown = flags_stay g.types new.types of.valid.no_cycles.types grown.types kept.valid_bits of.bits
 
 -- where flags came for what was added, all is kept
-pub kept_followed : (new after : Graph) (left : Kept) (rows : List (List ℕ)) (met : List (ℕ × Bool)) → IsValid new → rows ≡ graph_uses new → KnowsLeads new.types met
-    → (after ≡ new) × ((left.elaborator ≡ rows) × ((left.met ≡ met) × AreValidBitsOf after.types left.valid_bits)) → AreKept after left
-kept_followed new after left rows met valid uses knows told = record {
+pub kept_followed : (new after : Graph) (left : Kept) (caches : GraphCaches) → IsValid new → AreCachesOf new caches → (after ≡ new) × ((left.caches ≡ caches) × AreValidBitsOf after.types left.valid_bits) → AreKept after left
+kept_followed new after left caches valid of told = record {
   valid = subst IsValid (sym told.0) valid;
-  uses = told.1.0 ∙ uses ∙ ap graph_uses (sym told.0);
-  met = subst (λ (h : Graph). KnowsLeads h.types left.met) (sym told.0) (subst (KnowsLeads new.types) (sym told.1.1.0) knows);
-  bits = told.1.1.1;
+  caches = caches_of_same new after left.caches told.0 (subst (AreCachesOf new) (sym told.1.0) of);
+  bits = told.1.1;
 }
 
 -- and where all is cut back, it is as it was
-pub kept_cut : (g new after : Graph) (kept left : Kept) (mark : Mark) (count noted : ℕ) (rows : List (List ℕ)) (met : List (ℕ × Bool)) → AreKept g kept → Grown g new → mark ≡ mark_of g → count ≡ length kept.elaborator → Begins kept.elaborator rows
-    → noted ≡ length kept.met → Begins kept.met met → (after ≡ cut_at mark new) × ((left.elaborator ≡ take count rows) × ((left.met ≡ take noted met) × (left.valid_bits ≡ kept.valid_bits))) → AreKept after left
-kept_cut g new after kept left mark count noted rows met of grown marked counted begins noted_is met_begins cut =
+pub kept_cut : (g new after : Graph) (kept left : Kept) (mark : Mark) (known : CachesMark) (caches : GraphCaches) → AreKept g kept → Grown g new → mark ≡ mark_of g → HaveGrown kept.caches caches → known ≡ caches_mark_of kept.caches
+    → (after ≡ cut_at mark new) × ((left.caches ≡ caches_cut_at known caches) × (left.valid_bits ≡ kept.valid_bits)) → AreKept after left
+kept_cut g new after kept left mark known caches of grown marked more known_is cut =
     let back : after ≡ g = cut.0 ∙ ap (λ (m : Mark). cut_at m new) marked ∙ cut_back g new grown in
-    let flags : AreValidBitsOf g.types left.valid_bits = subst (λ (flags : List Bool). AreValidBitsOf g.types flags) (sym cut.1.1.1) of.bits in
-    let same : left.met ≡ kept.met = cut.1.1.0 ∙ ap (λ (n : ℕ). take n met) noted_is ∙ met_begins in
+    let same : left.caches ≡ kept.caches = cut.1.0 ∙ ap (λ (m : CachesMark). caches_cut_at m caches) known_is ∙ caches_back kept.caches caches more in
+    let flags : AreValidBitsOf g.types left.valid_bits = subst (λ (flags : List Bool). AreValidBitsOf g.types flags) (sym cut.1.1) of.bits in
     record {
       valid = subst IsValid (sym back) of.valid;
-      uses = cut.1.0 ∙ ap (λ (n : ℕ). take n rows) counted ∙ begins ∙ of.uses ∙ ap graph_uses (sym back);
-      met = subst (λ (h : Graph). KnowsLeads h.types left.met) (sym back) (subst (KnowsLeads g.types) (sym same) of.met);
+      caches = caches_of_same g after left.caches back (subst (AreCachesOf g) (sym same) of.caches);
       bits = subst (λ (h : Graph). AreValidBitsOf h.types left.valid_bits) (sym back) flags;
     }

@@ -1,13 +1,12 @@
 -- What contracts see of a `Resolve`.
-use Rattle.std.specs.Prelude.{[], false, ◌≡◌}
+use Rattle.std.specs.Prelude.{[], false}
 use Rattle.wit_graph_data.specs.declared.features.Features.{Features}
 use Rattle.wit_graph_data.specs.declared.graph.Graph.{Graph}
 use Rattle.wit_names.specs.declared.track.TrackRule.{TrackRule}
 use Rattle.wit_names.specs.declared.track.TrackRule.TheVariants.{Published}
 use Rattle.wit_sources.specs.SourceMap.{Sources}
-use Rattle.wit_elaboration.specs.Elaboration.{graph_uses}
 use Rattle.wit_elaboration.specs.Valid.{IsValid}
-use Rattle.wit_link.specs.Appending.{KnowsLeads}
+use Rattle.wit_link.specs.Appending.{AreCachesOf}
 use Rattle.wit_queries.specs.ValidBits.{AreValidBitsOf}
 use Rattle.wit_resolve_graph.specs.declared.kept.Kept.{Kept}
 
@@ -28,10 +27,8 @@ new_state = record {
 
 -- What a `Resolve` keeps beside its graph.
 
--- a valid graph, which of its interfaces use which, which of its types lead to a resource as far as they were met along
--- aliases, and of which of its types all bits are valid
+-- a valid graph, caches of it, and of which of its types all bits are valid
 pub record AreKept (graph : Graph) (kept : Kept) : Type 0 where
   pub valid : IsValid graph
-  pub uses : kept.elaborator ≡ graph_uses graph
-  pub met : KnowsLeads graph.types kept.met
+  pub caches : AreCachesOf graph kept.caches
   pub bits : AreValidBitsOf graph.types kept.valid_bits

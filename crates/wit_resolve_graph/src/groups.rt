@@ -18,7 +18,7 @@ use wit_data::{
     Items, PackageId, PackageName, SourceMap, UnresolvedPackage, UnresolvedPackageGroup,
 };
 use wit_graph_data::{Features, Graph, ResolveResult};
-use wit_link::{append_all_with, sort_groups};
+use wit_link::{CachesMark, append_all_with, sort_groups};
 use wit_remap::Mark;
 
 /// Puts the files of groups at the end of a source map, in order, and answers their packages, the nested
@@ -129,17 +129,9 @@ pub(crate) fn add_packages(
 {
     let sorted = sort_groups(alloc, packages)?;
     let mark = Mark::of(graph);
-    let rows = kept.elaborator.interfaces();
-    let met = kept.met.len();
-    append_all_with(
-        alloc,
-        graph,
-        &mut kept.elaborator,
-        &mut kept.met,
-        features,
-        sorted,
-    )?;
-    kept.follow(alloc, graph, mark, rows, met)?;
+    let known = CachesMark::of(&kept.caches);
+    append_all_with(alloc, graph, &mut kept.caches, features, sorted)?;
+    kept.follow(alloc, graph, mark, known)?;
     match graph.package_names.get(name) {
         Some(id) => Ok(*id),
         None => unreachable!(),

@@ -1,42 +1,39 @@
 //! What a `Resolve` keeps beside its graph.
-ghost use Rattle.std.specs.Prelude.{◌≡◌, ◌⊎◌, ◌≤◌, [], IfErr, IfOk, OnErr, OnOk, length, take};
+ghost use Rattle.std.specs.Prelude.{◌≡◌, ◌⊎◌, ◌≤◌, [], IfErr, IfOk, OnErr, OnOk, length};
 ghost use Rattle.wit_elaboration.specs.Valid.{IsValid};
 ghost use Rattle.wit_graph_data.specs.declared.error_kind.ResolveErrorKind.{ResolveErrorKind};
 ghost use Rattle.wit_graph_data.specs.declared.error_kind.ResolveErrorKind.TheVariants.{OutOfMemory};
 ghost use Rattle.wit_data.specs.Shape.{IsShaped};
 ghost use Rattle.wit_link_spec.specs.Cause.{IsAdditionCause};
 ghost use Rattle.wit_link.specs.Appending.{IsAdded, addition};
+ghost use Rattle.wit_link.specs.steps.CachesMarks.{caches_cut_at};
 ghost use Rattle.wit_remap.specs.Grown.{cut_at};
 ghost use Rattle.wit_queries.specs.ValidBits.{AreValidBits, AreValidBitsOf};
 ghost use Rattle.wit_resolve_graph.specs.State.{AreKept};
 
 use std::alloc::{AllocError, Global};
-use wit_data::{Items, PackageId, Table, TryClone, TypeId, UnresolvedPackage};
-use wit_elaboration::Elaborator;
+use wit_data::{Items, PackageId, TryClone, UnresolvedPackage};
 use wit_graph_data::{Features, Graph, ResolveResult};
-use wit_link::append_with;
+use wit_link::{CachesMark, GraphCaches, append_with};
 use wit_queries::valid_bits::add_valid_bits;
 use wit_remap::Mark;
 
-/// Which interfaces of a graph use which, which of its types were met along aliases and whether these lead to a
-/// resource, and of which of its types all bits are valid: so a push costs what it adds, and what is asked of a type's
-/// bits no memory.
+/// Caches of a graph, and of which of its types all bits are valid: so a push costs what it adds, and what is asked of a
+/// type's bits no memory.
 pub(crate) struct Kept {
-    pub(crate) elaborator: Elaborator,
-    pub(crate) met: Table<TypeId, bool>,
+    pub(crate) caches: GraphCaches,
     pub(crate) valid_bits: Items<bool>,
 }
 
 impl Kept {
     /// What is kept beside an empty graph. It takes no memory.
     pub(crate) fn empty(alloc: Global) -> Kept
-        ensures uses { result.elaborator ≡ [] }
-        ensures met { result.met ≡ [] }
+        ensures uses { result.caches.elaborator ≡ [] }
+        ensures met { result.caches.met ≡ [] }
         ensures bits { result.valid_bits ≡ [] }
     {
         Kept {
-            elaborator: Elaborator::empty(alloc),
-            met: Table::new(alloc),
+            caches: GraphCaches::empty(alloc),
             valid_bits: Items::new(alloc),
         }
     }
@@ -46,38 +43,30 @@ impl Kept {
         requires { IsValid graph.now }
         ensures { IfOk result (AreKept graph.now) }
     {
-        let types = graph.types.as_slice();
-        let elaborator = Elaborator::new(alloc, types, graph.interfaces.as_slice())?;
+        let caches = GraphCaches::of(alloc, graph)?;
         let mut valid_bits = Items::new(alloc);
-        add_valid_bits(alloc, &mut valid_bits, types)?;
-        let met = Table::new(alloc);
-        Ok(Kept {
-            elaborator,
-            met,
-            valid_bits,
-        })
+        add_valid_bits(alloc, &mut valid_bits, graph.types.as_slice())?;
+        Ok(Kept { caches, valid_bits })
     }
 
-    /// Adds the flags of the types that came behind those that have one. Where there is no memory, the graph is cut
-    /// back to what was marked, and the rows and what was met to so many.
+    /// Adds the flags of the types that came behind those that have one. Where there is no memory, the graph and its
+    /// caches are cut back to what was marked.
     pub(crate) fn follow(
         &mut self,
         alloc: Global,
         graph: &mut Graph,
         mark: Mark,
-        rows: usize,
-        met: usize,
+        known: CachesMark,
     ) -> Result<(), AllocError>
         requires first { length self.old.valid_bits ≤ length graph.old.types }
         requires known { AreValidBits graph.old.types self.old.valid_bits }
-        ensures ok { OnOk result ((graph.new ≡ graph.old) × ((self.new.elaborator ≡ self.old.elaborator) × ((self.new.met ≡ self.old.met) × AreValidBitsOf graph.new.types self.new.valid_bits))) }
-        ensures err { OnErr result ((graph.new ≡ cut_at mark graph.old) × ((self.new.elaborator ≡ take rows self.old.elaborator) × ((self.new.met ≡ take met self.old.met) × (self.new.valid_bits ≡ self.old.valid_bits)))) }
+        ensures ok { OnOk result ((graph.new ≡ graph.old) × ((self.new.caches ≡ self.old.caches) × AreValidBitsOf graph.new.types self.new.valid_bits)) }
+        ensures err { OnErr result ((graph.new ≡ cut_at mark graph.old) × ((self.new.caches ≡ caches_cut_at known self.old.caches) × (self.new.valid_bits ≡ self.old.valid_bits))) }
     {
         let added = add_valid_bits(alloc, &mut self.valid_bits, graph.types.as_slice());
         if added.is_err() {
             mark.cut(graph);
-            self.elaborator.cut(rows);
-            self.met.truncate(met);
+            known.cut(&mut self.caches);
         }
         added
     }
@@ -85,14 +74,13 @@ impl Kept {
 
 impl TryClone for Kept {
     fn try_clone(&self) -> Result<Kept, AllocError> {
-        let elaborator = self.elaborator.try_clone()?;
+        let caches = self.caches.try_clone()?;
         let valid_bits = self
             .valid_bits
             .as_slice()
             .to_vec(self.valid_bits.allocator())?;
         Ok(Kept {
-            elaborator,
-            met: self.met.try_clone()?,
+            caches,
             valid_bits: Items::from_vec(valid_bits),
         })
     }
@@ -101,13 +89,8 @@ impl TryClone for Kept {
 /// As the derived one.
 impl Drop for Kept {
     fn drop(self) {
-        let Kept {
-            elaborator,
-            met,
-            valid_bits,
-        } = self;
-        drop(elaborator);
-        drop(met);
+        let Kept { caches, valid_bits } = self;
+        drop(caches);
         drop(valid_bits);
     }
 }
@@ -130,17 +113,15 @@ pub(crate) fn append_kept(
     ensures refuses { (kind : ResolveErrorKind) → IsAdditionCause (addition features.now graph.old «package» span_offset) kind → OnOk result ⊥ }
 {
     let mark = Mark::of(graph);
-    let rows = kept.elaborator.interfaces();
-    let met = kept.met.len();
+    let known = CachesMark::of(&kept.caches);
     let id = append_with(
         alloc,
         graph,
-        &mut kept.elaborator,
-        &mut kept.met,
+        &mut kept.caches,
         features,
         package,
         span_offset,
     )?;
-    kept.follow(alloc, graph, mark, rows, met)?;
+    kept.follow(alloc, graph, mark, known)?;
     Ok(id)
 }

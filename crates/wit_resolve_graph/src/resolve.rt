@@ -443,7 +443,7 @@ impl Resolve {
         importize_with(
             alloc,
             &mut self.graph,
-            &mut self.kept.elaborator,
+            &mut self.kept.caches.elaborator,
             world,
             out,
         )
@@ -474,7 +474,7 @@ impl Resolve {
         exportize_with(
             alloc,
             &mut self.graph,
-            &mut self.kept.elaborator,
+            &mut self.kept.caches.elaborator,
             world,
             out,
             filter,
@@ -499,7 +499,7 @@ impl Resolve {
         exportize_answered_with(
             alloc,
             &mut self.graph,
-            &mut self.kept.elaborator,
+            &mut self.kept.caches.elaborator,
             world,
             out,
             answers,

@@ -16,6 +16,7 @@ ghost use Rattle.wit_resolve_graph.specs.State.{AreKept};
 use crate::kept::Kept;
 use std::alloc::Global;
 use wit_graph_data::{Graph, ResolveResult};
+use wit_link::CachesMark;
 use wit_merge::{United, agreed_matches, append_union, united_by};
 use wit_merge_match::{Matches, leaves_graph};
 use wit_remap::{Mark, Remap};
@@ -76,17 +77,16 @@ fn append_union_kept(
     ensures refuses { (kind : ResolveErrorKind) → IsMergeCause (merge_of_graphs_by graph.old other.now offset) kind → OnOk result ⊥ }
 {
     let mark = Mark::of(graph);
-    let rows = kept.elaborator.interfaces();
-    let met = kept.met.len();
+    let known = CachesMark::of(&kept.caches);
     let remap = append_union(
         alloc,
         graph,
-        &mut kept.elaborator,
-        &mut kept.met,
+        &mut kept.caches.elaborator,
+        &mut kept.caches.met,
         other,
         matches,
         offset,
     )?;
-    kept.follow(alloc, graph, mark, rows, met)?;
+    kept.follow(alloc, graph, mark, known)?;
     Ok(remap)
 }

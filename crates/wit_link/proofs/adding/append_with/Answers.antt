@@ -1,4 +1,4 @@
-use Rattle.std.proofs.Common.{◌≡◌, ◌∙◌, ℕ, inr, true, false, ap, subst, sym, take, IfOk, OnOk, Result, Ok, Err}
+use Rattle.std.proofs.Common.{◌≡◌, ◌∙◌, ℕ, inr, true, false, subst, sym, IfOk, OnOk, Result, Ok, Err}
 use Rattle.std.specs.Result.{is_err}
 use Rattle.wit_graph_data.specs.declared.graph.Graph.{Graph}
 use Rattle.wit_graph_data.specs.declared.error_kind.ResolveErrorKind.{ResolveErrorKind}
@@ -6,9 +6,12 @@ use Rattle.wit_link_spec.specs.Cause.{IsAdditionCause}
 use Rattle.wit_link_spec.specs.Addition.{Addition}
 use Rattle.wit_elaboration.specs.Valid.{IsValid}
 use Rattle.wit_remap.specs.Grown.{Grown}
-use Rattle.wit_remap.specs.facts.GrownFacts.{Begins-as, Begins-same, Grown-same}
+use Rattle.wit_remap.specs.facts.GrownFacts.{Grown-same}
+use Rattle.wit_link.specs.Caches.{AreCachesOf, HaveGrown}
+use Rattle.wit_link.specs.declared.caches.GraphCaches.{GraphCaches}
+use Rattle.wit_link.specs.facts.CachesFacts.{caches_with_met, grown_by_met, grown_by_rows, grown_same}
 use Rattle.wit_link_resources.specs.facts.MetTypes.{right_stays}
-use Rattle.wit_link.specs.Appending.{IsAdded, KnowsLeads, addition}
+use Rattle.wit_link.specs.Appending.{IsAdded, addition}
 use Rattle.wit_link.specs.steps.Checked.{PackageFits}
 use Rattle.wit_link.proofs.Added.{is_new, taken, too_far}
 use Rattle.wit_link.proofs.adding.append_with.Goals as goal
@@ -50,14 +53,17 @@ returns-then-not-spans_fit-clause-grown c = Grown-same c.args.graph.now
 pub returns-in_err-checked-clause-grown : goal.returns-in_err-checked-clause-grown
 returns-in_err-checked-clause-grown c = Grown-same c.args.graph.now
 
-pub returns-then-contains_key-clause-rows : goal.returns-then-contains_key-clause-rows
-returns-then-contains_key-clause-rows c = Begins-same c.args.elaborator.now
+pub returns-then-contains_key-clause-known : goal.returns-then-contains_key-clause-known
+returns-then-contains_key-clause-known c = grown_same c.args.caches.now
 
-pub returns-then-not-spans_fit-clause-rows : goal.returns-then-not-spans_fit-clause-rows
-returns-then-not-spans_fit-clause-rows c = Begins-same c.args.elaborator.now
+pub returns-then-not-spans_fit-clause-known : goal.returns-then-not-spans_fit-clause-known
+returns-then-not-spans_fit-clause-known c = grown_same c.args.caches.now
 
-pub returns-in_err-checked-clause-rows : goal.returns-in_err-checked-clause-rows
-returns-in_err-checked-clause-rows c = Begins-same c.args.elaborator.now
+pub returns-in_err-checked-clause-caches : goal.returns-in_err-checked-clause-caches
+returns-in_err-checked-clause-caches c = caches_with_met c.args.graph.now c.args.caches.now c.check.new.met c.requires.caches c.check.ensures.met
+
+pub returns-in_err-checked-clause-known : goal.returns-in_err-checked-clause-known
+returns-in_err-checked-clause-known c = grown_by_met c.args.caches.now c.check.new.met c.check.ensures.met_before
 
 -- after a refusal the graph is cut back to what it was
 pub returns-then-is_err-clause-grown : goal.returns-then-is_err-clause-grown
@@ -70,10 +76,19 @@ returns-then-is_err-clause-valid c =
     let back = c.cut.ensures.back c.args.graph.now c.of-mark.ensures c.add_checked-added.ensures.grown in
     subst IsValid (sym back) c.requires.valid
 
-pub returns-then-is_err-clause-rows : goal.returns-then-is_err-clause-rows
-returns-then-is_err-clause-rows c =
-    let rows = c.args.elaborator.now in
-    Begins-as rows c.cut-then-is_err.new.self (c.cut-then-is_err.ensures ∙ ap (λ (count : ℕ). take count c.add_checked-added.new.elaborator) c.interfaces-rows.ensures ∙ c.add_checked-added.ensures.rows)
+pub returns-then-is_err-clause-caches : goal.returns-then-is_err-clause-caches
+returns-then-is_err-clause-caches c =
+    let back = c.cut.ensures.back c.args.graph.now c.of-mark.ensures c.add_checked-added.ensures.grown in
+    let before : GraphCaches = record c.args.caches.now { met = c.check.new.met } in
+    let same = c.cut-then-is_err.ensures.back before c.of-known.ensures (grown_by_rows before c.add_checked-added.new.elaborator c.add_checked-added.ensures.rows) in
+    subst (λ (g : Graph). AreCachesOf g c.cut-then-is_err.new.caches) (sym back)
+    (subst (AreCachesOf c.args.graph.now) (sym same) (caches_with_met c.args.graph.now c.args.caches.now c.check.new.met c.requires.caches c.in_ok-checked.ensures.met))
+
+pub returns-then-is_err-clause-known : goal.returns-then-is_err-clause-known
+returns-then-is_err-clause-known c =
+    let before : GraphCaches = record c.args.caches.now { met = c.check.new.met } in
+    let same = c.cut-then-is_err.ensures.back before c.of-known.ensures (grown_by_rows before c.add_checked-added.new.elaborator c.add_checked-added.ensures.rows) in
+    subst (HaveGrown c.args.caches.now) (sym same) (grown_by_met c.args.caches.now c.check.new.met c.in_ok-checked.ensures.met_before)
 
 -- what is added is valid
 when_ok : {T E P : Type 0} (r : Result T E) → is_err r ≡ false → OnOk r P → P
@@ -83,19 +98,14 @@ when_ok (Err e) fine p = cc
 pub returns-else-is_err-clause-valid : goal.returns-else-is_err-clause-valid
 returns-else-is_err-clause-valid c = when_ok c.add_checked-added.result (sym c.is_err.ensures.value ∙ c.if-is_err.false) c.add_checked-added.ensures.valid
 
--- what is known of the types of the graph
-pub returns-then-contains_key-clause-met_before : goal.returns-then-contains_key-clause-met_before
-returns-then-contains_key-clause-met_before c = Begins-same c.args.met.now
+pub returns-else-is_err-clause-caches : goal.returns-else-is_err-clause-caches
+returns-else-is_err-clause-caches c =
+    let fine = sym c.is_err.ensures.value ∙ c.if-is_err.false in
+    let valid = when_ok c.add_checked-added.result fine c.add_checked-added.ensures.valid in
+    record {
+      uses = when_ok c.add_checked-added.result fine c.add_checked-added.ensures.uses;
+      met = right_stays c.args.graph.now.types c.add_checked-added.new.graph.types c.check.new.met c.requires.valid.no_cycles.types valid.no_cycles.types c.add_checked-added.ensures.grown.types c.in_ok-checked.ensures.met;
+    }
 
-pub returns-then-not-spans_fit-clause-met_before : goal.returns-then-not-spans_fit-clause-met_before
-returns-then-not-spans_fit-clause-met_before c = Begins-same c.args.met.now
-
-pub returns-then-is_err-clause-met : goal.returns-then-is_err-clause-met
-returns-then-is_err-clause-met c =
-    let back = c.cut.ensures.back c.args.graph.now c.of-mark.ensures c.add_checked-added.ensures.grown in
-    subst (λ (g : Graph). KnowsLeads g.types c.check.new.met) (sym back) c.in_ok-checked.ensures.met
-
-pub returns-else-is_err-clause-met : goal.returns-else-is_err-clause-met
-returns-else-is_err-clause-met c =
-    let valid = when_ok c.add_checked-added.result (sym c.is_err.ensures.value ∙ c.if-is_err.false) c.add_checked-added.ensures.valid in
-    right_stays c.args.graph.now.types c.add_checked-added.new.graph.types c.check.new.met c.requires.valid.no_cycles.types valid.no_cycles.types c.add_checked-added.ensures.grown.types c.in_ok-checked.ensures.met
+pub returns-else-is_err-clause-known : goal.returns-else-is_err-clause-known
+returns-else-is_err-clause-known c = record { rows = c.add_checked-added.ensures.rows; met = c.in_ok-checked.ensures.met_before }

@@ -9,18 +9,16 @@ follow-requires-clause-known c = flags_known c.args.graph.now c.append_with.new.
 
 pub returns-in_err-follow-clause-kept : goal.returns-in_err-follow-clause-kept
 returns-in_err-follow-clause-kept c =
-    kept_cut c.args.graph.now c.append_with.new.graph c.follow.new.graph c.args.kept.now c.follow.new.self c.of-mark.result c.interfaces-rows.result c.len-met.result c.append_with.new.elaborator c.append_with.new.met c.requires.kept
-    c.append_with.ensures.grown c.of-mark.ensures c.interfaces-rows.ensures c.append_with.ensures.rows c.len-met.ensures.len c.append_with.ensures.met_before c.in_err-follow.ensures.err
+    kept_cut c.args.graph.now c.append_with.new.graph c.follow.new.graph c.args.kept.now c.follow.new.self c.of-mark.result c.of-known.result c.append_with.new.caches c.requires.kept c.append_with.ensures.grown c.of-mark.ensures c.append_with.ensures.known
+    c.of-known.ensures c.in_err-follow.ensures.err
 
 pub returns-clause-kept : goal.returns-clause-kept
 returns-clause-kept c =
-    kept_followed c.append_with.new.graph c.follow.new.graph c.follow.new.self c.append_with.new.elaborator c.append_with.new.met c.append_with.ensures.valid c.append_with.ensures.uses c.append_with.ensures.met
-    c.in_ok-follow.ensures.ok
+    kept_followed c.append_with.new.graph c.follow.new.graph c.follow.new.self c.append_with.new.caches c.append_with.ensures.valid c.append_with.ensures.caches c.in_ok-follow.ensures.ok
 
 pub returns-in_err-id-clause-kept : goal.returns-in_err-id-clause-kept
 returns-in_err-id-clause-kept c = record {
   valid = c.append_with.ensures.valid;
-  uses = c.append_with.ensures.uses;
-  met = c.append_with.ensures.met;
+  caches = c.append_with.ensures.caches;
   bits = subst (λ (g : Graph). AreValidBitsOf g.types c.args.kept.now.valid_bits) (sym c.in_err-id.ensures.err) c.requires.kept.bits;
 }

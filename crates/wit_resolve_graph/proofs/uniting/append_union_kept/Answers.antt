@@ -9,18 +9,18 @@ follow-requires-clause-known c = flags_known c.args.graph.now c.append_union.new
 
 pub returns-in_err-follow-clause-kept : goal.returns-in_err-follow-clause-kept
 returns-in_err-follow-clause-kept c =
-    kept_cut c.args.graph.now c.append_union.new.graph c.follow.new.graph c.args.kept.now c.follow.new.self c.of-mark.result c.interfaces-rows.result c.len-met.result c.append_union.new.elaborator c.append_union.new.met c.requires.kept
-    c.append_union.ensures.grown c.of-mark.ensures c.interfaces-rows.ensures c.append_union.ensures.rows c.len-met.ensures.len c.append_union.ensures.met_before c.in_err-follow.ensures.err
+    kept_cut c.args.graph.now c.append_union.new.graph c.follow.new.graph c.args.kept.now c.follow.new.self c.of-mark.result c.of-known.result (record { elaborator = c.append_union.new.elaborator; met = c.append_union.new.met }) c.requires.kept c.append_union.ensures.grown c.of-mark.ensures
+    (record { rows = c.append_union.ensures.rows; met = c.append_union.ensures.met_before })
+    c.of-known.ensures c.in_err-follow.ensures.err
 
 pub returns-clause-kept : goal.returns-clause-kept
 returns-clause-kept c =
-    kept_followed c.append_union.new.graph c.follow.new.graph c.follow.new.self c.append_union.new.elaborator c.append_union.new.met c.append_union.ensures.valid c.append_union.ensures.uses c.append_union.ensures.met
-    c.in_ok-follow.ensures.ok
+    kept_followed c.append_union.new.graph c.follow.new.graph c.follow.new.self (record { elaborator = c.append_union.new.elaborator; met = c.append_union.new.met }) c.append_union.ensures.valid
+    (record { uses = c.append_union.ensures.uses; met = c.append_union.ensures.met }) c.in_ok-follow.ensures.ok
 
 pub returns-in_err-remap-clause-kept : goal.returns-in_err-remap-clause-kept
 returns-in_err-remap-clause-kept c = record {
   valid = c.append_union.ensures.valid;
-  uses = c.append_union.ensures.uses;
-  met = c.append_union.ensures.met;
+  caches = record { uses = c.append_union.ensures.uses; met = c.append_union.ensures.met };
   bits = subst (λ (g : Graph). AreValidBitsOf g.types c.args.kept.now.valid_bits) (sym c.in_err-remap.ensures.err) c.requires.kept.bits;
 }

@@ -1,5 +1,0 @@
-use Rattle.wit_link_resources.specs.facts.MetTypes.{right-begun}
-use Rattle.wit_link.proofs.several.append_all.Goals as goal
-
-pub append_all_with-requires-clause-met : goal.append_all_with-requires-clause-met
-append_all_with-requires-clause-met c = right-begun c.args.graph.now.types c.new-met.result c.new-met.ensures
