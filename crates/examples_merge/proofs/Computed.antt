@@ -11,11 +11,11 @@ use Rattle.wit_data.specs.declared.world.World.{World}
 use Rattle.wit_data.specs.declared.types.TypeOwner.TheVariants as owner
 use Rattle.wit_elaboration.specs.Elaborated.{import_steps, import_steps_within}
 use Rattle.wit_graph_data.specs.declared.graph.Graph.{Graph}
-use Rattle.wit_merge_spec.specs.Merged.{MergeRemap}
+use Rattle.wit_remap.specs.declared.remap.Remap.{Remap}
 use Rattle.examples_merge.specs.Unions.{ExamplesOfMatches, ExamplesOfUnions}
 
 -- where type t goes
-abbrev type_remapped : ℕ → MergeRemap → ℕ
+abbrev type_remapped : ℕ → Remap → ℕ
 type_remapped t places = option_map_or (λ (place : Option ℕ). unwrap_or place 99) (slice_get places.types t) 99
 
 pub matches : ExamplesOfMatches
@@ -43,7 +43,7 @@ matches = record {
   not_anew = λ same. let apart : 0 ≡ 1 = ap (type_remapped 0) same in absurd (omega (arith, apart));
   not_nowhere = λ same. let apart : 1 ≡ 99 = ap (type_remapped 1) same in absurd (omega (arith, apart));
   goes_across = refl;
-  not_straight = λ same. let apart : 1 ≡ 0 = ap (λ (places : MergeRemap). slice_index_or places.packages 0 99) same in absurd (omega (arith, apart));
+  not_straight = λ same. let apart : 1 ≡ 0 = ap (λ (places : Remap). slice_index_or places.packages 0 99) same in absurd (omega (arith, apart));
   not_transformed = λ same. let apart : 2 ≡ 3 = ap (type_remapped 0) same in absurd (omega (arith, apart));
 }
 

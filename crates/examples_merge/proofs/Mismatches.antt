@@ -54,7 +54,7 @@ of_imports into from text differs =
 of_types : (m : GraphMerge) (pair : TypePair) (after : List TypePair) (ending : List ℕ) → type_pairs m ≡ pair ∷ after → StructuresDiffer m pair.from pair.into ending → IsMergeCause m (Semantic None (linked pair.links ending) cause.MergeMismatch)
 of_types m pair after ending is differs =
     reason.merge_mismatch_24 _
-    (reason.types _ (record { before = []; pair = pair; after = after; pairs_are = is; alike = λ p e among d. Contains-nil among; ending = ending; differs = differs; message_is = refl }))
+    (reason.types _ (record { pair = pair; first = record { before = []; after = after; are = is; earlier = λ p among d. Contains-nil among; is = (ending, differs) }; message_is = refl }))
 
 pub mismatches : ExamplesOfMismatches
 unfolding post_order post_order_within structure structure_within

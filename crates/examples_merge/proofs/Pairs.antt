@@ -20,19 +20,19 @@ told p = linked p.links (codes "different kinds of types")
 
 -- where all differ, nothing of the second is told
 only_first : FirstDiffers AllDiffer (of_t ∷ of_u ∷ []) (told of_u) → ⊥
-only_first d = by d.before d.pairs_are d.alike
+only_first d = by d.first.before d.first.are d.first.earlier
   where
-    by : (before : List TypePair) → of_t ∷ of_u ∷ [] ≡ before ++ (d.pair ∷ d.after) → ((p : TypePair) (ending : List ℕ) → Contains before p → AllDiffer p.from p.into ending → ⊥) → ⊥
-    by [] are alike =
+    by : (before : List TypePair) → of_t ∷ of_u ∷ [] ≡ before ++ (d.pair ∷ d.first.after) → ((p : TypePair) → Contains before p → (ending : List ℕ) × AllDiffer p.from p.into ending → ⊥) → ⊥
+    by [] are earlier =
         let same : of_t ≡ d.pair = cc in
-        differ (told of_u) (told of_t) refl (d.message_is ∙ (ap (linked d.pair.links) d.differs ∙ ap told (sym same)))
-    by (p ∷ before) are alike = alike p (codes "different kinds of types") (Contains-here p before) refl
+        differ (told of_u) (told of_t) refl (d.message_is ∙ (ap (linked d.pair.links) d.first.is.1 ∙ ap told (sym same)))
+    by (p ∷ before) are earlier = earlier p (Contains-here p before) (codes "different kinds of types", refl)
 
 -- of nothing there is none
 none_first : (message : List ℕ) → FirstDiffers AllDiffer [] message → ⊥
-none_first message d = by d.before d.pairs_are
+none_first message d = by d.first.before d.first.are
   where
-    by : (before : List TypePair) → [] ≡ before ++ (d.pair ∷ d.after) → ⊥
+    by : (before : List TypePair) → [] ≡ before ++ (d.pair ∷ d.first.after) → ⊥
     by [] are = cc
     by (p ∷ before) are = cc
 
@@ -60,20 +60,21 @@ pairs = record {
   not_without = λ same. let apart : 4 ≡ 3 = ap links_of_second same in absurd (omega (arith, apart));
   unnamed = refl;
   exported = refl;
-  first = record { before = []; pair = of_t; after = of_u ∷ []; pairs_are = refl; alike = λ p ending has. absurd (none_in p has); ending = _; differs = refl; message_is = refl };
+  first = record { pair = of_t; first = record { before = []; after = of_u ∷ []; are = refl; earlier = λ p has. absurd (none_in p has); is = (_, refl) }; message_is = refl };
   not_second = λ d. only_first d;
   second = record {
-    before = of_t ∷ [];
     pair = of_u;
-    after = [];
-    pairs_are = refl;
-    alike = λ p ending has differs.
-        let same : of_t ≡ p = only_one of_t p has in
-        let zero_is : 0 ≡ p.from = ap (λ (q : TypePair). q.from) same in
-        let one_is = differs.0 in
-        absurd (omega (arith, zero_is, one_is));
-    ending = _;
-    differs = (refl, refl);
+    first = record {
+      before = of_t ∷ [];
+      after = [];
+      are = refl;
+      earlier = λ p has differs.
+          let same : of_t ≡ p = only_one of_t p has in
+          let zero_is : 0 ≡ p.from = ap (λ (q : TypePair). q.from) same in
+          let one_is = differs.1.0 in
+          absurd (omega (arith, zero_is, one_is));
+      is = (_, (refl, refl));
+    };
     message_is = refl;
   };
   none = λ message d. none_first message d;

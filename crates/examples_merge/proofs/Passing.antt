@@ -100,9 +100,9 @@ same_each f g (q ∷ ps) same p among = elim (Contains-cons_cases q p ps among) 
 
 types_fine : (m : GraphMerge) → structures_from m ≡ structures_into m → (message : List ℕ) → FirstDiffers (StructuresDiffer m) (type_pairs m) message → ⊥
 types_fine m same message first =
-    let among : Contains (type_pairs m) first.pair = subst (λ (l : List TypePair). Contains l first.pair) (sym first.pairs_are) (Contains-append_right first.before (first.pair ∷ first.after) first.pair (Contains-here first.pair first.after)) in
+    let among : Contains (type_pairs m) first.pair = subst (λ (l : List TypePair). Contains l first.pair) (sym first.first.are) (Contains-append_right first.first.before (first.pair ∷ first.first.after) first.pair (Contains-here first.pair first.first.after)) in
     let alike = same_each (λ (p : TypePair). structure m.other.types (counterpart_type m) p.from) (λ (p : TypePair). structure m.graph.types Some p.into) (type_pairs m) same first.pair among in
-    same_no_first _ _ first.differs.x first.differs.y alike first.differs.first
+    same_no_first _ _ first.first.is.1.x first.first.is.1.y alike first.first.is.1.first
 
 module _ (m : GraphMerge) (interfaces : interfaces_pass m ≡ true) where
   items_fine : (from there : WorldItem) → items_pass m from there ≡ true → (text : List ℕ) → ItemsDiffer m from there text → ⊥

@@ -16,7 +16,8 @@ use Rattle.wit_graph_data.specs.examples.Samples.{entry_of, foo_bar, foo_bar_of,
 use Rattle.wit_graph_data.specs.declared.graph.Graph.{Graph}
 use Rattle.wit_graph_data.specs.declared.graph.Package.{Package}
 use Rattle.wit_merge_spec.specs.Matches.{counterpart_interface, counterpart_package, counterpart_type, counterpart_world}
-use Rattle.wit_merge_spec.specs.Merged.{merge_remap, merged}
+use Rattle.wit_merge_match.specs.Remapped.{merge_remap}
+use Rattle.wit_merge_spec.specs.Merged.{merged}
 use Rattle.examples_merge.specs.Graphs.{a_beside_b, a_uses_b, alias_in, b_uses_a, field_a, foo_bar_alone, foo_named, gate_f, i_uses_j, inner, interface_in, merge_of_graphs, more, number_in, one_number, only_c, package_named, record_x, resource_record, resource_t, three, two_numbers, world_of_i}
 
 -- an interface without a name beside world w, which imports and exports these

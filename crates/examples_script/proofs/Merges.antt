@@ -14,10 +14,10 @@ use Rattle.wit_graph_data.specs.declared.error_kind.ResolveErrorKind.{ResolveErr
 use Rattle.wit_graph_data.specs.declared.error_kind.ResolveErrorKind.TheVariants.{OffsetOverflow}
 use Rattle.wit_graph_theory.specs.examples.TestFacts.{feature_of}
 use Rattle.wit_remap.specs.declared.remap.Remap.{Remap}
-use Rattle.wit_merge.specs.Remapped.{remap_of}
+use Rattle.wit_merge_match.specs.Remapped.{merge_remap}
 use Rattle.wit_merge_spec.specs.Cause.{MergeIsAccepted}
 use Rattle.wit_merge_spec.specs.Matches.{GraphMerge}
-use Rattle.wit_merge_spec.specs.Merged.{merge_remap, merged}
+use Rattle.wit_merge_spec.specs.Merged.{merged}
 use Rattle.wit_resolve_graph.specs.Merging.{FilesPass, Merges, merge_of}
 use Rattle.wit_resolve_graph.specs.State.{State, new_state}
 use Rattle.wit_resolve_graph.specs.declared.command.Reply.TheVariants.{Merged}
@@ -50,7 +50,7 @@ abbrev of_states : Graph → Graph → GraphMerge
 of_states g other = merge_of (first_of g) (second_of other)
 
 -- a merge is done where no cause holds against it
-merges : (g other made : Graph) (remap : Remap) → MergeIsAccepted (of_states g other) → made ≡ merged (of_states g other) → remap ≡ remap_of (merge_remap (of_states g other)) → MayMerge g other (Merged remap) (after made)
+merges : (g other made : Graph) (remap : Remap) → MergeIsAccepted (of_states g other) → made ≡ merged (of_states g other) → remap ≡ merge_remap (of_states g other) → MayMerge g other (Merged remap) (after made)
 merges g other made remap accepted graph remap_is =
     (after made, record { fits = lit< tt; accepted = accepted; graph = graph; features = refl; rule = refl; files = refl; remap_is = remap_is }, refl)
 

@@ -5,7 +5,7 @@ use std::fmt::Write;
 use std::process::Abort;
 use wit_data::{Id, Items, TryClone};
 use wit_graph_data::Graph;
-use wit_merge_match::{Matches, MergeRemap, find_matches, find_remap, leaves_graph};
+use wit_merge_match::{Matches, MergeIds, find_ids, find_matches, leaves_graph};
 use wit_validity::is_valid;
 
 /// Of each package, world, interface and type of the graph with this change the id of that of the valid graph with
@@ -21,7 +21,7 @@ fn told(rt: &impl Abort, alloc: Global, ours: &Graph, other: &Graph) -> String {
     if is_valid(alloc, ours).expect(rt, "memory") {
         let found = find_matches(alloc, ours, other).expect(rt, "memory");
         show_matches(rt, &found, &mut text);
-        let going = find_remap(alloc, ours, other, &found).expect(rt, "memory");
+        let going = find_ids(alloc, ours, other, &found).expect(rt, "memory");
         show_places(rt, &going, &mut text);
         let left = leaves_graph(ours, other, &found);
         text.push_str(if left { " left" } else { " changed" })
@@ -37,7 +37,7 @@ fn show_matches(rt: &impl Abort, found: &Matches, text: &mut String) {
     show_ids(rt, &found.types, text);
 }
 
-fn show_places(rt: &impl Abort, going: &MergeRemap, text: &mut String) {
+fn show_places(rt: &impl Abort, going: &MergeIds, text: &mut String) {
     text.push_str(" to").expect(rt, "memory");
     for package in going.packages.as_slice() {
         show(rt, package.index(), text);

@@ -29,19 +29,19 @@ module _ (u : MergePlan) (ready : CanUnite u) where
   abbrev m : GraphMerge
   m = merging_of u
 
-  pub types_go : (x : ℕ) → x < length u.other.now.types → goes u.merge_remap.now.new_ids.types x ≡ merged_type m x
-  types_go x below = goes_there u.merge_remap.now.new_ids.types (merged_type m) (length u.other.now.types) x (λ j. (ready.merge_remap j).new_ids.types) below
+  pub types_go : (x : ℕ) → x < length u.other.now.types → goes u.merge_ids.now.new_ids.types x ≡ merged_type m x
+  types_go x below = goes_there u.merge_ids.now.new_ids.types (merged_type m) (length u.other.now.types) x (λ j. (ready.merge_ids j).new_ids.types) below
 
-  pub interfaces_go : (x : ℕ) → x < length u.other.now.interfaces → goes u.merge_remap.now.new_ids.interfaces x ≡ merged_interface m x
-  interfaces_go x below = goes_there u.merge_remap.now.new_ids.interfaces (merged_interface m) (length u.other.now.interfaces) x (λ j. (ready.merge_remap j).new_ids.interfaces) below
+  pub interfaces_go : (x : ℕ) → x < length u.other.now.interfaces → goes u.merge_ids.now.new_ids.interfaces x ≡ merged_interface m x
+  interfaces_go x below = goes_there u.merge_ids.now.new_ids.interfaces (merged_interface m) (length u.other.now.interfaces) x (λ j. (ready.merge_ids j).new_ids.interfaces) below
 
-  pub worlds_go : (x : ℕ) → x < length u.other.now.worlds → goes u.merge_remap.now.new_ids.worlds x ≡ merged_world m x
-  worlds_go x below = goes_there u.merge_remap.now.new_ids.worlds (merged_world m) (length u.other.now.worlds) x (λ j. (ready.merge_remap j).new_ids.worlds) below
+  pub worlds_go : (x : ℕ) → x < length u.other.now.worlds → goes u.merge_ids.now.new_ids.worlds x ≡ merged_world m x
+  worlds_go x below = goes_there u.merge_ids.now.new_ids.worlds (merged_world m) (length u.other.now.worlds) x (λ j. (ready.merge_ids j).new_ids.worlds) below
 
   values_go : (x : ℕ) → x < length u.other.now.types → unwrap_or (slice_get u.values.now x) x ≡ value_id (remap_of_merge m) x
   values_go x below = ap (λ (l : List ℕ). unwrap_or (slice_get l x) x) ready.values ∙ ap (λ (o : Option ℕ). unwrap_or o x) (range-at (value_id (remap_of_merge m)) (length u.other.now.types) x below)
 
-  module _ (mv : Mover) (new_ids : mv.new_ids.now ≡ u.merge_remap.now.new_ids) (values : mv.values.now ≡ u.values.now) (offset : mv.offset ≡ u.offset) where
+  module _ (mv : Mover) (new_ids : mv.new_ids.now ≡ u.merge_ids.now.new_ids) (values : mv.values.now ≡ u.values.now) (offset : mv.offset ≡ u.offset) where
     agrees : Agree (maps_of mv) (merge_maps m) (length u.other.now.types) (length u.other.now.interfaces) (length u.other.now.worlds)
     agrees = record {
       of_types = λ x below. ap (λ p. goes p x) (λ j. (new_ids j).types) ∙ types_go x below;

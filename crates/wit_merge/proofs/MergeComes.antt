@@ -15,7 +15,7 @@ use Rattle.wit_link_spec.specs.steps.NewThings.{is_from, is_new}
 use Rattle.wit_merge_spec.specs.Matches.{GraphMerge, counterpart_type}
 use Rattle.wit_merge_spec.specs.Merged.{merged_type, moved_functions, remap_of_merge}
 use Rattle.wit_merge_laws.specs.facts.MatchFacts.{type_is}
-use Rattle.wit_merge_match.specs.steps.Matched.{merge_remap_of}
+use Rattle.wit_merge_match.specs.steps.Matched.{merge_ids_of}
 use Rattle.wit_link_resources.specs.steps.IncomingTypes.{CanCome, IsRemapOf, IsRemapped}
 use Rattle.wit_link_resources.specs.facts.IncomingLeads.{positions_same}
 use Rattle.wit_link_resources.specs.facts.Leads.{target_there}
@@ -29,7 +29,7 @@ module _ (m : GraphMerge) (valid : IsValid m.graph) (valid_other : IsValid m.oth
   types = m.other.types
 
   abbrev all_ids : List (Option ℕ)
-  all_ids = (merge_remap_of m).new_ids.types
+  all_ids = (merge_ids_of m).new_ids.types
 
   abbrev first : ℕ
   first = length m.graph.types

@@ -35,16 +35,16 @@ module _ (u : MergePlan) (ready : CanUnite u) where
   m = merging_of u
 
   pub types_moved : (from : Table) → ((e : List ℕ × ℕ) → Contains from e → e.1 < length u.other.now.types)
-      → moved_names u.matches.now.types u.merge_remap.now.new_ids.types from ≡ map (λ (e : List ℕ × ℕ). (e.0, merged_type m e.1)) (filter (λ (e : List ℕ × ℕ). moves_type m e.1) from)
-  types_moved = names_are u.matches.now.types u.merge_remap.now.new_ids.types (moves_type m) (merged_type m) (length u.other.now.types) (moves_is (counterpart_type m) (length u.other.now.types) u.matches.now.types ready.matches.types) (types_go u ready)
+      → moved_names u.matches.now.types u.merge_ids.now.new_ids.types from ≡ map (λ (e : List ℕ × ℕ). (e.0, merged_type m e.1)) (filter (λ (e : List ℕ × ℕ). moves_type m e.1) from)
+  types_moved = names_are u.matches.now.types u.merge_ids.now.new_ids.types (moves_type m) (merged_type m) (length u.other.now.types) (moves_is (counterpart_type m) (length u.other.now.types) u.matches.now.types ready.matches.types) (types_go u ready)
 
   pub interfaces_moved : (from : Table) → ((e : List ℕ × ℕ) → Contains from e → e.1 < length u.other.now.interfaces)
-      → moved_names u.matches.now.interfaces u.merge_remap.now.new_ids.interfaces from ≡ map (λ (e : List ℕ × ℕ). (e.0, merged_interface m e.1)) (filter (λ (e : List ℕ × ℕ). moves_interface m e.1) from)
+      → moved_names u.matches.now.interfaces u.merge_ids.now.new_ids.interfaces from ≡ map (λ (e : List ℕ × ℕ). (e.0, merged_interface m e.1)) (filter (λ (e : List ℕ × ℕ). moves_interface m e.1) from)
   interfaces_moved =
-      names_are u.matches.now.interfaces u.merge_remap.now.new_ids.interfaces (moves_interface m) (merged_interface m) (length u.other.now.interfaces)
+      names_are u.matches.now.interfaces u.merge_ids.now.new_ids.interfaces (moves_interface m) (merged_interface m) (length u.other.now.interfaces)
       (moves_is (counterpart_interface m) (length u.other.now.interfaces) u.matches.now.interfaces ready.matches.interfaces) (interfaces_go u ready)
 
   pub worlds_moved : (from : Table) → ((e : List ℕ × ℕ) → Contains from e → e.1 < length u.other.now.worlds)
-      → moved_names u.matches.now.worlds u.merge_remap.now.new_ids.worlds from ≡ map (λ (e : List ℕ × ℕ). (e.0, merged_world m e.1)) (filter (λ (e : List ℕ × ℕ). moves_world m e.1) from)
+      → moved_names u.matches.now.worlds u.merge_ids.now.new_ids.worlds from ≡ map (λ (e : List ℕ × ℕ). (e.0, merged_world m e.1)) (filter (λ (e : List ℕ × ℕ). moves_world m e.1) from)
   worlds_moved =
-      names_are u.matches.now.worlds u.merge_remap.now.new_ids.worlds (moves_world m) (merged_world m) (length u.other.now.worlds) (moves_is (counterpart_world m) (length u.other.now.worlds) u.matches.now.worlds ready.matches.worlds) (worlds_go u ready)
+      names_are u.matches.now.worlds u.merge_ids.now.new_ids.worlds (moves_world m) (merged_world m) (length u.other.now.worlds) (moves_is (counterpart_world m) (length u.other.now.worlds) u.matches.now.worlds ready.matches.worlds) (worlds_go u ready)

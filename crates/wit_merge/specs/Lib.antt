@@ -1,2 +1,1 @@
-pub mod Remapped
 pub mod steps

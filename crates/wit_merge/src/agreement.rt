@@ -26,27 +26,21 @@ pub(crate) fn check_agreement(
     ensures agree { OnOk result (DoAgree (merge_of_graphs_by graph.now other.now offset)) }
     ensures cause { IfErr result (λ e. (e ≡ OutOfMemory) ⊎ IsMergeCause (merge_of_graphs_by graph.now other.now offset) e) }
 {
-    match find_mismatch(alloc, graph, other, matches)? {
-        Some(message) => {
-            return Err(ResolveErrorKind::Semantic {
-                span: Span::unknown(),
-                message: Text::from_string(message),
-                cause: Cause::MergeMismatch,
-            }
-            .into());
+    if let Some(message) = find_mismatch(alloc, graph, other, matches)? {
+        return Err(ResolveErrorKind::Semantic {
+            span: Span::unknown(),
+            message: Text::from_string(message),
+            cause: Cause::MergeMismatch,
         }
-        None => {}
+        .into());
     }
-    match find_stability_mismatch(alloc, graph, other, matches)? {
-        Some(pair) => {
-            return Err(ResolveErrorKind::StabilityMismatch {
-                span: Span::unknown(),
-                from: pair.from,
-                into: pair.into,
-            }
-            .into());
+    if let Some(pair) = find_stability_mismatch(alloc, graph, other, matches)? {
+        return Err(ResolveErrorKind::StabilityMismatch {
+            span: Span::unknown(),
+            from: pair.from,
+            into: pair.into,
         }
-        None => {}
+        .into());
     }
     if !spans_fit(other, offset) {
         return Err(ResolveErrorKind::OffsetOverflow.into());

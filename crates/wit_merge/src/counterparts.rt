@@ -16,14 +16,11 @@ pub(crate) fn counterparts<S>(
 {
     let mut counterparts = Items::from_vec(vec![in alloc; None; count]?);
     for index in (0..found.len()).rev() {
-        match found.at(index) {
-            Some(id) => {
-                let place = id.try_clone()?.index();
-                if place < count {
-                    counterparts.set(place, Some(index));
-                }
+        if let Some(id) = found.at(index) {
+            let place = id.try_clone()?.index();
+            if place < count {
+                counterparts.set(place, Some(index));
             }
-            None => {}
         }
     }
     Ok(counterparts)

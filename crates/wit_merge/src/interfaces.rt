@@ -46,7 +46,7 @@ impl Part for Interface {
             &mut joined.types,
             &from.types,
             found,
-            &plan.merge_remap.new_ids.types,
+            &plan.merge_ids.new_ids.types,
         )?;
         push_functions(
             plan,

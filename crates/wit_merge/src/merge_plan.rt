@@ -5,7 +5,7 @@ ghost use Rattle.wit_merge.specs.steps.UnionSteps.{CanUnite, merging_of};
 
 use wit_data::{Items, PackageId, TypeId};
 use wit_graph_data::Graph;
-use wit_merge_match::{Matches, MergeRemap};
+use wit_merge_match::{Matches, MergeIds};
 use wit_remap::Mover;
 
 /// Two graphs that become one: what is matched of them, and where the things of the other one go.
@@ -14,7 +14,7 @@ pub(crate) struct MergePlan<'a> {
     pub(crate) graph: &'a Graph,
     pub(crate) other: &'a Graph,
     pub(crate) matches: &'a Matches,
-    pub(crate) merge_remap: &'a MergeRemap,
+    pub(crate) merge_ids: &'a MergeIds,
     /// What types are remapped to at value positions.
     pub(crate) values: &'a Items<TypeId>,
     pub(crate) offset: u32,
@@ -25,7 +25,7 @@ impl<'a> MergePlan<'a> {
     /// None, and where the package goes isn't asked.
     pub(crate) fn mover(&self, home: Option<PackageId>) -> Mover<'a>
         requires { CanUnite self.now }
-        ensures new_ids { result.new_ids.now ≡ self.now.merge_remap.now.new_ids }
+        ensures new_ids { result.new_ids.now ≡ self.now.merge_ids.now.new_ids }
         ensures values { result.values.now ≡ self.now.values.now }
         ensures home { (p : ℕ) → home ≡ Some p → p < length self.now.other.now.packages → result.«package» ≡ merged_package (merging_of self.now) p }
         ensures offset { result.offset ≡ self.now.offset }
@@ -35,7 +35,7 @@ impl<'a> MergePlan<'a> {
             None => PackageId::from_index(0),
         };
         Mover {
-            new_ids: &self.merge_remap.new_ids,
+            new_ids: &self.merge_ids.new_ids,
             values: self.values,
             package,
             offset: self.offset,
@@ -47,7 +47,7 @@ impl<'a> MergePlan<'a> {
         requires { CanUnite self.now }
         ensures { id < length self.now.other.now.packages → result ≡ merged_package (merging_of self.now) id }
     {
-        match self.merge_remap.packages.get(id.index()) {
+        match self.merge_ids.packages.get(id.index()) {
             Some(new) => *new,
             None => id,
         }

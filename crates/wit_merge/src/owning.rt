@@ -5,7 +5,7 @@ ghost use Rattle.wit_link_resources.specs.steps.Leading.{AreRight};
 ghost use Rattle.wit_merge_spec.specs.Merged.{remap_of_merge};
 ghost use Rattle.wit_remap.specs.Grown.{Begins};
 ghost use Rattle.wit_merge_match.specs.Differing.{merge_of_graphs_by};
-ghost use Rattle.wit_merge_match.specs.steps.Matched.{AreMatches, merge_of_graphs, merge_remap_of};
+ghost use Rattle.wit_merge_match.specs.steps.Matched.{AreMatches, merge_of_graphs, merge_ids_of};
 ghost use Rattle.wit_merge.specs.steps.UnionSteps.{value_ids};
 ghost use Rattle.wit_remap_spec.specs.steps.Parts.{owns};
 
@@ -15,7 +15,7 @@ use wit_data::{Table, TypeId};
 use wit_graph_data::Graph;
 use wit_link_resources::{Incoming, remapped_values};
 use wit_link_spec::Values;
-use wit_merge_match::{Matches, MergeRemap};
+use wit_merge_match::{Matches, MergeIds};
 
 /// What types are remapped to at value positions, and the `own`s that come for that, by how far spans may move.
 ///
@@ -27,13 +27,13 @@ pub(crate) fn values(
     graph: &Graph,
     other: &Graph,
     matches: &Matches,
-    merge_remap: &MergeRemap,
+    merge_ids: &MergeIds,
     met: &mut Table<TypeId, bool>,
 ) -> Result<Values, AllocError>
     requires valid { IsValid graph.now }
     requires valid_other { IsValid other.now }
     requires matches { AreMatches graph.now other.now matches.now }
-    requires merge_remap { merge_remap.now ≡ merge_remap_of (merge_of_graphs graph.now other.now) }
+    requires merge_ids { merge_ids.now ≡ merge_ids_of (merge_of_graphs graph.now other.now) }
     requires met { AreRight graph.now.types met.old }
     ensures values { IfOk result (λ values. (offset : ℕ) → (values.new_ids ≡ value_ids (merge_of_graphs_by graph.now other.now offset)) × (values.owns ≡ owns (remap_of_merge (merge_of_graphs_by graph.now other.now offset)))) }
     ensures met { AreRight graph.now.types met.new }
@@ -43,7 +43,7 @@ pub(crate) fn values(
     let incoming = Incoming {
         graph_types: &graph.types,
         types: &other.types,
-        ids: &merge_remap.new_ids.types,
+        ids: &merge_ids.new_ids.types,
     };
     remapped_values(alloc, &incoming, functions.as_slice(), met)
 }

@@ -53,14 +53,14 @@ impl Part for Package {
 
 /// Adds the interfaces and worlds of a package of the other graph that move.
 fn push_tables(plan: &MergePlan<'_>, into: &mut Package, from: &Package) -> Result<(), AllocError>
-    requires interfaces { HasDistinctKeys (into.old.interfaces ++ moved_names plan.now.matches.now.interfaces plan.now.merge_remap.now.new_ids.interfaces from.now.interfaces) }
-    requires worlds { HasDistinctKeys (into.old.worlds ++ moved_names plan.now.matches.now.worlds plan.now.merge_remap.now.new_ids.worlds from.now.worlds) }
+    requires interfaces { HasDistinctKeys (into.old.interfaces ++ moved_names plan.now.matches.now.interfaces plan.now.merge_ids.now.new_ids.interfaces from.now.interfaces) }
+    requires worlds { HasDistinctKeys (into.old.worlds ++ moved_names plan.now.matches.now.worlds plan.now.merge_ids.now.new_ids.worlds from.now.worlds) }
     ensures { OnOk result (into.new ≡ record into.old {
-      interfaces = into.old.interfaces ++ moved_names plan.now.matches.now.interfaces plan.now.merge_remap.now.new_ids.interfaces from.now.interfaces;
-      worlds = into.old.worlds ++ moved_names plan.now.matches.now.worlds plan.now.merge_remap.now.new_ids.worlds from.now.worlds;
+      interfaces = into.old.interfaces ++ moved_names plan.now.matches.now.interfaces plan.now.merge_ids.now.new_ids.interfaces from.now.interfaces;
+      worlds = into.old.worlds ++ moved_names plan.now.matches.now.worlds plan.now.merge_ids.now.new_ids.worlds from.now.worlds;
     }) }
 {
-    let (matches, new_ids) = (plan.matches, &plan.merge_remap.new_ids);
+    let (matches, new_ids) = (plan.matches, &plan.merge_ids.new_ids);
     push_moved(
         &mut into.interfaces,
         &from.interfaces,

@@ -5,15 +5,15 @@ ghost use Rattle.wit_elaboration.specs.Valid.{IsValid};
 ghost use Rattle.wit_graph_data.specs.declared.error_kind.ResolveErrorKind.{ResolveErrorKind};
 ghost use Rattle.wit_graph_data.specs.declared.error_kind.ResolveErrorKind.TheVariants.{OutOfMemory};
 ghost use Rattle.wit_merge_match.specs.Differing.{merge_of_graphs_by};
-ghost use Rattle.wit_merge_match.specs.steps.Matched.{AreMatches, merge_remap_of};
-ghost use Rattle.wit_merge_spec.specs.Merged.{merge_remap as ids_of, joined_graph, merged};
+ghost use Rattle.wit_merge_match.specs.Remapped.{merge_remap};
+ghost use Rattle.wit_merge_match.specs.steps.Matched.{AreMatches, merge_ids_of};
+ghost use Rattle.wit_merge_spec.specs.Merged.{joined_graph, merged};
 ghost use Rattle.wit_merge_spec.specs.Cause.{IsMergeCause, MergeReturnsBorrow};
 ghost use Rattle.wit_merge_spec.specs.steps.Leaving.{LeavesGraph};
 ghost use Rattle.wit_remap.specs.Grown.{Begins, Grown};
 ghost use Rattle.wit_link_resources.specs.steps.Leading.{AreRight};
 ghost use Rattle.wit_merge.specs.steps.Behind.{IsComing};
 ghost use Rattle.wit_merge.specs.steps.UnionSteps.{DoAgree};
-ghost use Rattle.wit_merge.specs.Remapped.{remap_of};
 
 use crate::agreement::check_agreement;
 use crate::appending::append;
@@ -31,7 +31,7 @@ use wit_merge_laws::laws::{
     accepted_growth, functions_come, joined_is_grown, new_worlds_are_sound, nothing_new_is_cyclic,
     unions_grow, unions_stay_valid, uses_grow,
 };
-use wit_merge_match::{Matches, MergeRemap, find_matches, find_remap};
+use wit_merge_match::{Matches, MergeIds, find_ids, find_matches};
 use wit_remap::Remap;
 use wit_unite_common::check_and_elaborate;
 
@@ -55,7 +55,7 @@ pub fn unite(
     requires valid { IsValid graph.now }
     requires other { IsValid other }
     ensures ok { IfOk result (λ made. made.0 ≡ merged (merge_of_graphs_by graph.now other offset)) }
-    ensures remap { IfOk result (λ made. made.1 ≡ remap_of (ids_of (merge_of_graphs_by graph.now other offset))) }
+    ensures remap { IfOk result (λ made. made.1 ≡ merge_remap (merge_of_graphs_by graph.now other offset)) }
     ensures valid { IfOk result (λ made. IsValid made.0) }
     ensures cause { IfErr result (λ e. (e ≡ OutOfMemory) ⊎ IsMergeCause (merge_of_graphs_by graph.now other offset) e) }
     ensures refuses { (e : ResolveErrorKind) → IsMergeCause (merge_of_graphs_by graph.now other offset) e → OnOk result ⊥ }
@@ -80,7 +80,7 @@ pub fn union_of(alloc: Global, graph: &Graph, other: &Graph, offset: u32) -> Res
     requires valid { IsValid graph.now }
     requires other { IsValid other.now }
     ensures graph { IfOk result (λ made. made.graph ≡ merged (merge_of_graphs_by graph.now other.now offset)) }
-    ensures remap { IfOk result (λ made. made.remap ≡ remap_of (ids_of (merge_of_graphs_by graph.now other.now offset))) }
+    ensures remap { IfOk result (λ made. made.remap ≡ merge_remap (merge_of_graphs_by graph.now other.now offset)) }
     ensures valid { IfOk result (λ made. IsValid made.graph) }
     ensures cause { IfErr result (λ e. (e ≡ OutOfMemory) ⊎ IsMergeCause (merge_of_graphs_by graph.now other.now offset) e) }
     ensures refuses { (e : ResolveErrorKind) → IsMergeCause (merge_of_graphs_by graph.now other.now offset) e → OnOk result ⊥ }
@@ -122,18 +122,18 @@ pub fn united_by(
     requires agree { DoAgree (merge_of_graphs_by graph.now other.now offset) }
     requires matches { AreMatches graph.now other.now matches.now }
     ensures graph { IfOk result (λ made. made.graph ≡ merged (merge_of_graphs_by graph.now other.now offset)) }
-    ensures remap { IfOk result (λ made. made.remap ≡ remap_of (ids_of (merge_of_graphs_by graph.now other.now offset))) }
+    ensures remap { IfOk result (λ made. made.remap ≡ merge_remap (merge_of_graphs_by graph.now other.now offset)) }
     ensures valid { IfOk result (λ made. IsValid made.graph) }
     ensures cause { IfErr result (λ e. (e ≡ OutOfMemory) ⊎ IsMergeCause (merge_of_graphs_by graph.now other.now offset) e) }
     ensures refuses { (e : ResolveErrorKind) → IsMergeCause (merge_of_graphs_by graph.now other.now offset) e → OnOk result ⊥ }
 {
     unions_stay_valid();
-    let merge_remap = find_remap(alloc, graph, other, matches)?;
-    let mut joined = as_listed(alloc, graph, other, matches, &merge_remap, offset)?;
+    let merge_ids = find_ids(alloc, graph, other, matches)?;
+    let mut joined = as_listed(alloc, graph, other, matches, &merge_ids, offset)?;
     check_and_elaborate(alloc, &mut joined)?;
     Ok(United {
         graph: joined,
-        remap: into_remap(merge_remap),
+        remap: into_remap(merge_ids),
     })
 }
 
@@ -160,7 +160,7 @@ pub fn append_union(
     requires uses { elaborator.old ≡ graph_uses graph.old }
     requires met { AreRight graph.old.types met.old }
     ensures graph { OnOk result (graph.new ≡ merged (merge_of_graphs_by graph.old other.now offset)) }
-    ensures remap { IfOk result (λ remap. remap ≡ remap_of (ids_of (merge_of_graphs_by graph.old other.now offset))) }
+    ensures remap { IfOk result (λ remap. remap ≡ merge_remap (merge_of_graphs_by graph.old other.now offset)) }
     ensures valid { IsValid graph.new }
     ensures uses { elaborator.new ≡ graph_uses graph.new }
     ensures err { OnErr result (graph.new ≡ graph.old) }
@@ -179,10 +179,10 @@ pub fn append_union(
     unions_grow();
     accepted_growth();
     unions_stay_valid();
-    let merge_remap = find_remap(alloc, graph, other, matches)?;
-    let coming = what_comes(alloc, graph, other, matches, &merge_remap, met, offset)?;
+    let merge_ids = find_ids(alloc, graph, other, matches)?;
+    let coming = what_comes(alloc, graph, other, matches, &merge_ids, met, offset)?;
     append(alloc, graph, elaborator, coming)?;
-    Ok(into_remap(merge_remap))
+    Ok(into_remap(merge_ids))
 }
 
 /// What comes behind the graph.
@@ -191,7 +191,7 @@ fn what_comes(
     graph: &Graph,
     other: &Graph,
     matches: &Matches,
-    merge_remap: &MergeRemap,
+    merge_ids: &MergeIds,
     met: &mut Table<TypeId, bool>,
     offset: u32,
 ) -> Result<Coming, AllocError>
@@ -199,7 +199,7 @@ fn what_comes(
     requires other { IsValid other.now }
     requires agree { DoAgree (merge_of_graphs_by graph.now other.now offset) }
     requires matches { AreMatches graph.now other.now matches.now }
-    requires merge_remap { merge_remap.now ≡ merge_remap_of (merge_of_graphs_by graph.now other.now offset) }
+    requires merge_ids { merge_ids.now ≡ merge_ids_of (merge_of_graphs_by graph.now other.now offset) }
     requires met { AreRight graph.now.types met.old }
     ensures comes { IfOk result (IsComing (merge_of_graphs_by graph.now other.now offset)) }
     ensures met { AreRight graph.now.types met.new }
@@ -208,12 +208,12 @@ fn what_comes(
     let Values {
         new_ids: value_ids,
         owns,
-    } = values(alloc, graph, other, matches, merge_remap, met)?;
+    } = values(alloc, graph, other, matches, merge_ids, met)?;
     let plan = MergePlan {
         graph,
         other,
         matches,
-        merge_remap,
+        merge_ids,
         values: &value_ids,
         offset,
     };
@@ -221,10 +221,10 @@ fn what_comes(
 }
 
 /// Where things are now, as it is answered.
-fn into_remap(merge_remap: MergeRemap) -> Remap
-    ensures { result ≡ record { types = merge_remap.new_ids.types; interfaces = merge_remap.new_ids.interfaces; worlds = merge_remap.new_ids.worlds; packages = merge_remap.packages } }
+fn into_remap(merge_ids: MergeIds) -> Remap
+    ensures { result ≡ record { types = merge_ids.new_ids.types; interfaces = merge_ids.new_ids.interfaces; worlds = merge_ids.new_ids.worlds; packages = merge_ids.packages } }
 {
-    let MergeRemap { new_ids, packages } = merge_remap;
+    let MergeIds { new_ids, packages } = merge_ids;
     let NewIds {
         types,
         interfaces,
@@ -239,14 +239,14 @@ fn as_listed(
     graph: &Graph,
     other: &Graph,
     matches: &Matches,
-    merge_remap: &MergeRemap,
+    merge_ids: &MergeIds,
     offset: u32,
 ) -> ResolveResult<Graph>
     requires valid { IsValid graph.now }
     requires other { IsValid other.now }
     requires agree { DoAgree (merge_of_graphs_by graph.now other.now offset) }
     requires matches { AreMatches graph.now other.now matches.now }
-    requires merge_remap { merge_remap.now ≡ merge_remap_of (merge_of_graphs_by graph.now other.now offset) }
+    requires merge_ids { merge_ids.now ≡ merge_ids_of (merge_of_graphs_by graph.now other.now offset) }
     ensures joined { IfOk result (λ joined. joined ≡ joined_graph (merge_of_graphs_by graph.now other.now offset)) }
     ensures none { OnOk result ((message : List ℕ) → MergeReturnsBorrow (merge_of_graphs_by graph.now other.now offset) message → ⊥) }
     ensures cause { IfErr result (λ e. (e ≡ OutOfMemory) ⊎ IsMergeCause (merge_of_graphs_by graph.now other.now offset) e) }
@@ -255,12 +255,12 @@ fn as_listed(
     let Values {
         new_ids: value_ids,
         owns,
-    } = values(alloc, graph, other, matches, merge_remap, &mut met)?;
+    } = values(alloc, graph, other, matches, merge_ids, &mut met)?;
     let plan = MergePlan {
         graph,
         other,
         matches,
-        merge_remap,
+        merge_ids,
         values: &value_ids,
         offset,
     };

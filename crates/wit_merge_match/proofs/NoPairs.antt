@@ -1,15 +1,19 @@
 -- Where no interface and no world is matched there are no types to compare.
-use Rattle.std.proofs.Common.{◌≡◌, ◌<◌, ◌≤◌, ℕ, inl, inr, List, [], ◌∷◌, ◌++◌, length, get_or, Option, None, Some, option_and_then, slice_get, codes, flat_map, refl, ap, arith}
+use Rattle.std.proofs.Common.{◌≡◌, ◌∙◌, ◌<◌, ◌≤◌, ℕ, Bool, true, false, inl, inr, is_some, List, [], ◌∷◌, ◌++◌, length, get_or, Option, None, Some, option_and_then, slice_get, codes, flat_map, refl, sym, ap, arith}
 use Rattle.std.proofs.lemmas.Bool.{cases_lt}
 use Rattle.std.proofs.lemmas.List.{get_or_past}
 use Rattle.std.specs.Option.{option_map_or}
 use Rattle.wit_data.specs.declared.interface.Interface.{Interface}
 use Rattle.wit_data.specs.declared.world.World.{World}
 use Rattle.wit_graph_data.specs.declared.graph.Package.{Package}
-use Rattle.wit_merge_spec.specs.Matches.{GraphMerge, counterpart_interface, counterpart_world, in_package_order, interface_pairs, type_pairs, world_pairs}
+use Rattle.wit_merge_spec.specs.Matches.{GraphMerge, common_entries, common_types, counterpart_interface, counterpart_world, in_package_order, interface_pairs, type_pairs, world_pairs}
 use Rattle.wit_merge_spec.specs.MismatchText.{part_links}
 use Rattle.wit_merge_match.specs.steps.Structures.{interface_part, world_part}
-use Rattle.wit_merge_spec.specs.steps.Parts.{common_types, common_entries}
+
+-- where a test for something says no there is nothing
+pub none_where : {X : Type 0} (o : Option X) (b : Bool) → b ≡ is_some o → b ≡ false → o ≡ None
+none_where None b is off = refl
+none_where (Some x) b is off = let apart : false ≡ true = sym off ∙ is in cc
 
 -- what the first ones lack, and there are no others, all lack
 pub none_past : {X : Type 0} (found : List (Option X)) (n : ℕ) → length found ≤ n → ((k : ℕ) → k < n → get_or found k None ≡ None) → (i : ℕ) → get_or found i None ≡ None

@@ -19,10 +19,10 @@ use Rattle.wit_data.specs.declared.world.WorldKey.TheVariants as key
 use Rattle.wit_graph_data.specs.Queries.{topological_packages}
 use Rattle.wit_graph_data.specs.declared.graph.Package.{Package}
 use Rattle.wit_digraph.specs.facts.MemberFacts.{Contains-cons_cases, Contains-nil}
-use Rattle.wit_merge_spec.specs.Matches.{GraphMerge, TypePair, counterpart_item, entry_pairs, in_package_order, interface_pairs, item_pairs, matched_interface, matched_world, paired, type_pairs, world_pairs}
+use Rattle.wit_merge_spec.specs.Matches.{GraphMerge, TypePair, common_entries, common_types, counterpart_item, entry_pairs, in_package_order, interface_pairs, item_pairs, matched_interface, matched_world, paired, type_pairs, world_pairs}
 use Rattle.wit_merge_spec.specs.MismatchText.{entry_link, linked}
 use Rattle.wit_merge_match.specs.steps.Structures.{FirstMismatch, NoneDiffer, common_pair, interface_part, of_package, package_interface_pairs, package_world_pairs, side_pairs, unnamed_pairs, world_part}
-use Rattle.wit_merge_spec.specs.steps.Parts.{common_types, common_entries, StructuresDiffer, type_link}
+use Rattle.wit_merge_spec.specs.steps.Parts.{StructuresDiffer, type_link}
 
 module _ (m : GraphMerge) where
   -- ---- end to end
@@ -35,25 +35,27 @@ module _ (m : GraphMerge) where
 
   pub first_front : (ps qs : List TypePair) (text : List ℕ) → FirstMismatch m ps text → FirstMismatch m (ps ++ qs) text
   first_front ps qs text d = record {
-    before = d.before;
     pair = d.pair;
-    after = d.after ++ qs;
-    pairs_are = ap (λ (l : List TypePair). l ++ qs) d.pairs_are ∙ append_assoc d.before (d.pair ∷ d.after) qs;
-    alike = d.alike;
-    ending = d.ending;
-    differs = d.differs;
+    first = record {
+      before = d.first.before;
+      after = d.first.after ++ qs;
+      are = ap (λ (l : List TypePair). l ++ qs) d.first.are ∙ append_assoc d.first.before (d.pair ∷ d.first.after) qs;
+      earlier = d.first.earlier;
+      is = d.first.is;
+    };
     message_is = d.message_is;
   }
 
   pub first_back : (ps qs : List TypePair) (text : List ℕ) → NoneDiffer m ps → FirstMismatch m qs text → FirstMismatch m (ps ++ qs) text
   first_back ps qs text none d = record {
-    before = ps ++ d.before;
     pair = d.pair;
-    after = d.after;
-    pairs_are = ap (λ (l : List TypePair). ps ++ l) d.pairs_are ∙ sym (append_assoc ps d.before (d.pair ∷ d.after));
-    alike = none_append ps d.before none d.alike;
-    ending = d.ending;
-    differs = d.differs;
+    first = record {
+      before = ps ++ d.first.before;
+      after = d.first.after;
+      are = ap (λ (l : List TypePair). ps ++ l) d.first.are ∙ sym (append_assoc ps d.first.before (d.pair ∷ d.first.after));
+      earlier = λ p among differ. none_append ps d.first.before none (λ q ending before differs. d.first.earlier q before (ending, differs)) p differ.0 among differ.1;
+      is = d.first.is;
+    };
     message_is = d.message_is;
   }
 
@@ -96,14 +98,15 @@ module _ (m : GraphMerge) where
 
   pub first_behind : (links : List (List ℕ)) (ps : List TypePair) (text : List ℕ) → FirstMismatch m ps text → FirstMismatch m (behind links ps) (linked links text)
   first_behind links ps text d = record {
-    before = behind links d.before;
     pair = record d.pair { links = links ++ d.pair.links };
-    after = behind links d.after;
-    pairs_are = ap (behind links) d.pairs_are ∙ map-append (λ (p : TypePair). record p { links = links ++ p.links }) d.before (d.pair ∷ d.after);
-    alike = none_behind links d.before d.alike;
-    ending = d.ending;
-    differs = d.differs;
-    message_is = ap (linked links) d.message_is ∙ sym (linked_more links d.pair.links d.ending);
+    first = record {
+      before = behind links d.first.before;
+      after = behind links d.first.after;
+      are = ap (behind links) d.first.are ∙ map-append (λ (p : TypePair). record p { links = links ++ p.links }) d.first.before (d.pair ∷ d.first.after);
+      earlier = λ p among differ. none_behind links d.first.before (λ q ending before differs. d.first.earlier q before (ending, differs)) p differ.0 among differ.1;
+      is = d.first.is;
+    };
+    message_is = ap (linked links) d.message_is ∙ sym (linked_more links d.pair.links d.first.is.0);
   }
 
   common_behind : (links more : List (List ℕ)) (types types' : List (List ℕ × ℕ)) → flat_map (λ (e : List ℕ × ℕ). option_map_or (λ t'. paired (links ++ more) e.0 e.1 t' ∷ []) (lookup (bytes_eq e.0) types') []) types

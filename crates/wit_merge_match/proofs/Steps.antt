@@ -189,5 +189,5 @@ module _ (m : GraphMerge) where
         message_is = refl;
       }))
   are_one interfaces worlds types _ (agreement.types message first) =
-      let among : Contains (type_pairs m) first.pair = subst (λ (l : List TypePair). Contains l first.pair) (sym first.pairs_are) (Contains-append_right first.before (first.pair ∷ first.after) first.pair (Contains-here first.pair first.after)) in
-      types first.pair first.ending among first.differs
+      let among : Contains (type_pairs m) first.pair = subst (λ (l : List TypePair). Contains l first.pair) (sym first.first.are) (Contains-append_right first.first.before (first.pair ∷ first.first.after) first.pair (Contains-here first.pair first.first.after)) in
+      types first.pair first.first.is.0 among first.first.is.1

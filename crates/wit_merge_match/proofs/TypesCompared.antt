@@ -42,16 +42,19 @@ module _ (c : MatchedGraphs) (comparable : AreComparable c) (comparison : Compar
   pub named_told : (name : List ℕ) (t t' : ℕ) (ending text : List ℕ) → DifferInStructure comparison.sides.from.now comparison.sides.into.now (matched_by comparison.sides) t t' ending → text ≡ linked (type_link name ∷ []) ending
       → FirstMismatch (merging_of c) (paired [] name t t' ∷ []) text
   named_told name t t' ending text d text_is = record {
-    before = [];
     pair = paired [] name t t';
-    after = [];
-    pairs_are = refl;
-    alike = λ p ending among differ. Contains-nil among;
-    ending = ending;
-    differs =
+    first = record {
+      before = [];
+      after = [];
+      are = refl;
+      earlier = λ p among differ. Contains-nil among;
+      is = (
+        ending,
         subst (λ (found : ℕ → Option ℕ). DifferInStructure c.other.now.types c.graph.now.types found t t' ending) matched_same
-        (subst (λ (types : List TypeDef). DifferInStructure c.other.now.types types (matched_by comparison.sides) t t' ending) of.into
-        (subst (λ (types : List TypeDef). DifferInStructure types comparison.sides.into.now (matched_by comparison.sides) t t' ending) of.from d));
+            (subst (λ (types : List TypeDef). DifferInStructure c.other.now.types types (matched_by comparison.sides) t t' ending) of.into
+            (subst (λ (types : List TypeDef). DifferInStructure types comparison.sides.into.now (matched_by comparison.sides) t t' ending) of.from d)),
+      );
+    };
     message_is = text_is;
   }
 

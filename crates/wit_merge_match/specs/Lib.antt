@@ -1,3 +1,4 @@
 pub mod Differing
+pub mod Remapped
 pub mod facts
 pub mod steps

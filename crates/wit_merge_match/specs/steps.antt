@@ -5,3 +5,4 @@ pub mod Leaving
 pub mod Matched
 pub mod Stabilities
 pub mod Structures
+pub mod Told

@@ -3,13 +3,14 @@
 //! The types that are compared lie on a stack, so how deep they nest takes no call. Types without names that were found
 //! the same make one class, and two of one class aren't compared again: so each comparison of two types ends in one
 //! class less, or with a difference, however often and in whatever pairs the types are shared.
-ghost use Rattle.std.specs.Prelude.{◌≡◌, ◌<◌, ◌++◌, IfNone, IfOk, IfSome, IsTrue, ◌↔◌, Some, false, length, string_bytes};
+ghost use Rattle.std.specs.Prelude.{◌≡◌, ◌<◌, ◌++◌, IfNone, IfOk, IsTrue, ◌↔◌, Some, false, length, string_bytes};
 ghost use Rattle.wit_digraph.specs.Relation.{IsAcyclic};
 ghost use Rattle.wit_data.specs.Kind.{type_references};
 ghost use Rattle.wit_merge_match.specs.steps.ComparisonSteps.{AreAtParts, AreSides, AreThere, Compares, HasClasses, IsSound, from_structure, id_of, into_structure, kind_at, matched_by, path_of};
 ghost use Rattle.wit_merge_match.specs.steps.Kinds.{ending_text};
 ghost use Rattle.wit_merge_spec.specs.Structure.{DifferInStructure, head_features, is_named, path_text};
 ghost use Rattle.wit_data.specs.declared.types.Type_.TheVariants as type;
+ghost use Rattle.wit_merge_match.specs.steps.Told.{Tells};
 
 use crate::classes::{leader_of, own_classes, unite};
 use crate::frames::Frame;
@@ -79,7 +80,7 @@ impl<'a> Comparison<'a> {
         requires sound { IsSound self.old }
         requires from { from < length self.old.sides.from.now }
         requires into { into < length self.old.sides.into.now }
-        ensures some { IfOk result (λ found. IfSome found (λ text. DifferInStructure self.old.sides.from.now self.old.sides.into.now (matched_by self.old.sides) from into (string_bytes text))) }
+        ensures some { IfOk result (Tells (DifferInStructure self.old.sides.from.now self.old.sides.into.now (matched_by self.old.sides) from into)) }
         ensures none { IfOk result (λ found. IfNone found (from_structure self.old.sides from ≡ into_structure self.old.sides into)) }
         ensures sides { self.new.sides ≡ self.old.sides }
         ensures sound { IsSound self.new }
@@ -102,7 +103,7 @@ impl<'a> Comparison<'a> {
         requires from { from < length self.old.sides.from.now }
         requires into { into < length self.old.sides.into.now }
         requires heads { head_features (kind_at self.old.sides.from.now from) ≡ head_features (kind_at self.old.sides.into.now into) }
-        ensures some { IfOk result (λ found. IfSome found (λ text. DifferInStructure self.old.sides.from.now self.old.sides.into.now (matched_by self.old.sides) from into (string_bytes text))) }
+        ensures some { IfOk result (Tells (DifferInStructure self.old.sides.from.now self.old.sides.into.now (matched_by self.old.sides) from into)) }
         ensures none { IfOk result (λ found. IfNone found (from_structure self.old.sides from ≡ into_structure self.old.sides into)) }
         ensures sides { self.new.sides ≡ self.old.sides }
         ensures sound { IsSound self.new }

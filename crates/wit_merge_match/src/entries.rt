@@ -1,8 +1,9 @@
 //! What differs in the entries of matched worlds.
-ghost use Rattle.std.specs.Prelude.{◌≡◌, ◌↔◌, ℕ, IfNone, IfOk, IfSome, IsTrue, List, Some, string_bytes};
+ghost use Rattle.std.specs.Prelude.{◌≡◌, ◌↔◌, IfOk, IsTrue, Some};
 ghost use Rattle.wit_merge_spec.specs.Cause.{EntriesDiffer, ItemsDiffer, same_sort};
 ghost use Rattle.wit_merge_spec.specs.Matches.{counterpart_interface};
 ghost use Rattle.wit_merge_match.specs.Differing.{AreKnown, EntryDiffers, HeldDiffer, SidesDiffer, merging_of};
+ghost use Rattle.wit_merge_match.specs.steps.Told.{Tells, TellsNone};
 
 use crate::matched_graphs::MatchedGraphs;
 use crate::messages::{absent, in_entry, key_text, other_count};
@@ -20,8 +21,8 @@ impl<'a> MatchedGraphs<'a> {
         into: &World,
     ) -> Result<Option<String>, AllocError>
         requires { AreKnown self.now }
-        ensures some { IfOk result (λ found. IfSome found (λ text. SidesDiffer (merging_of self.now) from.now into.now (string_bytes text))) }
-        ensures none { IfOk result (λ found. IfNone found ((text : List ℕ) → SidesDiffer (merging_of self.now) from.now into.now text → ⊥)) }
+        ensures some { IfOk result (Tells (SidesDiffer (merging_of self.now) from.now into.now)) }
+        ensures none { IfOk result (TellsNone (SidesDiffer (merging_of self.now) from.now into.now)) }
     {
         match self.entries_mismatch(alloc, "import", &from.imports, &into.imports)? {
             Some(text) => Ok(Some(text)),
@@ -39,16 +40,15 @@ impl<'a> MatchedGraphs<'a> {
         into: &Table<WorldKey, WorldItem>,
     ) -> Result<Option<String>, AllocError>
         requires { AreKnown self.now }
-        ensures some { IfOk result (λ found. IfSome found (λ text. EntriesDiffer (merging_of self.now) word.now from.now into.now (string_bytes text))) }
-        ensures none { IfOk result (λ found. IfNone found ((text : List ℕ) → EntriesDiffer (merging_of self.now) word.now from.now into.now text → ⊥)) }
+        ensures some { IfOk result (Tells (EntriesDiffer (merging_of self.now) word.now from.now into.now)) }
+        ensures none { IfOk result (TellsNone (EntriesDiffer (merging_of self.now) word.now from.now into.now)) }
     {
         if from.len() != into.len() {
             return Ok(Some(other_count(alloc, word)?));
         }
         for (key, item) in from.iter() {
-            match self.entry_mismatch(alloc, word, key, item, into)? {
-                Some(text) => return Ok(Some(text)),
-                None => {}
+            if let Some(text) = self.entry_mismatch(alloc, word, key, item, into)? {
+                return Ok(Some(text));
             }
         }
         Ok(None)
@@ -64,8 +64,8 @@ impl<'a> MatchedGraphs<'a> {
         into: &Table<WorldKey, WorldItem>,
     ) -> Result<Option<String>, AllocError>
         requires { AreKnown self.now }
-        ensures some { IfOk result (λ found. IfSome found (λ text. EntryDiffers (merging_of self.now) word.now into.now key.now item.now (string_bytes text))) }
-        ensures none { IfOk result (λ found. IfNone found ((text : List ℕ) → EntryDiffers (merging_of self.now) word.now into.now key.now item.now text → ⊥)) }
+        ensures some { IfOk result (Tells (EntryDiffers (merging_of self.now) word.now into.now key.now item.now)) }
+        ensures none { IfOk result (TellsNone (EntryDiffers (merging_of self.now) word.now into.now key.now item.now)) }
     {
         let Some(there) = self.matched_item(key, into) else {
             let name = key_text(alloc, self.other, key)?;
@@ -88,8 +88,8 @@ impl<'a> MatchedGraphs<'a> {
         into: &WorldItem,
     ) -> Result<Option<String>, AllocError>
         requires { AreKnown self.now }
-        ensures some { IfOk result (λ found. IfSome found (λ text. ItemsDiffer (merging_of self.now) from.now into.now (string_bytes text))) }
-        ensures none { IfOk result (λ found. IfNone found ((text : List ℕ) → ItemsDiffer (merging_of self.now) from.now into.now text → ⊥)) }
+        ensures some { IfOk result (Tells (ItemsDiffer (merging_of self.now) from.now into.now)) }
+        ensures none { IfOk result (TellsNone (ItemsDiffer (merging_of self.now) from.now into.now)) }
     {
         if !are_of_one_sort(from, into) {
             return Ok(Some(String::from_str(alloc, "world items do not have the same type")?));
@@ -112,8 +112,8 @@ impl<'a> MatchedGraphs<'a> {
         there: usize,
     ) -> Result<Option<String>, AllocError>
         requires { AreKnown self.now }
-        ensures some { IfOk result (λ found. IfSome found (λ text. HeldDiffer (merging_of self.now) id there (string_bytes text))) }
-        ensures none { IfOk result (λ found. IfNone found ((text : List ℕ) → HeldDiffer (merging_of self.now) id there text → ⊥)) }
+        ensures some { IfOk result (Tells (HeldDiffer (merging_of self.now) id there)) }
+        ensures none { IfOk result (TellsNone (HeldDiffer (merging_of self.now) id there)) }
     {
         if !self.are_matched(id, there) {
             return Ok(Some(String::from_str(alloc, "interfaces are not the same")?));

@@ -12,7 +12,7 @@ mod kinds;
 mod leaving;
 mod matched_graphs;
 mod matches;
-mod merge_remap;
+mod merge_ids;
 mod messages;
 mod mismatch;
 mod spans;
@@ -24,7 +24,7 @@ mod world_labels;
 
 pub use crate::leaving::leaves_graph;
 pub use crate::matches::{Matches, find_matches};
-pub use crate::merge_remap::{MergeRemap, find_remap};
+pub use crate::merge_ids::{MergeIds, find_ids};
 pub use crate::mismatch::find_mismatch;
 pub use crate::spans::spans_fit;
 pub use crate::stabilities::{StabilityPair, find_stability_mismatch};

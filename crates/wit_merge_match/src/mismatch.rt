@@ -1,9 +1,10 @@
 //! What differs of what is matched of two graphs, which have to agree to become one.
-ghost use Rattle.std.specs.Prelude.{ℕ, IfNone, IfOk, IfSome, List, string_bytes};
+ghost use Rattle.std.specs.Prelude.{IfNone, IfOk};
 ghost use Rattle.wit_elaboration.specs.Valid.{IsValid};
 ghost use Rattle.wit_merge_spec.specs.Cause.{GraphsDiffer, HasNoMismatch};
 ghost use Rattle.wit_merge_match.specs.steps.Matched.{AreMatches, merge_of_graphs};
 ghost use Rattle.wit_merge_match.specs.Differing.{AreKnown, InterfaceDiffersAt, WorldDiffersAt, merging_of};
+ghost use Rattle.wit_merge_match.specs.steps.Told.{Tells, TellsNone};
 
 use crate::matched_graphs::{MatchedGraphs, package_at};
 use crate::matches::Matches;
@@ -28,7 +29,7 @@ pub fn find_mismatch(
     requires graph { IsValid graph.now }
     requires other { IsValid other.now }
     requires matches { AreMatches graph.now other.now matches.now }
-    ensures some { IfOk result (λ found. IfSome found (λ message. GraphsDiffer (merge_of_graphs graph.now other.now) (string_bytes message))) }
+    ensures some { IfOk result (Tells (GraphsDiffer (merge_of_graphs graph.now other.now))) }
     ensures none { IfOk result (λ found. IfNone found (HasNoMismatch (merge_of_graphs graph.now other.now))) }
 {
     let comparing = MatchedGraphs {
@@ -37,15 +38,13 @@ pub fn find_mismatch(
         matches,
     };
     for index in 0..other.interfaces.len() {
-        match comparing.named_mismatch(alloc, index)? {
-            Some(message) => return Ok(Some(message)),
-            None => {}
+        if let Some(message) = comparing.named_mismatch(alloc, index)? {
+            return Ok(Some(message));
         }
     }
     for index in 0..other.worlds.len() {
-        match comparing.world_mismatch(alloc, index)? {
-            Some(message) => return Ok(Some(message)),
-            None => {}
+        if let Some(message) = comparing.world_mismatch(alloc, index)? {
+            return Ok(Some(message));
         }
     }
     comparing.structures_mismatch(alloc)
@@ -55,8 +54,8 @@ impl<'a> MatchedGraphs<'a> {
     /// What differs in an interface, if it has a name.
     fn named_mismatch(&self, alloc: Global, index: usize) -> Result<Option<String>, AllocError>
         requires { AreKnown self.now }
-        ensures some { IfOk result (λ found. IfSome found (λ message. InterfaceDiffersAt (merging_of self.now) index (string_bytes message))) }
-        ensures none { IfOk result (λ found. IfNone found ((message : List ℕ) → InterfaceDiffersAt (merging_of self.now) index message → ⊥)) }
+        ensures some { IfOk result (Tells (InterfaceDiffersAt (merging_of self.now) index)) }
+        ensures none { IfOk result (TellsNone (InterfaceDiffersAt (merging_of self.now) index)) }
     {
         let Some(from) = self.other.interfaces.get(index) else {
             return Ok(None);
@@ -81,8 +80,8 @@ impl<'a> MatchedGraphs<'a> {
     /// What differs in a world.
     fn world_mismatch(&self, alloc: Global, index: usize) -> Result<Option<String>, AllocError>
         requires { AreKnown self.now }
-        ensures some { IfOk result (λ found. IfSome found (λ message. WorldDiffersAt (merging_of self.now) index (string_bytes message))) }
-        ensures none { IfOk result (λ found. IfNone found ((message : List ℕ) → WorldDiffersAt (merging_of self.now) index message → ⊥)) }
+        ensures some { IfOk result (Tells (WorldDiffersAt (merging_of self.now) index)) }
+        ensures none { IfOk result (TellsNone (WorldDiffersAt (merging_of self.now) index)) }
     {
         let Some(from) = self.other.worlds.get(index) else {
             return Ok(None);

@@ -66,13 +66,11 @@ impl<'a> MatchedGraphs<'a> {
         ensures some { IfSome result (λ d. StabilitiesMismatch (merging_of self.now) d.from.now d.into.now) }
         ensures none { IfNone result ((from into : Stability) → StabilitiesMismatch (merging_of self.now) from into → ⊥) }
     {
-        match self.types_apart() {
-            Some(found) => return Some(found),
-            None => {}
+        if let Some(found) = self.types_apart() {
+            return Some(found);
         }
-        match self.interfaces_apart() {
-            Some(found) => return Some(found),
-            None => {}
+        if let Some(found) = self.interfaces_apart() {
+            return Some(found);
         }
         self.worlds_apart()
     }
@@ -84,9 +82,8 @@ impl<'a> MatchedGraphs<'a> {
         ensures none { IfNone result ((t : ℕ) (s : Stability × Stability) → TypesApartAt (merging_of self.now) t s → ⊥) }
     {
         for index in 0..self.other.types.len() {
-            match self.type_apart(index) {
-                Some(found) => return Some(found),
-                None => {}
+            if let Some(found) = self.type_apart(index) {
+                return Some(found);
             }
         }
         None
@@ -110,9 +107,8 @@ impl<'a> MatchedGraphs<'a> {
         ensures none { IfNone result ((i : ℕ) (s : Stability × Stability) → InterfacesApartAt (merging_of self.now) i s → ⊥) }
     {
         for index in 0..self.other.interfaces.len() {
-            match self.interface_apart(index) {
-                Some(found) => return Some(found),
-                None => {}
+            if let Some(found) = self.interface_apart(index) {
+                return Some(found);
             }
         }
         None
@@ -136,9 +132,8 @@ impl<'a> MatchedGraphs<'a> {
         ensures none { IfNone result ((w : ℕ) (s : Stability × Stability) → WorldsApartAt (merging_of self.now) w s → ⊥) }
     {
         for index in 0..self.other.worlds.len() {
-            match self.world_apart(index) {
-                Some(found) => return Some(found),
-                None => {}
+            if let Some(found) = self.world_apart(index) {
+                return Some(found);
             }
         }
         None
@@ -161,13 +156,11 @@ impl<'a> MatchedGraphs<'a> {
         ensures some { IfSome result (λ d. WorldsApart (merging_of self.now) from.now into.now (d.from.now, d.into.now)) }
         ensures none { IfNone result ((s : Stability × Stability) → WorldsApart (merging_of self.now) from.now into.now s → ⊥) }
     {
-        match compare(&from.stability, &into.stability) {
-            Some(found) => return Some(found),
-            None => {}
+        if let Some(found) = compare(&from.stability, &into.stability) {
+            return Some(found);
         }
-        match self.entries_apart(&from.imports, &into.imports) {
-            Some(found) => return Some(found),
-            None => {}
+        if let Some(found) = self.entries_apart(&from.imports, &into.imports) {
+            return Some(found);
         }
         self.entries_apart(&from.exports, &into.exports)
     }
@@ -184,9 +177,8 @@ impl<'a> MatchedGraphs<'a> {
     {
         into.keys_differ();
         for (key, item) in from.iter() {
-            match self.entry_apart(key, item, into) {
-                Some(found) => return Some(found),
-                None => {}
+            if let Some(found) = self.entry_apart(key, item, into) {
+                return Some(found);
             }
         }
         None

@@ -1,11 +1,11 @@
 //! What differs in the structure of matched types, in the order in which they are compared.
-ghost use Rattle.std.specs.Prelude.{◌≡◌, ◌∷◌, ◌++◌, ◌<◌, ℕ, [], None, IfNone, IfOk, IfSome, false, get_or, length, string_bytes};
-ghost use Rattle.std.specs.List.{flat_map};
+ghost use Rattle.std.specs.Prelude.{◌≡◌, ◌∷◌, ◌<◌, ℕ, [], None, IfNone, IfOk, false, get_or, length};
 ghost use Rattle.wit_graph_data.specs.Queries.{topological_packages, package_uses};
 ghost use Rattle.wit_digraph.specs.Relation.{IsAcyclic};
 ghost use Rattle.wit_merge_spec.specs.Matches.{entry_pairs, interface_pairs, item_pairs, paired, type_pairs, world_pairs};
 ghost use Rattle.wit_merge_match.specs.Differing.{AreKnown, merging_of};
-ghost use Rattle.wit_merge_match.specs.steps.Structures.{AreComparable, FirstMismatch, IsOf, IsThere, ListsThere, NoneDiffer, TypesThere, common_pair, package_interface_pairs, package_world_pairs, side_pairs, unnamed_pairs};
+ghost use Rattle.wit_merge_match.specs.steps.Structures.{AreComparable, FirstMismatch, IsOf, IsThere, ListsThere, NoneDiffer, TypesThere, common_pair, package_interface_pairs, package_world_pairs, pairs_in_order, side_pairs, unnamed_pairs};
+ghost use Rattle.wit_merge_match.specs.steps.Told.{Tells};
 
 use crate::comparison::Comparison;
 use crate::matched_graphs::MatchedGraphs;
@@ -21,7 +21,7 @@ impl<'a> MatchedGraphs<'a> {
     /// that it depends on, and then those of worlds.
     pub(crate) fn structures_mismatch(&self, alloc: Global) -> Result<Option<String>, AllocError>
         requires { AreComparable self.now }
-        ensures some { IfOk result (λ found. IfSome found (λ message. FirstMismatch (merging_of self.now) (type_pairs (merging_of self.now)) (string_bytes message))) }
+        ensures some { IfOk result (Tells (FirstMismatch (merging_of self.now) (type_pairs (merging_of self.now)))) }
         ensures none { IfOk result (λ found. IfNone found (NoneDiffer (merging_of self.now) (type_pairs (merging_of self.now)))) }
     {
         if !self.has_pairs() {
@@ -50,19 +50,17 @@ impl<'a> MatchedGraphs<'a> {
     ) -> Result<Option<String>, AllocError>
         requires comparable { AreComparable self.now }
         requires of { IsOf self.now comparison.old }
-        ensures some { IfOk result (λ found. IfSome found (λ message. FirstMismatch (merging_of self.now) (flat_map (package_interface_pairs (merging_of self.now)) order.now ++ flat_map (package_world_pairs (merging_of self.now)) order.now) (string_bytes message))) }
-        ensures none { IfOk result (λ found. IfNone found (NoneDiffer (merging_of self.now) (flat_map (package_interface_pairs (merging_of self.now)) order.now ++ flat_map (package_world_pairs (merging_of self.now)) order.now))) }
+        ensures some { IfOk result (Tells (FirstMismatch (merging_of self.now) (pairs_in_order (merging_of self.now) order.now))) }
+        ensures none { IfOk result (λ found. IfNone found (NoneDiffer (merging_of self.now) (pairs_in_order (merging_of self.now) order.now))) }
     {
         for id in order.as_slice() {
-            match self.package_interfaces_differ(alloc, comparison, *id)? {
-                Some(message) => return Ok(Some(message)),
-                None => {}
+            if let Some(message) = self.package_interfaces_differ(alloc, comparison, *id)? {
+                return Ok(Some(message));
             }
         }
         for id in order.as_slice() {
-            match self.package_worlds_differ(alloc, comparison, *id)? {
-                Some(message) => return Ok(Some(message)),
-                None => {}
+            if let Some(message) = self.package_worlds_differ(alloc, comparison, *id)? {
+                return Ok(Some(message));
             }
         }
         Ok(None)
@@ -78,18 +76,15 @@ impl<'a> MatchedGraphs<'a> {
         requires comparable { AreComparable self.now }
         requires of { IsOf self.now comparison.old }
         ensures of { IsOf self.now comparison.new }
-        ensures some { IfOk result (λ found. IfSome found (λ message. FirstMismatch (merging_of self.now) (package_interface_pairs (merging_of self.now) id) (string_bytes message))) }
+        ensures some { IfOk result (Tells (FirstMismatch (merging_of self.now) (package_interface_pairs (merging_of self.now) id))) }
         ensures none { IfOk result (λ found. IfNone found (NoneDiffer (merging_of self.now) (package_interface_pairs (merging_of self.now) id))) }
     {
         let Some(home) = self.other.packages.get(id.index()) else {
             return Ok(None);
         };
         for (name, interface) in home.interfaces.iter() {
-            match self.interface_differs(alloc, comparison, *interface)? {
-                Some(text) => {
-                    return Ok(Some(in_part(alloc, &home.name, "interface", name, &text)?));
-                }
-                None => {}
+            if let Some(text) = self.interface_differs(alloc, comparison, *interface)? {
+                return Ok(Some(in_part(alloc, &home.name, "interface", name, &text)?));
             }
         }
         Ok(None)
@@ -105,7 +100,7 @@ impl<'a> MatchedGraphs<'a> {
         requires comparable { AreComparable self.now }
         requires of { IsOf self.now comparison.old }
         ensures of { IsOf self.now comparison.new }
-        ensures some { IfOk result (λ found. IfSome found (λ text. FirstMismatch (merging_of self.now) (interface_pairs (merging_of self.now) [] id) (string_bytes text))) }
+        ensures some { IfOk result (Tells (FirstMismatch (merging_of self.now) (interface_pairs (merging_of self.now) [] id))) }
         ensures none { IfOk result (λ found. IfNone found (NoneDiffer (merging_of self.now) (interface_pairs (merging_of self.now) [] id))) }
     {
         let Some(from) = self.other.interfaces.get(id.index()) else {
@@ -115,9 +110,8 @@ impl<'a> MatchedGraphs<'a> {
             return Ok(None);
         };
         for (name, ty) in from.types.iter() {
-            match self.type_differs(alloc, comparison, name, *ty, &into.types)? {
-                Some(text) => return Ok(Some(text)),
-                None => {}
+            if let Some(text) = self.type_differs(alloc, comparison, name, *ty, &into.types)? {
+                return Ok(Some(text));
             }
         }
         Ok(None)
@@ -137,7 +131,7 @@ impl<'a> MatchedGraphs<'a> {
         requires from { from < length self.now.other.now.types }
         requires others { ListsThere self.now.graph.now.types others.now }
         ensures of { IsOf self.now comparison.new }
-        ensures some { IfOk result (λ found. IfSome found (λ text. FirstMismatch (merging_of self.now) (common_pair others.now (name.now, from)) (string_bytes text))) }
+        ensures some { IfOk result (Tells (FirstMismatch (merging_of self.now) (common_pair others.now (name.now, from)))) }
         ensures none { IfOk result (λ found. IfNone found (NoneDiffer (merging_of self.now) (common_pair others.now (name.now, from)))) }
     {
         match others.get(name) {
@@ -160,7 +154,7 @@ impl<'a> MatchedGraphs<'a> {
         requires from { from < length self.now.other.now.types }
         requires into { into < length self.now.graph.now.types }
         ensures of { IsOf self.now comparison.new }
-        ensures some { IfOk result (λ found. IfSome found (λ text. FirstMismatch (merging_of self.now) (paired [] name.now from into ∷ []) (string_bytes text))) }
+        ensures some { IfOk result (Tells (FirstMismatch (merging_of self.now) (paired [] name.now from into ∷ []))) }
         ensures none { IfOk result (λ found. IfNone found (NoneDiffer (merging_of self.now) (paired [] name.now from into ∷ []))) }
     {
         match comparison.difference(alloc, from.index(), into.index())? {
@@ -179,18 +173,15 @@ impl<'a> MatchedGraphs<'a> {
         requires comparable { AreComparable self.now }
         requires of { IsOf self.now comparison.old }
         ensures of { IsOf self.now comparison.new }
-        ensures some { IfOk result (λ found. IfSome found (λ message. FirstMismatch (merging_of self.now) (package_world_pairs (merging_of self.now) id) (string_bytes message))) }
+        ensures some { IfOk result (Tells (FirstMismatch (merging_of self.now) (package_world_pairs (merging_of self.now) id))) }
         ensures none { IfOk result (λ found. IfNone found (NoneDiffer (merging_of self.now) (package_world_pairs (merging_of self.now) id))) }
     {
         let Some(home) = self.other.packages.get(id.index()) else {
             return Ok(None);
         };
         for (name, world) in home.worlds.iter() {
-            match self.world_differs(alloc, comparison, *world)? {
-                Some(text) => {
-                    return Ok(Some(in_part(alloc, &home.name, "world", name, &text)?));
-                }
-                None => {}
+            if let Some(text) = self.world_differs(alloc, comparison, *world)? {
+                return Ok(Some(in_part(alloc, &home.name, "world", name, &text)?));
             }
         }
         Ok(None)
@@ -206,7 +197,7 @@ impl<'a> MatchedGraphs<'a> {
         requires comparable { AreComparable self.now }
         requires of { IsOf self.now comparison.old }
         ensures of { IsOf self.now comparison.new }
-        ensures some { IfOk result (λ found. IfSome found (λ text. FirstMismatch (merging_of self.now) (world_pairs (merging_of self.now) [] id) (string_bytes text))) }
+        ensures some { IfOk result (Tells (FirstMismatch (merging_of self.now) (world_pairs (merging_of self.now) [] id))) }
         ensures none { IfOk result (λ found. IfNone found (NoneDiffer (merging_of self.now) (world_pairs (merging_of self.now) [] id))) }
     {
         let Some(from) = self.other.worlds.get(id.index()) else {
@@ -235,13 +226,12 @@ impl<'a> MatchedGraphs<'a> {
         requires from { TypesThere self.now.other.now.types from.now }
         requires into { TypesThere self.now.graph.now.types into.now }
         ensures of { IsOf self.now comparison.new }
-        ensures some { IfOk result (λ found. IfSome found (λ text. FirstMismatch (merging_of self.now) (side_pairs (merging_of self.now) word.now from.now into.now) (string_bytes text))) }
+        ensures some { IfOk result (Tells (FirstMismatch (merging_of self.now) (side_pairs (merging_of self.now) word.now from.now into.now))) }
         ensures none { IfOk result (λ found. IfNone found (NoneDiffer (merging_of self.now) (side_pairs (merging_of self.now) word.now from.now into.now))) }
     {
         for (key, item) in from.iter() {
-            match self.entry_differs(alloc, comparison, word, key, item, into)? {
-                Some(text) => return Ok(Some(text)),
-                None => {}
+            if let Some(text) = self.entry_differs(alloc, comparison, word, key, item, into)? {
+                return Ok(Some(text));
             }
         }
         Ok(None)
@@ -262,7 +252,7 @@ impl<'a> MatchedGraphs<'a> {
         requires from { IsThere self.now.other.now.types from.now }
         requires into { TypesThere self.now.graph.now.types into.now }
         ensures of { IsOf self.now comparison.new }
-        ensures some { IfOk result (λ found. IfSome found (λ text. FirstMismatch (merging_of self.now) (entry_pairs (merging_of self.now) [] word.now into.now (key.now, from.now)) (string_bytes text))) }
+        ensures some { IfOk result (Tells (FirstMismatch (merging_of self.now) (entry_pairs (merging_of self.now) [] word.now into.now (key.now, from.now)))) }
         ensures none { IfOk result (λ found. IfNone found (NoneDiffer (merging_of self.now) (entry_pairs (merging_of self.now) [] word.now into.now (key.now, from.now)))) }
     {
         match key {
@@ -295,7 +285,7 @@ impl<'a> MatchedGraphs<'a> {
         requires from { IsThere self.now.other.now.types from.now }
         requires into { IsThere self.now.graph.now.types into.now }
         ensures of { IsOf self.now comparison.new }
-        ensures some { IfOk result (λ found. IfSome found (λ text. FirstMismatch (merging_of self.now) (item_pairs (merging_of self.now) [] label.now from.now into.now) (string_bytes text))) }
+        ensures some { IfOk result (Tells (FirstMismatch (merging_of self.now) (item_pairs (merging_of self.now) [] label.now from.now into.now))) }
         ensures none { IfOk result (λ found. IfNone found (NoneDiffer (merging_of self.now) (item_pairs (merging_of self.now) [] label.now from.now into.now))) }
     {
         match from {
@@ -320,7 +310,7 @@ impl<'a> MatchedGraphs<'a> {
         requires comparable { AreComparable self.now }
         requires of { IsOf self.now comparison.old }
         ensures of { IsOf self.now comparison.new }
-        ensures some { IfOk result (λ found. IfSome found (λ text. FirstMismatch (merging_of self.now) (unnamed_pairs (merging_of self.now) id) (string_bytes text))) }
+        ensures some { IfOk result (Tells (FirstMismatch (merging_of self.now) (unnamed_pairs (merging_of self.now) id))) }
         ensures none { IfOk result (λ found. IfNone found (NoneDiffer (merging_of self.now) (unnamed_pairs (merging_of self.now) id))) }
     {
         let Some(interface) = self.other.interfaces.get(id.index()) else {
@@ -338,9 +328,8 @@ fn any_matched<T: Copy>(found: &Items<Option<T>>) -> bool
     ensures { result ≡ false → (i : ℕ) → get_or found.now i None ≡ None }
 {
     for index in 0..found.len() {
-        match match_at(found, index) {
-            Some(_) => return true,
-            None => {}
+        if match_at(found, index).is_some() {
+            return true;
         }
     }
     false

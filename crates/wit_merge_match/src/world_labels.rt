@@ -67,14 +67,13 @@ impl<'a> LabelNotes<'a> {
             → AreLabelled self.now.graph.now self.now.other.now named (interface_at_label world exported key.now item.now ++ later) found.new }
     {
         match key {
-            WorldKey::Name(_) => match unnamed(&self.other.interfaces, item) {
-                Some(id) => {
+            WorldKey::Name(_) => {
+                if let Some(id) = unnamed(&self.other.interfaces, item) {
                     if id.index() < found.len() {
                         found.set(id.index(), self.standing(world, exported, key));
                     }
                 }
-                None => {}
-            },
+            }
             WorldKey::Interface(_) => {}
         }
     }

@@ -1,4 +1,5 @@
 pub mod Cause
+pub mod First
 pub mod Matches
 pub mod MismatchText
 pub mod Structure

@@ -25,6 +25,7 @@ use Rattle.wit_graph_data.specs.Queries.{topological_packages}
 use Rattle.wit_graph_data.specs.declared.graph.Graph.{Graph}
 use Rattle.wit_graph_data.specs.declared.graph.Package.{Package}
 use Rattle.wit_graph_data.specs.Named.{interface_type}
+use Rattle.wit_merge_spec.specs.First.{First}
 use Rattle.wit_merge_spec.specs.MismatchText.{entry_link, linked, part_links}
 
 -- a graph, another one that goes into it, and an offset by which the spans of that move
@@ -42,7 +43,8 @@ counterpart_package m p = option_and_then (λ (home : Package). lookup (same_pac
 -- what stands under a name in a table of the package that is matched with this one
 abbrev pub named_in_counterpart : (Package → List (List ℕ × ℕ)) → GraphMerge → Option ℕ → List ℕ → Option ℕ
 named_in_counterpart table m home name =
-    option_and_then (λ p'. option_and_then (λ (there : Package). lookup (bytes_eq name) (table there)) (slice_get m.graph.packages p')) (option_and_then (counterpart_package m) home)
+    option_and_then (λ p'.
+    option_and_then (λ (there : Package). lookup (bytes_eq name) (table there)) (slice_get m.graph.packages p')) (option_and_then (counterpart_package m) home)
 
 -- the counterpart of world w of the incoming graph: the world of that name in the counterpart of its package
 abbrev pub counterpart_world : GraphMerge → ℕ → Option ℕ
@@ -69,7 +71,8 @@ interface_at_label w exported k held = []
 abbrev pub world_labels : List World → List (ℕ × WorldLabel)
 world_labels worlds =
     flat_map (λ (e : ℕ × World).
-    flat_map (λ (i : Entry). interface_at_label e.0 false i.0 i.1) e.1.imports ++ flat_map (λ (i : Entry). interface_at_label e.0 true i.0 i.1) e.1.exports) (enumerate_from 0 worlds)
+    flat_map (λ (i : Entry). interface_at_label e.0 false i.0 i.1) e.1.imports
+    ++ flat_map (λ (i : Entry). interface_at_label e.0 true i.0 i.1) e.1.exports) (enumerate_from 0 worlds)
 
 -- the interface without a name that an item is
 abbrev pub unnamed_item : List Interface → WorldItem → Option ℕ
@@ -80,7 +83,8 @@ unnamed_item interfaces (item.Type_ t span) = None
 -- the unnamed interface under the same label of the counterpart of the world
 abbrev pub counterpart_at_label : GraphMerge → WorldLabel → Option ℕ
 counterpart_at_label m world_label =
-    option_and_then (λ (there : World). option_and_then (unnamed_item m.graph.interfaces) (lookup (same_key (key.Name world_label.label)) (entries_of world_label.exported there))) (matched_world m world_label.world)
+    option_and_then (λ (there : World).
+    option_and_then (unnamed_item m.graph.interfaces) (lookup (same_key (key.Name world_label.label)) (entries_of world_label.exported there))) (matched_world m world_label.world)
 
 -- the counterpart of an interface: by its name in the counterpart of its package, or, unnamed, under the same label
 -- of the counterpart of the world where it stands
@@ -149,11 +153,13 @@ paired links name t t' = record { from = t; into = t'; links = links ++ ((codes 
 
 -- ---- of interfaces
 
--- the types of one name of interface i and of the one that is matched with it, in the order of the incoming one
+-- the types of one name of two interfaces, in the order of the incoming one
+abbrev pub common_types : List (List ℕ) → Interface → Interface → List TypePair
+common_types links from into = flat_map (λ (e : List ℕ × ℕ). option_map_or (λ t'. paired links e.0 e.1 t' ∷ []) (lookup (bytes_eq e.0) into.types) []) from.types
+
+-- those of interface i and of the one that is matched with it
 abbrev pub interface_pairs : GraphMerge → List (List ℕ) → ℕ → List TypePair
-interface_pairs m links i =
-    option_map_or (λ (from : Interface). option_map_or (λ (into : Interface).
-    flat_map (λ (e : List ℕ × ℕ). option_map_or (λ t'. paired links e.0 e.1 t' ∷ []) (lookup (bytes_eq e.0) into.types) []) from.types) (matched_interface m i) []) (slice_get m.other.interfaces i) []
+interface_pairs m links i = option_map_or (λ (from : Interface). option_map_or (common_types links from) (matched_interface m i) []) (slice_get m.other.interfaces i) []
 
 -- ---- of worlds
 
@@ -169,11 +175,13 @@ abbrev pub entry_pairs : GraphMerge → List (List ℕ) → List ℕ → List En
 entry_pairs m links word into (key.Name label, held) = option_map_or (item_pairs m (links ++ (entry_link word label ∷ [])) label held) (counterpart_item m into (key.Name label)) []
 entry_pairs m links word into (key.Interface i, held) = []
 
--- those of world w and of the one that is matched with it, imports before exports
+-- those of two worlds, imports before exports
+abbrev pub common_entries : GraphMerge → List (List ℕ) → World → World → List TypePair
+common_entries m links from into = flat_map (entry_pairs m links (codes "import") into.imports) from.imports ++ flat_map (entry_pairs m links (codes "export") into.exports) from.exports
+
+-- those of world w and of the one that is matched with it
 abbrev pub world_pairs : GraphMerge → List (List ℕ) → ℕ → List TypePair
-world_pairs m links w =
-    option_map_or (λ (from : World). option_map_or (λ (into : World).
-    flat_map (entry_pairs m links (codes "import") into.imports) from.imports ++ flat_map (entry_pairs m links (codes "export") into.exports) from.exports) (matched_world m w) []) (slice_get m.other.worlds w) []
+world_pairs m links w = option_map_or (λ (from : World). option_map_or (common_entries m links from) (matched_world m w) []) (slice_get m.other.worlds w) []
 
 -- ---- of graphs
 
@@ -184,18 +192,15 @@ in_package_order g = flat_map (λ p. option_map_or (λ (home : Package). home �
 -- all of them: those of interfaces, package by package and by their tables, and after these those of worlds likewise
 abbrev pub type_pairs : GraphMerge → List TypePair
 type_pairs m =
-    flat_map (λ (home : Package). flat_map (λ (e : List ℕ × ℕ). interface_pairs m (part_links home.name (codes "interface") e.0) e.1) home.interfaces) (in_package_order m.other)
-    ++ flat_map (λ (home : Package). flat_map (λ (e : List ℕ × ℕ). world_pairs m (part_links home.name (codes "world") e.0) e.1) home.worlds) (in_package_order m.other)
+    flat_map (λ (home : Package).
+    flat_map (λ (e : List ℕ × ℕ). interface_pairs m (part_links home.name (codes "interface") e.0) e.1) home.interfaces) (in_package_order m.other)
+    ++ flat_map (λ (home : Package).
+    flat_map (λ (e : List ℕ × ℕ). world_pairs m (part_links home.name (codes "world") e.0) e.1) home.worlds) (in_package_order m.other)
 
 -- ---- the first that differ
 
 -- of some pairs the first that differ are told, with how they do
 pub record FirstDiffers (differ : ℕ → ℕ → List ℕ → Type 0) (pairs : List TypePair) (message : List ℕ) : Type 0 where
-  pub before : List TypePair
   pub pair : TypePair
-  pub after : List TypePair
-  pub pairs_are : pairs ≡ before ++ (pair ∷ after)
-  pub alike : (p : TypePair) (ending : List ℕ) → Contains before p → differ p.from p.into ending → ⊥
-  pub ending : List ℕ
-  pub differs : differ pair.from pair.into ending
-  pub message_is : message ≡ linked pair.links ending
+  pub first : First (λ (p : TypePair). (ending : List ℕ) × differ p.from p.into ending) pairs pair
+  pub message_is : message ≡ linked pair.links first.is.0

@@ -4,7 +4,7 @@
 -- every world is elaborated.
 -- Source: `merge`, `update_stability` and `update_world_imports_stability` of wit-parser 0.263.0.
 use Rattle.std.specs.Prelude.{ℕ, List, ◌++◌, map, filter, Bool, true, false, ◌+◌, not, length, is_some, Option, Some, unwrap_or, flat_map, option_map, bytes_eq}
-use Rattle.std.specs.List.{enumerate_from, range_with_len}
+use Rattle.std.specs.List.{enumerate_from}
 use Rattle.std.specs.Option.{option_map_or}
 use Rattle.wit_data.specs.Entries.{Entry}
 use Rattle.wit_data.specs.declared.function.Function.{Function}
@@ -86,25 +86,6 @@ remap_of_merge m = record { graph_types = m.graph.types; new_types = selected (m
 -- what ids are remapped to, with values at their `own`s
 abbrev pub merge_maps : GraphMerge → Maps
 merge_maps m = maps_with_owns (remap_of_merge m)
-
--- ---- as it is answered
-
--- the remap as lists, as a merge answers it: for each type, interface, world and package of the incoming graph, by
--- its id, its id in the union. Each is there; `Remap` also has room for things that have none
-pub record MergeRemap : Type 0 where
-  pub types : List (Option ℕ)
-  pub interfaces : List (Option ℕ)
-  pub worlds : List (Option ℕ)
-  pub packages : List ℕ
-
--- the places of all things
-abbrev pub merge_remap : GraphMerge → MergeRemap
-merge_remap m = record {
-  types = map (λ t. Some (merged_type m t)) (range_with_len 0 (length m.other.types));
-  interfaces = map (λ i. Some (merged_interface m i)) (range_with_len 0 (length m.other.interfaces));
-  worlds = map (λ w. Some (merged_world m w)) (range_with_len 0 (length m.other.worlds));
-  packages = map (merged_package m) (range_with_len 0 (length m.other.packages));
-}
 
 -- ---- what is joined
 

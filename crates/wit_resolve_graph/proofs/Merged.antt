@@ -9,9 +9,9 @@ use Rattle.wit_graph_data.specs.declared.error_kind.ResolveErrorKind.TheVariants
 use Rattle.wit_remap.specs.declared.remap.Remap.{Remap}
 use Rattle.wit_merge_spec.specs.Cause.{IsMergeCause}
 use Rattle.wit_merge_spec.specs.Matches.{GraphMerge}
-use Rattle.wit_merge_spec.specs.Merged.{merge_remap, merged}
+use Rattle.wit_merge_spec.specs.Merged.{merged}
 use Rattle.wit_merge_match.specs.Differing.{merge_of_graphs_by}
-use Rattle.wit_merge.specs.Remapped.{remap_of}
+use Rattle.wit_merge_match.specs.Remapped.{merge_remap}
 use Rattle.wit_resolve_graph.specs.Merging.{FilesPass, Merges, RefusesMerge, merge_of}
 use Rattle.wit_resolve_graph.specs.State.{State}
 use Rattle.wit_resolve_graph.proofs.FilesAfter.{files_after, files_stay}
@@ -49,7 +49,7 @@ module _ (old other : State) (g : Graph) (offset : ℕ) (same : g ≡ other.grap
 
   -- the states are merged
   pub merges : (new : State) (r : Result Remap ResolveErrorKind) → old.source_map.end + other.source_map.end < 2 ^ 32 → OnOk r (new.graph ≡ merged (merge_of_graphs_by old.graph g offset))
-      → IfOk r (λ remap. remap ≡ remap_of (merge_remap (merge_of_graphs_by old.graph g offset))) → new.features ≡ old.features → new.track_rule ≡ old.track_rule → new.source_map ≡ with_sources old.source_map other.source_map
+      → IfOk r (λ remap. remap ≡ merge_remap (merge_of_graphs_by old.graph g offset)) → new.features ≡ old.features → new.track_rule ≡ old.track_rule → new.source_map ≡ with_sources old.source_map other.source_map
       → ((kind : ResolveErrorKind) → IsMergeCause (merge_of_graphs_by old.graph g offset) kind → OnOk r ⊥) → IfOk r (λ remap. Merges old other remap new)
   merges new (Err kind) fits graph remap features rule files refuses = tt
   merges new (Ok remap) fits graph is features rule files refuses = record {
@@ -59,7 +59,7 @@ module _ (old other : State) (g : Graph) (offset : ℕ) (same : g ≡ other.grap
     features = features;
     rule = rule;
     files = files;
-    remap_is = is ∙ ap (λ (m : GraphMerge). remap_of (merge_remap m)) one;
+    remap_is = is ∙ ap merge_remap one;
   }
 
   pub never_merged : (new : State) (r : Result Remap ResolveErrorKind) → r ≡ Err OffsetOverflow → IfOk r (λ remap. Merges old other remap new)

@@ -4,10 +4,10 @@ use Rattle.wit_sources.specs.SourceMap.{Sources, with_sources}
 use Rattle.wit_graph_data.specs.declared.error_kind.ResolveErrorKind.{ResolveErrorKind}
 use Rattle.wit_graph_data.specs.declared.error_kind.ResolveErrorKind.TheVariants.{OffsetOverflow, OutOfMemory}
 use Rattle.wit_remap.specs.declared.remap.Remap.{Remap}
-use Rattle.wit_merge.specs.Remapped.{remap_of}
+use Rattle.wit_merge_match.specs.Remapped.{merge_remap}
 use Rattle.wit_merge_spec.specs.Cause.{IsMergeCause}
 use Rattle.wit_merge_spec.specs.Matches.{GraphMerge}
-use Rattle.wit_merge_spec.specs.Merged.{merge_remap, merged}
+use Rattle.wit_merge_spec.specs.Merged.{merged}
 use Rattle.wit_resolve_graph.specs.State.{State}
 use Rattle.wit_graph_data.specs.Error.{NoCause}
 
@@ -29,7 +29,7 @@ pub record Merges (old other : State) (remap : Remap) (new : State) : Type 0 whe
   pub features : new.features ≡ old.features
   pub rule : new.track_rule ≡ old.track_rule
   pub files : new.source_map ≡ with_sources old.source_map other.source_map
-  pub remap_is : remap ≡ remap_of (merge_remap (merge_of old other))
+  pub remap_is : remap ≡ merge_remap (merge_of old other)
 
 -- where files are after a refusal, given the sources with those that come: at the end, but after a position that is too
 -- large nowhere, and after want of memory there or not

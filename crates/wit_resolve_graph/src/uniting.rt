@@ -5,11 +5,10 @@ ghost use Rattle.wit_elaboration.specs.Valid.{IsValid};
 ghost use Rattle.wit_graph_data.specs.declared.error_kind.ResolveErrorKind.{ResolveErrorKind};
 ghost use Rattle.wit_graph_data.specs.declared.error_kind.ResolveErrorKind.TheVariants.{OutOfMemory};
 ghost use Rattle.wit_merge_spec.specs.Cause.{IsMergeCause};
-ghost use Rattle.wit_merge_spec.specs.Merged as moved;
 ghost use Rattle.wit_merge_spec.specs.Merged.{merged};
 ghost use Rattle.wit_merge_match.specs.steps.Matched.{AreMatches};
 ghost use Rattle.wit_merge_spec.specs.steps.Leaving.{LeavesGraph};
-ghost use Rattle.wit_merge.specs.Remapped.{remap_of};
+ghost use Rattle.wit_merge_match.specs.Remapped.{merge_remap};
 ghost use Rattle.wit_merge.specs.steps.UnionSteps.{DoAgree};
 ghost use Rattle.wit_resolve_graph.specs.State.{AreKept};
 
@@ -34,7 +33,7 @@ pub(crate) fn unite_kept(
     requires kept { AreKept graph.old kept.old }
     requires other { IsValid other.now }
     ensures graph { OnOk result (graph.new ≡ merged (merge_of_graphs_by graph.old other.now offset)) }
-    ensures remap { IfOk result (λ remap. remap ≡ remap_of (moved.merge_remap (merge_of_graphs_by graph.old other.now offset))) }
+    ensures remap { IfOk result (λ remap. remap ≡ merge_remap (merge_of_graphs_by graph.old other.now offset)) }
     ensures kept { AreKept graph.new kept.new }
     ensures err { OnErr result (graph.new ≡ graph.old) }
     ensures cause { IfErr result (λ kind. (kind ≡ OutOfMemory) ⊎ IsMergeCause (merge_of_graphs_by graph.old other.now offset) kind) }
@@ -70,7 +69,7 @@ fn append_union_kept(
     requires matches { AreMatches graph.old other.now matches.now }
     requires leaves { LeavesGraph (merge_of_graphs_by graph.old other.now offset) }
     ensures graph { OnOk result (graph.new ≡ merged (merge_of_graphs_by graph.old other.now offset)) }
-    ensures remap { IfOk result (λ remap. remap ≡ remap_of (moved.merge_remap (merge_of_graphs_by graph.old other.now offset))) }
+    ensures remap { IfOk result (λ remap. remap ≡ merge_remap (merge_of_graphs_by graph.old other.now offset)) }
     ensures kept { AreKept graph.new kept.new }
     ensures err { OnErr result (graph.new ≡ graph.old) }
     ensures cause { IfErr result (λ kind. (kind ≡ OutOfMemory) ⊎ IsMergeCause (merge_of_graphs_by graph.old other.now offset) kind) }

@@ -39,14 +39,11 @@ fn note(
 ) -> Result<(), AllocError>
     ensures { OnOk result ((ids : List ℕ) → IsNewestTable rule graph.now ids newest.old.entries → IsNewestTable rule graph.now (ids ++ id ∷ []) newest.new.entries) }
 {
-    match versioned(graph, id) {
-        Some(interface) => {
-            let key = interface.track_key(alloc, rule)?;
-            if is_newer(graph, newest.get(&key), &interface) {
-                newest.insert(key, id)?;
-            }
+    if let Some(interface) = versioned(graph, id) {
+        let key = interface.track_key(alloc, rule)?;
+        if is_newer(graph, newest.get(&key), &interface) {
+            newest.insert(key, id)?;
         }
-        None => {}
     }
     Ok(())
 }

@@ -88,9 +88,8 @@ fn params_mismatch(
 {
     for index in 0..from.params.len() {
         let (param, other) = (from.params.at(index), into.params.at(index));
-        match param_mismatch(alloc, param, other)? {
-            Some(text) => return Ok(Some(text)),
-            None => {}
+        if let Some(text) = param_mismatch(alloc, param, other)? {
+            return Ok(Some(text));
         }
     }
     Ok(None)

@@ -41,9 +41,8 @@ pub fn interface_mismatch(
     ensures none { IfOk result (λ found. IfNone found ((text : List ℕ) → HaveFunctionMismatch from.now into.now text → ⊥)) }
 {
     for (name, function) in from.functions.iter() {
-        match named_mismatch(alloc, name, function, into)? {
-            Some(text) => return Ok(Some(text)),
-            None => {}
+        if let Some(text) = named_mismatch(alloc, name, function, into)? {
+            return Ok(Some(text));
         }
     }
     Ok(None)

@@ -16,7 +16,7 @@ use Rattle.wit_remap.specs.steps.Fits.{PartsFit, Fits, FunctionFits, InterfaceFi
 use Rattle.wit_merge_spec.specs.Matches.{GraphMerge}
 use Rattle.wit_merge_spec.specs.Merged.{merge_maps, remap_of_merge, joined_graph, with_interface, with_package}
 use Rattle.wit_merge_spec.specs.Cause.{HasNoMismatch, MergeReturnsBorrow}
-use Rattle.wit_merge_match.specs.steps.Matched.{AreMatches, merge_remap_of, moves}
+use Rattle.wit_merge_match.specs.steps.Matched.{AreMatches, merge_ids_of, moves}
 use Rattle.wit_merge.specs.declared.merge_plan.MergePlan.{MergePlan}
 use Rattle.std.specs.Map.{lookup}
 use Rattle.wit_values.specs.Table.{HasDistinctKeys}
@@ -63,7 +63,7 @@ pub record CanUnite (u : MergePlan) : Type 0 where
   pub valid_other : IsValid u.other.now
   pub one : HasNoMismatch (merging_of u)
   pub matches : AreMatches u.graph.now u.other.now u.matches.now
-  pub merge_remap : u.merge_remap.now ≡ merge_remap_of (merging_of u)
+  pub merge_ids : u.merge_ids.now ≡ merge_ids_of (merging_of u)
   pub values : u.values.now ≡ value_ids (merging_of u)
   pub fits : PartsFit u.offset u.other.now.types u.other.now.interfaces u.other.now.worlds
 

@@ -151,9 +151,9 @@ module _ (g h : Graph) (a b : ℕ) (valid : IsValid g) (valid_other : IsValid h)
   types_agree : (message : List ℕ) → FirstDiffers (StructuresDiffer back) (type_pairs back) message → ⊥
   types_agree message first =
       let pair = first.pair in
-      let has : Contains (type_pairs back) pair = subst (λ (l : List TypePair). Contains l pair) (sym first.pairs_are) (Contains-append_right first.before (pair ∷ first.after) pair (Contains-here pair first.after)) in
+      let has : Contains (type_pairs back) pair = subst (λ (l : List TypePair). Contains l pair) (sym first.first.are) (Contains-append_right first.first.before (pair ∷ first.first.after) pair (Contains-here pair first.first.after)) in
       let matched = type_back h g b a valid_other valid pair.from pair.into (pair_matched back valid_other valid pair has) in
-      let unlike = differ_back h.types g.types (counterpart_type there) (counterpart_type back) (type_back g h a b valid valid_other) (λ t t'. type_back h g b a valid_other valid t' t) pair.into pair.from first.ending first.differs in
+      let unlike = differ_back h.types g.types (counterpart_type there) (counterpart_type back) (type_back g h a b valid valid_other) (λ t t'. type_back h g b a valid_other valid t' t) pair.into pair.from first.first.is.0 first.first.is.1 in
       no_difference there valid valid_other one pair.into pair.from unlike.1.x unlike.1.y matched unlike.1.first
 
   -- ---- all

@@ -49,7 +49,7 @@ use Rattle.wit_merge_spec.specs.Structure.{Content, Feature, FirstDifference, di
 use Rattle.wit_data.specs.declared.kind.Variant.TheVariants as variants
 use Rattle.wit_merge_spec.specs.Cause.{HasNoMismatch}
 use Rattle.wit_merge_spec.specs.Cause as differ
-use Rattle.wit_merge_spec.specs.Matches.{FirstDiffers, GraphMerge, TypePair, counterpart_interface, counterpart_type, counterpart_type_by, counterpart_world, entry_pairs, in_package_order, interface_pairs, item_pairs, matched_interface, matched_world, paired as pair_of, type_pairs, world_labels, world_pairs}
+use Rattle.wit_merge_spec.specs.Matches.{FirstDiffers, GraphMerge, TypePair, common_entries, common_types, counterpart_interface, counterpart_type, counterpart_type_by, counterpart_world, entry_pairs, in_package_order, interface_pairs, item_pairs, matched_interface, matched_world, paired as pair_of, type_pairs, world_labels, world_pairs}
 use Rattle.wit_merge_spec.specs.MismatchText.{entry_link, linked, part_links, side_word}
 use Rattle.wit_merge_laws.specs.facts.MatchFacts.{stands_at}
 use Rattle.wit_merge_laws.specs.facts.MatchedOnce.{in_own_table, lists_distinct, one_under, world_in_table}
@@ -57,7 +57,7 @@ use Rattle.wit_merge_laws.specs.facts.OnceStand.{spot_of}
 use Rattle.wit_merge_laws.specs.facts.StructureHeads.{alias_kind, alias_structure, alias_variant, same_id, same_variant, structure_begins}
 use Rattle.wit_merge_laws.specs.facts.WorldsStand.{entry, entry_there, listed_by}
 use Rattle.wit_graph_data.specs.steps.Parts.{package_needs}
-use Rattle.wit_merge_spec.specs.steps.Parts.{common_types, common_entries, StructuresDiffer, type_link}
+use Rattle.wit_merge_spec.specs.steps.Parts.{StructuresDiffer, type_link}
 
 -- ---- where no first pair differs none does
 
@@ -73,7 +73,7 @@ module _ (Differ : ℕ → ℕ → List ℕ → Type 0) where
       ]
     where
       first : (ending : List ℕ) → Differ q.from q.into ending → ⊥
-      first ending told = none (linked q.links ending) (record { before = before; pair = q; after = rest; pairs_are = refl; alike = alike; ending = ending; differs = told; message_is = refl })
+      first ending told = none (linked q.links ending) (record { pair = q; first = record { before = before; after = rest; are = refl; earlier = λ p has differs. alike p differs.0 has differs.1; is = (ending, told) }; message_is = refl })
 
       alike_too : (p : TypePair) (ending : List ℕ) → Contains (before ++ q ∷ []) p → Differ p.from p.into ending → ⊥
       alike_too p ending has told =

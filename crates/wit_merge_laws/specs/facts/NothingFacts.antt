@@ -78,7 +78,7 @@ module _ (g : Graph) (offset : ℕ) (valid : IsValid g) where
   none_differ : (message : List ℕ) → GraphsDiffer m message → ⊥
   none_differ message (differ.interfaces p home there name text called of at other) = no_pair (counterpart_interface m) g.interfaces p
   none_differ message (differ.worlds p home there exported text of at other) = no_pair (counterpart_world m) g.worlds p
-  none_differ message (differ.types text first) = no_first first.before first.pair first.after first.pairs_are
+  none_differ message (differ.types text first) = no_first first.first.before first.pair first.first.after first.first.are
 
   pub nothing_speaks : MergeIsAccepted m
   nothing_speaks error (conflict_4 span name one is) = so (λ h. (world : World) → Contains h.worlds world → HasTransitiveConflict (graph_uses h) world.exports → ⊥) (clear g valid) is.world is.there is.conflict

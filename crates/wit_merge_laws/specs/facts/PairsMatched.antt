@@ -25,11 +25,10 @@ use Rattle.wit_graph_theory.specs.facts.ListFacts.{found_at, place_of}
 use Rattle.wit_graph_theory.specs.facts.OptionFacts.{some_parts, some_whole}
 use Rattle.wit_graph_theory.specs.facts.PackagesAcyclic.{there_is}
 use Rattle.wit_graph_data.specs.Named.{interface_type}
-use Rattle.wit_merge_spec.specs.Matches.{GraphMerge, TypePair, counterpart_interface, counterpart_item, counterpart_type, counterpart_type_by, counterpart_world, entry_pairs, in_package_order, interface_pairs, item_pairs, matched_interface, matched_world, paired, type_pairs, world_pairs}
+use Rattle.wit_merge_spec.specs.Matches.{GraphMerge, TypePair, common_entries, common_types, counterpart_interface, counterpart_item, counterpart_type, counterpart_type_by, counterpart_world, entry_pairs, in_package_order, interface_pairs, item_pairs, matched_interface, matched_world, paired, type_pairs, world_pairs}
 use Rattle.wit_merge_spec.specs.MismatchText.{entry_link, part_links}
 use Rattle.wit_merge_laws.specs.facts.FoundBack.{lookup_finds_world_type}
 use Rattle.wit_merge_laws.specs.facts.WorldsStand.{entry, lists_it}
-use Rattle.wit_merge_spec.specs.steps.Parts.{common_types, common_entries}
 
 module _ (m : GraphMerge) (valid : IsValid m.graph) (valid_other : IsValid m.other) where
   abbrev IsMatched : TypePair → Type 0

@@ -16,9 +16,9 @@ use Rattle.wit_graph_data.specs.declared.graph.Package.{Package}
 use Rattle.wit_graph_data.specs.Named.{interface_type}
 use Rattle.wit_remap_spec.specs.Selected.{rank}
 use Rattle.wit_merge_spec.specs.Matches.{GraphMerge, WorldLabel, counterpart_at_label, counterpart_interface, counterpart_package, counterpart_type, counterpart_world, unnamed_item}
-use Rattle.wit_merge_spec.specs.Merged as moved
+use Rattle.wit_merge_match.specs.Remapped.{merge_remap}
 use Rattle.wit_merge_match.specs.declared.matches.Matches.{Matches}
-use Rattle.wit_merge_match.specs.declared.merge_remap.MergeRemap.{MergeRemap}
+use Rattle.wit_merge_match.specs.declared.merge_ids.MergeIds.{MergeIds}
 use Rattle.wit_merge_match.specs.declared.world_labels.LabelNotes.{LabelNotes}
 
 -- the other graph goes into the graph (what is matched doesn't hang on where spans go)
@@ -82,9 +82,9 @@ moves found i = not (is_some (get_or found i None))
 abbrev pub new_id_from : List (Option ℕ) → ℕ → ℕ → ℕ
 new_id_from found first i = unwrap_or (get_or found i None) (first + rank (moves found) i)
 
--- where all things go in a merge
-abbrev pub merge_remap_of : GraphMerge → MergeRemap
-merge_remap_of m = record {
-  new_ids = record { types = (moved.merge_remap m).types; interfaces = (moved.merge_remap m).interfaces; worlds = (moved.merge_remap m).worlds };
-  packages = (moved.merge_remap m).packages;
+-- where all things go in a merge, as it finds them: the remap in two parts
+abbrev pub merge_ids_of : GraphMerge → MergeIds
+merge_ids_of m = record {
+  new_ids = record { types = (merge_remap m).types; interfaces = (merge_remap m).interfaces; worlds = (merge_remap m).worlds };
+  packages = (merge_remap m).packages;
 }

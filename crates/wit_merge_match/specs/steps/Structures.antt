@@ -1,5 +1,5 @@
 -- What differs in the structure of types that are matched: the words of the steps that look for the first that do.
-use Rattle.std.specs.Prelude.{◌≡◌, ℕ, ◌<◌, List, [], ◌∷◌, codes, length, slice_get, Contains, if◌then◌else◌, flat_map, bytes_eq}
+use Rattle.std.specs.Prelude.{◌≡◌, ℕ, ◌<◌, List, [], ◌∷◌, ◌++◌, codes, length, slice_get, Contains, if◌then◌else◌, flat_map, bytes_eq}
 use Rattle.std.specs.Map.{lookup}
 use Rattle.std.specs.Option.{option_map_or}
 use Rattle.wit_data.specs.Entries.{Entry, is_unnamed}
@@ -73,6 +73,10 @@ package_interface_pairs m = of_package m (λ home. flat_map (interface_part m ho
 
 abbrev pub package_world_pairs : GraphMerge → ℕ → List TypePair
 package_world_pairs m = of_package m (λ home. flat_map (world_part m home.name) home.worlds)
+
+-- those of interfaces of some packages, and then those of worlds
+abbrev pub pairs_in_order : GraphMerge → List ℕ → List TypePair
+pairs_in_order m order = flat_map (package_interface_pairs m) order ++ flat_map (package_world_pairs m) order
 
 -- that of a type under its name and of the one under it among others
 abbrev pub common_pair : List (List ℕ × ℕ) → List ℕ × ℕ → List TypePair

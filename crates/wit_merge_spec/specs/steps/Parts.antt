@@ -6,7 +6,7 @@ use Rattle.std.specs.Option.{option_map_or}
 use Rattle.wit_data.specs.Entries.{Entry}
 use Rattle.wit_data.specs.declared.interface.Interface.{Interface}
 use Rattle.wit_data.specs.declared.world.World.{World}
-use Rattle.wit_merge_spec.specs.Matches.{paired, interface_at_label, TypePair, entry_pairs, WorldLabel, GraphMerge, matched_interface, counterpart_type, counterpart_interface, counterpart_of, counterpart_package, counterpart_world}
+use Rattle.wit_merge_spec.specs.Matches.{interface_at_label, WorldLabel, GraphMerge, matched_interface, counterpart_type, counterpart_interface, counterpart_of, counterpart_package, counterpart_world}
 use Rattle.wit_data.specs.declared.function.Function.{Function}
 use Rattle.wit_data.specs.declared.types.TypeDef.{TypeDef}
 use Rattle.wit_remap_spec.specs.Joined.{joined_stability, Disagree}
@@ -24,14 +24,6 @@ use Rattle.wit_merge_spec.specs.Cause.{AreJoined}
 -- the interfaces under labels of world w, each with its label
 abbrev pub labels_of_world : ℕ → World → List (ℕ × WorldLabel)
 labels_of_world w world = flat_map (λ (e : Entry). interface_at_label w false e.0 e.1) world.imports ++ flat_map (λ (e : Entry). interface_at_label w true e.0 e.1) world.exports
-
--- the types of one name of two interfaces, in the order of the incoming one
-abbrev pub common_types : List (List ℕ) → Interface → Interface → List TypePair
-common_types links from into = flat_map (λ (e : List ℕ × ℕ). option_map_or (λ t'. paired links e.0 e.1 t' ∷ []) (lookup (bytes_eq e.0) into.types) []) from.types
-
--- those of two worlds, imports before exports
-abbrev pub common_entries : GraphMerge → List (List ℕ) → World → World → List TypePair
-common_entries m links from into = flat_map (entry_pairs m links (codes "import") into.imports) from.imports ++ flat_map (entry_pairs m links (codes "export") into.exports) from.exports
 
 -- what isn't matched moves
 abbrev pub moves_type : GraphMerge → ℕ → Bool

@@ -35,8 +35,8 @@ pub returns-clause-agree : goal.returns-clause-agree
 returns-clause-agree c =
     let g = c.args.graph.now in
     let other = c.args.other.now in
-    let alike = rw c.in-None.is at c.in_ok-message.ensures.none in
-    let joinable = rw c.in-None-2.is at c.in_ok-pair.ensures.none in
+    let alike = rw c.in_default.is at c.in_ok-message.ensures.none in
+    let joinable = rw c.in_default-2.is at c.in_ok-pair.ensures.none in
     record {
       one = one_by g other 0 c.args.offset alike;
       stabilities = λ from into is. joinable from into (mismatches_by g other c.args.offset 0 from into is);

@@ -19,7 +19,7 @@ loop-index-preserved-then-place-count g c =
     let k : ℕ = c.loop-index.index - 1 in
     let next : c.loop-index.index ≡ suc k = let some = c.loop-index-test.true in omega arith in
     one_counted c.args.found.now k c.loop-index.index c.args.count c.in-Some.id c.index-place.result c.loop-index.counterparts c.set.new.self next (c.at.ensures ∙ ap Some c.in-Some.is)
-    (c.index-place.ensures ∙ c.in_ok-try_clone-in-Some.ensures) c.if-place-count.true c.loop-index.invariant c.set.ensures
+    (c.index-place.ensures ∙ c.in_ok-try_clone.ensures) c.if-place-count.true c.loop-index.invariant c.set.ensures
 
 pub loop-index-preserved-else-place-count : goal.loop-index-preserved-else-place-count
 loop-index-preserved-else-place-count g c =
@@ -27,10 +27,10 @@ loop-index-preserved-else-place-count g c =
     let next : c.loop-index.index ≡ suc k = let some = c.loop-index-test.true in omega arith in
     let past : c.args.count ≤ c.index-place.result = let not = c.if-place-count.false in omega arith in
     one_past c.args.found.now k c.loop-index.index c.args.count c.in-Some.id c.index-place.result c.loop-index.counterparts next (c.at.ensures ∙ ap Some c.in-Some.is)
-    (c.index-place.ensures ∙ c.in_ok-try_clone-in-Some.ensures) past c.loop-index.invariant
+    (c.index-place.ensures ∙ c.in_ok-try_clone.ensures) past c.loop-index.invariant
 
 pub loop-index-preserved : goal.loop-index-preserved
 loop-index-preserved g c =
     let k : ℕ = c.loop-index.index - 1 in
     let next : c.loop-index.index ≡ suc k = let some = c.loop-index-test.true in omega arith in
-    one_unmatched c.args.found.now k c.loop-index.index c.args.count c.loop-index.counterparts next (c.at.ensures ∙ ap Some c.in-None.is) c.loop-index.invariant
+    one_unmatched c.args.found.now k c.loop-index.index c.args.count c.loop-index.counterparts next (c.at.ensures ∙ ap Some c.in_default.is) c.loop-index.invariant

@@ -4,7 +4,7 @@ use Rattle.wit_link_spec.specs.declared.addition.Values.{Values}
 use Rattle.wit_merge_spec.specs.Matches.{GraphMerge}
 use Rattle.wit_merge_spec.specs.Merged.{remap_of_merge}
 use Rattle.wit_merge_match.specs.Differing.{merge_of_graphs_by}
-use Rattle.wit_merge_match.specs.declared.merge_remap.MergeRemap.{MergeRemap}
+use Rattle.wit_merge_match.specs.declared.merge_ids.MergeIds.{MergeIds}
 use Rattle.wit_merge_match.specs.steps.Matched.{merge_of_graphs}
 use Rattle.wit_link_resources.specs.steps.Active.{seen}
 use Rattle.wit_remap.specs.facts.GrownFacts.{Begins-same}
@@ -13,12 +13,12 @@ use Rattle.wit_merge.proofs.owning.values.Goals as goal
 
 pub remapped_values-requires-clause-can : goal.remapped_values-requires-clause-can
 remapped_values-requires-clause-can c =
-    comes (merge_of_graphs c.args.graph.now c.args.other.now) c.requires.valid c.requires.valid_other c.args.merge_remap.now.new_ids.types (ap (λ (g : MergeRemap). g.new_ids.types) c.requires.merge_remap)
+    comes (merge_of_graphs c.args.graph.now c.args.other.now) c.requires.valid c.requires.valid_other c.args.merge_ids.now.new_ids.types (ap (λ (g : MergeIds). g.new_ids.types) c.requires.merge_ids)
     (seen c.as_slice.result.now) (ap seen c.as_slice.ensures.value ∙ c.in_ok-functions.ensures)
 
 pub remapped_values-requires-clause-there : goal.remapped_values-requires-clause-there
 remapped_values-requires-clause-there c =
-    positions_remapped (merge_of_graphs c.args.graph.now c.args.other.now) c.requires.valid c.requires.valid_other c.args.merge_remap.now.new_ids.types (ap (λ (g : MergeRemap). g.new_ids.types) c.requires.merge_remap)
+    positions_remapped (merge_of_graphs c.args.graph.now c.args.other.now) c.requires.valid c.requires.valid_other c.args.merge_ids.now.new_ids.types (ap (λ (g : MergeIds). g.new_ids.types) c.requires.merge_ids)
     (seen c.as_slice.result.now) (ap seen c.as_slice.ensures.value ∙ c.in_ok-functions.ensures)
 
 pub returns-clause-values : goal.returns-clause-values
@@ -27,7 +27,7 @@ returns-clause-values c =
     (λ values is offset.
     let m : GraphMerge = merge_of_graphs_by c.args.graph.now c.args.other.now offset in
     let same = is (remap_of_merge m)
-    (is_remap m c.requires.valid c.requires.valid_other c.args.merge_remap.now.new_ids.types (ap (λ (g : MergeRemap). g.new_ids.types) c.requires.merge_remap)
+    (is_remap m c.requires.valid c.requires.valid_other c.args.merge_ids.now.new_ids.types (ap (λ (g : MergeIds). g.new_ids.types) c.requires.merge_ids)
     (seen c.as_slice.result.now) (ap seen c.as_slice.ensures.value ∙ c.in_ok-functions.ensures)) in
     (ap (λ (v : Values). v.new_ids) same, ap (λ (v : Values). v.owns) same)) c.remapped_values.ensures.values
 

@@ -81,11 +81,11 @@ returns-in_err-coming-clause-grown c = Grown-same c.args.graph.now
 pub returns-in_err-coming-clause-rows : goal.returns-in_err-coming-clause-rows
 returns-in_err-coming-clause-rows c = Begins-same c.args.elaborator.now
 
-pub returns-in_err-merge_remap-clause-grown : goal.returns-in_err-merge_remap-clause-grown
-returns-in_err-merge_remap-clause-grown c = Grown-same c.args.graph.now
+pub returns-in_err-merge_ids-clause-grown : goal.returns-in_err-merge_ids-clause-grown
+returns-in_err-merge_ids-clause-grown c = Grown-same c.args.graph.now
 
-pub returns-in_err-merge_remap-clause-rows : goal.returns-in_err-merge_remap-clause-rows
-returns-in_err-merge_remap-clause-rows c = Begins-same c.args.elaborator.now
+pub returns-in_err-merge_ids-clause-rows : goal.returns-in_err-merge_ids-clause-rows
+returns-in_err-merge_ids-clause-rows c = Begins-same c.args.elaborator.now
 
-pub returns-in_err-merge_remap-clause-met_before : goal.returns-in_err-merge_remap-clause-met_before
-returns-in_err-merge_remap-clause-met_before c = Begins-same c.args.met.now
+pub returns-in_err-merge_ids-clause-met_before : goal.returns-in_err-merge_ids-clause-met_before
+returns-in_err-merge_ids-clause-met_before c = Begins-same c.args.met.now

@@ -18,7 +18,7 @@ joined_graph-requires-clause-ready c =
       valid_other = c.requires.other;
       one = agree.one;
       matches = c.requires.matches;
-      merge_remap = c.requires.merge_remap;
+      merge_ids = c.requires.merge_ids;
       values = (c.in_ok-value_ids.ensures.values c.args.offset).0;
       fits = all_fit (merge_of_graphs_by c.args.graph.now c.args.other.now c.args.offset) small agree.spans;
     }
@@ -32,7 +32,7 @@ check_results-requires-clause-ready c =
       valid_other = c.requires.other;
       one = agree.one;
       matches = c.requires.matches;
-      merge_remap = c.requires.merge_remap;
+      merge_ids = c.requires.merge_ids;
       values = (c.in_ok-value_ids.ensures.values c.args.offset).0;
       fits = all_fit (merge_of_graphs_by c.args.graph.now c.args.other.now c.args.offset) small agree.spans;
     }
@@ -49,8 +49,8 @@ returns-in_err-check_results-clause-cause c =
 pub check_results-requires-clause-types : goal.check_results-requires-clause-types
 check_results-requires-clause-types c = c.as_slice.ensures ∙ ap (λ (g : Graph). g.types) c.in_ok-joined.ensures
 
-pub values-requires-clause-merge_remap : goal.values-requires-clause-merge_remap
-values-requires-clause-merge_remap c = c.requires.merge_remap
+pub values-requires-clause-merge_ids : goal.values-requires-clause-merge_ids
+values-requires-clause-merge_ids c = c.requires.merge_ids
 
 pub joined_graph-requires-clause-owns : goal.joined_graph-requires-clause-owns
 joined_graph-requires-clause-owns c = (c.in_ok-value_ids.ensures.values c.args.offset).1

@@ -3,8 +3,8 @@ use Rattle.wit_merge_match.specs.Differing.{merge_of_graphs_by}
 use Rattle.wit_merge.proofs.Outcome.{all_fit}
 use Rattle.wit_merge.proofs.whole.what_comes.Goals as goal
 
-pub values-requires-clause-merge_remap : goal.values-requires-clause-merge_remap
-values-requires-clause-merge_remap c = c.requires.merge_remap
+pub values-requires-clause-merge_ids : goal.values-requires-clause-merge_ids
+values-requires-clause-merge_ids c = c.requires.merge_ids
 
 pub moved_things-requires-clause-ready : goal.moved_things-requires-clause-ready
 moved_things-requires-clause-ready c =
@@ -15,7 +15,7 @@ moved_things-requires-clause-ready c =
       valid_other = c.requires.other;
       one = agree.one;
       matches = c.requires.matches;
-      merge_remap = c.requires.merge_remap;
+      merge_ids = c.requires.merge_ids;
       values = (c.in_ok-value_ids.ensures.values c.args.offset).0;
       fits = all_fit (merge_of_graphs_by c.args.graph.now c.args.other.now c.args.offset) small agree.spans;
     }

@@ -14,13 +14,13 @@ pub returns-in-Some-clause-some : goal.returns-in-Some-clause-some
 returns-in-Some-clause-some c = interface_differs (merge_of_graphs c.args.graph.now c.args.other.now) c.loop-index.index _ (rw c.in-Some.is at c.in_ok-message.ensures.some)
 
 pub loop-index-preserved : goal.loop-index-preserved
-loop-index-preserved c = none_next (InterfaceDiffersAt (merge_of_graphs c.args.graph.now c.args.other.now)) c.loop-index.index c.loop-index.invariant (rw c.in-None.is at c.in_ok-message.ensures.none)
+loop-index-preserved c = none_next (InterfaceDiffersAt (merge_of_graphs c.args.graph.now c.args.other.now)) c.loop-index.index c.loop-index.invariant (rw c.in_default.is at c.in_ok-message.ensures.none)
 
 pub returns-in-Some-2-clause-some : goal.returns-in-Some-2-clause-some
 returns-in-Some-2-clause-some c = world_differs (merge_of_graphs c.args.graph.now c.args.other.now) c.loop-index-2.index _ (rw c.in-Some-2.is at c.in_ok-message-2.ensures.some)
 
 pub loop-index-2-preserved : goal.loop-index-2-preserved
-loop-index-2-preserved c = none_next (WorldDiffersAt (merge_of_graphs c.args.graph.now c.args.other.now)) c.loop-index-2.index c.loop-index-2.invariant (rw c.in-None-2.is at c.in_ok-message-2.ensures.none)
+loop-index-2-preserved c = none_next (WorldDiffersAt (merge_of_graphs c.args.graph.now c.args.other.now)) c.loop-index-2.index c.loop-index-2.invariant (rw c.in_default-2.is at c.in_ok-message-2.ensures.none)
 
 pub returns-clause-some : goal.returns-clause-some
 returns-clause-some c =

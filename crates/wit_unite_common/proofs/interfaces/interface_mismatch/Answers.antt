@@ -14,7 +14,7 @@ pub loop-name-preserved : goal.loop-name-preserved
 loop-name-preserved c =
     let turn = iter_turn deref_named c.args.from.now.functions c.loop-name.yielded _ _ _ _ (c.into_iter-name-iterator.ensures.into_iter_gives ∙ c.iter-name-items.ensures.rest) c.loop-name.yielded_by _ c.in-Some.is c.next.ensures.steps in
     rw length_push
-    (functions-next c.args.from.now.functions c.args.into.now (length c.loop-name.yielded) _ _ turn.1 c.loop-name.invariant (rw c.in-None-2.is at c.in_ok-text.ensures.none))
+    (functions-next c.args.from.now.functions c.args.into.now (length c.loop-name.yielded) _ _ turn.1 c.loop-name.invariant (rw c.in_default.is at c.in_ok-text.ensures.none))
 
 pub returns-clause-none : goal.returns-clause-none
 returns-clause-none c =

@@ -11,7 +11,7 @@ pub push_moved-requires : goal.push_moved-requires
 push_moved-requires c =
     let u = c.args.plan.now in
     let from = c.args.from.now in
-    let types : c.in_ok-joined.joined.types ++ moved_names u.matches.now.types u.merge_remap.now.new_ids.types from.types ≡ (with_interface (merging_of u) from c.args.self.now).types =
+    let types : c.in_ok-joined.joined.types ++ moved_names u.matches.now.types u.merge_ids.now.new_ids.types from.types ≡ (with_interface (merging_of u) from c.args.self.now).types =
     λ j. (c.in_ok-joined.ensures j).types ++ types_moved u c.requires.ready from.types c.requires.can.types j in
     subst (λ (l : Table). HasDistinctKeys l) (sym types) c.requires.can.types_apart
 
@@ -31,7 +31,7 @@ returns c = λ index.
     let self = c.args.self.now in
     let brought = functions_image m (brought_matched self.functions from.functions) in
     let kept = c.in_ok-joined.ensures in
-    let listed : c.in_ok-joined.joined.types ++ moved_names u.matches.now.types u.merge_remap.now.new_ids.types from.types ≡ (with_interface m from self).types = λ j. (kept j).types ++ types_moved u c.requires.ready from.types c.requires.can.types j in
+    let listed : c.in_ok-joined.joined.types ++ moved_names u.matches.now.types u.merge_ids.now.new_ids.types from.types ≡ (with_interface m from self).types = λ j. (kept j).types ++ types_moved u c.requires.ready from.types c.requires.can.types j in
     let types : c.push_moved.new.into ≡ (with_interface m from self).types = c.in_ok-push_moved.ensures ∙ listed in
     let had : c.in_ok-joined.joined.functions ++ brought ≡ (with_interface m from self).functions = λ j. (kept j).functions ++ brought in
     let functions : c.push_functions.new.into ≡ (with_interface m from self).functions = c.in_ok-push_functions.ensures ∙ had in

@@ -13,7 +13,7 @@ push_tables-requires-clause-interfaces c =
     let m = merging_of u in
     let self = c.args.self.now in
     let names = interfaces_moved u c.requires.ready self.interfaces (λ e has. (c.requires.can.interfaces e has).0) ∙ ap (map (λ (e : List ℕ × ℕ). (e.0, merged_interface m e.1))) (all_move (moves_interface m) self.interfaces (λ e has. (c.requires.can.interfaces e has).1)) in
-    let whole : c.new.result ++ moved_names u.matches.now.interfaces u.merge_remap.now.new_ids.interfaces self.interfaces ≡ (package_image m self).interfaces = λ j. c.new.ensures j ++ names j in
+    let whole : c.new.result ++ moved_names u.matches.now.interfaces u.merge_ids.now.new_ids.interfaces self.interfaces ≡ (package_image m self).interfaces = λ j. c.new.ensures j ++ names j in
     subst (λ (l : Table). HasDistinctKeys l) (sym whole) (distinct_map (merged_interface m) self.interfaces c.requires.can.interfaces_apart)
 
 pub push_tables-requires-clause-worlds : goal.push_tables-requires-clause-worlds
@@ -22,7 +22,7 @@ push_tables-requires-clause-worlds c =
     let m = merging_of u in
     let self = c.args.self.now in
     let names = worlds_moved u c.requires.ready self.worlds (λ e has. (c.requires.can.worlds e has).0) ∙ ap (map (λ (e : List ℕ × ℕ). (e.0, merged_world m e.1))) (all_move (moves_world m) self.worlds (λ e has. (c.requires.can.worlds e has).1)) in
-    let whole : c.new-2.result ++ moved_names u.matches.now.worlds u.merge_remap.now.new_ids.worlds self.worlds ≡ (package_image m self).worlds = λ j. c.new-2.ensures j ++ names j in
+    let whole : c.new-2.result ++ moved_names u.matches.now.worlds u.merge_ids.now.new_ids.worlds self.worlds ≡ (package_image m self).worlds = λ j. c.new-2.ensures j ++ names j in
     subst (λ (l : Table). HasDistinctKeys l) (sym whole) (distinct_map (merged_world m) self.worlds c.requires.can.worlds_apart)
 
 pub returns : goal.returns

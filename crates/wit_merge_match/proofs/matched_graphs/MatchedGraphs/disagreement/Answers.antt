@@ -15,4 +15,4 @@ returns-clause-some c = IfSome_then c.worlds_apart.result c.worlds_apart.ensures
 
 pub returns-clause-none : goal.returns-clause-none
 returns-clause-none c =
-    if_none (none_mismatch (merging_of c.args.self.now) c.in-None.ensures.none c.in-None-interfaces_apart.ensures.none) c.worlds_apart.result c.worlds_apart.ensures.none
+    if_none (none_mismatch (merging_of c.args.self.now) c.in_default.ensures.none c.in_default-interfaces_apart.ensures.none) c.worlds_apart.result c.worlds_apart.ensures.none

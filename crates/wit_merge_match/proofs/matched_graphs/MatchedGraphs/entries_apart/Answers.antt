@@ -18,7 +18,7 @@ loop-key-preserved c =
     rw length_push
     (let m = merging_of c.args.self.now in
     none_next (EntryApartAt m c.args.from.now c.args.into.now) (length c.loop-key.yielded) c.loop-key.invariant
-    (entry_fits m c.args.from.now c.args.into.now (length c.loop-key.yielded) _ turn.1 c.in-None-entry_apart.ensures.none))
+    (entry_fits m c.args.from.now c.args.into.now (length c.loop-key.yielded) _ turn.1 c.in_default.ensures.none))
 
 pub returns-clause-none : goal.returns-clause-none
 returns-clause-none c =

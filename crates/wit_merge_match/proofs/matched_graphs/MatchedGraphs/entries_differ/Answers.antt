@@ -28,7 +28,7 @@ loop-key-preserved c =
     rw length_push
     (record {
       of = c.entry_differs.ensures.of;
-      none = none_next (merging_of c.args.self.now) (entry_pairs (merging_of c.args.self.now) [] c.args.word.now c.args.into.now) c.args.from.now (length c.loop-key.yielded) _ turn.1 c.loop-key.invariant.none (rw c.in-None-2.is at c.in_ok-text.ensures.none);
+      none = none_next (merging_of c.args.self.now) (entry_pairs (merging_of c.args.self.now) [] c.args.word.now c.args.into.now) c.args.from.now (length c.loop-key.yielded) _ turn.1 c.loop-key.invariant.none (rw c.in_default.is at c.in_ok-text.ensures.none);
     })
 
 pub returns-clause-none : goal.returns-clause-none

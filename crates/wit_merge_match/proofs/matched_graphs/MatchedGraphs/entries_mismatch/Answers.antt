@@ -22,7 +22,7 @@ loop-key-preserved c =
     rw length_push
     (let m = merging_of c.args.self.now in
     none_next (EntryDiffersAt m c.args.word.now c.args.into.now c.args.from.now) (length c.loop-key.yielded) c.loop-key.invariant
-    (entry_at_alike m c.args.word.now c.args.into.now c.args.from.now (length c.loop-key.yielded) _ turn.1 (rw c.in-None-2.is at c.in_ok-text.ensures.none)))
+    (entry_at_alike m c.args.word.now c.args.into.now c.args.from.now (length c.loop-key.yielded) _ turn.1 (rw c.in_default.is at c.in_ok-text.ensures.none)))
 
 pub returns-clause-none : goal.returns-clause-none
 returns-clause-none c =

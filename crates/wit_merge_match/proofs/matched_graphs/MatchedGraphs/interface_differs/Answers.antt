@@ -52,7 +52,7 @@ loop-name-preserved c =
     rw length_push
     (record {
       of = c.type_differs.ensures.of;
-      none = none_next (merging_of c.args.self.now) (common_pair c.in-Some-matched_interface.into.now.types) c.into_iter-name-iterator.result (length c.loop-name.yielded) _ turn.1 c.loop-name.invariant.none (rw c.in-None-2.is at c.in_ok-text.ensures.none);
+      none = none_next (merging_of c.args.self.now) (common_pair c.in-Some-matched_interface.into.now.types) c.into_iter-name-iterator.result (length c.loop-name.yielded) _ turn.1 c.loop-name.invariant.none (rw c.in_default-2.is at c.in_ok-text.ensures.none);
     })
 
 pub returns-clause-none : goal.returns-clause-none

@@ -7,7 +7,7 @@ use Rattle.wit_merge_match.proofs.Steps.{none_anywhere, none_next}
 use Rattle.wit_merge_match.proofs.matched_graphs.MatchedGraphs.interfaces_apart.Goals as goal
 
 pub loop-index-preserved : goal.loop-index-preserved
-loop-index-preserved c = none_next (InterfacesApartAt (merging_of c.args.self.now)) c.loop-index.index c.loop-index.invariant c.in-None.ensures.none
+loop-index-preserved c = none_next (InterfacesApartAt (merging_of c.args.self.now)) c.loop-index.index c.loop-index.invariant c.in_default.ensures.none
 
 pub returns-clause-none : goal.returns-clause-none
 returns-clause-none c =

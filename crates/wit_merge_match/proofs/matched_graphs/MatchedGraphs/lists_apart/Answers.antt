@@ -14,4 +14,4 @@ returns-clause-some c = IfSome_then c.entries_apart-2.result c.entries_apart-2.e
 
 pub returns-clause-none : goal.returns-clause-none
 returns-clause-none c =
-    if_none (worlds_fit (merging_of c.args.self.now) c.args.from.now c.args.into.now c.in-None.ensures.none c.in-None-entries_apart.ensures.none) c.entries_apart-2.result c.entries_apart-2.ensures.none
+    if_none (worlds_fit (merging_of c.args.self.now) c.args.from.now c.args.into.now c.in_default.ensures.none c.in_default-entries_apart.ensures.none) c.entries_apart-2.result c.entries_apart-2.ensures.none

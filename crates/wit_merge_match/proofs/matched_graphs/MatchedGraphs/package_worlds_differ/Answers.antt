@@ -23,7 +23,7 @@ returns-in-Some-3-clause-some c =
     let turn = iter_turn deref_named c.in-Some.home.now.worlds c.loop-name.yielded _ _ _ _ (c.into_iter-name-iterator.ensures.into_iter_gives ∙ c.iter-name-items.ensures.rest) c.loop-name.yielded_by _ c.in-Some-2.is c.next.ensures.steps in
     let home_is : Some c.in-Some.home.now ≡ slice_get c.args.self.now.other.now.packages c.args.id = search rules in
     let told = rw c.in-Some-3.is at c.in_ok-text.ensures.some in
-    let part = first_part (merging_of c.args.self.now) (part_links c.in-Some.home.now.name (codes "world") c.in-Some-2.name.now) (world_pairs (merging_of c.args.self.now) [] c.in-Some-2.world.now) _ (world_behind (merging_of c.args.self.now) (part_links c.in-Some.home.now.name (codes "world") c.in-Some-2.name.now) c.in-Some-2.world.now) (string_bytes c.in-Some-3.text) _ told (rw c.deref.ensures at c.in_ok-in_part-in-Some-3.ensures) in
+    let part = first_part (merging_of c.args.self.now) (part_links c.in-Some.home.now.name (codes "world") c.in-Some-2.name.now) (world_pairs (merging_of c.args.self.now) [] c.in-Some-2.world.now) _ (world_behind (merging_of c.args.self.now) (part_links c.in-Some.home.now.name (codes "world") c.in-Some-2.name.now) c.in-Some-2.world.now) (string_bytes c.in-Some-3.text) _ told (rw c.deref.ensures at c.in_ok-in_part.ensures) in
     first_is (merging_of c.args.self.now) _ _ (of_home (merging_of c.args.self.now) _ c.args.id c.in-Some.home.now home_is) _ (first_next (merging_of c.args.self.now) (world_part (merging_of c.args.self.now) c.in-Some.home.now.name) c.in-Some.home.now.worlds (length c.loop-name.yielded) _ turn.1 _ c.loop-name.invariant.none part)
 
 pub loop-name-preserved : goal.loop-name-preserved
@@ -34,7 +34,7 @@ loop-name-preserved c =
       of = c.world_differs.ensures.of;
       none =
           none_next (merging_of c.args.self.now) (world_part (merging_of c.args.self.now) c.in-Some.home.now.name) c.in-Some.home.now.worlds (length c.loop-name.yielded) _ turn.1 c.loop-name.invariant.none
-          (none_part (merging_of c.args.self.now) (part_links c.in-Some.home.now.name (codes "world") c.in-Some-2.name.now) (world_pairs (merging_of c.args.self.now) [] c.in-Some-2.world.now) _ (world_behind (merging_of c.args.self.now) (part_links c.in-Some.home.now.name (codes "world") c.in-Some-2.name.now) c.in-Some-2.world.now) (rw c.in-None-2.is at c.in_ok-text.ensures.none));
+          (none_part (merging_of c.args.self.now) (part_links c.in-Some.home.now.name (codes "world") c.in-Some-2.name.now) (world_pairs (merging_of c.args.self.now) [] c.in-Some-2.world.now) _ (world_behind (merging_of c.args.self.now) (part_links c.in-Some.home.now.name (codes "world") c.in-Some-2.name.now) c.in-Some-2.world.now) (rw c.in_default-2.is at c.in_ok-text.ensures.none));
     })
 
 pub returns-clause-none : goal.returns-clause-none

@@ -22,7 +22,7 @@ loop-id-preserved c =
     let order = c.args.order.now in
     record {
       of = c.package_interfaces_differ.ensures.of;
-      none = none_next m (package_interface_pairs m) order c.loop-id.id-index c.id-item.result (stands order c.as_slice-id-items.result.now c.loop-id.id-index c.id-item.result c.as_slice-id-items.ensures c.loop-id-test.true c.id-item.is) c.loop-id.invariant.none (rw c.in-None.is at c.in_ok-message.ensures.none);
+      none = none_next m (package_interface_pairs m) order c.loop-id.id-index c.id-item.result (stands order c.as_slice-id-items.result.now c.loop-id.id-index c.id-item.result c.as_slice-id-items.ensures c.loop-id-test.true c.id-item.is) c.loop-id.invariant.none (rw c.in_default.is at c.in_ok-message.ensures.none);
     }
 
 pub loop-id-2-init : goal.loop-id-2-init
@@ -51,7 +51,7 @@ loop-id-2-preserved c =
     record {
       of = c.package_worlds_differ.ensures.of;
       interfaces = c.loop-id-2.invariant.interfaces;
-      none = none_next m (package_world_pairs m) order c.loop-id-2.id-index c.id-item-in-loop-id-2.result (stands order c.as_slice-id-items-2.result.now c.loop-id-2.id-index c.id-item-in-loop-id-2.result c.as_slice-id-items-2.ensures c.loop-id-2-test.true c.id-item-in-loop-id-2.is) c.loop-id-2.invariant.none (rw c.in-None-2.is at c.in_ok-message-2.ensures.none);
+      none = none_next m (package_world_pairs m) order c.loop-id-2.id-index c.id-item-in-loop-id-2.result (stands order c.as_slice-id-items-2.result.now c.loop-id-2.id-index c.id-item-in-loop-id-2.result c.as_slice-id-items-2.ensures c.loop-id-2-test.true c.id-item-in-loop-id-2.is) c.loop-id-2.invariant.none (rw c.in_default-2.is at c.in_ok-message-2.ensures.none);
     }
 
 pub returns-clause-none : goal.returns-clause-none

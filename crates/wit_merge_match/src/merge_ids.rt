@@ -1,7 +1,7 @@
 //! Where all things of another graph go.
 ghost use Rattle.std.specs.Prelude.{◌≡◌, IfOk, Some, length, map};
 ghost use Rattle.std.specs.List.{range_with_len};
-ghost use Rattle.wit_merge_match.specs.steps.Matched.{AreMatches, merge_of_graphs, merge_remap_of, new_id_from};
+ghost use Rattle.wit_merge_match.specs.steps.Matched.{AreMatches, merge_of_graphs, merge_ids_of, new_id_from};
 
 use crate::matches::Matches;
 use std::alloc::{AllocError, Global};
@@ -12,7 +12,7 @@ use wit_link_spec::{NewIds, next_new_id};
 /// Where the things of another graph go, by their ids there: what is matched to the one with which it is, all else to
 /// the next ids, in its order.
 #[derive(Drop)]
-pub struct MergeRemap {
+pub struct MergeIds {
     pub new_ids: NewIds,
     pub packages: Items<PackageId>,
 }
@@ -20,14 +20,14 @@ pub struct MergeRemap {
 /// Where the things of the other graph go, by the matches of the two graphs. The only error is want of memory.
 ///
 /// Source: `merge` of wit-parser 0.263.0.
-pub fn find_remap(
+pub fn find_ids(
     alloc: Global,
     graph: &Graph,
     other: &Graph,
     matches: &Matches,
-) -> Result<MergeRemap, AllocError>
+) -> Result<MergeIds, AllocError>
     requires { AreMatches graph.now other.now matches.now }
-    ensures { IfOk result (λ merge_remap. merge_remap ≡ merge_remap_of (merge_of_graphs graph.now other.now)) }
+    ensures { IfOk result (λ merge_ids. merge_ids ≡ merge_ids_of (merge_of_graphs graph.now other.now)) }
 {
     let new_ids = NewIds {
         types: new_ids(alloc, &matches.types, graph.types.len())?,
@@ -35,7 +35,7 @@ pub fn find_remap(
         worlds: new_ids(alloc, &matches.worlds, graph.worlds.len())?,
     };
     let packages = package_ids(alloc, &matches.packages, graph.packages.len())?;
-    Ok(MergeRemap { new_ids, packages })
+    Ok(MergeIds { new_ids, packages })
 }
 
 /// Where each of some things goes.

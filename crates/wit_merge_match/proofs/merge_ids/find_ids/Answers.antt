@@ -3,7 +3,7 @@ use Rattle.std.specs.List.{range_with_len}
 use Rattle.wit_merge_match.specs.steps.Matched.{merge_of_graphs, new_id_from}
 use Rattle.wit_merge_spec.specs.Matches.{counterpart_interface, counterpart_package, counterpart_type, counterpart_world}
 use Rattle.wit_merge_match.proofs.Next.{all_same, counted_same}
-use Rattle.wit_merge_match.proofs.merge_remap.find_remap.Goals as goal
+use Rattle.wit_merge_match.proofs.merge_ids.find_ids.Goals as goal
 
 pub returns : goal.returns
 returns c =

@@ -3,7 +3,7 @@ use Rattle.std.proofs.lemmas.Option.{get_or_from_slice_get, slice_get_read}
 use Rattle.wit_link_spec.specs.facts.RangeFacts.{range-pushed}
 use Rattle.wit_merge_match.specs.steps.Matched.{new_id_from}
 use Rattle.wit_merge_match.proofs.Next.{one_next, one_place}
-use Rattle.wit_merge_match.proofs.merge_remap.new_ids.Goals as goal
+use Rattle.wit_merge_match.proofs.merge_ids.new_ids.Goals as goal
 
 pub loop-there-preserved : goal.loop-there-preserved
 loop-there-preserved g c =
