@@ -10,7 +10,6 @@ use Rattle.wit_digraph.specs.Relation.{direct}
 use Rattle.wit_digraph.specs.PostOrder.{post_order, post_order_within}
 use Rattle.wit_values.specs.facts.Lists.{differ}
 use Rattle.wit_data.specs.declared.world.World.{World}
-use Rattle.wit_elaboration.specs.Elaborated.{import_steps, import_steps_within}
 use Rattle.wit_elaboration.specs.Elaboration.{graph_uses}
 use Rattle.wit_elaboration.specs.Entries.{Entry}
 use Rattle.wit_elaboration.specs.Imported.{HasTransitiveConflict}
@@ -111,7 +110,7 @@ abbrev second_count : Graph → ℕ
 second_count g = option_map_or (λ (home : Package). length home.worlds) (slice_get g.packages 1) 0
 
 pub taken_names_are : ExamplesOfNamesInUse
-unfolding post_order post_order_within import_steps import_steps_within
+unfolding post_order post_order_within
 taken_names_are = record {
   free_to_importize = λ error cause. importizes cause.0 error (some_same _ _ cause.1) cause.2;
   free_to_exportize = λ error cause. exportizes cause.0 error (some_same _ _ cause.1) cause.2;

@@ -11,7 +11,6 @@ use Rattle.wit_data.specs.declared.world.WorldKey.{WorldKey}
 use Rattle.wit_data.specs.declared.world.WorldItem.TheVariants as item
 use Rattle.wit_data.specs.declared.world.WorldKey.TheVariants as key
 use Rattle.wit_data.specs.Entries.{Entry}
-use Rattle.wit_elaboration.specs.Elaborated.{import_steps, import_steps_within}
 use Rattle.wit_graph_data.specs.declared.graph.Graph.{Graph}
 use Rattle.wit_graph_theory.specs.examples.TestFacts.{only_one}
 use Rattle.wit_remap_spec.specs.ValueRemap.{item_function}
@@ -46,7 +45,7 @@ first_of : (a b : ℕ) (xs ys : List ℕ) → a ∷ xs ≡ b ∷ ys → a ≡ b
 first_of a b xs ys same = cc
 
 pub pushes : ExamplesOfPushes
-unfolding post_order post_order_within import_steps import_steps_within
+unfolding post_order post_order_within
 pushes = record {
   first = refl;
   accepted = accepted;
@@ -66,7 +65,7 @@ pub spans : ExamplesOfSpans
 spans = record { spans_of_world = refl; spans_of_names = refl }
 
 pub values : ExamplesOfValues
-unfolding post_order post_order_within import_steps import_steps_within
+unfolding post_order post_order_within
 values = record {
   resource = refl;
   alias = refl;
@@ -150,7 +149,7 @@ included = record {
 }
 
 pub included_worlds : ExamplesOfIncludedWorlds
-unfolding post_order post_order_within import_steps import_steps_within
+unfolding post_order post_order_within
 included_worlds = record {
   once = refl;
   accepted = including_accepted;

@@ -6,7 +6,6 @@ use Rattle.wit_digraph.specs.PostOrder.{post_order, post_order_within}
 use Rattle.wit_data.specs.declared.world.World.{World}
 use Rattle.wit_data.specs.declared.world.WorldInclude.{WorldInclude}
 use Rattle.wit_data.specs.declared.world.WorldKey.TheVariants as key
-use Rattle.wit_elaboration.specs.Elaborated.{import_steps, import_steps_within}
 use Rattle.wit_graph_data.specs.declared.cause.Cause.TheVariants as cause
 use Rattle.wit_graph_data.specs.declared.error_kind.ResolveErrorKind.TheVariants.{ItemShadowing, Semantic, StabilityMismatch}
 use Rattle.wit_graph_data.specs.examples.Samples.{no_docs}
@@ -58,7 +57,7 @@ fine_before (suc zero) below = plain_is_fine two_gates 1 second_gate (λ j. refl
 fine_before (suc (suc i)) below = absurd (omega (arith, below))
 
 include_fine : (i : ℕ) → i < 1 → IncludeIsAccepted two_gates 2 i
-unfolding post_order post_order_within import_steps import_steps_within
+unfolding post_order post_order_within
 include_fine zero below = fine two_gates 2 0 first_include (record { import_labels = refl; export_labels = refl; import_keys = refl; export_keys = refl; names = refl })
 include_fine (suc i) below = absurd (omega (arith, below))
 
@@ -66,7 +65,7 @@ gates_image : IsResolved two_gates
 gates_image = image two_gates (record { packages = refl; items = refl; types = refl; interfaces = refl; worlds = refl })
 
 mismatch : IsCauseAtInclude two_gates 2 1 (StabilityMismatch (Some (50, 60)) gate_g gate_f)
-unfolding post_order post_order_within import_steps import_steps_within
+unfolding post_order post_order_within
 mismatch = record {
   at = second_include;
   cause = mismatch_8 gate_g gate_f (record {
@@ -185,7 +184,7 @@ abbrev shadowing_include : AtInclude (shadowing_first []) 1 0
 shadowing_include = record { at = shadowing_world; include = include_of 0; is = refl; before = _; before_is = refl; old = _; old_is = refl }
 
 shadows : IsCauseAtInclude (shadowing_first []) 1 0 (ItemShadowing (Some (50, 60)) (codes "import") (codes "f"))
-unfolding post_order post_order_within import_steps import_steps_within
+unfolding post_order post_order_within
 shadows = record {
   at = shadowing_include;
   cause = shadowing_7 (codes "import") (codes "f") (record {

@@ -1,11 +1,10 @@
 -- The worked graphs.
 use Rattle.std.proofs.Common.{refl}
 use Rattle.wit_digraph.specs.PostOrder.{post_order, post_order_within}
-use Rattle.wit_elaboration.specs.Elaborated.{import_steps, import_steps_within}
 use Rattle.examples_link.specs.Worked.{ExamplesOfWorked}
 
 pub worked : ExamplesOfWorked
-unfolding post_order post_order_within import_steps import_steps_within
+unfolding post_order post_order_within
 worked = record {
   exported = refl;
   derived = refl;

@@ -9,7 +9,6 @@ use Rattle.wit_data.specs.declared.types.TypeDefKind.{TypeDefKind}
 use Rattle.wit_data.specs.declared.types.TypeOwner.{TypeOwner}
 use Rattle.wit_data.specs.declared.world.World.{World}
 use Rattle.wit_data.specs.declared.types.TypeOwner.TheVariants as owner
-use Rattle.wit_elaboration.specs.Elaborated.{import_steps, import_steps_within}
 use Rattle.wit_graph_data.specs.declared.graph.Graph.{Graph}
 use Rattle.wit_remap.specs.declared.remap.Remap.{Remap}
 use Rattle.examples_merge.specs.Unions.{ExamplesOfMatches, ExamplesOfUnions}
@@ -68,7 +67,7 @@ owner_at : List TypeDef → ℕ
 owner_at types = option_map_or (λ (def : TypeDef). owner_world def.owner) (slice_get types 1) 99
 
 pub unions : ExamplesOfUnions
-unfolding post_order post_order_within import_steps import_steps_within owner_world owner_at
+unfolding post_order post_order_within owner_world owner_at
 unions = record {
   nothing_comes = refl;
   into_nothing = refl;

@@ -7,7 +7,6 @@ use Rattle.wit_digraph.specs.PostOrder.{post_order, post_order_within}
 use Rattle.wit_data.specs.declared.types.TypeDef.{TypeDef}
 use Rattle.wit_data.specs.declared.world.World.{World}
 use Rattle.wit_data.specs.Uses.{alias_target}
-use Rattle.wit_elaboration.specs.Elaborated.{import_steps, import_steps_within}
 use Rattle.wit_elaboration.specs.Entries.{Entry, item_interface}
 use Rattle.wit_graph_data.specs.declared.graph.Graph.{Graph}
 use Rattle.examples_merge.specs.RewrittenExamples.{ExamplesOfRewriting, ExamplesOfRules}
@@ -33,7 +32,7 @@ target : ℕ → Graph → ℕ
 target t g = option_map_or (λ (def : TypeDef). unwrap_or (alias_target def.kind) 99) (slice_get g.types t) 99
 
 pub examples_of_rewriting : ExamplesOfRewriting
-unfolding post_order post_order_within import_steps import_steps_within strip_zeros imports_at import_at import_count export_count target
+unfolding post_order post_order_within strip_zeros imports_at import_at import_count export_count target
 examples_of_rewriting = record {
   of_alias = refl;
   of_own_alias = refl;
@@ -59,7 +58,7 @@ examples_of_rewriting = record {
 }
 
 pub examples_of_rules : ExamplesOfRules
-unfolding post_order post_order_within import_steps import_steps_within strip_zeros imports_at import_at import_count export_count target
+unfolding post_order post_order_within strip_zeros imports_at import_at import_count export_count target
 examples_of_rules = record {
   apart = refl;
   apart_from_release = refl;
@@ -84,7 +83,7 @@ examples_of_rules = record {
 }
 
 pub examples_of_tracks : ExamplesOfTracks
-unfolding post_order post_order_within import_steps import_steps_within strip_zeros imports_at import_at import_count export_count target
+unfolding post_order post_order_within strip_zeros imports_at import_at import_count export_count target
 examples_of_tracks = record {
   one_name = refl;
   other_interface = refl;

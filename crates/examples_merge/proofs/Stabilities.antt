@@ -4,7 +4,6 @@ use Rattle.std.specs.Prelude.{codes}
 use Rattle.wit_values.specs.facts.Lists.{differ}
 use Rattle.wit_digraph.specs.PostOrder.{post_order, post_order_within}
 use Rattle.wit_data.specs.declared.stability.Stability.{Stability}
-use Rattle.wit_elaboration.specs.Elaborated.{import_steps, import_steps_within}
 use Rattle.wit_graph_data.specs.declared.error_kind.ResolveErrorKind.TheVariants.{StabilityMismatch}
 use Rattle.wit_graph_data.specs.declared.graph.Graph.{Graph}
 use Rattle.wit_graph_theory.specs.examples.TestFacts.{feature_of}
@@ -38,7 +37,7 @@ pub nowhere : (g other : Graph) → GatesJoin (merge_of_graphs g other) → Disa
 nowhere g other all span from into c = joined_accepted (merge_of_graphs g other) all from into (of_mismatch (merge_of_graphs g other) span from into c)
 
 pub stabilities : ExamplesOfStabilities
-unfolding post_order post_order_within import_steps import_steps_within structure structure_within
+unfolding post_order post_order_within structure structure_within
 stabilities = record {
   interfaces = disagreeing _ _ (merging.interfaces (record { x = 0; from = _; x' = 0; into = _; from_is = refl; matched = refl; into_is = refl }));
   same_interface = nowhere _ _ (record { types = refl; interfaces = refl; worlds = refl });

@@ -1,5 +1,5 @@
 -- The post-orders of entries whose dependencies stand before them add nothing.
-use Rattle.std.proofs.Common.{◌≡◌, ℕ, ◌<◌, true, List, [], ◌∷◌, ◌++◌, map, append_assoc, length, refl, subst, Contains, All}
+use Rattle.std.proofs.Common.{◌≡◌, ℕ, true, List, [], ◌∷◌, ◌++◌, map, append_assoc, length, refl, subst, Contains, All}
 use Rattle.std.specs.List.{flat_map, list_any}
 use Rattle.std.proofs.lemmas.List.{append-nil}
 use Rattle.std.proofs.lemmas.List.Elements.{All-contains}
@@ -7,24 +7,23 @@ use Rattle.wit_data.specs.declared.types.TypeDef.{TypeDef}
 use Rattle.wit_data.specs.declared.world.WorldItem.{WorldItem}
 use Rattle.wit_data.specs.declared.world.WorldKey.{WorldKey}
 use Rattle.wit_data.specs.declared.world.WorldKey.TheVariants.{Name, Interface}
-use Rattle.wit_digraph.specs.facts.MemberFacts.{Contains-nil, Contains-here, Contains-there, Contains-flat_map_cases}
+use Rattle.wit_digraph.specs.facts.MemberFacts.{Contains-nil, Contains-here, Contains-there}
 use Rattle.wit_digraph.specs.facts.PostOrderFacts.{Reaches-from_post_order, UsesFirst-append, UsesFirst-IsPath}
-use Rattle.wit_digraph.specs.Relation.{direct, IsAcyclic}
-use Rattle.wit_digraph.specs.PostOrder.{UsesFirst, post_order}
+use Rattle.wit_digraph.specs.Relation.{IsAcyclic}
+use Rattle.wit_digraph.specs.PostOrder.{UsesFirst}
 use Rattle.wit_elaboration.specs.Entries.{Entry, Role, Instance, TypeUse, TypeDefinition, FreeFunction, ResourceFunction, role_of, key_interface, same_key, fresh_entries}
-use Rattle.wit_elaboration.specs.Elaborated.{InheritedData, dependency_of, dependencies_before, entry_post_order}
+use Rattle.wit_elaboration.specs.Elaborated.{InheritedData, dependency_of, dependencies_before}
 use Rattle.wit_elaboration.specs.laws.ElaborationLaws.{stands_on, DependenciesFirst}
 use Rattle.wit_elaboration.specs.Sound.{IsRoleInRange}
 use Rattle.wit_elaboration.specs.facts.FreshEntries.{AllNew, interfaces_of_keys, ids-push, id_known, Contains-deps, fresh_entries-all_known, fresh_entries-new}
 use Rattle.wit_elaboration.specs.facts.Order.{AreOwn}
+use Rattle.wit_elaboration.specs.steps.Parts.{entry_post_order}
+use Rattle.wit_elaboration.proofs.Needs.{uses_in}
 
 module _ (types : List TypeDef) where
   module _ (uses : List (List ℕ)) (acyclic : IsAcyclic uses) where
     pub needs_in : (role : Role) (s : List ℕ) (j : ℕ) → IsRoleInRange (length uses) role → All (Contains s) (stands_on uses role) → UsesFirst uses [] s → Contains (dependencies_before uses role) j → Contains s j
-    needs_in (Instance i) s j inside on first has =
-        let part = Contains-flat_map_cases (post_order uses) (direct uses i) j has in
-        let path = Reaches-from_post_order uses acyclic part.0 (All-contains (λ x. x < length uses) (direct uses i) part.0 (acyclic.in_range i) part.1.0) j part.1.1 in
-        UsesFirst-IsPath uses s part.0 path.0 j first (All-contains (Contains s) (direct uses i) part.0 on part.1.0) path.1
+    needs_in (Instance i) s j inside on first has = uses_in uses acyclic i s j on first has
     needs_in (TypeUse i) s j inside on first has =
         let path = Reaches-from_post_order uses acyclic i inside j has in
         UsesFirst-IsPath uses s i path.0 j first (All-contains (Contains s) (i ∷ []) i on (Contains-here i [])) path.1

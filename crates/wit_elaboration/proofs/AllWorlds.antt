@@ -149,12 +149,12 @@ module _ (g : Graph) where
 
   -- lists that elaboration makes, in place of a world's own
   pub made_lists : (world : World) (lists : Lists) → lists.imports ≡ elaborated_imports g.types (graph_uses g) world.imports world.exports
-      → lists.exports ≡ elaborated_exports g.types (graph_uses g) world.exports → with_lists world (Some lists) ≡ elaborated_world g world
+      → lists.exports ≡ elaborated_exports (graph_uses g) world.exports → with_lists world (Some lists) ≡ elaborated_world g world
   made_lists world lists imports exports = λ k. record world { imports = imports k; exports = exports k }
 
   -- a world that keeps its own
   pub kept_lists : (world : World) → elaborated_imports g.types (graph_uses g) world.imports world.exports ≡ world.imports
-      → elaborated_exports g.types (graph_uses g) world.exports ≡ world.exports → world ≡ elaborated_world g world
+      → elaborated_exports (graph_uses g) world.exports ≡ world.exports → world ≡ elaborated_world g world
   kept_lists world imports exports = λ k. record world { imports = sym imports k; exports = sym exports k }
 
 -- ---- loops

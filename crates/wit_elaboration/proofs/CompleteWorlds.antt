@@ -15,7 +15,7 @@ use Rattle.wit_data.specs.declared.world.WorldKey.TheVariants.{Name, Interface}
 use Rattle.wit_data.specs.contracts.world.WorldKeyPartialEq.TheImpl.{eq-value}
 use Rattle.wit_digraph.specs.facts.MemberFacts.{Contains-nil, Contains-cons_cases}
 use Rattle.wit_digraph.specs.Relation.{IsAcyclic}
-use Rattle.wit_elaboration.specs.Elaborated.{dependency_of, elaborated_exports, elaborated_imports, export_imports, export_with_needs, import_steps, import_with_needs, inherited_by_export, inherited_by_import, without_span}
+use Rattle.wit_elaboration.specs.Elaborated.{dependencies_before, dependency_of, elaborated_exports, elaborated_imports, export_needs, import_with_needs, inherited_by_export, inherited_by_import, without_span}
 use Rattle.wit_elaboration.specs.laws.ElaborationLaws.{DependenciesFirst, stands_on}
 use Rattle.wit_elaboration.specs.Entries.{Entry, Instance, by_class, fresh_entries, item_interface, key_interface, role_of, same_key}
 use Rattle.wit_elaboration.specs.Imported.{HasTransitiveConflict, is_exported}
@@ -24,8 +24,8 @@ use Rattle.wit_elaboration.proofs.Absorbed.{absorbed}
 use Rattle.wit_elaboration.specs.facts.Filters.{filter-all, filter-none}
 use Rattle.wit_elaboration.proofs.FirstClasses.{AllNew-from_distinct}
 use Rattle.wit_elaboration.specs.facts.FreshEntries.{AllNew, id_known, ids-push, interfaces_of_keys}
-use Rattle.wit_elaboration.proofs.Roles.{InOrder, in_order, role_from_instance}
-use Rattle.wit_elaboration.specs.steps.Parts.{is_interface, exported_interfaces}
+use Rattle.wit_elaboration.proofs.Roles.{in_order, role_from_instance}
+use Rattle.wit_elaboration.specs.steps.Parts.{export_with_needs, is_interface, exported_interfaces}
 
 -- the import of an entry leaves it as it is
 abbrev pub IsSettled : Entry → Type 0
@@ -54,7 +54,10 @@ each_has : {P : Entry → Type 0} (es : List Entry) (e : Entry) → Each P es �
 each_has [] e each has = absurd (Contains-nil has)
 each_has {P} (x ∷ es) e each has = elim (Contains-cons_cases x e es has) [ inl same ↦ subst P same (each 0 x refl) | inr there ↦ each_has es e (λ i y at. each (suc i) y at) there ]
 
-module _ (types : List TypeDef) (uses : List (List ℕ)) (exports : List Entry) (none : Each HoldsNone exports) where
+module _ (uses : List (List ℕ)) (exports : List Entry) (none : Each HoldsNone exports) where
+  abbrev outside : ℕ → Bool
+  outside j = not (is_exported exports j)
+
   nothing_exported : exported_interfaces exports ≡ []
   nothing_exported = of exports none
     where
@@ -65,28 +68,28 @@ module _ (types : List TypeDef) (uses : List (List ℕ)) (exports : List Entry) 
   pub no_conflict : HasTransitiveConflict uses exports → ⊥
   no_conflict conflict = Contains-nil (subst (λ (ids : List ℕ). Contains ids conflict.0) nothing_exported conflict.2)
 
-  pub exports_stay : elaborated_exports types uses exports ≡ exports
+  pub exports_stay : elaborated_exports uses exports ≡ exports
   exports_stay =
       let functions : filter (λ (e : Entry). not (is_interface e)) exports ≡ exports =
       filter-all (λ (e : Entry). not (is_interface e)) exports (λ e has. ap not (not_interface e (each_has exports e none has))) in
       let interfaces : filter is_interface exports ≡ [] = filter-none is_interface exports (λ e has. not_interface e (each_has exports e none has)) in
-      ap (λ (es : List Entry). es ++ fresh_entries [] (flat_map (export_with_needs types uses (is_exported exports)) (filter is_interface exports))) functions
-      ∙ ap (λ (es : List Entry). exports ++ fresh_entries [] (flat_map (export_with_needs types uses (is_exported exports)) es)) interfaces
+      ap (λ (es : List Entry). es ++ fresh_entries [] (flat_map (export_with_needs uses (is_exported exports)) (filter is_interface exports))) functions
+      ∙ ap (λ (es : List Entry). exports ++ fresh_entries [] (flat_map (export_with_needs uses (is_exported exports)) es)) interfaces
       ∙ append-nil exports
 
-  pub imports_stay : (imports : List Entry) → by_class types imports ≡ imports → fresh_entries [] (flat_map (import_with_needs types uses) (by_class types imports)) ≡ imports → elaborated_imports types uses imports exports ≡ imports
-  imports_stay imports sorted complete =
-      let nothing : flat_map (export_imports uses (is_exported exports)) exports ≡ [] = steps exports none in
+  pub imports_stay : (types : List TypeDef) (imports : List Entry) → by_class types imports ≡ imports → fresh_entries [] (flat_map (import_with_needs types uses) (by_class types imports)) ≡ imports → elaborated_imports types uses imports exports ≡ imports
+  imports_stay types imports sorted complete =
+      let nothing : flat_map (export_needs uses outside) exports ≡ [] = steps exports none in
       ap (λ (es : List Entry). by_class types (fresh_entries [] (flat_map (import_with_needs types uses) (by_class types imports) ++ es))) nothing
       ∙ ap (λ (es : List Entry). by_class types (fresh_entries [] es)) (append-nil (flat_map (import_with_needs types uses) (by_class types imports)))
       ∙ ap (by_class types) complete
       ∙ sorted
     where
-      steps : (es : List Entry) → Each HoldsNone es → flat_map (export_imports uses (is_exported exports)) es ≡ []
+      steps : (es : List Entry) → Each HoldsNone es → flat_map (export_needs uses outside) es ≡ []
       steps [] each = refl
       steps (e ∷ es) each =
           let here : item_interface e.1 ≡ [] = each 0 e refl in
-          ap (λ (ids : List ℕ). flat_map (λ i. map (dependency_of (inherited_by_export e.1)) (import_steps uses (is_exported exports) i)) ids ++ flat_map (export_imports uses (is_exported exports)) es) here
+          ap (λ (ids : List ℕ). map (dependency_of (inherited_by_export e.1)) (filter outside (flat_map (λ i. dependencies_before uses (Instance i)) ids)) ++ flat_map (export_needs uses outside) es) here
           ∙ steps es (λ i x at. each (suc i) x at)
 
 -- ---- imports in order

@@ -1,5 +1,5 @@
 -- What the passes over imports and exports made is the elaboration.
-use Rattle.std.proofs.Common.{◌≡◌, ℕ, ◌<◌, Bool, true, false, not, inl, inr, List, [], ◌∷◌, ◌++◌, map, filter, length, append_assoc, refl, sym, ap, subst, ◌∙◌, Contains, All}
+use Rattle.std.proofs.Common.{◌≡◌, ℕ, ◌<◌, Bool, false, not, inl, inr, List, [], ◌∷◌, ◌++◌, map, filter, length, append_assoc, refl, sym, ap, subst, ◌∙◌, Contains, All}
 use Rattle.std.specs.List.{flat_map, list_any, IsDistinct}
 use Rattle.std.specs.Map.{keys_of}
 use Rattle.std.proofs.lemmas.Bool.{cases_Bool, false≢true, false_from_ne_true}
@@ -12,21 +12,20 @@ use Rattle.wit_data.specs.declared.world.WorldItem.TheVariants as item
 use Rattle.wit_data.specs.declared.world.WorldKey.TheVariants.{Interface}
 use Rattle.wit_data.specs.contracts.world.WorldKeyPartialEq.TheImpl.{eq-value}
 use Rattle.wit_digraph.specs.facts.FreshFacts.{any_from_contains, contains_from_any}
-use Rattle.wit_digraph.specs.facts.MemberFacts.{Contains-nil, Contains-here, Contains-there, Contains-cons_cases, Contains-flat_map, Contains-flat_map_cases, flat_map-same}
+use Rattle.wit_digraph.specs.facts.MemberFacts.{Contains-nil, Contains-here, Contains-there, Contains-cons_cases, Contains-flat_map, Contains-flat_map_cases}
 use Rattle.wit_digraph.specs.Relation.{IsAcyclic}
 use Rattle.wit_digraph.specs.PostOrder.{Listed}
-use Rattle.wit_elaboration.specs.Elaborated.{dependency_of, dependencies_before, inherited_by_export, import_with_needs, import_steps, export_imports, export_with_needs, elaborated_imports, elaborated_exports}
-use Rattle.wit_elaboration.specs.steps.Elaborating.{IsExportedList, is_listed, walked_exports, walked_imports}
-use Rattle.wit_elaboration.specs.Entries.{Entry, Instance, role_of, item_interface, key_interface, is_instance, same_key, by_class, fresh_entries}
-use Rattle.wit_elaboration.specs.Imported.{HasTransitiveConflict, is_exported}
+use Rattle.wit_elaboration.specs.Elaborated.{dependency_of, export_needs, inherited_by_export, import_with_needs, elaborated_imports, elaborated_exports}
+use Rattle.wit_elaboration.specs.steps.Elaborating.{IsExportedList, is_listed}
+use Rattle.wit_elaboration.specs.Entries.{Entry, role_of, item_interface, key_interface, same_key, by_class, fresh_entries}
+use Rattle.wit_elaboration.specs.Imported.{is_exported}
 use Rattle.wit_elaboration.specs.Sound.{IsRoleInRange}
-use Rattle.wit_elaboration.proofs.ExportedUses.{key_here}
+use Rattle.wit_elaboration.proofs.ExportedKeys.{key_here}
 use Rattle.wit_elaboration.specs.facts.Filters.{Contains-filter, not_true}
 use Rattle.wit_elaboration.proofs.FirstClasses.{AllNew-from_distinct}
 use Rattle.wit_elaboration.specs.facts.FreshEntries.{AllNew-filter, AllNew-one, Contains-keys, Contains-deps, contains_from_known, known_from_contains, fresh_entries-known, fresh_entries-new, fresh_entries-all_new, fresh_entries-next}
-use Rattle.wit_elaboration.proofs.OneWalk.{imports_of_walk, exports_of_walk}
 use Rattle.wit_elaboration.proofs.Roles.{InOrder, instance_from_role, is_instance_from_role}
-use Rattle.wit_elaboration.specs.steps.Parts.{is_interface, exported_keys, exported_interfaces}
+use Rattle.wit_elaboration.specs.steps.Parts.{export_with_needs, interface_needs, is_interface, exported_keys, exported_interfaces}
 
 -- keys that no entry has don't matter
 fresh_entries-apart : (ks seen : List WorldKey) (es : List Entry) → ((e : Entry) → Contains es e → Contains ks e.0 → ⊥) → fresh_entries (ks ++ seen) es ≡ fresh_entries seen es
@@ -81,53 +80,20 @@ module _ (types : List TypeDef) (uses : List (List ℕ)) (acyclic : IsAcyclic us
   pub keys_below : All (λ i. i < length uses) (exported_keys exports)
   keys_below = λ k d below. interface_below _ (own_keys _ (Contains-get_or (exported_keys exports) k d below))
 
-module _ (types : List TypeDef) (uses : List (List ℕ)) (acyclic : IsAcyclic uses) (imports exports : List Entry) (listed : InOrder types (length uses) imports exports) (no_conflict : HasTransitiveConflict uses exports → ⊥) where
   abbrev E : ℕ → Bool
   E = is_exported exports
-
-  abbrev own : (j : ℕ) → Contains (exported_keys exports) j → Contains (exported_interfaces exports) j
-  own = own_keys types uses acyclic imports exports listed
-
-  abbrev below : (i : ℕ) → Contains (exported_interfaces exports) i → i < length uses
-  below = interface_below types uses acyclic imports exports listed
-
-  -- of one export: what it imports
-  import_parts : (key : WorldKey) (x : WorldItem) → Contains exports (key, x) → walked_imports uses E (key, x) ≡ export_imports uses E (key, x)
-  import_parts key (item.Interface i stability docs span external_id) has =
-      let e : Entry = (key, item.Interface i stability docs span external_id) in
-      let exported = Contains-flat_map (λ (f : Entry). item_interface f.1) exports e i has (Contains-here i []) in
-      rw (append-nil (dependencies_before uses (Instance i)), append-nil (map (dependency_of (inherited_by_export e.1)) (import_steps uses E i)))
-      (ap (λ (js : List ℕ). map (dependency_of (inherited_by_export e.1)) js) (sym (imports_of_walk uses acyclic exports own no_conflict i (below i exported) exported)))
-  import_parts key (item.Function function) has = refl
-  import_parts key (item.Type_ id span) has = refl
-
-  -- and what it exports
-  export_parts : (key : WorldKey) (x : WorldItem) → Contains exports (key, x) → is_instance x ≡ true → walked_exports uses E (key, x) ≡ export_with_needs types uses E (key, x)
-  export_parts key (item.Interface i stability docs span external_id) has is =
-      let e : Entry = (key, item.Interface i stability docs span external_id) in
-      let exported = Contains-flat_map (λ (f : Entry). item_interface f.1) exports e i has (Contains-here i []) in
-      rw (append-nil (dependencies_before uses (Instance i)))
-      (ap (λ (js : List ℕ). map (dependency_of (inherited_by_export e.1)) js ++ e ∷ []) (sym (exports_of_walk uses acyclic exports own no_conflict i (below i exported) exported)))
-  export_parts key (item.Function function) has is = absurd (false≢true is)
-  export_parts key (item.Type_ id span) has is = absurd (false≢true is)
-
-  pub imports_walked : flat_map (walked_imports uses E) exports ≡ flat_map (export_imports uses E) exports
-  imports_walked = flat_map-same (walked_imports uses E) (export_imports uses E) exports (λ e has. import_parts e.0 e.1 has)
-
-  pub exports_walked : flat_map (walked_exports uses E) (filter is_interface exports) ≡ flat_map (export_with_needs types uses E) (filter is_interface exports)
-  exports_walked = flat_map-same (walked_exports uses E) (export_with_needs types uses E) (filter is_interface exports) (λ e has. let part = Contains-filter is_interface exports e has in export_parts e.0 e.1 part.0 part.1)
 
   abbrev functions : List Entry
   functions = filter (λ (e : Entry). not (is_interface e)) exports
 
   -- no function has the key of an interface that is exported
-  functions_apart : IsDistinct eq-value.it (keys_of exports) → (e : Entry) → Contains (flat_map (walked_exports uses E) (filter is_interface exports)) e → Contains (keys_of functions) e.0 → ⊥
+  functions_apart : IsDistinct eq-value.it (keys_of exports) → (e : Entry) → Contains (flat_map (export_with_needs uses E) (filter is_interface exports)) e → Contains (keys_of functions) e.0 → ⊥
   functions_apart distinct e has among =
       let f = Contains-keys functions e.0 among in
       let old = Contains-filter (λ (g : Entry). not (is_interface g)) exports f.0 f.1.0 in
-      let part = Contains-flat_map_cases (walked_exports uses E) (filter is_interface exports) e has in
+      let part = Contains-flat_map_cases (export_with_needs uses E) (filter is_interface exports) e has in
       let root = Contains-filter is_interface exports part.0 part.1.0 in
-      let nodes : List ℕ = filter E (flat_map (λ i. dependencies_before uses (Instance i)) (item_interface part.0.1)) in
+      let nodes : List ℕ = filter E (interface_needs uses part.0) in
       elim (Contains-append_cases (map (dependency_of (inherited_by_export part.0.1)) nodes) (part.0 ∷ []) e part.1.1) [
         | inl deps ↦
             let dep = Contains-deps (inherited_by_export part.0.1) nodes e deps in
@@ -143,19 +109,19 @@ module _ (types : List TypeDef) (uses : List (List ℕ)) (acyclic : IsAcyclic us
       ]
 
   -- what the passes made
-  pub exports_are : IsDistinct eq-value.it (keys_of exports) → (start done : List Entry) → start ≡ fresh_entries [] functions → done ≡ start ++ fresh_entries (keys_of start) (flat_map (walked_exports uses E) (filter is_interface exports)) →
-      done ≡ elaborated_exports types uses exports
+  pub exports_are : IsDistinct eq-value.it (keys_of exports) → (start done : List Entry) → start ≡ fresh_entries [] functions → done ≡ start ++ fresh_entries (keys_of start) (flat_map (export_with_needs uses E) (filter is_interface exports)) →
+      done ≡ elaborated_exports uses exports
   exports_are distinct start done start_is done_is =
       let all : start ≡ functions = start_is ∙ fresh_entries-all_new [] functions (AllNew-filter (λ (e : Entry). not (is_interface e)) exports [] [] (λ k had. had) (AllNew-from_distinct exports distinct)) in
-      let post_orders : List Entry = flat_map (walked_exports uses E) (filter is_interface exports) in
+      let post_orders : List Entry = flat_map (export_with_needs uses E) (filter is_interface exports) in
       let apart : fresh_entries (keys_of functions) post_orders ≡ fresh_entries [] post_orders =
       ap (λ (ks : List WorldKey). fresh_entries ks post_orders) (sym (append-nil (keys_of functions))) ∙ fresh_entries-apart (keys_of functions) [] post_orders (functions_apart distinct) in
-      done_is ∙ rw (all, apart, exports_walked) refl
+      done_is ∙ rw (all, apart) refl
 
-  pub imports_are : (start all sorted : List Entry) → start ≡ fresh_entries [] (flat_map (import_with_needs types uses) (by_class types imports)) → all ≡ start ++ fresh_entries (keys_of start) (flat_map (walked_imports uses E) exports) →
+  pub imports_are : (start all sorted : List Entry) → start ≡ fresh_entries [] (flat_map (import_with_needs types uses) (by_class types imports)) → all ≡ start ++ fresh_entries (keys_of start) (flat_map (export_needs uses (λ j. not (E j))) exports) →
       sorted ≡ by_class types all → sorted ≡ elaborated_imports types uses imports exports
   imports_are start all sorted start_is all_is sorted_is =
-      let joined : all ≡ fresh_entries [] (flat_map (import_with_needs types uses) (by_class types imports) ++ flat_map (export_imports uses E) exports) =
-      fresh_entries-next [] start all (flat_map (import_with_needs types uses) (by_class types imports)) (flat_map (export_imports uses E) exports) start_is
-      (all_is ∙ ap (λ (xs : List Entry). start ++ fresh_entries (keys_of start) xs) imports_walked) in
+      let joined : all ≡ fresh_entries [] (flat_map (import_with_needs types uses) (by_class types imports) ++ flat_map (export_needs uses (λ j. not (E j))) exports) =
+      fresh_entries-next [] start all (flat_map (import_with_needs types uses) (by_class types imports)) (flat_map (export_needs uses (λ j. not (E j))) exports) start_is
+      all_is in
       sorted_is ∙ ap (λ (xs : List Entry). by_class types xs) joined

@@ -9,18 +9,19 @@ use Rattle.wit_data.specs.declared.world.WorldKey.{WorldKey}
 use Rattle.wit_digraph.specs.facts.MemberFacts.{Contains-nil, Contains-here, Contains-there, Contains-cons_cases, Contains-flat_map}
 use Rattle.wit_digraph.specs.Relation.{IsAcyclic}
 use Rattle.wit_elaboration.specs.Entries.{Entry, fresh_entries}
-use Rattle.wit_elaboration.specs.Elaborated.{entry_post_order, inherited_by_export, elaborated_imports, elaborated_exports}
+use Rattle.wit_elaboration.specs.Elaborated.{elaborated_imports, elaborated_exports}
+use Rattle.wit_elaboration.specs.Imported.{is_exported}
 use Rattle.wit_elaboration.specs.laws.KeptByElaboration.{ElaboratedOnce, ExportKeysStay}
 use Rattle.wit_values.specs.Table.{HasDistinctKeys}
 use Rattle.wit_elaboration.specs.facts.Classes.{by_class-new}
-use Rattle.wit_elaboration.proofs.ExportedUses.{exported_entry}
-use Rattle.wit_elaboration.proofs.ExportsAgain.{inner, walked, functions, kept, made, functions_other}
+use Rattle.wit_elaboration.proofs.ExportedKeys.{exported_entry}
+use Rattle.wit_elaboration.proofs.ExportsAgain.{walked, functions, kept, made, functions_other}
 use Rattle.wit_elaboration.specs.facts.Filters.{Contains-filter, Contains-filtered}
-use Rattle.wit_elaboration.specs.facts.FreshEntries.{AllNew, AllNew-apart, AllNew-append, AllNew-over, AllNew-filter, AllNew-one, Contains-keys, absent_from, keys_of-append, fresh_entries_all, fresh_entries-AllNew}
-use Rattle.wit_elaboration.proofs.ImportsAgain.{keys-Contains, from_imports, from_exports}
+use Rattle.wit_elaboration.specs.facts.FreshEntries.{AllNew, AllNew-apart, AllNew-append, AllNew-over, AllNew-filter, AllNew-one, Contains-keys, absent_from, keys-Contains, keys_of-append, fresh_entries_all, fresh_entries-AllNew}
+use Rattle.wit_elaboration.proofs.ImportsAgain.{from_imports, from_exports}
 use Rattle.wit_elaboration.proofs.Marking.{contains_at}
 use Rattle.wit_elaboration.proofs.Roles.{InOrder, in_order, is_instance_from_role}
-use Rattle.wit_elaboration.specs.steps.Parts.{is_interface}
+use Rattle.wit_elaboration.specs.steps.Parts.{export_with_needs, is_interface}
 
 -- ---- distinct keys, by places and one after the other
 
@@ -108,9 +109,8 @@ module _ (types : List TypeDef) (uses : List (List ℕ)) (acyclic : IsAcyclic us
       rw (keys_of-append others interfaces) (subst (λ l. Contains (keys_of others ++ keys_of interfaces) l) e.1.1 (elim (cases_Bool (is_interface e.0)) [
         | inl yes_it_is ↦
             let root : Contains (filter is_interface exports) e.0 = Contains-filtered is_interface exports e.0 e.1.0 yes_it_is in
-            let walk_of : Entry → List Entry = entry_post_order types (inner types uses acyclic imports exports listed) inherited_by_export (λ item. item) in
             let among : Contains (walked types uses acyclic imports exports listed) e.0 =
-            Contains-flat_map walk_of (filter is_interface exports) e.0 e.0 root (Contains-append_right _ (e.0 ∷ []) e.0 (Contains-here e.0 [])) in
+            Contains-flat_map (export_with_needs uses (is_exported exports)) (filter is_interface exports) e.0 e.0 root (Contains-append_right _ (e.0 ∷ []) e.0 (Contains-here e.0 [])) in
             Contains-append_right (keys_of others) (keys_of interfaces) e.0.0 (fresh_entries_all [] (walked types uses acyclic imports exports listed) e.0 among)
         | inr other ↦
             Contains-append_left (keys_of others) (keys_of interfaces) e.0.0 (keys-Contains others e.0 (Contains-filtered (λ (f : Entry). not (is_interface f)) exports e.0 e.1.0 (ap not other)))
@@ -122,7 +122,7 @@ pub elaborated_once : ElaboratedOnce
 elaborated_once types uses old new acyclic listed is =
     let order = in_order types (length uses) old.imports old.exports listed in
     let imports_are : new.imports ≡ elaborated_imports types uses old.imports old.exports = ap (λ (w : World). w.imports) is.world_is in
-    let exports_are : new.exports ≡ elaborated_exports types uses old.exports = ap (λ (w : World). w.exports) is.world_is in
+    let exports_are : new.exports ≡ elaborated_exports uses old.exports = ap (λ (w : World). w.exports) is.world_is in
     let post_orders : List Entry = from_imports types uses acyclic old.imports old.exports order ++ from_exports types uses acyclic old.imports old.exports order in (
       subst (λ (es : List Entry). HasDistinctKeys es) (sym imports_are) (AllNew-distinct _ [] (by_class-new types (fresh_entries [] post_orders) (fresh_entries-AllNew [] post_orders)).new),
       λ distinct. subst (λ (es : List Entry). HasDistinctKeys es) (sym exports_are)
@@ -132,7 +132,7 @@ elaborated_once types uses old new acyclic listed is =
 pub export_keys_stay : ExportKeysStay
 export_keys_stay types uses old new k acyclic listed is =
     let order = in_order types (length uses) old.imports old.exports listed in
-    let exports_are : new.exports ≡ elaborated_exports types uses old.exports = ap (λ (w : World). w.exports) is.world_is in (
+    let exports_are : new.exports ≡ elaborated_exports uses old.exports = ap (λ (w : World). w.exports) is.world_is in (
       λ has. key_before types uses acyclic old.imports old.exports order k (subst (λ es. Contains (keys_of es) k) exports_are has),
       λ has. subst (λ es. Contains (keys_of es) k) (sym exports_are) (key_after types uses acyclic old.imports old.exports order k has),
     )

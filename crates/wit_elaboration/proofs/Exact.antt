@@ -1,28 +1,27 @@
 -- The imports are exactly what paths define, whatever the order of the entries.
-use Rattle.std.proofs.Common.{◌≡◌, ℕ, zero, suc, ◌<◌, Bool, false, cond, ◌⊎◌, inl, inr, List, [], ◌∷◌, ◌++◌, map, length, refl, sym, ap, subst, ◌∙◌, arith, Contains}
-use Rattle.std.proofs.lemmas.Bool.{false≢true, cond-false, cond_both}
+use Rattle.std.proofs.Common.{◌≡◌, ℕ, ◌<◌, ◌⊎◌, inl, inr, List, [], ◌∷◌, ◌++◌, map, length, refl, sym, ap, subst, ◌∙◌, Contains}
 use Rattle.std.proofs.lemmas.List.Elements.{Contains-append_cases, Contains-append_left, Contains-append_right, All-contains}
 use Rattle.wit_data.specs.declared.types.TypeDef.{TypeDef}
 use Rattle.wit_data.specs.declared.world.WorldItem.{WorldItem}
 use Rattle.wit_data.specs.declared.world.WorldKey.{WorldKey}
 use Rattle.wit_data.specs.declared.world.WorldItem.TheVariants as item
 use Rattle.wit_data.specs.declared.world.WorldKey.TheVariants.{Name, Interface}
-use Rattle.wit_digraph.specs.facts.FreshFacts.{any_from_contains, no_any_from}
 use Rattle.wit_digraph.specs.facts.MemberFacts.{Contains-nil, Contains-here, Contains-cons_cases, Contains-flat_map, Contains-flat_map_cases}
 use Rattle.wit_digraph.specs.facts.PostOrderFacts.{Reaches-from_post_order, post_order-from_IsPath}
 use Rattle.wit_digraph.specs.Relation.{direct, IsPath, Reaches, IsAcyclic}
 use Rattle.wit_digraph.specs.PostOrder.{post_order}
 use Rattle.wit_elaboration.specs.Entries.{Entry, Role, Instance, TypeUse, TypeDefinition, FreeFunction, ResourceFunction, role_of, item_interface, key_interface, keyed_interfaces, by_class}
-use Rattle.wit_elaboration.specs.Elaborated.{dependency_of, dependencies_before, inherited_by_import, inherited_by_export, without_span, import_with_needs, import_steps_within, import_steps, export_imports}
-use Rattle.wit_elaboration.specs.Imported.{is_exported}
+use Rattle.wit_elaboration.specs.Elaborated.{dependency_of, dependencies_before, inherited_by_import, inherited_by_export, without_span, import_with_needs, export_needs}
+use Rattle.wit_elaboration.specs.Imported.{HasTransitiveConflict}
 use Rattle.wit_elaboration.specs.laws.Imports.{Needed, roots_of, IsImported}
 use Rattle.wit_elaboration.specs.Sound.{IsRoleInRange}
 use Rattle.wit_elaboration.specs.facts.Classes.{by_class_in, in_by_class}
-use Rattle.wit_elaboration.proofs.ExportedUses.{key_here, exported_entry, id_inj}
+use Rattle.wit_elaboration.proofs.ElaboratedIs.{own_keys}
+use Rattle.wit_elaboration.proofs.ExportedKeys.{key_here, id_inj}
 use Rattle.wit_elaboration.specs.facts.FreshEntries.{Contains-keys, Contains-deps, deps-Contains, fresh_entries_in, fresh_entries_all}
-use Rattle.wit_elaboration.proofs.ImportsAgain.{from_imports, from_exports, all_imports, export_import}
-use Rattle.wit_elaboration.proofs.Roles.{InOrder, instance_from_role, role_from_instance}
-use Rattle.wit_elaboration.specs.steps.Parts.{exported_interfaces}
+use Rattle.wit_elaboration.proofs.ImportsAgain.{from_imports, from_exports, all_imports, export_import, import_export, outside}
+use Rattle.wit_elaboration.proofs.Needs.{needed_off, outside_needed, reached_uses}
+use Rattle.wit_elaboration.proofs.Roles.{InOrder, role_from_instance}
 
 -- what an import's walk lists is reached from its roots
 needs_reached : (uses : List (List ℕ)) → IsAcyclic uses → (key : WorldKey) (role : Role) (j : ℕ) → IsRoleInRange (length uses) role → ((i : ℕ) → key ≡ Interface i → role ≡ Instance i) →
@@ -79,33 +78,6 @@ module _ (types : List TypeDef) where
       let inside' : IsRoleInRange interfaces (Instance x) = subst (λ r. IsRoleInRange interfaces r) role inside in
       inside'
 
-  -- what the steps of an exported interface import is needed outside
-  steps_needed : (uses : List (List ℕ)) → IsAcyclic uses → (exports : List Entry) → ((e : Entry) (i : ℕ) → Contains exports e → e.0 ≡ Interface i → (role_of types e.1) ≡ Instance i) →
-      (members i j : ℕ) → Contains (exported_interfaces exports) i → Contains (import_steps_within uses (is_exported exports) members i) j → Needed uses exports j
-  unfolding import_steps_within
-  steps_needed uses acyclic exports own zero i j exported has = absurd (Contains-nil has)
-  steps_needed uses acyclic exports own (suc members) i j exported has =
-      let part = Contains-flat_map_cases (λ k. cond (is_exported exports k) (import_steps_within uses (is_exported exports) members k) (post_order uses k)) (direct uses i) j has in
-      cond_both (is_exported exports part.0) (import_steps_within uses (is_exported exports) members part.0) (post_order uses part.0) (λ xs. Contains xs j → Needed uses exports j)
-      (λ on there.
-      let e = exported_entry exports part.0 on in
-      steps_needed uses acyclic exports own members part.0 j
-      (Contains-flat_map (λ (e : Entry). item_interface e.1) exports e.0 part.0 e.1.0 (subst (λ xs. Contains xs part.0) (sym (instance_from_role types e.0.1 part.0 (own e.0 part.0 e.1.0 e.1.1))) (Contains-here part.0 []))) there)
-      (λ off there. (i, part.0, exported, part.1.0, λ has'. false≢true (sym off ∙ any_from_contains part.0 _ has'), Reaches-from_post_order uses acyclic part.0 (All-contains (λ x. x < length uses) (direct uses i) part.0 (acyclic.in_range i) part.1.0) j there))
-      part.1.1
-
-  -- and what is needed outside is in the steps of the exported interface that uses it
-  needed_steps : (uses : List (List ℕ)) → IsAcyclic uses → (exported : ℕ → Bool) (x d j : ℕ) → x < length uses → Contains (direct uses x) d → exported d ≡ false → Reaches uses d j → Contains (import_steps uses exported x) j
-  unfolding import_steps_within import_steps
-  needed_steps uses acyclic exported x d j inside among off reached = within (length uses) (omega arith)
-    where
-      within : (n : ℕ) → 0 < n → Contains (import_steps_within uses exported n x) j
-      within zero some = absurd (omega arith)
-      within (suc n) some =
-          Contains-flat_map (λ k. cond (exported k) (import_steps_within uses exported n k) (post_order uses k)) (direct uses x) d j among
-          (rw (cond-false (exported d) (import_steps_within uses exported n d) (post_order uses d) off)
-          (post_order-from_IsPath uses acyclic d reached.0 j (All-contains (λ y. y < length uses) (direct uses x) d (acyclic.in_range x) among) reached.1))
-
   module _ (uses : List (List ℕ)) (acyclic : IsAcyclic uses) (imports exports : List Entry) (listed : InOrder types (length uses) imports exports) where
     abbrev made : List Entry
     made = all_imports types uses acyclic imports exports listed
@@ -115,10 +87,6 @@ module _ (types : List TypeDef) where
 
     own_root : (e : Entry) (j : ℕ) → e.0 ≡ Interface j → (role_of types e.1) ≡ Instance j → Contains (roots_of uses e.0 (role_of types e.1)) j
     own_root e j key item = rw (key, item) (Contains-here j [])
-
-    steps_of : (i k : ℕ) → Contains (exported_interfaces exports) i → Contains (import_steps uses (is_exported exports) i) k → Needed uses exports k
-    unfolding import_steps
-    steps_of i k exported has = steps_needed uses acyclic exports (λ e i. listed.own_exports e i) (length uses) i k exported has
 
     pub exact_to : (j : ℕ) → Contains (keyed_interfaces (by_class types made)) j → IsImported types uses imports exports j
     exact_to j has =
@@ -141,10 +109,11 @@ module _ (types : List TypeDef) where
                 ]
               ]
           | inr of_export ↦
-              let part = Contains-flat_map_cases (export_imports uses (is_exported exports)) exports at.0 of_export in
+              let part = Contains-flat_map_cases (export_needs uses (outside types uses acyclic imports exports listed)) exports at.0 of_export in
               let dep = export_import types uses acyclic imports exports listed part.0 at.0 part.1.1 in
-              let same : dep.1 ≡ j = id_inj (ap (λ (z : Entry). z.0) dep.4 ∙ key) in
-              inl (steps_of dep.0 j (Contains-flat_map (λ (e : Entry). item_interface e.1) exports part.0 dep.0 part.1.0 dep.2) (subst (λ x. Contains (import_steps uses (is_exported exports) dep.0) x) same dep.3))
+              let exported = Contains-flat_map (λ (e : Entry). item_interface e.1) exports part.0 dep.0 part.1.0 dep.2 in
+              let same : dep.1 ≡ j = id_inj (ap (λ (z : Entry). z.0) dep.5 ∙ key) in
+              inl (subst (Needed uses exports) same (outside_needed uses acyclic exports (own_keys types uses acyclic imports exports listed) dep.0 dep.1 exported dep.3 dep.4))
         ]
 
     listed_id : (e : Entry) (j : ℕ) → Contains (from_imports types uses acyclic imports exports listed ++ from_exports types uses acyclic imports exports listed) e → e.0 ≡ Interface j → Contains (keyed_interfaces (by_class types made)) j
@@ -152,17 +121,16 @@ module _ (types : List TypeDef) where
         let at = Contains-keys made e.0 (fresh_entries_all [] (from_imports types uses acyclic imports exports listed ++ from_exports types uses acyclic imports exports listed) e has) in
         Contains-flat_map (λ (e : Entry). key_interface e.0) (by_class types made) at.0 j (in_by_class types made at.0 at.1.0) (subst (λ k. Contains (key_interface k) j) (sym (at.1.1 ∙ key)) (Contains-here j []))
 
-    pub exact_from : (j : ℕ) → IsImported types uses imports exports j → Contains (keyed_interfaces (by_class types made)) j
-    exact_from j (inl need) =
+    pub exact_from : (HasTransitiveConflict uses exports → ⊥) → (j : ℕ) → IsImported types uses imports exports j → Contains (keyed_interfaces (by_class types made)) j
+    exact_from no_conflict j (inl need) =
         let part = Contains-flat_map_cases (λ (e : Entry). item_interface e.1) exports need.0 need.2 in
-        let inside = instance_below (length uses) part.0 need.0 part.1.1 (listed.exports_in_range part.0 part.1.0) in
-        let step = needed_steps uses acyclic (is_exported exports) need.0 need.1 j inside need.3 (no_any_from need.1 _ need.4) need.5 in
-        listed_id (dependency_of (inherited_by_export part.0.1) j) j
-        (Contains-append_right (from_imports types uses acyclic imports exports listed) (from_exports types uses acyclic imports exports listed) (dependency_of (inherited_by_export part.0.1) j)
-        (Contains-flat_map (export_imports uses (is_exported exports)) exports part.0 (dependency_of (inherited_by_export part.0.1) j) part.1.0
-        (Contains-flat_map (λ i. map (dependency_of (inherited_by_export part.0.1)) (import_steps uses (is_exported exports) i)) (item_interface part.0.1) need.0 (dependency_of (inherited_by_export part.0.1) j) part.1.1
-        (deps-Contains (inherited_by_export part.0.1) (import_steps uses (is_exported exports) need.0) j step)))) refl
-    exact_from j (inr need) =
+        let off = needed_off uses acyclic exports (own_keys types uses acyclic imports exports listed) no_conflict j need in
+        let made_of : Entry = dependency_of (inherited_by_export part.0.1) j in
+        listed_id made_of j
+        (Contains-append_right (from_imports types uses acyclic imports exports listed) (from_exports types uses acyclic imports exports listed) made_of
+        (Contains-flat_map (export_needs uses (outside types uses acyclic imports exports listed)) exports part.0 made_of part.1.0
+        (import_export types uses acyclic imports exports listed part.0 need.0 j part.1.1 (reached_uses uses acyclic need.0 need.1 j need.3 need.5) off))) refl
+    exact_from no_conflict j (inr need) =
         let part = Contains-flat_map_cases (λ (e : Entry). roots_of uses e.0 (role_of types e.1)) imports need.0 need.1 in
         let root = in_by_class types imports part.0 part.1.0 in
         let left = from_imports types uses acyclic imports exports listed in

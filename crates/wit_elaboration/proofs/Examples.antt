@@ -11,7 +11,7 @@ use Rattle.wit_data.specs.Uses.{uses_of}
 use Rattle.wit_names.specs.declared.package_name.PackageName.{PackageName}
 use Rattle.wit_data.specs.declared.world.World.{World}
 use Rattle.wit_elaboration.proofs.EachLemmas.{EachAt-nil, EachAt-one, EachAt-two, HasDistinctKeys-nil, HasDistinctKeys-one, HasDistinctKeys-two, differ_by_test, none_in}
-use Rattle.wit_elaboration.specs.Elaborated.{Elaborated, import_steps, import_steps_within}
+use Rattle.wit_elaboration.specs.Elaborated.{Elaborated}
 use Rattle.wit_elaboration.specs.Entries.{keyed_interfaces}
 use Rattle.wit_elaboration.specs.examples.Examples.{ExamplesOfValidity, empty_graph}
 use Rattle.wit_graph_data.specs.examples.Samples.{entry_of, foo_bar, foo_bar_of, interface_of, labelled_entry, sample, sample_interfaces, sample_types, world_of}
@@ -136,7 +136,7 @@ small_worlds = record {
 }
 
 small_canonical : Elaborated sample_types (uses_of sample_types sample_interfaces) (world_of (codes "w") (entry_of 0 ∷ entry_of 1 ∷ []) []) (world_of (codes "w") (entry_of 0 ∷ entry_of 1 ∷ []) [])
-unfolding post_order post_order_within import_steps import_steps_within
+unfolding post_order post_order_within
 small_canonical = record {
   no_conflict = λ conflict. none_in conflict.0 conflict.2;
   world_is = refl;
@@ -168,13 +168,13 @@ small = record {
 -- ---- near misses
 
 not_closed : IsValid (sample (entry_of 1 ∷ []) []) → ⊥
-unfolding post_order post_order_within import_steps import_steps_within
+unfolding post_order post_order_within
 not_closed valid =
     let longer : 1 ≡ 2 = ap (λ (w : World). length w.imports) (valid.canonical 0 (world_of (codes "w") (entry_of 1 ∷ []) []) refl).world_is in
     absurd (omega (arith, longer))
 
 user_first : IsValid (sample (entry_of 1 ∷ entry_of 0 ∷ []) []) → ⊥
-unfolding post_order post_order_within import_steps import_steps_within
+unfolding post_order post_order_within
 user_first valid =
     let other : 1 ≡ 0 = ap (λ (w : World). slice_index (keyed_interfaces w.imports) 0) (valid.canonical 0 (world_of (codes "w") (entry_of 1 ∷ entry_of 0 ∷ []) []) refl).world_is in
     absurd (omega (arith, other))

@@ -1,6 +1,5 @@
 -- One step of the exports.
 use Rattle.std.proofs.Common.{◌≡◌, ℕ, Bool, true, false, not, inl, inr, List, [], ◌∷◌, ◌++◌, map, filter, drop, length, refl, ap, ◌∙◌, subst, Contains}
-use Rattle.std.specs.List.{flat_map}
 use Rattle.std.specs.Map.{keys_of}
 use Rattle.std.proofs.lemmas.Bool.{false≢true}
 use Rattle.std.proofs.lemmas.List.{append-nil, drop_at}
@@ -10,8 +9,9 @@ use Rattle.wit_data.specs.declared.world.WorldItem.TheVariants as item
 use Rattle.wit_data.specs.declared.world.WorldKey.TheVariants.{Interface}
 use Rattle.wit_digraph.specs.facts.FreshFacts.{fresh_in}
 use Rattle.wit_digraph.specs.PostOrder.{Listed, fresh}
-use Rattle.wit_elaboration.specs.Elaborated.{InheritedData, dependencies_before, dependency_of, inherited_by_export}
-use Rattle.wit_elaboration.specs.steps.Elaborating.{IsPostOrder, IsExporting, walked_exports, walked_imports}
+use Rattle.wit_elaboration.specs.Elaborated.{InheritedData, dependencies_before, dependency_of, export_needs, inherited_by_export}
+use Rattle.wit_elaboration.specs.steps.Elaborating.{IsPostOrder, IsExporting}
+use Rattle.wit_elaboration.specs.steps.Parts.{export_with_needs, interface_needs}
 use Rattle.wit_elaboration.specs.Entries.{Entry, Instance, item_interface, is_instance, fresh_entries}
 use Rattle.wit_elaboration.specs.facts.Filters.{Contains-filtered}
 use Rattle.wit_elaboration.specs.facts.FreshEntries.{fresh_entries-next, fresh_entries-filter, dependency_added, key_stays}
@@ -74,11 +74,11 @@ instance_is (item.Type_ id span) i gives = cc
 
 -- what an entry adds
 module _ (uses : List (List ℕ)) (exported : ℕ → Bool) (e : Entry) where
-  needed_is : (i : ℕ) → i ∷ [] ≡ item_interface e.1 → dependencies_before uses (Instance i) ≡ flat_map (λ j. dependencies_before uses (Instance j)) (item_interface e.1)
+  needed_is : (i : ℕ) → i ∷ [] ≡ item_interface e.1 → dependencies_before uses (Instance i) ≡ interface_needs uses e
   needed_is i gives = rw (← gives, append-nil (dependencies_before uses (Instance i))) refl
 
-  pub exports_of : (i : ℕ) → i ∷ [] ≡ item_interface e.1 → map (dependency_of (inherited_by_export e.1)) (filter exported (dependencies_before uses (Instance i))) ++ e ∷ [] ≡ walked_exports uses exported e
+  pub exports_of : (i : ℕ) → i ∷ [] ≡ item_interface e.1 → map (dependency_of (inherited_by_export e.1)) (filter exported (dependencies_before uses (Instance i))) ++ e ∷ [] ≡ export_with_needs uses exported e
   exports_of i gives = ap (λ (xs : List ℕ). map (dependency_of (inherited_by_export e.1)) (filter exported xs) ++ e ∷ []) (needed_is i gives)
 
-  pub imports_of : (i : ℕ) → i ∷ [] ≡ item_interface e.1 → map (dependency_of (inherited_by_export e.1)) (filter (λ j. not (exported j)) (dependencies_before uses (Instance i))) ≡ walked_imports uses exported e
+  pub imports_of : (i : ℕ) → i ∷ [] ≡ item_interface e.1 → map (dependency_of (inherited_by_export e.1)) (filter (λ j. not (exported j)) (dependencies_before uses (Instance i))) ≡ export_needs uses (λ j. not (exported j)) e
   imports_of i gives = ap (λ (xs : List ℕ). map (dependency_of (inherited_by_export e.1)) (filter (λ j. not (exported j)) xs)) (needed_is i gives)

@@ -1,24 +1,22 @@
 -- More interfaces, and other types that say the same of the imports, change no elaboration.
-use Rattle.std.proofs.Common.{◌≡◌, ℕ, ◌<◌, true, not, inl, inr, List, [], ◌∷◌, ◌++◌, map, filter, length, refl, sym, ap, subst, ◌∙◌, nat_eq, Contains}
+use Rattle.std.proofs.Common.{◌≡◌, ℕ, ◌<◌, Bool, not, inl, inr, List, [], ◌∷◌, ◌++◌, map, filter, length, refl, sym, ap, subst, ◌∙◌, nat_eq, Contains}
 use Rattle.std.specs.List.{flat_map}
 use Rattle.std.proofs.lemmas.List.Elements.{Contains-append_cases}
 use Rattle.wit_data.specs.declared.types.TypeDef.{TypeDef}
 use Rattle.wit_data.specs.declared.world.World.{World}
-use Rattle.wit_data.specs.declared.world.WorldItem.{WorldItem}
-use Rattle.wit_data.specs.declared.world.WorldItem.TheVariants as item
 use Rattle.wit_digraph.specs.facts.MemberFacts.{Contains-nil, Contains-cons_cases, Contains-flat_map_cases, flat_map-same}
 use Rattle.wit_digraph.specs.Relation.{direct, IsAcyclic}
-use Rattle.wit_elaboration.specs.Entries.{Entry, role_of, item_interface, is_instance, elaboration_class, by_class, fresh_entries}
-use Rattle.wit_elaboration.specs.Elaborated.{InheritedData, dependency_of, dependencies_before, inherited_by_import, inherited_by_export, without_span, import_with_needs, export_imports, export_with_needs, import_steps, elaborated_imports, elaborated_exports}
+use Rattle.wit_elaboration.specs.Entries.{Entry, role_of, item_interface, elaboration_class, by_class, fresh_entries}
+use Rattle.wit_elaboration.specs.Elaborated.{InheritedData, dependency_of, dependencies_before, inherited_by_import, inherited_by_export, without_span, import_with_needs, export_needs, elaborated_imports, elaborated_exports}
 use Rattle.wit_elaboration.specs.Imported.{HasTransitiveConflict, is_exported}
 use Rattle.wit_elaboration.specs.laws.KeptByElaboration.{ElaborationIsLocal, SameRoles, SameInheritedData}
 use Rattle.wit_elaboration.specs.facts.Classes.{by_class_in}
 use Rattle.wit_elaboration.proofs.Exact.{instance_below}
 use Rattle.wit_elaboration.specs.facts.Filters.{Contains-filter, filter-same}
 use Rattle.wit_elaboration.specs.facts.FreshEntries.{Contains-deps, fresh_entries_in}
-use Rattle.wit_elaboration.proofs.GrowingUses.{direct-left, used_below, IsPath-left, dependencies_before-left, import_steps-left, exported_needs-left}
+use Rattle.wit_elaboration.proofs.GrowingUses.{direct-left, used_below, IsPath-left, dependencies_before-left, interface_needs-left}
 use Rattle.wit_elaboration.proofs.Roles.{InOrder, in_order, role_of-without_span}
-use Rattle.wit_elaboration.specs.steps.Parts.{of_class, exported_uses, is_interface}
+use Rattle.wit_elaboration.specs.steps.Parts.{of_class, export_with_needs, interface_needs, is_interface}
 
 module _ (types wider : List TypeDef) where
   -- ---- classes
@@ -30,12 +28,6 @@ module _ (types wider : List TypeDef) where
 
   pub by_class-same : (es : List Entry) → SameRoles types wider es → by_class types es ≡ by_class wider es
   by_class-same es same = flat_map-same (λ c. of_class types c es) (λ c. of_class wider c es) (0 ∷ 1 ∷ 2 ∷ 3 ∷ 4 ∷ []) (λ c has. of_class-same es same c)
-
-  -- an interface has its role over all types
-  instance-same : (x : WorldItem) → is_instance x ≡ true → role_of types x ≡ role_of wider x
-  instance-same (item.Interface i stability docs span external_id) is = refl
-  instance-same (item.Function function) is = cc
-  instance-same (item.Type_ id span) is = cc
 
   module _ (uses rows : List (List ℕ)) (acyclic : IsAcyclic uses) (grown : IsAcyclic (uses ++ rows)) (imports exports : List Entry) (listed : InOrder types (length uses) imports exports) where
     -- ---- conflicts
@@ -52,6 +44,17 @@ module _ (types wider : List TypeDef) where
         let path = IsPath-left uses acyclic rows conflict.1 between.2.0 between.1 (used_below uses acyclic conflict.0 conflict.1 among) between.2.1 in
         (conflict.0, conflict.1, conflict.2, among, (between.0, between.1, (between.2.0, path), between.3))
 
+    -- ---- what an export needs
+
+    needs-same : (e : Entry) → Contains exports e → interface_needs uses e ≡ interface_needs (uses ++ rows) e
+    needs-same e has = sym (interface_needs-left uses acyclic rows grown e (λ i among. instance_below types (length uses) e i among (listed.exports_in_range e has)))
+
+    export_needs-same : (picks : ℕ → Bool) (e : Entry) → Contains exports e → export_needs uses picks e ≡ export_needs (uses ++ rows) picks e
+    export_needs-same picks e has = ap (λ (js : List ℕ). map (dependency_of (inherited_by_export e.1)) (filter picks js)) (needs-same e has)
+
+    abbrev outside : ℕ → Bool
+    outside j = not (is_exported exports j)
+
     -- ---- imports
 
     module _ (roles : SameRoles types wider imports) (carried : SameInheritedData types wider imports) where
@@ -60,11 +63,6 @@ module _ (types wider : List TypeDef) where
           ap (λ (s : InheritedData). map (dependency_of s) (dependencies_before uses (role_of types e.1)) ++ (e.0, without_span e.1) ∷ []) (carried e has)
           ∙ ap (λ (js : List ℕ). map (dependency_of (inherited_by_import wider e.1)) js ++ (e.0, without_span e.1) ∷ [])
           (sym (dependencies_before-left uses acyclic rows grown (role_of types e.1) (listed.imports_in_range e has)) ∙ ap (dependencies_before (uses ++ rows)) (roles e has))
-
-      export_imports-same : (e : Entry) → Contains exports e → export_imports uses (is_exported exports) e ≡ export_imports (uses ++ rows) (is_exported exports) e
-      export_imports-same e has =
-          flat_map-same (λ i. map (dependency_of (inherited_by_export e.1)) (import_steps uses (is_exported exports) i)) (λ i. map (dependency_of (inherited_by_export e.1)) (import_steps (uses ++ rows) (is_exported exports) i)) (item_interface e.1)
-          (λ i among. ap (map (dependency_of (inherited_by_export e.1))) (sym (import_steps-left uses acyclic rows grown (is_exported exports) i (instance_below types (length uses) e i among (listed.exports_in_range e has)))))
 
       -- what is made has the same role too
       walk_roles : (e : Entry) → Contains imports e → SameRoles types wider (import_with_needs types uses e)
@@ -78,23 +76,22 @@ module _ (types wider : List TypeDef) where
             ]
           ]
 
-      export_roles : (e : Entry) → SameRoles types wider (export_imports uses (is_exported exports) e)
+      export_roles : (e : Entry) → SameRoles types wider (export_needs uses outside e)
       export_roles e f there =
-          let part = Contains-flat_map_cases (λ i. map (dependency_of (inherited_by_export e.1)) (import_steps uses (is_exported exports) i)) (item_interface e.1) f there in
-          let dep = Contains-deps (inherited_by_export e.1) (import_steps uses (is_exported exports) part.0) f part.1.1 in
+          let dep = Contains-deps (inherited_by_export e.1) (filter outside (interface_needs uses e)) f there in
           subst (λ (z : Entry). role_of types z.1 ≡ role_of wider z.1) dep.1.1 refl
 
       abbrev before : List Entry
-      before = flat_map (import_with_needs types uses) (by_class types imports) ++ flat_map (export_imports uses (is_exported exports)) exports
+      before = flat_map (import_with_needs types uses) (by_class types imports) ++ flat_map (export_needs uses outside) exports
 
       before_roles : SameRoles types wider (fresh_entries [] before)
       before_roles f has =
-          elim (Contains-append_cases (flat_map (import_with_needs types uses) (by_class types imports)) (flat_map (export_imports uses (is_exported exports)) exports) f (fresh_entries_in [] before f has)) [
+          elim (Contains-append_cases (flat_map (import_with_needs types uses) (by_class types imports)) (flat_map (export_needs uses outside) exports) f (fresh_entries_in [] before f has)) [
             | inl of_import ↦
                 let part = Contains-flat_map_cases (import_with_needs types uses) (by_class types imports) f of_import in
                 walk_roles part.0 (by_class_in types imports part.0 part.1.0) f part.1.1
             | inr of_export ↦
-                let part = Contains-flat_map_cases (export_imports uses (is_exported exports)) exports f of_export in
+                let part = Contains-flat_map_cases (export_needs uses outside) exports f of_export in
                 export_roles part.0 f part.1.1
           ]
 
@@ -103,28 +100,22 @@ module _ (types wider : List TypeDef) where
           flat_map-same (import_with_needs types uses) (import_with_needs wider (uses ++ rows)) (by_class types imports) (λ e has. import_with_needs-same e (by_class_in types imports e has))
           ∙ ap (flat_map (import_with_needs wider (uses ++ rows))) (by_class-same imports roles)
 
-      steps_same : flat_map (export_imports uses (is_exported exports)) exports ≡ flat_map (export_imports (uses ++ rows) (is_exported exports)) exports
-      steps_same = flat_map-same (export_imports uses (is_exported exports)) (export_imports (uses ++ rows) (is_exported exports)) exports export_imports-same
+      all_needs_same : flat_map (export_needs uses outside) exports ≡ flat_map (export_needs (uses ++ rows) outside) exports
+      all_needs_same = flat_map-same (export_needs uses outside) (export_needs (uses ++ rows) outside) exports (export_needs-same outside)
 
       pub imports_local : elaborated_imports types uses imports exports ≡ elaborated_imports wider (uses ++ rows) imports exports
       imports_local =
           by_class-same (fresh_entries [] before) before_roles
-          ∙ ap (λ (es : List Entry). by_class wider (fresh_entries [] (es ++ flat_map (export_imports uses (is_exported exports)) exports))) walks_same
-          ∙ ap (λ (es : List Entry). by_class wider (fresh_entries [] (flat_map (import_with_needs wider (uses ++ rows)) (by_class wider imports) ++ es))) steps_same
+          ∙ ap (λ (es : List Entry). by_class wider (fresh_entries [] (es ++ flat_map (export_needs uses outside) exports))) walks_same
+          ∙ ap (λ (es : List Entry). by_class wider (fresh_entries [] (flat_map (import_with_needs wider (uses ++ rows)) (by_class wider imports) ++ es))) all_needs_same
 
     -- ---- exports
 
-    export_with_needs-same : (e : Entry) → Contains (filter is_interface exports) e → export_with_needs types uses (is_exported exports) e ≡ export_with_needs wider (uses ++ rows) (is_exported exports) e
-    export_with_needs-same e has =
-        let part = Contains-filter is_interface exports e has in
-        ap (λ (js : List ℕ). map (dependency_of (inherited_by_export e.1)) js ++ (e.0, e.1) ∷ [])
-        (sym (exported_needs-left (is_exported exports) uses acyclic rows grown (role_of types e.1) (listed.exports_in_range e part.0))
-        ∙ ap (dependencies_before (exported_uses (is_exported exports) (uses ++ rows))) (instance-same e.1 part.1))
-
-    pub exports_local : elaborated_exports types uses exports ≡ elaborated_exports wider (uses ++ rows) exports
+    pub exports_local : elaborated_exports uses exports ≡ elaborated_exports (uses ++ rows) exports
     exports_local =
         ap (λ (es : List Entry). filter (λ (e : Entry). not (is_interface e)) exports ++ fresh_entries [] es)
-        (flat_map-same (export_with_needs types uses (is_exported exports)) (export_with_needs wider (uses ++ rows) (is_exported exports)) (filter is_interface exports) export_with_needs-same)
+        (flat_map-same (export_with_needs uses (is_exported exports)) (export_with_needs (uses ++ rows) (is_exported exports)) (filter is_interface exports)
+        (λ e has. ap (λ (es : List Entry). es ++ e ∷ []) (export_needs-same (is_exported exports) e (Contains-filter is_interface exports e has).0)))
 
 lists_same : (w : World) {i i' x x' : List Entry} → i ≡ i' → x ≡ x' → (let v : World = record w { imports = i; exports = x } in v) ≡ record w { imports = i'; exports = x' }
 lists_same w p q = cc

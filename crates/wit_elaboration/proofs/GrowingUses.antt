@@ -1,18 +1,15 @@
 -- Rows that are added after those of acyclic uses change nothing of what the old nodes reach.
-use Rattle.std.proofs.Common.{◌≡◌, ℕ, zero, suc, ◌<◌, Bool, cond, List, [], ◌∷◌, ◌++◌, filter, length, length-append, refl, sym, ap, subst, ◌∙◌, arith, Contains}
+use Rattle.std.proofs.Common.{◌≡◌, ℕ, zero, suc, ◌<◌, List, [], ◌∷◌, ◌++◌, length, length-append, refl, sym, ap, subst, ◌∙◌, arith, Contains}
 use Rattle.std.specs.List.{flat_map}
-use Rattle.std.proofs.lemmas.List.{length-map, map-append}
 use Rattle.std.proofs.lemmas.List.Elements.{All-contains}
 use Rattle.wit_digraph.specs.facts.MemberFacts.{flat_map-same}
 use Rattle.wit_digraph.specs.facts.PostOrderFacts.{post_order_is, uses_ind}
 use Rattle.wit_digraph.specs.Relation.{direct, IsPath, IsAcyclic}
 use Rattle.wit_digraph.specs.PostOrder.{post_order}
-use Rattle.wit_elaboration.specs.Elaborated.{dependencies_before, import_steps}
-use Rattle.wit_elaboration.specs.Entries.{Role, Instance, TypeUse, TypeDefinition, FreeFunction, ResourceFunction}
+use Rattle.wit_elaboration.specs.Elaborated.{dependencies_before}
+use Rattle.wit_elaboration.specs.Entries.{Entry, item_interface, Role, Instance, TypeUse, TypeDefinition, FreeFunction, ResourceFunction}
 use Rattle.wit_elaboration.specs.Sound.{IsRoleInRange}
-use Rattle.wit_elaboration.proofs.ExportedUses.{among-acyclic}
-use Rattle.wit_elaboration.proofs.Steps.{steps_are}
-use Rattle.wit_elaboration.specs.steps.Parts.{exported_uses}
+use Rattle.wit_elaboration.specs.steps.Parts.{interface_needs}
 
 pub direct-left : (uses rows : List (List ℕ)) (i : ℕ) → i < length uses → direct (uses ++ rows) i ≡ direct uses i
 direct-left [] rows i here = absurd (omega (arith, here))
@@ -51,26 +48,6 @@ module _ (uses : List (List ℕ)) (acyclic : IsAcyclic uses) where
   dependencies_before-left rows wider FreeFunction inside = refl
   dependencies_before-left rows wider ResourceFunction inside = refl
 
-  pub import_steps-left : (rows : List (List ℕ)) → IsAcyclic (uses ++ rows) → (exported : ℕ → Bool) (i : ℕ) → i < length uses → import_steps (uses ++ rows) exported i ≡ import_steps uses exported i
-  import_steps-left rows wider exported =
-      uses_ind uses acyclic (λ i. import_steps (uses ++ rows) exported i ≡ import_steps uses exported i)
-      (λ i here below.
-      let old : ℕ → List ℕ = λ j. cond (exported j) (import_steps uses exported j) (post_order uses j) in
-      let new : ℕ → List ℕ = λ j. cond (exported j) (import_steps (uses ++ rows) exported j) (post_order (uses ++ rows) j) in
-      steps_are (uses ++ rows) wider exported i (below-left uses rows i here)
-      ∙ ap (λ ks. flat_map new ks) (direct-left uses rows i here)
-      ∙ flat_map-same new old (direct uses i) (λ j among. rw (below j among, post_order-left rows wider j (used_below i j among)) refl)
-      ∙ sym (steps_are uses acyclic exported i here))
-
--- the uses of exported interfaces alone
-module _ (exported : ℕ → Bool) where
-  uses_parted : (uses rows : List (List ℕ)) → exported_uses exported (uses ++ rows) ≡ exported_uses exported uses ++ exported_uses exported rows
-  uses_parted uses rows = map-append (filter exported) uses rows
-
-  pub exported_needs-left : (uses : List (List ℕ)) → IsAcyclic uses → (rows : List (List ℕ)) → IsAcyclic (uses ++ rows) → (role : Role) → IsRoleInRange (length uses) role →
-      dependencies_before (exported_uses exported (uses ++ rows)) role ≡ dependencies_before (exported_uses exported uses) role
-  exported_needs-left uses acyclic rows wider role inside =
-      let inner : IsAcyclic (exported_uses exported uses ++ exported_uses exported rows) = subst IsAcyclic (uses_parted uses rows) (among-acyclic exported (uses ++ rows) wider) in
-      ap (λ (us : List (List ℕ)). dependencies_before us role) (uses_parted uses rows)
-      ∙ dependencies_before-left (exported_uses exported uses) (among-acyclic exported uses acyclic) (exported_uses exported rows) inner role
-      (subst (λ n. IsRoleInRange n role) (sym (length-map uses (filter exported))) inside)
+  pub interface_needs-left : (rows : List (List ℕ)) → IsAcyclic (uses ++ rows) → (e : Entry) → ((i : ℕ) → Contains (item_interface e.1) i → i < length uses) → interface_needs (uses ++ rows) e ≡ interface_needs uses e
+  interface_needs-left rows wider e inside =
+      flat_map-same (λ i. dependencies_before (uses ++ rows) (Instance i)) (λ i. dependencies_before uses (Instance i)) (item_interface e.1) (λ i has. dependencies_before-left rows wider (Instance i) (inside i has))

@@ -10,14 +10,13 @@ use Rattle.wit_data.specs.declared.world.WorldKey.{WorldKey}
 use Rattle.wit_digraph.specs.facts.MemberFacts.{Contains-nil, Contains-cons_cases, Contains-flat_map_cases, flat_map-same}
 use Rattle.wit_digraph.specs.Relation.{IsAcyclic}
 use Rattle.wit_elaboration.specs.Entries.{Entry, role_of, same_key, elaboration_class, by_class, fresh_entries}
-use Rattle.wit_elaboration.specs.Elaborated.{dependency_of, dependencies_before, inherited_by_import, import_with_needs, export_imports, elaborated_imports}
-use Rattle.wit_elaboration.specs.Imported.{is_exported}
+use Rattle.wit_elaboration.specs.Elaborated.{dependency_of, dependencies_before, inherited_by_import, import_with_needs, export_needs, elaborated_imports}
 use Rattle.wit_elaboration.specs.laws.KeptByElaboration.{LabelsStay, is_label, labelled, listed_without_span}
 use Rattle.wit_elaboration.specs.facts.Classes.{by_class-new, by_class-by_class}
 use Rattle.wit_elaboration.proofs.ElaboratedKeys.{distinct-AllNew}
 use Rattle.wit_elaboration.specs.facts.Filters.{filter-pass, filter-fail, filter-none, filter-flat_map}
 use Rattle.wit_elaboration.specs.facts.FreshEntries.{AllNew, AllNew-filter, Contains-deps, known_from_contains, contains_from_known, fresh_entries-known, fresh_entries-new, fresh_entries-all_new}
-use Rattle.wit_elaboration.proofs.ImportsAgain.{from_imports, from_exports, export_import}
+use Rattle.wit_elaboration.proofs.ImportsAgain.{from_imports, from_exports, export_import, outside}
 use Rattle.wit_elaboration.proofs.Roles.{InOrder, in_order, role_of-without_span}
 use Rattle.wit_elaboration.specs.steps.Parts.{of_class}
 
@@ -143,9 +142,9 @@ module _ (types : List TypeDef) where
 
     second_labels : labelled second ≡ []
     second_labels = filter-none has_label second (λ f has.
-        let part = Contains-flat_map_cases (export_imports uses (is_exported exports)) exports f has in
+        let part = Contains-flat_map_cases (export_needs uses (outside types uses acyclic imports exports listed)) exports f has in
         let dep = export_import types uses acyclic imports exports listed part.0 f part.1.1 in
-        subst (λ (z : Entry). is_label z.0 ≡ false) dep.4 refl)
+        subst (λ (z : Entry). is_label z.0 ≡ false) dep.5 refl)
 
     all_labels : labelled (first ++ second) ≡ map listed_without_span (labelled (by_class types imports))
     all_labels = filter-append has_label first second ∙ rw (first_labels, second_labels) (append-nil (map listed_without_span (labelled (by_class types imports))))

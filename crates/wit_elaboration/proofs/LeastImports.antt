@@ -9,12 +9,8 @@ use Rattle.wit_elaboration.specs.Elaborated.{elaborated_imports}
 use Rattle.wit_elaboration.specs.laws.Imports.{IsImported}
 use Rattle.wit_elaboration.specs.laws.KeptByElaboration.{ImportsAreLeast, HoldsImports}
 use Rattle.wit_elaboration.proofs.Exact.{exact_to, exact_from}
+use Rattle.wit_elaboration.proofs.Needs.{IsPath-push}
 use Rattle.wit_elaboration.proofs.Roles.{in_order}
-
--- one more use along a path
-IsPath-push : (uses : List (List ℕ)) (i : ℕ) (path : List ℕ) (j k : ℕ) → IsPath uses i path j → Contains (direct uses j) k → IsPath uses i (path ++ k ∷ []) k
-IsPath-push uses i [] j k same among = (subst (λ m. Contains (direct uses m) k) (sym same) among, refl)
-IsPath-push uses i (l ∷ path) j k leads among = (leads.0, IsPath-push uses l path j k leads.1 among)
 
 module _ (types : List TypeDef) (uses : List (List ℕ)) (imports exports : List Entry) where
   -- what an imported interface uses is imported
@@ -39,7 +35,7 @@ imports_are_least types uses old new acyclic listed is =
     let imported : (j : ℕ) → Contains (keyed_interfaces new.imports) j → IsImported types uses old.imports old.exports j =
     λ j has. exact_to types uses acyclic old.imports old.exports order j (subst (λ es. Contains (keyed_interfaces es) j) imports_are has) in
     let there : (j : ℕ) → IsImported types uses old.imports old.exports j → Contains (keyed_interfaces new.imports) j =
-    λ j need. subst (λ es. Contains (keyed_interfaces es) j) (sym imports_are) (exact_from types uses acyclic old.imports old.exports order j need) in (
+    λ j need. subst (λ es. Contains (keyed_interfaces es) j) (sym imports_are) (exact_from types uses acyclic old.imports old.exports order is.no_conflict j need) in (
       record {
         roots = λ r has. there r (inr (r, has, ([], refl)));
         from_outside = λ x d exported among apart. there d (inl (x, d, exported, among, apart, ([], refl)));

@@ -11,7 +11,7 @@ pub mod ElaboratedKeys
 pub mod Exact
 mod Examples
 pub mod ExportSteps
-pub mod ExportedUses
+pub mod ExportedKeys
 pub mod Exporting
 pub mod ExportsAgain
 pub mod FirstClasses
@@ -27,7 +27,8 @@ pub mod ListedAgain
 pub mod MadeEntries
 pub mod Marking
 pub mod MayConflict
-pub mod OneWalk
+pub mod Needs
+pub mod NeedsFirst
 pub mod PassMarks
 mod QueryExamples
 pub mod ReachedColumns
@@ -35,6 +36,5 @@ pub mod RefusedKeys
 pub mod Refusing
 pub mod Roles
 mod SortedClasses
-pub mod Steps
 pub mod WorldExamples
 pub mod WorldLaws

@@ -45,7 +45,7 @@ module _ (types : List TypeDef) where
         (λ e i has is. (import_fine types uses acyclic imports exports listed e (by_class_in types made e has)).own i is)
         (λ e has. (import_fine types uses acyclic imports exports listed e (by_class_in types made e has)).inside)
 
-    exports_listed : AreSound types (length uses) (elaborated_exports types uses exports)
+    exports_listed : AreSound types (length uses) (elaborated_exports uses exports)
     exports_listed =
         let others : List Entry = functions types uses acyclic imports exports listed in
         let interfaces : List Entry = kept types uses acyclic imports exports listed in
@@ -63,7 +63,7 @@ pub listed_stays : ListedStays
 listed_stays types uses old new acyclic listed is =
     let order = in_order types (length uses) old.imports old.exports listed in
     let imports_are : new.imports ≡ elaborated_imports types uses old.imports old.exports = ap (λ (w : World). w.imports) is.world_is in
-    let exports_are : new.exports ≡ elaborated_exports types uses old.exports = ap (λ (w : World). w.exports) is.world_is in
+    let exports_are : new.exports ≡ elaborated_exports uses old.exports = ap (λ (w : World). w.exports) is.world_is in
     record {
       of_imports = subst (λ es. AreSound types (length uses) es) (sym imports_are) (imports_listed types uses acyclic old.imports old.exports order);
       of_exports = subst (λ es. AreSound types (length uses) es) (sym exports_are) (exports_listed types uses acyclic old.imports old.exports order);

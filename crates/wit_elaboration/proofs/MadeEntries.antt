@@ -1,6 +1,5 @@
 -- Each elaborated entry was listed or is a dependency, and what a dependency is.
-use Rattle.std.proofs.Common.{◌≡◌, ℕ, zero, suc, ◌<◌, Bool, cond, ◌⊎◌, inl, inr, List, [], ◌∷◌, ◌++◌, map, length, not, sym, ap, subst, Contains}
-use Rattle.std.proofs.lemmas.Bool.{cond_both}
+use Rattle.std.proofs.Common.{◌≡◌, ℕ, ◌<◌, ◌⊎◌, inl, inr, List, [], ◌∷◌, ◌++◌, map, length, not, sym, ap, subst, Contains}
 use Rattle.std.proofs.lemmas.List.Elements.{Contains-append_cases, All-contains}
 use Rattle.wit_data.specs.declared.types.TypeDef.{TypeDef}
 use Rattle.wit_data.specs.declared.world.World.{World}
@@ -10,8 +9,7 @@ use Rattle.wit_digraph.specs.facts.PostOrderFacts.{Reaches-from_post_order}
 use Rattle.wit_digraph.specs.Relation.{direct, IsPath, IsAcyclic}
 use Rattle.wit_digraph.specs.PostOrder.{post_order}
 use Rattle.wit_elaboration.specs.Entries.{Entry, Role, Instance, TypeUse, TypeDefinition, FreeFunction, ResourceFunction, role_of, key_interface, by_class}
-use Rattle.wit_elaboration.specs.Elaborated.{dependency_of, dependencies_before, inherited_by_import, inherited_by_export, without_span, import_with_needs, import_steps_within, import_steps, export_imports, elaborated_imports, elaborated_exports}
-use Rattle.wit_elaboration.specs.Imported.{is_exported}
+use Rattle.wit_elaboration.specs.Elaborated.{dependency_of, dependencies_before, inherited_by_import, inherited_by_export, without_span, import_with_needs, export_needs, elaborated_imports, elaborated_exports}
 use Rattle.wit_elaboration.specs.laws.Imports.{IsImported}
 use Rattle.wit_elaboration.specs.laws.KeptByElaboration.{ElaboratedEntries, IsListedWithoutSpan, IsMadeImport, IsMadeExport}
 use Rattle.wit_elaboration.specs.Sound.{IsRoleInRange}
@@ -20,7 +18,7 @@ use Rattle.wit_elaboration.proofs.Exact.{exact_to}
 use Rattle.wit_elaboration.proofs.ExportsAgain.{functions, kept, made}
 use Rattle.wit_elaboration.specs.facts.Filters.{Contains-filter}
 use Rattle.wit_elaboration.specs.facts.FreshEntries.{Contains-deps, fresh_entries_in}
-use Rattle.wit_elaboration.proofs.ImportsAgain.{from_imports, from_exports, all_imports, export_import}
+use Rattle.wit_elaboration.proofs.ImportsAgain.{from_imports, from_exports, all_imports, export_import, outside}
 use Rattle.wit_elaboration.proofs.Roles.{InOrder, in_order}
 use Rattle.wit_elaboration.specs.steps.Parts.{is_interface, exported_keys}
 
@@ -45,28 +43,15 @@ module _ (uses : List (List ℕ)) (acyclic : IsAcyclic uses) where
   use_walked i k j among has = elim (walk_end k j (below i k among) has)
       [ inl same ↦ (i, subst (λ m. Contains (direct uses i) m) same among) | inr used ↦ used ]
 
+  uses_used : (i j : ℕ) → Contains (dependencies_before uses (Instance i)) j → HasUser uses j
+  uses_used i j has = let part = Contains-flat_map_cases (post_order uses) (direct uses i) j has in use_walked i part.0 j part.1.0 part.1.1
+
   needs_used : (role : Role) (j : ℕ) → IsRoleInRange (length uses) role → Contains (dependencies_before uses role) j → HasUser uses j ⊎ (role ≡ TypeUse j)
-  needs_used (Instance i) j inside has =
-      let part = Contains-flat_map_cases (post_order uses) (direct uses i) j has in
-      inl (use_walked i part.0 j part.1.0 part.1.1)
+  needs_used (Instance i) j inside has = inl (uses_used i j has)
   needs_used (TypeUse i) j inside has = elim (walk_end i j inside has) [ inl same ↦ inr (ap (λ x. TypeUse x) same) | inr used ↦ inl used ]
   needs_used TypeDefinition j inside has = absurd (Contains-nil has)
   needs_used FreeFunction j inside has = absurd (Contains-nil has)
   needs_used ResourceFunction j inside has = absurd (Contains-nil has)
-
-  steps_used : (exported : ℕ → Bool) (members i j : ℕ) → Contains (import_steps_within uses exported members i) j → HasUser uses j
-  unfolding import_steps_within
-  steps_used exported zero i j has = absurd (Contains-nil has)
-  steps_used exported (suc members) i j has =
-      let part = Contains-flat_map_cases (λ k. cond (exported k) (import_steps_within uses exported members k) (post_order uses k)) (direct uses i) j has in
-      cond_both (exported part.0) (import_steps_within uses exported members part.0) (post_order uses part.0) (λ xs. Contains xs j → HasUser uses j)
-      (λ on there. steps_used exported members part.0 j there)
-      (λ off there. use_walked i part.0 j part.1.0 there)
-      part.1.1
-
-  all_steps_used : (exported : ℕ → Bool) (i j : ℕ) → Contains (import_steps uses exported i) j → HasUser uses j
-  unfolding import_steps
-  all_steps_used exported i j has = steps_used exported (length uses) i j has
 
 module _ (types : List TypeDef) (uses : List (List ℕ)) (acyclic : IsAcyclic uses) (imports exports : List Entry) (listed : InOrder types (length uses) imports exports) where
   abbrev elaborated : List Entry
@@ -96,18 +81,18 @@ module _ (types : List TypeDef) (uses : List (List ℕ)) (acyclic : IsAcyclic us
               | inr last ↦ elim (Contains-cons_cases (part.0.0, without_span part.0.1) e [] last) [ inl same ↦ inl (part.0, root, sym same) | inr none ↦ absurd (Contains-nil none) ]
             ]
         | inr of_export ↦
-            let part = Contains-flat_map_cases (export_imports uses (is_exported exports)) exports e of_export in
+            let part = Contains-flat_map_cases (export_needs uses (outside types uses acyclic imports exports listed)) exports e of_export in
             let dep = export_import types uses acyclic imports exports listed part.0 e part.1.1 in
             inr (
               inherited_by_export part.0.1,
               dep.1,
-              sym dep.4,
-              inl (all_steps_used uses acyclic (is_exported exports) dep.0 dep.1 dep.3),
-              is_imported e dep.1 has (subst (λ (z : Entry). Contains (key_interface z.0) dep.1) dep.4 (Contains-here dep.1 [])),
+              sym dep.5,
+              inl (uses_used uses acyclic dep.0 dep.1 dep.3),
+              is_imported e dep.1 has (subst (λ (z : Entry). Contains (key_interface z.0) dep.1) dep.5 (Contains-here dep.1 [])),
             )
       ]
 
-  export_is : (e : Entry) → Contains (elaborated_exports types uses exports) e → Contains exports e ⊎ IsMadeExport exports e
+  export_is : (e : Entry) → Contains (elaborated_exports uses exports) e → Contains exports e ⊎ IsMadeExport exports e
   export_is e has =
       elim (Contains-append_cases (functions types uses acyclic imports exports listed) (kept types uses acyclic imports exports listed) e has) [
         | inl old ↦ inl (Contains-filter (λ (f : Entry). not (is_interface f)) exports e old).0
@@ -121,7 +106,7 @@ pub elaborated_entries : ElaboratedEntries
 elaborated_entries types uses old new e acyclic listed is =
     let order = in_order types (length uses) old.imports old.exports listed in
     let imports_are : new.imports ≡ elaborated_imports types uses old.imports old.exports = ap (λ (w : World). w.imports) is.world_is in
-    let exports_are : new.exports ≡ elaborated_exports types uses old.exports = ap (λ (w : World). w.exports) is.world_is in (
+    let exports_are : new.exports ≡ elaborated_exports uses old.exports = ap (λ (w : World). w.exports) is.world_is in (
       λ has. import_is types uses acyclic old.imports old.exports order e (subst (λ es. Contains es e) imports_are has),
       λ has. export_is types uses acyclic old.imports old.exports order e (subst (λ es. Contains es e) exports_are has),
     )

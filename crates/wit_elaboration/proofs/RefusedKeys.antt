@@ -18,7 +18,7 @@ use Rattle.wit_elaboration.proofs.ConflictIs.{conflict_found, conflict_from}
 use Rattle.wit_elaboration.proofs.ElaboratedIs.{own_keys}
 use Rattle.wit_elaboration.specs.facts.Filters.{not_true}
 use Rattle.wit_elaboration.proofs.Roles.{in_order}
-use Rattle.wit_elaboration.proofs.Steps.{path_below}
+use Rattle.wit_elaboration.proofs.Needs.{path_below}
 use Rattle.wit_elaboration.specs.steps.Parts.{exported_keys}
 
 -- a member that passes

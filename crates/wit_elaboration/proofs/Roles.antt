@@ -7,7 +7,7 @@ use Rattle.wit_data.specs.declared.types.TypeDef.{TypeDef}
 use Rattle.wit_data.specs.declared.world.WorldItem.{WorldItem}
 use Rattle.wit_data.specs.declared.world.WorldItem.TheVariants as item
 use Rattle.wit_digraph.specs.facts.MemberFacts.{Contains-nil, Contains-cons_cases}
-use Rattle.wit_elaboration.specs.Entries.{Entry, Instance, role_of, item_interface, is_instance, elaboration_class}
+use Rattle.wit_elaboration.specs.Entries.{Entry, Instance, role_of, item_interface, is_instance}
 use Rattle.wit_elaboration.specs.Elaborated.{without_span}
 use Rattle.wit_elaboration.specs.Sound.{IsUnderOwnKey, IsRoleInRange, HasSoundEntries}
 use Rattle.wit_elaboration.specs.facts.Order.{AreOwn}
@@ -52,11 +52,6 @@ module _ (types : List TypeDef) where
   is_instance_from_role (item.Interface j stability docs span external_id) i same = refl
   is_instance_from_role (item.Function function) i same = absurd (function_role-other (resource_of function.kind) i same)
   is_instance_from_role (item.Type_ id span) i same = absurd (type_role-other (type_interface_dep types id) i same)
-
-  pub class_from_instance : (x : WorldItem) → is_instance x ≡ true → elaboration_class (role_of types x) ≡ 0
-  class_from_instance (item.Interface j stability docs span external_id) is = refl
-  class_from_instance (item.Function function) is = cc
-  class_from_instance (item.Type_ id span) is = cc
 
   -- what lists in order say of each entry
   pub record InOrder (interfaces : ℕ) (imports exports : List Entry) : Type 0 where

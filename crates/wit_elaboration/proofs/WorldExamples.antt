@@ -6,14 +6,13 @@ use Rattle.wit_digraph.specs.facts.FreshFacts.{any_from_contains}
 use Rattle.wit_digraph.specs.facts.MemberFacts.{Contains-nil, Contains-here, Contains-there, Contains-cons_cases}
 use Rattle.wit_digraph.specs.PostOrder.{post_order, post_order_within}
 use Rattle.wit_digraph.specs.Relation.{direct, IsPath}
-use Rattle.wit_elaboration.specs.Elaborated.{import_steps, import_steps_within}
 use Rattle.wit_elaboration.specs.Entries.{Entry}
 use Rattle.wit_elaboration.specs.Imported.{HasTransitiveConflict, IsEntryInConflict}
 use Rattle.wit_elaboration.specs.examples.ElaborationExamples.{chain, a, b, c, d, labelled, WorkedElaborations, WorkedConflicts}
 use Rattle.wit_elaboration.specs.steps.Parts.{exported_keys, LeadsToConflict}
 
 pub worked_elaborations : WorkedElaborations
-unfolding post_order post_order_within import_steps import_steps_within
+unfolding post_order post_order_within
 worked_elaborations = record {
   all_exported = record { imports_are = refl; exports_are = refl };
   used_before_user = record { imports_are = refl; exports_are = refl };

@@ -5,7 +5,7 @@ use Rattle.wit_data.specs.declared.types.TypeDef.{TypeDef}
 use Rattle.wit_data.specs.declared.world.World.{World}
 use Rattle.wit_digraph.specs.facts.MemberFacts.{Contains-flat_map, Contains-flat_map_cases}
 use Rattle.wit_elaboration.specs.Entries.{Entry, role_of, item_interface, key_interface, keyed_interfaces}
-use Rattle.wit_elaboration.specs.Elaborated.{Elaborated, elaborated_imports, elaborated_exports}
+use Rattle.wit_elaboration.specs.Elaborated.{Elaborated, elaborated_imports}
 use Rattle.wit_elaboration.specs.laws.ElaborationLaws.{ElaboratesOnce, ImportsAreExact, ImportsKeepOrder, OrderIsFree, SameEntries, DependenciesFirst}
 use Rattle.wit_elaboration.specs.Imported.{HasTransitiveConflict}
 use Rattle.wit_elaboration.specs.laws.Imports.{Needed, IsImported, roots_of}
@@ -20,12 +20,10 @@ lists_same w p q = cc
 pub elaborates_once : ElaboratesOnce
 elaborates_once types uses old new acyclic listed is =
     let order = in_order types (length uses) old.imports old.exports listed in
-    let imports : List Entry = elaborated_imports types uses old.imports old.exports in
-    let exports : List Entry = elaborated_exports types uses old.exports in
     subst (λ (w : World). Elaborated types uses w w) (sym is.world_is)
     (record {
       no_conflict = λ conflict. is.no_conflict (no_conflict_again types uses acyclic old.imports old.exports order conflict);
-      world_is = lists_same old (sym (imports_again types uses acyclic old.imports old.exports order)) (sym (exports_again types uses acyclic old.imports old.exports order));
+      world_is = lists_same old (sym (imports_again types uses acyclic old.imports old.exports order is.no_conflict)) (sym (exports_again types uses acyclic old.imports old.exports order));
     })
 
 pub imports_are_exact : ImportsAreExact
@@ -33,14 +31,14 @@ imports_are_exact types uses old new j acyclic listed is =
     let order = in_order types (length uses) old.imports old.exports listed in
     let imports_are : new.imports ≡ elaborated_imports types uses old.imports old.exports = ap (λ (w : World). w.imports) is.world_is in (
       λ has. exact_to types uses acyclic old.imports old.exports order j (subst (λ i. Contains (keyed_interfaces i) j) imports_are has),
-      λ need. subst (λ i. Contains (keyed_interfaces i) j) (sym imports_are) (exact_from types uses acyclic old.imports old.exports order j need),
+      λ need. subst (λ i. Contains (keyed_interfaces i) j) (sym imports_are) (exact_from types uses acyclic old.imports old.exports order is.no_conflict j need),
     )
 
 pub imports_keep_order : ImportsKeepOrder
 imports_keep_order types uses old new acyclic listed is =
     let order = in_order types (length uses) old.imports old.exports listed in
     let imports_are : new.imports ≡ elaborated_imports types uses old.imports old.exports = ap (λ (w : World). w.imports) is.world_is in
-    subst (λ i. DependenciesFirst types uses [] i) (sym imports_are) (imports_first types uses acyclic old.imports old.exports order)
+    subst (λ i. DependenciesFirst types uses [] i) (sym imports_are) (imports_first types uses acyclic old.imports old.exports order is.no_conflict)
 
 -- ---- the order of the entries
 

@@ -1,7 +1,7 @@
 -- The elaboration of a world: its imports with all that they and the exports need, and its exports
 -- in the order of their uses.
 -- Source: `elaborate_world` of wit-parser 0.263.0.
-use Rattle.std.specs.Prelude.{ℕ, ◌≡◌, zero, suc, Bool, not, List, [], ◌∷◌, ◌++◌, None, map, filter, length, slice_get, if◌then◌else◌, flat_map}
+use Rattle.std.specs.Prelude.{ℕ, ◌≡◌, Bool, not, List, [], ◌∷◌, ◌++◌, None, map, filter, slice_get, flat_map}
 use Rattle.std.specs.Option.{option_map_or}
 use Rattle.wit_data.specs.declared.stability.Stability.TheVariants as stability
 use Rattle.wit_data.specs.declared.types.TypeDef.{TypeDef}
@@ -49,51 +49,35 @@ without_span (item.Interface i stability docs span external_id) = item.Interface
 without_span (item.Function function) = item.Function function
 without_span (item.Type_ id span) = item.Type_ id span
 
--- an entry, changed so, and before it those of what it needs
-abbrev pub entry_post_order : List TypeDef → List (List ℕ) → (WorldItem → InheritedData) → (WorldItem → WorldItem) → Entry → List Entry
-entry_post_order types uses carries change e = map (dependency_of (carries e.1)) (dependencies_before uses (role_of types e.1)) ++ (e.0, change e.1) ∷ []
-
 -- an import, and before it the imports of what it needs
 abbrev pub import_with_needs : List TypeDef → List (List ℕ) → Entry → List Entry
-import_with_needs types uses e = entry_post_order types uses (inherited_by_import types) without_span e
+import_with_needs types uses e = map (dependency_of (inherited_by_import types e.1)) (dependencies_before uses (role_of types e.1)) ++ (e.0, without_span e.1) ∷ []
 
 -- ---- exports
 
--- along i's uses in order: of an exported one the same, of any other all that it reaches, in the order of its walk
-unfoldable pub import_steps_within : List (List ℕ) → (ℕ → Bool) → ℕ → ℕ → List ℕ
-import_steps_within uses exported zero i = []
-import_steps_within uses exported (suc members) i = flat_map (λ j. if exported j then import_steps_within uses exported members j else post_order uses j) (direct uses i)
-
--- the same along all paths: where uses are acyclic, none has more members than there are interfaces
-unfoldable pub import_steps : List (List ℕ) → (ℕ → Bool) → ℕ → List ℕ
-import_steps uses exported i = import_steps_within uses exported (length uses) i
-
--- what the export of an interface needs imported
-abbrev pub export_imports : List (List ℕ) → (ℕ → Bool) → Entry → List Entry
-export_imports uses exported e = flat_map (λ i. map (dependency_of (inherited_by_export e.1)) (import_steps uses exported i)) (item_interface e.1)
-
--- an export as it stands, and before it those that it needs along uses of exported interfaces alone
-abbrev pub export_with_needs : List TypeDef → List (List ℕ) → (ℕ → Bool) → Entry → List Entry
-export_with_needs types uses exported e = entry_post_order types (map (filter exported) uses) inherited_by_export (λ item. item) e
+-- what the interface of an export needs, of this only what a test picks, with what the export carries
+abbrev pub export_needs : List (List ℕ) → (ℕ → Bool) → Entry → List Entry
+export_needs uses picks e = map (dependency_of (inherited_by_export e.1)) (filter picks (flat_map (λ i. dependencies_before uses (Instance i)) (item_interface e.1)))
 
 -- ---- the elaborated lists
 
--- the imports by class, each after what it needs, then what the exports need, of each key the first, by class again
+-- the imports by class, each after what it needs, then what the exports need that is no exported key, of each key the first,
+-- by class again
 abbrev pub elaborated_imports : List TypeDef → List (List ℕ) → List Entry → List Entry → List Entry
 elaborated_imports types uses imports exports =
-    by_class types (fresh_entries [] (flat_map (import_with_needs types uses) (by_class types imports) ++ flat_map (export_imports uses (is_exported exports)) exports))
+    by_class types (fresh_entries [] (flat_map (import_with_needs types uses) (by_class types imports) ++ flat_map (export_needs uses (λ i. not (is_exported exports i))) exports))
 
--- the functions, then the interfaces, each after the exported ones that it uses, of each key the first
-abbrev pub elaborated_exports : List TypeDef → List (List ℕ) → List Entry → List Entry
-elaborated_exports types uses exports =
+-- the functions, then the interfaces, each after what it needs that is an exported key, of each key the first
+abbrev pub elaborated_exports : List (List ℕ) → List Entry → List Entry
+elaborated_exports uses exports =
     filter (λ (e : Entry). not (is_instance e.1)) exports
-    ++ fresh_entries [] (flat_map (export_with_needs types uses (is_exported exports)) (filter (λ (e : Entry). is_instance e.1) exports))
+    ++ fresh_entries [] (flat_map (λ (e : Entry). export_needs uses (is_exported exports) e ++ e ∷ []) (filter (λ (e : Entry). is_instance e.1) exports))
 
 -- a world with its lists elaborated, over these types and uses
 abbrev pub with_elaborated_lists : List TypeDef → List (List ℕ) → World → World
 with_elaborated_lists types uses world = record world {
   imports = elaborated_imports types uses world.imports world.exports;
-  exports = elaborated_exports types uses world.exports;
+  exports = elaborated_exports uses world.exports;
 }
 
 -- from a world's lists to its elaboration, which there is where there is no conflict

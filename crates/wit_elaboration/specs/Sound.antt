@@ -5,7 +5,7 @@ use Rattle.wit_data.specs.declared.types.TypeDef.{TypeDef}
 use Rattle.wit_data.specs.declared.world.WorldItem.{WorldItem}
 use Rattle.wit_data.specs.declared.world.WorldKey.{WorldKey}
 use Rattle.wit_data.specs.declared.world.WorldKey.TheVariants.{Name, Interface}
-use Rattle.wit_elaboration.specs.Entries.{Entry, Role, Instance, TypeUse, TypeDefinition, FreeFunction, ResourceFunction, role_of, item_interface}
+use Rattle.wit_elaboration.specs.Entries.{Entry, Role, Instance, TypeUse, role_of, item_interface}
 
 -- what stands under the key of an interface is that interface
 abbrev pub IsUnderOwnKey : WorldKey → WorldItem → Type 0

@@ -177,7 +177,7 @@ impl Elaborator {
         requires listed { HasSoundEntries graph.now.types (length graph.now.interfaces) world.now.imports world.now.exports }
         ensures no_conflict { OnOk result (HasTransitiveConflict (graph_uses graph.now) world.now.exports → ⊥) }
         ensures imports { IfOk result (λ lists. lists.imports ≡ elaborated_imports graph.now.types (graph_uses graph.now) world.now.imports world.now.exports) }
-        ensures exports { IfOk result (λ lists. lists.exports ≡ elaborated_exports graph.now.types (graph_uses graph.now) world.now.exports) }
+        ensures exports { IfOk result (λ lists. lists.exports ≡ elaborated_exports (graph_uses graph.now) world.now.exports) }
         ensures cause { IfErr result (λ e. (e ≡ OutOfMemory) ⊎ IsConflictError graph.now world.now e) }
         ensures same { self.new ≡ self.old }
     {
@@ -248,7 +248,7 @@ fn conflict_error(
     .into())
 }
 
-/// The elaborated lists of a world without a conflict.
+/// The elaborated lists of a world.
 fn lists_of(
     alloc: Global,
     types: &[TypeDef],
@@ -258,11 +258,10 @@ fn lists_of(
 ) -> Result<Lists, AllocError>
     requires acyclic { IsAcyclic uses.now }
     requires listed { HasSoundEntries types.now (length uses.now) world.now.imports world.now.exports }
-    requires no_conflict { HasTransitiveConflict uses.now world.now.exports → ⊥ }
     requires nodes { HaveNodes marks.old (length uses.now) }
     requires exported { IsExportedList marks.old.exported.order world.now.exports }
     ensures imports { IfOk result (λ lists. lists.imports ≡ elaborated_imports types.now uses.now world.now.imports world.now.exports) }
-    ensures exports { IfOk result (λ lists. lists.exports ≡ elaborated_exports types.now uses.now world.now.exports) }
+    ensures exports { IfOk result (λ lists. lists.exports ≡ elaborated_exports uses.now world.now.exports) }
     ensures nodes { HaveNodes marks.new (length uses.now) }
 {
     world.exports.keys_differ();

@@ -3,11 +3,11 @@
 ghost use Rattle.std.specs.Prelude.{◌≡◌, ◌++◌, ◌∷◌, ◌<◌, [], not, OnOk, IfOk, All, filter, length, map};
 ghost use Rattle.std.specs.List.{flat_map};
 ghost use Rattle.std.specs.Map.{keys_of};
-ghost use Rattle.wit_elaboration.specs.Elaborated.{dependencies_before, dependency_of, inherited_by_export};
-ghost use Rattle.wit_elaboration.specs.steps.Elaborating.{IsExporting, is_listed, walked_exports, walked_imports};
+ghost use Rattle.wit_elaboration.specs.Elaborated.{dependencies_before, dependency_of, export_needs, inherited_by_export};
+ghost use Rattle.wit_elaboration.specs.steps.Elaborating.{IsExporting, is_listed};
 ghost use Rattle.wit_elaboration.specs.Entries.{fresh_entries};
 ghost use Rattle.wit_digraph.specs.Relation.{IsAcyclic};
-ghost use Rattle.wit_elaboration.specs.steps.Parts.{is_interface, exported_interfaces};
+ghost use Rattle.wit_elaboration.specs.steps.Parts.{export_with_needs, is_interface, exported_interfaces};
 
 use crate::entries::{InheritedData, Lists, add_copy, add_dependencies, export_data};
 use crate::imports::{list_needs, order_from};
@@ -133,8 +133,8 @@ pub(crate) fn export_listed(
     requires in_range { All (λ i. i < length uses.now) (exported_interfaces listed.now) }
     requires exported { exported.now.nodes ≡ length uses.now }
     requires state { IsExporting uses.now (is_listed exported.now) walked.old lists.old.imports lists.old.exports }
-    ensures exports { OnOk result (lists.new.exports ≡ lists.old.exports ++ fresh_entries (keys_of lists.old.exports) (flat_map (walked_exports uses.now (is_listed exported.now)) (filter is_interface listed.now))) }
-    ensures imports { OnOk result (lists.new.imports ≡ lists.old.imports ++ fresh_entries (keys_of lists.old.imports) (flat_map (walked_imports uses.now (is_listed exported.now)) listed.now)) }
+    ensures exports { OnOk result (lists.new.exports ≡ lists.old.exports ++ fresh_entries (keys_of lists.old.exports) (flat_map (export_with_needs uses.now (is_listed exported.now)) (filter is_interface listed.now))) }
+    ensures imports { OnOk result (lists.new.imports ≡ lists.old.imports ++ fresh_entries (keys_of lists.old.imports) (flat_map (export_needs uses.now (λ i. not (is_listed exported.now i))) listed.now)) }
     ensures nodes { walked.new.nodes ≡ walked.old.nodes }
 {
     for (key, item) in listed.iter() {

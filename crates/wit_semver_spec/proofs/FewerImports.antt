@@ -1,6 +1,6 @@
 -- A canonical world that lists only some of its imports: where what these need is among them, so is what the exports need,
 -- and elaboration adds nothing to them.
-use Rattle.std.proofs.Common.{◌≡◌, ◌∙◌, ◌<◌, inl, inr, ℕ, Bool, true, false, List, [], ◌∷◌, ◌++◌, Option, None, Some, append_assoc, filter, map, length, refl, sym, ap, subst, Contains, All, nat_eq}
+use Rattle.std.proofs.Common.{◌≡◌, ◌∙◌, ◌<◌, inl, inr, ℕ, Bool, true, false, not, List, [], ◌∷◌, ◌++◌, Option, None, Some, append_assoc, filter, map, length, refl, sym, ap, subst, Contains, All, nat_eq}
 use Rattle.std.specs.List.{flat_map, list_any}
 use Rattle.std.specs.Map.{keys_of}
 use Rattle.std.proofs.lemmas.Bool.{cases_Bool}
@@ -17,7 +17,7 @@ use Rattle.wit_data.specs.declared.world.WorldItem.{WorldItem}
 use Rattle.wit_data.specs.declared.world.WorldKey.{WorldKey}
 use Rattle.wit_data.specs.declared.world.WorldItem.TheVariants as item
 use Rattle.wit_data.specs.declared.world.WorldKey.TheVariants.{Name, Interface}
-use Rattle.wit_elaboration.specs.Elaborated.{dependencies_before, dependency_of, elaborated_imports, export_imports, import_with_needs, inherited_by_import, without_span}
+use Rattle.wit_elaboration.specs.Elaborated.{dependencies_before, dependency_of, elaborated_imports, export_needs, import_with_needs, inherited_by_import, without_span}
 use Rattle.wit_elaboration.specs.Entries.{Entry, by_class, elaboration_class, fresh_entries, key_interface, role_of, same_key}
 use Rattle.wit_elaboration.specs.Imported.{is_exported}
 use Rattle.wit_elaboration.specs.Sound.{IsRoleInRange}
@@ -139,13 +139,13 @@ module _ (types : List TypeDef) (uses : List (List ℕ)) (acyclic : IsAcyclic us
   pub record AreClosed (Kept : ℕ → Type 0) (test : Entry → Bool) (imports exports : List Entry) : Type 0 where
     pub needs : (e : Entry) (j : ℕ) → Contains (filter test imports) e → Contains (stands_on uses (role_of types e.1)) j → Kept j
     pub left : (e : Entry) (j : ℕ) → Contains imports e → test e ≡ false → Contains (key_interface e.0) j → Kept j → ⊥
-    pub exported : (e : Entry) → Contains (flat_map (export_imports uses (is_exported exports)) exports) e → Contains (keys_of (filter test imports)) e.0
+    pub exported : (e : Entry) → Contains (flat_map (export_needs uses (λ j. not (is_exported exports j))) exports) e → Contains (keys_of (filter test imports)) e.0
 
   pub part_is_elaborated : (Kept : ℕ → Type 0) (test : Entry → Bool) (imports exports : List Entry) → AreSettled imports → AreClosed Kept test imports exports
       → elaborated_imports types uses (filter test imports) exports ≡ filter test imports
   part_is_elaborated Kept test imports exports are closed =
       let part : List Entry = filter test imports in
-      let rest : List Entry = flat_map (export_imports uses (is_exported exports)) exports in
+      let rest : List Entry = flat_map (export_needs uses (λ j. not (is_exported exports j))) exports in
       let sorted : by_class types part ≡ part = sorted_part test imports are.sorted in
       let was : (e : Entry) → Contains part e → Contains imports e = λ e has. (Contains-filter test imports e has).0 in
       let same : fresh_entries [] (flat_map (import_with_needs types uses) part) ≡ part =

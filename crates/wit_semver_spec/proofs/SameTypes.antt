@@ -1,6 +1,6 @@
 -- Semver merging where each type names what it named: all uses stay, so every world is its own elaboration yet, the named one
 -- with what it keeps of its imports; and nothing that is asked of the new graph can be against it.
-use Rattle.std.proofs.Common.{◌≡◌, ◌∙◌, ◌+◌, inl, inr, ℕ, suc, Bool, true, false, not, List, [], ◌∷◌, ◌++◌, map, length, Option, None, Some, slice_get, slice_set, refl, sym, ap, subst, Contains}
+use Rattle.std.proofs.Common.{◌≡◌, ◌∙◌, ◌+◌, inl, inr, ℕ, suc, Bool, true, false, not, List, [], ◌∷◌, ◌++◌, filter, map, length, Option, None, Some, slice_get, slice_set, refl, sym, ap, subst, Contains}
 use Rattle.std.specs.List.{AllByRecursion, enumerate_from, flat_map, list_any}
 use Rattle.std.specs.Map.{keys_of}
 use Rattle.std.specs.Option.{option_map_or}
@@ -25,9 +25,9 @@ use Rattle.wit_data.specs.declared.world.WorldKey.{WorldKey}
 use Rattle.wit_data.specs.declared.world.WorldItem.TheVariants as item
 use Rattle.wit_data.specs.declared.world.WorldKey.TheVariants as key
 use Rattle.wit_elaboration.specs.AllElaborated.{all_elaborated}
-use Rattle.wit_elaboration.specs.Elaborated.{Elaborated, dependency_of, elaborated_exports, elaborated_imports, export_imports, import_steps, import_with_needs, inherited_by_export, with_elaborated_lists, without_span}
+use Rattle.wit_elaboration.specs.Elaborated.{Elaborated, dependency_of, elaborated_exports, elaborated_imports, export_needs, import_with_needs, inherited_by_export, with_elaborated_lists, without_span}
 use Rattle.wit_elaboration.specs.Elaboration.{graph_uses}
-use Rattle.wit_elaboration.specs.Entries.{Entry, by_class, fresh_entries, item_interface, key_interface, keyed_interfaces, role_of}
+use Rattle.wit_elaboration.specs.Entries.{Entry, by_class, fresh_entries, key_interface, keyed_interfaces, role_of}
 use Rattle.wit_elaboration.specs.Imported.{HasTransitiveConflict, is_exported}
 use Rattle.wit_elaboration.specs.Sound.{HasSoundEntries, IsRoleInRange}
 use Rattle.wit_elaboration.specs.Valid.{IsValid}
@@ -55,7 +55,7 @@ use Rattle.wit_semver_spec.specs.facts.KeptKeys.{kept_holds, kept_into, kept_tes
 use Rattle.wit_semver_spec.specs.laws.TrackLaws.{RetargetsNone, SameTypesKeepWorlds}
 use Rattle.wit_semver_spec.proofs.FewerImports.{AreClosed, AreSettled, part_is_elaborated}
 use Rattle.wit_graph_data.specs.steps.Parts.{package_needs}
-use Rattle.wit_elaboration.specs.steps.Parts.{type_role, function_role, graph_package_uses}
+use Rattle.wit_elaboration.specs.steps.Parts.{type_role, function_role, graph_package_uses, interface_needs}
 use Rattle.wit_semver_spec.specs.steps.Parts.{is_replaced_entry, listed_world, retargeted, new_target}
 
 -- ---- lists that stay
@@ -175,8 +175,12 @@ module _ (laws : LawsOfElaboration) (order : ImportsKeepOrder) (u : SemverMerge)
   import_is : (e : Entry) → Contains old.imports e → IsImport interfaces types w e.0 e.1
   import_is e has = let place = place_of old.imports e has in valid.well_formed.worlds.imports w old there place.0 e place.1
 
+  -- is it no exported key?
+  abbrev outside : ℕ → Bool
+  outside j = not (is_exported old.exports j)
+
   abbrev made : List Entry → List Entry
-  made imports = flat_map (import_with_needs types uses) (by_class types imports) ++ flat_map (export_imports uses (is_exported old.exports)) old.exports
+  made imports = flat_map (import_with_needs types uses) (by_class types imports) ++ flat_map (export_needs uses outside) old.exports
 
   imports_made : old.imports ≡ by_class types (fresh_entries [] (made old.imports))
   imports_made = ap (λ (x : World). x.imports) canonical.world_is
@@ -216,13 +220,11 @@ module _ (laws : LawsOfElaboration) (order : ImportsKeepOrder) (u : SemverMerge)
       All-contains Kept (keyed_interfaces done.imports) j
       ((laws.least types uses (listed_world u) done acyclic sound_kept (record { no_conflict = canonical.no_conflict; world_is = refl })).1 (kept_test laws.least u valid w there complete) holds)
 
-  exports_need : (e : Entry) → Contains (flat_map (export_imports uses (is_exported old.exports)) old.exports) e → Contains (keys_of (kept_imports u)) e.0
+  exports_need : (e : Entry) → Contains (flat_map (export_needs uses outside) old.exports) e → Contains (keys_of (kept_imports u)) e.0
   exports_need e has =
-      let by = Contains-flat_map_cases (export_imports uses (is_exported old.exports)) old.exports e has in
-      let carried = inherited_by_export by.0.1 in
-      let i = Contains-flat_map_cases (λ i. map (dependency_of carried) (import_steps uses (is_exported old.exports) i)) (item_interface by.0.1) e by.1.1 in
-      let dep = Contains-deps carried (import_steps uses (is_exported old.exports) i.0) e i.1.1 in
-      let among = fresh_entries_all [] (made (kept_imports u)) e (Contains-append_right (flat_map (import_with_needs types uses) (by_class types (kept_imports u))) (flat_map (export_imports uses (is_exported old.exports)) old.exports) e has) in
+      let by = Contains-flat_map_cases (export_needs uses outside) old.exports e has in
+      let dep = Contains-deps (inherited_by_export by.0.1) (filter outside (interface_needs uses by.0)) e by.1.1 in
+      let among = fresh_entries_all [] (made (kept_imports u)) e (Contains-append_right (flat_map (import_with_needs types uses) (by_class types (kept_imports u))) (flat_map (export_needs uses outside) old.exports) e has) in
       let found = Contains-keys (fresh_entries [] (made (kept_imports u))) e.0 among in
       let named : key.Interface dep.0 ≡ e.0 = ap (λ (z : Entry). z.0) dep.1.1 in
       let under : found.0.0 ≡ key.Interface dep.0 = ◌∙◌ {a = found.0.0} found.1.1 (sym named) in
@@ -244,7 +246,7 @@ module _ (laws : LawsOfElaboration) (order : ImportsKeepOrder) (u : SemverMerge)
   named_stays =
       let imports_stay : elaborated_imports types uses (kept_imports u) old.exports ≡ kept_imports u =
       part_is_elaborated types uses acyclic Kept (λ (e : Entry). not (is_replaced_entry u e)) old.imports old.exports are_settled are_closed in
-      let exports_stay : elaborated_exports types uses old.exports ≡ old.exports = sym (ap (λ (x : World). x.exports) canonical.world_is) in
+      let exports_stay : elaborated_exports uses old.exports ≡ old.exports = sym (ap (λ (x : World). x.exports) canonical.world_is) in
       λ i. record old { imports = imports_stay i; exports = exports_stay i }
 
   -- ---- all worlds

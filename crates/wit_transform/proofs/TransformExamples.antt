@@ -10,7 +10,6 @@ use Rattle.wit_graph_data.specs.declared.graph.Graph.{Graph}
 use Rattle.wit_graph_data.specs.declared.graph.Package.{Package}
 use Rattle.wit_graph_data.specs.declared.error_kind.ResolveErrorKind.{ResolveErrorKind}
 use Rattle.wit_graph_data.specs.declared.error_kind.ResolveErrorKind.TheVariants.{InvalidTransitiveDependency}
-use Rattle.wit_elaboration.specs.Elaborated.{import_steps, import_steps_within}
 use Rattle.wit_elaboration.specs.Elaboration.{graph_uses}
 use Rattle.wit_elaboration.specs.Entries.{Entry}
 use Rattle.wit_elaboration.specs.Imported.{HasTransitiveConflict, IsEntryInConflict}
@@ -33,7 +32,7 @@ first_imports [] = []
 first_imports (w ∷ ws) = w.imports
 
 pub examples_of_transformations : ExamplesOfTransformations
-unfolding post_order post_order_within import_steps import_steps_within first_table ids_in first_imports
+unfolding post_order post_order_within first_table ids_in first_imports
 examples_of_transformations = record {
   exports_transformed = refl;
   imports_transformed = refl;

@@ -34,7 +34,7 @@ labelled i = (Name (codes "lab"), plain i)
 -- a world's elaborated lists
 pub record Gives (imports exports imports' exports' : List Entry) : Type 0 where
   pub imports_are : elaborated_imports [] chain imports exports ≡ imports'
-  pub exports_are : elaborated_exports [] chain exports ≡ exports'
+  pub exports_are : elaborated_exports chain exports ≡ exports'
 
 -- worlds that are elaborated
 pub record WorkedElaborations : Type 0 where

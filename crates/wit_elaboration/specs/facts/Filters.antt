@@ -53,14 +53,6 @@ pub filter-flat_map : {X A : Type 0} (p : A → Bool) (f : X → List A) (xs : L
 filter-flat_map p f [] = refl
 filter-flat_map p f (x ∷ xs) = filter-append p (f x) (flat_map f xs) ∙ ap (λ ys. filter p (f x) ++ ys) (filter-flat_map p f xs)
 
-pub flat_map-filter : {X A : Type 0} (p : X → Bool) (f : X → List A) (xs : List X) → flat_map f (filter p xs) ≡ flat_map (λ x. cond (p x) (f x) []) xs
-flat_map-filter p f [] = refl
-flat_map-filter p f (x ∷ xs) =
-    elim (cases_Bool (p x)) [
-      | inl pass ↦ rw (filter-pass p x xs pass, cond-true (p x) (f x) [] pass) (ap (λ ys. f x ++ ys) (flat_map-filter p f xs))
-      | inr fails ↦ rw (filter-fail p x xs fails, cond-false (p x) (f x) [] fails) (flat_map-filter p f xs)
-    ]
-
 pub not_true : (b : Bool) → not b ≡ true → b ≡ false
 not_true true is = absurd (false≢true is)
 not_true false is = refl

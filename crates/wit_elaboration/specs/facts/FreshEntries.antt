@@ -149,6 +149,13 @@ Contains-keys (e ∷ es) k has =
     elim (Contains-cons_cases e.0 k (keys_of es) has)
     [ inl same ↦ (e, (Contains-here e es, same)) | inr there ↦ let more = Contains-keys es k there in (more.0, (Contains-there e more.0 es more.1.0, more.1.1)) ]
 
+-- the key of an entry is among the keys
+pub keys-Contains : (es : List Entry) (e : Entry) → Contains es e → Contains (keys_of es) e.0
+keys-Contains [] e has = absurd (Contains-nil has)
+keys-Contains (d ∷ es) e has =
+    elim (Contains-cons_cases d e es has)
+    [ inl same ↦ subst (λ (z : Entry). Contains (keys_of (d ∷ es)) z.0) same (Contains-here d.0 (keys_of es)) | inr there ↦ Contains-there d.0 e.0 (keys_of es) (keys-Contains es e there) ]
+
 pub fresh_entries-all_known : (seen : List WorldKey) (xs ys : List Entry) → ((e : Entry) → Contains xs e → list_any (same_key e.0) seen ≡ true) → fresh_entries seen (xs ++ ys) ≡ fresh_entries seen ys
 fresh_entries-all_known seen [] ys known = refl
 fresh_entries-all_known seen (e ∷ xs) ys known = fresh_entries-known seen e (xs ++ ys) (known e (Contains-here e xs)) ∙ fresh_entries-all_known seen xs ys (λ f has. known f (Contains-there e f xs has))

@@ -14,9 +14,10 @@ use Rattle.wit_digraph.specs.facts.PostOrderFacts.{UsesFirst-post_order, UsesFir
 use Rattle.wit_digraph.specs.Relation.{direct, IsAcyclic}
 use Rattle.wit_digraph.specs.PostOrder.{UsesFirst, post_order}
 use Rattle.wit_elaboration.specs.Entries.{Entry, Role, Instance, TypeUse, TypeDefinition, FreeFunction, ResourceFunction, role_of, same_key, key_interface, keyed_interfaces, fresh_entries}
-use Rattle.wit_elaboration.specs.Elaborated.{InheritedData, dependency_of, dependencies_before, entry_post_order}
+use Rattle.wit_elaboration.specs.Elaborated.{InheritedData, dependency_of, dependencies_before}
 use Rattle.wit_elaboration.specs.laws.ElaborationLaws.{stands_on, DependenciesFirst}
 use Rattle.wit_elaboration.specs.Sound.{IsRoleInRange}
+use Rattle.wit_elaboration.specs.steps.Parts.{entry_post_order}
 use Rattle.wit_elaboration.specs.facts.FreshEntries.{interfaces_of_keys, keyed_interfaces-map, contains_from_known, fresh_entries-known, fresh_entries-new}
 
 module _ (types : List TypeDef) where

@@ -1,13 +1,12 @@
 -- States of an elaboration while it runs.
-use Rattle.std.specs.Prelude.{ℕ, ◌≡◌, ◌≤◌, ◌++◌, ◌↔◌, Bool, true, false, List, [], ◌∷◌, Option, Some, None, length, map, filter, not, nat_eq, slice_get, take, Contains, flat_map}
+use Rattle.std.specs.Prelude.{ℕ, ◌≡◌, ◌≤◌, ◌↔◌, Bool, true, false, List, [], Option, Some, None, length, nat_eq, slice_get, take, Contains}
 use Rattle.std.specs.List.{list_any}
 use Rattle.std.specs.Map.{keys_of}
 use Rattle.wit_data.specs.declared.world.WorldKey.TheVariants.{Interface}
 use Rattle.wit_digraph.specs.Relation.{direct, Reaches}
 use Rattle.wit_digraph.specs.PostOrder.{Listed, UsesFirst}
 use Rattle.wit_elaboration.specs.declared.marks.Marks.{Marks}
-use Rattle.wit_elaboration.specs.Elaborated.{dependencies_before, dependency_of, inherited_by_export}
-use Rattle.wit_elaboration.specs.Entries.{Entry, Instance, item_interface}
+use Rattle.wit_elaboration.specs.Entries.{Entry}
 use Rattle.wit_elaboration.specs.Imported.{IsEntryInConflict}
 use Rattle.wit_elaboration.specs.steps.Parts.{exported_keys}
 
@@ -74,11 +73,3 @@ pub record IsExporting (uses : List (List ℕ)) (exported : ℕ → Bool) (walke
   pub post_order : IsPostOrder uses walked
   pub are_exported : (i : ℕ) → Contains walked.order i → exported i ≡ true → Contains (keys_of exports) (Interface i)
   pub are_imported : (i : ℕ) → Contains walked.order i → exported i ≡ false → Contains (keys_of imports) (Interface i)
-
--- where the post-order of an exported interface is parted by what is exported: the exports of its members, then its own
-abbrev pub walked_exports : List (List ℕ) → (ℕ → Bool) → Entry → List Entry
-walked_exports uses exported e = map (dependency_of (inherited_by_export e.1)) (filter exported (flat_map (λ i. dependencies_before uses (Instance i)) (item_interface e.1))) ++ e ∷ []
-
--- and the imports of the others
-abbrev pub walked_imports : List (List ℕ) → (ℕ → Bool) → Entry → List Entry
-walked_imports uses exported e = map (dependency_of (inherited_by_export e.1)) (filter (λ i. not (exported i)) (flat_map (λ i. dependencies_before uses (Instance i)) (item_interface e.1)))

@@ -1,10 +1,12 @@
 -- Parts of the definitions under names of their own, for contracts of inner functions and for proofs. Each is what stands
 -- in a definition in its place, so none has to be believed.
-use Rattle.std.specs.Prelude.{ℕ, List, Option, filter, nat_eq, Bool, map, Contains, flat_map, ◌++◌, codes}
+use Rattle.std.specs.Prelude.{ℕ, List, [], ◌∷◌, Option, filter, nat_eq, Bool, map, Contains, flat_map, ◌++◌, codes}
 use Rattle.wit_data.specs.declared.types.TypeDef.{TypeDef}
+use Rattle.wit_data.specs.declared.world.WorldItem.{WorldItem}
 use Rattle.wit_data.specs.Entries.{Entry}
 use Rattle.wit_elaboration.specs.declared.role.Role.{Role}
-use Rattle.wit_elaboration.specs.declared.role.Role.TheVariants.{TypeUse, TypeDefinition, FreeFunction, ResourceFunction}
+use Rattle.wit_elaboration.specs.declared.role.Role.TheVariants.{Instance, TypeUse, TypeDefinition, FreeFunction, ResourceFunction}
+use Rattle.wit_elaboration.specs.Elaborated.{InheritedData, dependencies_before, dependency_of, export_needs}
 use Rattle.wit_elaboration.specs.Entries.{elaboration_class, role_of, is_instance, item_interface, keyed_interfaces}
 use Rattle.wit_digraph.specs.Relation.{direct, Reaches}
 use Rattle.wit_elaboration.specs.Imported.{IsBetween}
@@ -24,9 +26,17 @@ function_role o = option_map_or (λ resource. ResourceFunction) o FreeFunction
 abbrev pub of_class : List TypeDef → ℕ → List Entry → List Entry
 of_class types class entries = filter (λ (e : Entry). nat_eq (elaboration_class (role_of types e.1)) class) entries
 
--- the uses of exported interfaces alone
-abbrev pub exported_uses : (ℕ → Bool) → List (List ℕ) → List (List ℕ)
-exported_uses exported uses = map (filter exported) uses
+-- an entry, changed so, and before it those of what it needs
+abbrev pub entry_post_order : List TypeDef → List (List ℕ) → (WorldItem → InheritedData) → (WorldItem → WorldItem) → Entry → List Entry
+entry_post_order types uses carries change e = map (dependency_of (carries e.1)) (dependencies_before uses (role_of types e.1)) ++ (e.0, change e.1) ∷ []
+
+-- what the interface of an entry needs
+abbrev pub interface_needs : List (List ℕ) → Entry → List ℕ
+interface_needs uses e = flat_map (λ i. dependencies_before uses (Instance i)) (item_interface e.1)
+
+-- an export, and before it what it needs of what a test picks
+abbrev pub export_with_needs : List (List ℕ) → (ℕ → Bool) → Entry → List Entry
+export_with_needs uses picks e = export_needs uses picks e ++ e ∷ []
 
 -- is the entry an interface, under a label or under its own key?
 abbrev pub is_interface : Entry → Bool

@@ -1,11 +1,10 @@
 use Rattle.std.proofs.Common.{◌≡◌, refl, ap, arith}
 use Rattle.wit_digraph.specs.PostOrder.{post_order, post_order_within}
-use Rattle.wit_elaboration.specs.Elaborated.{import_steps, import_steps_within}
 use Rattle.examples_graph.proofs.Transformed.{import_count}
 use Rattle.examples_graph.proofs.transformations.examples_of_kept_imports.Goals as goal
 
 pub returns : goal.returns
-unfolding post_order post_order_within import_steps import_steps_within
+unfolding post_order post_order_within
 returns c = record {
   types_stay = refl;
   not_exports_alone = λ same. let apart : 4 ≡ 2 = ap import_count same in absurd (omega (arith, apart));

@@ -1,17 +1,18 @@
-use Rattle.std.proofs.Common.{◌++◌, ◌<◌, ℕ, Bool, List, length, filter, ap, ◌∙◌}
+use Rattle.std.proofs.Common.{◌++◌, ◌<◌, ℕ, Bool, List, length, filter, not, ap, ◌∙◌}
 use Rattle.std.specs.List.{flat_map}
 use Rattle.std.specs.Map.{keys_of}
 use Rattle.std.specs.Map.Iter.{deref_pair}
 use Rattle.std.proofs.lemmas.List.Elements.{All-contains}
 use Rattle.std.proofs.lemmas.Map.Iter.{iter_turn, rest_more}
-use Rattle.wit_elaboration.specs.steps.Elaborating.{is_listed, walked_exports, walked_imports}
+use Rattle.wit_elaboration.specs.steps.Elaborating.{is_listed}
 use Rattle.wit_elaboration.specs.Entries.{Entry, fresh_entries, item_interface}
 use Rattle.wit_elaboration.proofs.ExportSteps.{given_at}
 use Rattle.wit_elaboration.proofs.Exporting.{exports_of, imports_of, instance_is}
 use Rattle.wit_elaboration.specs.facts.Filters.{filter-pass}
 use Rattle.wit_elaboration.specs.facts.FreshEntries.{fresh_entries-left}
 use Rattle.wit_elaboration.proofs.exports.export_listed.Goals as goal
-use Rattle.wit_elaboration.specs.steps.Parts.{is_interface, exported_interfaces}
+use Rattle.wit_elaboration.specs.steps.Parts.{export_with_needs, is_interface, exported_interfaces}
+use Rattle.wit_elaboration.specs.Elaborated.{export_needs}
 
 pub export_entry-requires-clause-interface : goal.export_entry-requires-clause-interface
 export_entry-requires-clause-interface c =
@@ -29,10 +30,10 @@ loop-key-preserved-in-Continue-1 c =
     let gives = c.in-Some-item_interface.ensures in
     record {
       exports_are =
-          fresh_entries-left _ (walked_exports uses exported e) _ _ _ _ (ap (λ (xs : List Entry). flat_map (walked_exports uses exported) xs) (ap (filter is_interface) first ∙ filter-pass is_interface e c.next.new.self (instance_is e.1 id gives))) c.loop-key.invariant.exports_are
+          fresh_entries-left _ (export_with_needs uses exported e) _ _ _ _ (ap (λ (xs : List Entry). flat_map (export_with_needs uses exported) xs) (ap (filter is_interface) first ∙ filter-pass is_interface e c.next.new.self (instance_is e.1 id gives))) c.loop-key.invariant.exports_are
           (c.in_ok-export_entry.ensures.exports ∙ ap (λ (xs : List Entry). c.loop-key.lists.exports ++ fresh_entries (keys_of c.loop-key.lists.exports) xs) (exports_of uses exported e id gives));
       imports_are =
-          fresh_entries-left _ (walked_imports uses exported e) _ _ _ _ (ap (λ (xs : List Entry). flat_map (walked_imports uses exported) xs) first) c.loop-key.invariant.imports_are
+          fresh_entries-left _ (export_needs uses (λ i. not (exported i)) e) _ _ _ _ (ap (λ (xs : List Entry). flat_map (export_needs uses (λ i. not (exported i))) xs) first) c.loop-key.invariant.imports_are
           (c.in_ok-export_entry.ensures.imports ∙ ap (λ (xs : List Entry). c.loop-key.lists.imports ++ fresh_entries (keys_of c.loop-key.lists.imports) xs) (imports_of uses exported e id gives));
       state = c.in_ok-export_entry.ensures.state;
       nodes = c.in_ok-export_entry.ensures.nodes ∙ c.loop-key.invariant.nodes;

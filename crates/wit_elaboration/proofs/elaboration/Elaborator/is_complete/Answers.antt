@@ -28,7 +28,7 @@ are_complete-requires-clause-listed c =
 pub returns-clause-no_conflict : goal.returns-clause-no_conflict
 returns-clause-no_conflict c =
     let none = c.exports_no_interface.ensures.0 c.if-not-exports_no_interface.false in
-    both _ _ _ c.are_complete.result (λ complete p q yes. no_conflict c.args.graph.now.types (graph_uses c.args.graph.now) c.args.world.now.exports none) c.are_complete.ensures.sorted c.are_complete.ensures.complete
+    both _ _ _ c.are_complete.result (λ complete p q yes. no_conflict (graph_uses c.args.graph.now) c.args.world.now.exports none) c.are_complete.ensures.sorted c.are_complete.ensures.complete
 
 pub returns-clause-own : goal.returns-clause-own
 returns-clause-own c =
@@ -43,5 +43,5 @@ returns-clause-own c =
     let in_order = subst (λ (ts : List TypeDef). by_class ts imports ≡ imports) types (sorted yes) in
     let walked = subst (λ (us : List (List ℕ)). fresh_entries [] (flat_map (import_with_needs g.types us) (by_class g.types imports)) ≡ imports) uses
     (subst (λ (ts : List TypeDef). fresh_entries [] (flat_map (import_with_needs ts c.as_slice-uses.result.now) (by_class ts imports)) ≡ imports) types (whole yes)) in
-    sym (kept_lists g world (imports_stay g.types (graph_uses g) world.exports none imports in_order walked) (exports_stay g.types (graph_uses g) world.exports none)))
+    sym (kept_lists g world (imports_stay (graph_uses g) world.exports none g.types imports in_order walked) (exports_stay (graph_uses g) world.exports none)))
     c.are_complete.ensures.sorted c.are_complete.ensures.complete

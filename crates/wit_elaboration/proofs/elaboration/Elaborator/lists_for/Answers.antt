@@ -25,11 +25,6 @@ conflict_error-requires c =
     let found = subst (IsFirstConflict c.as_slice-uses.result.now c.args.world.now.exports) c.in-Some.is c.in_ok-found.ensures.found in
     below_from_get c.args.world.now.exports c.in-Some.index found.0 found.1
 
-pub lists_of-requires-clause-no_conflict : goal.lists_of-requires-clause-no_conflict
-lists_of-requires-clause-no_conflict c =
-    none_found c.as_slice-uses.result.now c.args.world.now.exports
-    (subst (IsFirstConflict c.as_slice-uses.result.now c.args.world.now.exports) c.in-None.is c.in_ok-found.ensures.found)
-
 pub returns-in_ok-conflict_error-in-Some-clause-cause : goal.returns-in_ok-conflict_error-in-Some-clause-cause
 returns-in_ok-conflict_error-in-Some-clause-cause c =
     let uses : c.as_slice-uses.result.now ≡ graph_uses c.args.graph.now = c.as_slice-uses.ensures ∙ c.self.view_is ∙ c.requires.uses in
