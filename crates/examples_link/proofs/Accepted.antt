@@ -19,15 +19,15 @@ use Rattle.wit_link_spec.specs.Cause as reason
 use Rattle.wit_link_spec.specs.Gates.{OptionalSpan, package_spans}
 use Rattle.wit_link_spec.specs.Reasons.{IsActiveFunction, IsResolved}
 use Rattle.wit_link_spec.specs.Reasons as part
-use Rattle.wit_link_spec.specs.WorldReasons.{AtInclude, AtWorld, IsCauseAtWorld}
+use Rattle.wit_link_spec.specs.WorldReasons.{IsCauseAtWorld}
 use Rattle.wit_link_spec.specs.facts.WorldCauseFacts.{cause_world}
-use Rattle.examples_link.proofs.AtWorlds.{all_fine, fine_without, no_include, of_first}
+use Rattle.examples_link.proofs.AtWorlds.{AtInclude, all_fine, fine_without, no_include, of_first}
 use Rattle.examples_link.proofs.HasImage.{image}
 use Rattle.examples_link.proofs.WorldTests.{IsPlain, fine, plain_accepted}
 use Rattle.examples_link.specs.IncludedWorlds.{including}
 use Rattle.examples_link.specs.Packages.{adding, first_package, include_with, no_features}
 use Rattle.examples_link.specs.Pushes.{add_using}
-use Rattle.wit_link_spec.specs.steps.Parts.{IncludeIsAccepted, AdditionIsAccepted, AdditionOverflows}
+use Rattle.wit_link_spec.specs.steps.Parts.{AtWorld, IncludeIsAccepted, AdditionIsAccepted, AdditionOverflows}
 
 -- ---- tests
 
@@ -101,7 +101,7 @@ accepted = is_accepted the_first first_world (record {
   has_image = image the_first (record { packages = refl; items = refl; types = refl; interfaces = refl; worlds = refl });
   absent = refl;
   includes = λ j. fine_without the_first 0 j (no_include the_first 0 first_world j refl);
-  plain = record { lists = record { imports = refl; exports = refl; written = λ none. (refl, refl) }; no_exports = refl };
+  plain = record { lists = record { imports = refl; exports = refl }; no_exports = refl };
   required = refl;
   interfaces = refl;
   worlds = refl;
@@ -120,7 +120,7 @@ using_accepted = is_accepted add_using using_world (record {
   has_image = image add_using (record { packages = refl; items = refl; types = refl; interfaces = refl; worlds = refl });
   absent = refl;
   includes = λ j. fine_without add_using 0 j (no_include add_using 0 using_world j refl);
-  plain = record { lists = record { imports = refl; exports = refl; written = λ none. (refl, refl) }; no_exports = refl };
+  plain = record { lists = record { imports = refl; exports = refl }; no_exports = refl };
   required = refl;
   interfaces = refl;
   worlds = refl;
@@ -142,7 +142,7 @@ including_accepted = is_accepted the_including base_include.at (record {
   has_image = image the_including (record { packages = refl; items = refl; types = refl; interfaces = refl; worlds = refl });
   absent = refl;
   includes = all_fine the_including base_include (λ j. refl) (fine the_including 0 0 base_include (record { import_labels = refl; export_labels = refl; import_keys = refl; export_keys = refl; names = refl }));
-  plain = record { lists = record { imports = refl; exports = refl; written = λ none. (refl, refl) }; no_exports = refl };
+  plain = record { lists = record { imports = refl; exports = refl }; no_exports = refl };
   required = refl;
   interfaces = refl;
   worlds = refl;

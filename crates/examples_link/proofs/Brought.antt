@@ -21,12 +21,12 @@ use Rattle.wit_link_spec.specs.Gates.{OptionalSpan}
 use Rattle.wit_link_spec.specs.Include.{is_other_package, lists_of}
 use Rattle.wit_remap_spec.specs.Joined.{include_stability, HasStability}
 use Rattle.wit_link_spec.specs.Reasons.{IsResolved}
-use Rattle.wit_link_spec.specs.WorldReasons.{mismatch_8, shadowing_7, AtInclude, IsCauseAtFinish, IsCauseAtInclude, of_finish, conflict_4, no_getter_18, not_strongly_unique_17}
-use Rattle.examples_link.proofs.AtWorlds.{all_fine, include_same, list_world, of_first, of_first_include}
+use Rattle.wit_link_spec.specs.WorldReasons.{conflict_4, mismatch_8, no_getter_18, not_strongly_unique_17, of_exports, of_labels, shadowing_7}
+use Rattle.examples_link.proofs.AtWorlds.{AtInclude, IsCauseAtFinish, IsCauseAtInclude, all_fine, at_world, include_same, list_world, of_finish, of_first, of_first_include}
 use Rattle.examples_link.proofs.HasImage.{image}
 use Rattle.examples_link.proofs.Matching.{ClashAt, LonelySetterAt, apart_of, of_alike, of_conflict, of_getter, of_mismatch, of_shadowing}
 use Rattle.examples_link.proofs.WorldCauses.{at_first_include, first_reached, label_same, other_feature, stability_of}
-use Rattle.examples_link.proofs.WorldTests.{Passes, conflict_of, fine, none_alike, none_lacks, one_list, unshadowed}
+use Rattle.examples_link.proofs.WorldTests.{Passes, conflict_of, fine, none_alike, none_lacks, unshadowed}
 use Rattle.examples_link.specs.Packages.{adding, exporting_c, gate_f, gate_g, gated_entry, including_lists, no_features, since_one, three, three_exporting}
 use Rattle.examples_link.specs.WorldCauses.{ExamplesOfIncludedCauses, both_export, both_import}
 use Rattle.wit_link_spec.specs.steps.Parts.{IncludeIsAccepted}
@@ -75,7 +75,7 @@ since : (span : OptionalSpan) (brings has : Stability) → IsCauseAtInclude (exp
 since span brings has x =
     let same = include_same (exports (gated_entry since_one) (gated_entry gate_f)) 0 0 x.at (gate_include since_one) in
     let c = apart_of _ _ _ _ span brings has x.cause in
-    elim (one_list c.word x.at.before.lists (lists_of x.at.old) c.current c.brought c.list.0 c.list.1) [
+    elim c.lists [
       | inl both ↦
           let comes : HasStability [] c.i brings = subst (λ (es : List Entry). HasStability es c.i brings) (both.1 ∙ ap (λ (w : World). w.imports) same.old_is) c.comes in
           none_in _ comes.3
@@ -133,10 +133,10 @@ closed (x, d, exported, used, (outside, j, reaches, is_exported)) =
 -- ---- labels with what comes
 
 not_alike : ClashAt (imports (codes "ab") (codes "ac")) 0 → ⊥
-not_alike = none_alike (imports (codes "ab") (codes "ac")) 0 (import_include (codes "ab") (codes "ac")).at (record { imports = refl; exports = refl; written = λ none. cc })
+not_alike = none_alike (imports (codes "ab") (codes "ac")) 0 (import_include (codes "ab") (codes "ac")).at (record { imports = refl; exports = refl })
 
 getter_comes : LonelySetterAt (imports (codes "[get]p") (codes "[set]p")) 0 → ⊥
-getter_comes = none_lacks (imports (codes "[get]p") (codes "[set]p")) 0 (import_include (codes "[get]p") (codes "[set]p")).at (record { imports = refl; exports = refl; written = λ none. cc })
+getter_comes = none_lacks (imports (codes "[get]p") (codes "[set]p")) 0 (import_include (codes "[get]p") (codes "[set]p")).at (record { imports = refl; exports = refl })
 
 -- the labels of the setter and of f are not that of the getter
 no_getter : Contains (key.Name (codes "[set]p") ∷ key.Name (codes "f") ∷ []) (key.Name (codes "[get]p")) → ⊥
@@ -154,7 +154,7 @@ crosswise_include = record { at = record { id = 1; world = _; is = refl }; inclu
 
 pub included_causes : ExamplesOfIncludedCauses
 included_causes = record {
-  conflict = reason.of_world 0 _ (first_reached (exporting 0)) (of_finish _ (exporting_image 0) (all_fine (exporting 0) (exporting_include 0) (λ j. refl)
+  conflict = reason.of_world 0 _ (first_reached (exporting 0)) (at_world (exporting 0) 0 _ (of_finish (exporting_image 0) (all_fine (exporting 0) (exporting_include 0) (λ j. refl)
       (fine (exporting 0) 0 0 (exporting_include 0) (record { import_labels = refl; export_labels = refl; import_keys = refl; export_keys = refl; names = refl }))) (record {
         at = (exporting_include 0).at;
         whole = _;
@@ -173,19 +173,14 @@ included_causes = record {
               ),
               refl,
             );
-      }));
+      })));
   closed = λ span name c.
       let found = of_conflict (exporting 1) span name c in
       of_first (exporting 1) (λ k. refl) (λ (k : ℕ). IsCauseAtFinish (exporting 1) k (InvalidTransitiveDependency span name)) (λ k x. x.at)
       (λ x. closed (conflict_of (exporting 1) 0 (exporting_include 1).at span name x)) found.0 found.1;
   shadows = at_first_include _ _ (exports_image (codes "f") (codes "f")) (record {
     at = export_include (codes "f") (codes "f");
-    cause = shadowing_7 (codes "export") (codes "f") (record {
-      current = _;
-      brought = _;
-      list = (inr (refl, refl), inr (refl, refl));
-      shadowed = record { before = []; after = []; are = refl; there = (0, lit< tt, refl) };
-    });
+    cause = of_exports _ (shadowing_7 (codes "f") (0, refl, (0, lit< tt, refl)));
   });
   imported = λ span word name c.
       let found = of_shadowing crosswise span word name c in
@@ -193,47 +188,38 @@ included_causes = record {
       (unshadowed crosswise 0 0 crosswise_include refl refl span word name) found.0 found.1 found.3;
   mismatch = at_first_include _ _ (gates_image gate_g) (record {
     at = gate_include gate_g;
-    cause = mismatch_8 gate_g gate_f (record {
-      word = codes "export";
-      current = _;
-      brought = _;
-      i = 0;
-      list = (inr (refl, refl), inr (refl, refl));
-      there = (no_docs, None, None, (0, lit< tt, refl));
-      comes = (no_docs, None, None, (0, lit< tt, refl));
-      apart = record { from_known = λ same. cc; into_known = λ same. cc; differ = other_feature };
-      counts = refl;
-    });
+    cause = of_exports _
+        (mismatch_8 0 gate_g gate_f (no_docs, None, None, (0, lit< tt, refl)) (no_docs, None, None, (0, lit< tt, refl)) (record { from_known = λ same. cc; into_known = λ same. cc; differ = other_feature }) refl);
   });
   since = λ span brings has c.
       let found = of_mismatch (exports (gated_entry since_one) (gated_entry gate_f)) span brings has c in
       of_first_include (exports (gated_entry since_one) (gated_entry gate_f)) (λ k. refl) (gate_include since_one).at (λ j. refl)
       (λ (k j : ℕ). IsCauseAtInclude (exports (gated_entry since_one) (gated_entry gate_f)) k j (StabilityMismatch span brings has)) (λ k j x. x.at) (since span brings has) found.0 found.1 found.3;
-  alike = reason.of_world 0 _ (first_reached (imports (codes "ab") (codes "AB"))) (of_finish _ (imports_image (codes "ab") (codes "AB"))
+  alike = reason.of_world 0 _ (first_reached (imports (codes "ab") (codes "AB"))) (at_world (imports (codes "ab") (codes "AB")) 0 _ (of_finish (imports_image (codes "ab") (codes "AB"))
       (imports_fine (codes "ab") (codes "AB") (record { import_labels = refl; export_labels = refl; import_keys = refl; export_keys = refl; names = refl })) (record {
         at = (import_include (codes "ab") (codes "AB")).at;
         whole = _;
         whole_is = refl;
-        cause = not_strongly_unique_17 (codes "import") (codes "ab") (codes "AB") (record { entries = _; list = inl (refl, refl); clash = (0, 1, lit< tt, refl, refl, refl) });
-      }));
-  alike_exports = reason.of_world 0 _ (first_reached (exports (function_entry (codes "ab")) (function_entry (codes "AB")))) (of_finish _ (exports_image (codes "ab") (codes "AB"))
+        cause = of_labels _ (inl (not_strongly_unique_17 (codes "ab") (codes "AB") (0, 1, lit< tt, refl, refl, refl)));
+      })));
+  alike_exports = reason.of_world 0 _ (first_reached (exports (function_entry (codes "ab")) (function_entry (codes "AB")))) (at_world (exports (function_entry (codes "ab")) (function_entry (codes "AB"))) 0 _ (of_finish (exports_image (codes "ab") (codes "AB"))
       (all_fine _ (export_include (codes "ab") (codes "AB")) (λ j. refl)
       (fine _ 0 0 (export_include (codes "ab") (codes "AB")) (record { import_labels = refl; export_labels = refl; import_keys = refl; export_keys = refl; names = refl }))) (record {
         at = (export_include (codes "ab") (codes "AB")).at;
         whole = _;
         whole_is = refl;
-        cause = not_strongly_unique_17 (codes "export") (codes "ab") (codes "AB") (record { entries = _; list = inr (refl, refl); clash = (0, 1, lit< tt, refl, refl, refl) });
-      }));
+        cause = of_labels _ (inr (not_strongly_unique_17 (codes "ab") (codes "AB") (0, 1, lit< tt, refl, refl, refl)));
+      })));
   not_alike = λ span message c.
       let found = of_alike (imports (codes "ab") (codes "ac")) span message c in
       of_first (imports (codes "ab") (codes "ac")) (λ k. refl) (ClashAt (imports (codes "ab") (codes "ac"))) (λ k x. list_world _ k x.lists x.have) not_alike found.0 found.2;
-  no_getter = reason.of_world 0 _ (first_reached (imports (codes "f") (codes "[set]p"))) (of_finish _ (imports_image (codes "f") (codes "[set]p"))
+  no_getter = reason.of_world 0 _ (first_reached (imports (codes "f") (codes "[set]p"))) (at_world (imports (codes "f") (codes "[set]p")) 0 _ (of_finish (imports_image (codes "f") (codes "[set]p"))
       (imports_fine (codes "f") (codes "[set]p") (record { import_labels = refl; export_labels = refl; import_keys = refl; export_keys = refl; names = refl })) (record {
         at = (import_include (codes "f") (codes "[set]p")).at;
         whole = _;
         whole_is = refl;
-        cause = no_getter_18 (codes "import") (codes "[set]p") _ (record { entries = _; list = inl (refl, refl); setter = ((0, lit< tt, refl), refl); absent = no_getter });
-      }));
+        cause = of_labels _ (inl (no_getter_18 (codes "[set]p") _ (0, lit< tt, refl) refl no_getter));
+      })));
   getter_comes = λ span message c.
       let found = of_getter (imports (codes "[get]p") (codes "[set]p")) span message c in
       of_first (imports (codes "[get]p") (codes "[set]p")) (λ k. refl) (LonelySetterAt (imports (codes "[get]p") (codes "[set]p"))) (λ k x. list_world _ k x.lists x.have) getter_comes found.0 found.1;

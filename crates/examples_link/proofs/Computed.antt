@@ -92,10 +92,9 @@ values = record {
 -- ---- includes
 
 -- a key of an interface alone has no label
-none_of_one : (n : List ℕ) (before after : List WorldKey) → key.Interface 0 ∷ [] ≡ before ++ key.Name n ∷ after → ⊥
-none_of_one n [] after split = cc
-none_of_one n (a ∷ []) after split = cc
-none_of_one n (a ∷ b ∷ before) after split = cc
+none_of_one : (n : List ℕ) (j : ℕ) → slice_get (key.Interface 0 ∷ []) j ≡ Some (key.Name n) → ⊥
+none_of_one n zero at = cc
+none_of_one n (suc j) at = cc
 
 no_name : (label : List ℕ) → key.Interface 0 ≡ key.Name label → ⊥
 no_name label same = cc
@@ -111,9 +110,9 @@ includes = record {
   dropped = refl;
   not_dropped = refl;
   feature_kept = refl;
-  shadows = record { before = []; after = []; are = refl; there = (0, lit< tt, refl) };
-  twice = record { before = key.Name (codes "f") ∷ []; after = []; are = refl; there = (0, lit< tt, refl) };
-  interfaces_never = λ n there. none_of_one n there.before there.after there.are;
+  shadows = (0, refl, (0, lit< tt, refl));
+  twice = (1, refl, (0, lit< tt, refl));
+  interfaces_never = λ n there. none_of_one n there.0 there.1;
   renames = (codes "[method]r.m", (0, lit< tt, refl), refl);
   renames_nothing = λ renamed. no_name renamed.0 (only_one _ _ renamed.1);
   joins = refl;

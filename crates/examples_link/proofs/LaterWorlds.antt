@@ -11,27 +11,26 @@ use Rattle.wit_graph_data.specs.declared.error_kind.ResolveErrorKind.TheVariants
 use Rattle.wit_graph_data.specs.examples.Samples.{no_docs}
 use Rattle.wit_graph_theory.specs.examples.TestFacts.{only_one}
 use Rattle.wit_labels.specs.examples.Examples.{function_entry}
-use Rattle.wit_link_spec.specs.Addition.{Addition, active_includes, own_worlds}
+use Rattle.wit_link_spec.specs.Addition.{Addition, own_worlds, updated_includes}
 use Rattle.wit_link_spec.specs.Cause as reason
 use Rattle.wit_link_spec.specs.Gates as asked
 use Rattle.wit_link_spec.specs.Include.{EntryLists}
 use Rattle.wit_link_spec.specs.Reasons.{IsResolved, LacksVersion}
-use Rattle.wit_link_spec.specs.WorldReasons.{AtInclude, AtWorld, IsCauseAtInclude, IsCauseAtWorld, written_no_getter_18, written_not_strongly_unique_17, mismatch_8, shadowing_7}
-use Rattle.wit_link_spec.specs.WorldReasons as world_reason
+use Rattle.wit_link_spec.specs.WorldReasons.{IsCauseAtWorld, mismatch_8, no_getter_18, not_strongly_unique_17, of_image, of_imports, of_labels_alone, shadowing_7}
 use Rattle.wit_link_spec.specs.facts.WorldCauseFacts.{includes_accepted}
-use Rattle.examples_link.proofs.AtWorlds.{HaveLists, fine_without, list_world, made, no_include, of_first, world_same, written}
+use Rattle.examples_link.proofs.AtWorlds.{AtInclude, HaveLists, IsCauseAtInclude, at_world, fine_without, list_world, made, no_include, of_first, of_include, refused_where, world_same, written}
 use Rattle.examples_link.proofs.HasImage.{image}
 use Rattle.examples_link.proofs.Matching.{ClashAt, of_alike}
 use Rattle.examples_link.proofs.WorldCauses.{first_reached, label_same, other_feature}
 use Rattle.examples_link.proofs.WorldTests.{IsPlain, fine, none_alike, plain_accepted}
 use Rattle.examples_link.specs.LaterWorlds.{ExamplesOfLaterWorlds, alike_unversioned, before_alike, include_of, including_unversioned, shadowing_first, two_gates, w_is_alike, w_of_alike}
 use Rattle.examples_link.specs.Packages.{gate_f, gate_g, loose_interface, since_one}
-use Rattle.wit_link_spec.specs.steps.Parts.{IncludeIsAccepted, WorldIsAccepted, IsReached}
+use Rattle.wit_link_spec.specs.steps.Parts.{AtWorld, IncludeIsAccepted, WorldIsAccepted, IsReached}
 
 -- ---- a world with which nothing is wrong
 
 -- it is plain, and includes nothing
-plain_is_fine : (a : Addition) (k : ℕ) (y : AtWorld a k) → ((j : ℕ) → slice_get (active_includes a y.world) j ≡ None) → IsPlain a k y → WorldIsAccepted a k
+plain_is_fine : (a : Addition) (k : ℕ) (y : AtWorld a k) → ((j : ℕ) → slice_get (updated_includes a y.world) j ≡ None) → IsPlain a k y → WorldIsAccepted a k
 plain_is_fine a k y no_includes p = plain_accepted a k y p (λ image j. fine_without a k j (no_include a k y j (no_includes j)))
 
 -- ---- the third world, and its second include
@@ -46,14 +45,14 @@ abbrev includes_both : AtWorld two_gates 2
 includes_both = record { id = 2; world = _; is = refl }
 
 abbrev first_include : AtInclude two_gates 2 0
-first_include = record { at = includes_both; include = include_of 0; is = refl; before = _; before_is = refl; old = _; old_is = refl }
+first_include = record { at = includes_both; include = _; is = refl; before = _; before_is = refl; old = _; old_is = refl }
 
 abbrev second_include : AtInclude two_gates 2 1
-second_include = record { at = includes_both; include = include_of 1; is = refl; before = _; before_is = refl; old = _; old_is = refl }
+second_include = record { at = includes_both; include = _; is = refl; before = _; before_is = refl; old = _; old_is = refl }
 
 fine_before : (i : ℕ) → i < 2 → WorldIsAccepted two_gates i
-fine_before zero below = plain_is_fine two_gates 0 first_gate (λ j. refl) (record { lists = record { imports = refl; exports = refl; written = λ none. (refl, refl) }; no_exports = refl })
-fine_before (suc zero) below = plain_is_fine two_gates 1 second_gate (λ j. refl) (record { lists = record { imports = refl; exports = refl; written = λ none. (refl, refl) }; no_exports = refl })
+fine_before zero below = plain_is_fine two_gates 0 first_gate (λ j. refl) (record { lists = record { imports = refl; exports = refl }; no_exports = refl })
+fine_before (suc zero) below = plain_is_fine two_gates 1 second_gate (λ j. refl) (record { lists = record { imports = refl; exports = refl }; no_exports = refl })
 fine_before (suc (suc i)) below = absurd (omega (arith, below))
 
 include_fine : (i : ℕ) → i < 1 → IncludeIsAccepted two_gates 2 i
@@ -68,38 +67,21 @@ mismatch : IsCauseAtInclude two_gates 2 1 (StabilityMismatch (Some (50, 60)) gat
 unfolding post_order post_order_within
 mismatch = record {
   at = second_include;
-  cause = mismatch_8 gate_g gate_f (record {
-    word = codes "import";
-    current = _;
-    brought = _;
-    i = 0;
-    list = (inl (refl, refl), inl (refl, refl));
-    there = (no_docs, None, None, (0, lit< tt, refl));
-    comes = (no_docs, None, None, (0, lit< tt, refl));
-    apart = record { from_known = λ same. cc; into_known = λ same. cc; differ = other_feature };
-    counts = refl;
-  });
+  cause = of_imports _
+      (mismatch_8 0 gate_g gate_f (no_docs, None, None, (0, lit< tt, refl)) (no_docs, None, None, (0, lit< tt, refl)) (record { from_known = λ same. cc; into_known = λ same. cc; differ = other_feature }) refl);
 }
 
 -- ---- labels of a world behind another
 
 -- world w as it is written, with the labels that are not strongly unique
 written_alike : (a : Addition) (k place : ℕ) → slice_get (own_worlds a) k ≡ Some (place, w_of_alike) → IsCauseAtWorld a k w_is_alike
-written_alike a k place is = written_not_strongly_unique_17 _ (record {
-  at = record { id = place; world = w_of_alike; is = is };
-  no_includes = refl;
-  word = codes "import";
-  n = codes "AB";
-  m = codes "ab";
-  clash = record { entries = _; list = inl (refl, refl); clash = (0, 1, lit< tt, refl, refl, refl) };
-  message_is = refl;
-})
+written_alike a k place is = of_labels_alone place w_of_alike is refl (inl (not_strongly_unique_17 (codes "AB") (codes "ab") (0, 1, lit< tt, refl, refl, refl)))
 
 abbrev empty_first : AtWorld (before_alike []) 0
 empty_first = record { id = 0; world = _; is = refl }
 
 nothing_before : (i : ℕ) → i < 1 → WorldIsAccepted (before_alike []) i
-nothing_before zero below = plain_is_fine (before_alike []) 0 empty_first (λ j. refl) (record { lists = record { imports = refl; exports = refl; written = λ none. (refl, refl) }; no_exports = refl })
+nothing_before zero below = plain_is_fine (before_alike []) 0 empty_first (λ j. refl) (record { lists = record { imports = refl; exports = refl }; no_exports = refl })
 nothing_before (suc i) below = absurd (omega (arith, below))
 
 abbrev setter_first : Addition
@@ -109,24 +91,12 @@ abbrev setter_world : AtWorld setter_first 0
 setter_world = record { id = 0; world = _; is = refl }
 
 lacks_getter : IsCauseAtWorld setter_first 0 (Semantic None (codes "import `[set]p` in world `v` has no corresponding getter `[get]p`") cause.NoGetter)
-lacks_getter = written_no_getter_18 _ _ (record {
-  at = setter_world;
-  no_includes = refl;
-  word = codes "import";
-  label = codes "[set]p";
-  f = _;
-  setter = record {
-    entries = _;
-    list = inl (refl, refl);
-    setter = ((0, lit< tt, refl), refl);
-    absent = λ has. differ (codes "[set]p") (codes "[get]p") refl (label_same _ _ (only_one (key.Name (codes "[set]p")) (key.Name (codes "[get]p")) has));
-  };
-  span_is = refl;
-  message_is = refl;
-})
+lacks_getter =
+    of_labels_alone 0 _ refl refl
+    (inl (no_getter_18 (codes "[set]p") _ (0, lit< tt, refl) refl (λ has. differ (codes "[set]p") (codes "[get]p") refl (label_same _ _ (only_one (key.Name (codes "[set]p")) (key.Name (codes "[get]p")) has)))))
 
 first_told : (k : ℕ) → IsReached setter_first k → ClashAt setter_first k → ⊥
-first_told zero reached c = none_alike setter_first 0 setter_world (record { imports = refl; exports = refl; written = λ none. (refl, refl) }) c
+first_told zero reached c = none_alike setter_first 0 setter_world (record { imports = refl; exports = refl }) c
 first_told (suc k) reached c =
     let below : 0 < suc k = omega arith in
     reached 0 below _ lacks_getter
@@ -164,13 +134,11 @@ lists_none : (at : AtWorld unmade 1) → at.world.includes ≡ [] → ⊥
 lists_none at none = some_includes (include_of 0) (subst (λ (w : World). w.includes ≡ []) (world_same unmade 1 at including_second).1 none)
 
 second_unmade : WorldIsAccepted unmade 1
-second_unmade _ (world_reason.of_include j error image earlier is) = no_image image
-second_unmade _ (world_reason.of_finish error image includes is) = no_image image
-second_unmade _ (written_not_strongly_unique_17 message is) = lists_none is.at is.no_includes
-second_unmade _ (written_no_getter_18 span message is) = lists_none is.at is.no_includes
+second_unmade error (of_image w world is image why) = no_image image
+second_unmade error (of_labels_alone w world is none why) = lists_none (record { id = w; world = world; is = is }) none
 
 fine_unmade : (i : ℕ) → i < 2 → WorldIsAccepted unmade i
-fine_unmade zero below = plain_is_fine unmade 0 (record { id = 0; world = _; is = refl }) (λ j. refl) (record { lists = record { imports = refl; exports = refl; written = λ none. (refl, refl) }; no_exports = refl })
+fine_unmade zero below = plain_is_fine unmade 0 (record { id = 0; world = _; is = refl }) (λ j. refl) (record { lists = record { imports = refl; exports = refl }; no_exports = refl })
 fine_unmade (suc zero) below = second_unmade
 fine_unmade (suc (suc i)) below = absurd (omega (arith, below))
 
@@ -181,34 +149,29 @@ abbrev shadowing_world : AtWorld (shadowing_first []) 1
 shadowing_world = record { id = 1; world = _; is = refl }
 
 abbrev shadowing_include : AtInclude (shadowing_first []) 1 0
-shadowing_include = record { at = shadowing_world; include = include_of 0; is = refl; before = _; before_is = refl; old = _; old_is = refl }
+shadowing_include = record { at = shadowing_world; include = _; is = refl; before = _; before_is = refl; old = _; old_is = refl }
 
 shadows : IsCauseAtInclude (shadowing_first []) 1 0 (ItemShadowing (Some (50, 60)) (codes "import") (codes "f"))
 unfolding post_order post_order_within
 shadows = record {
   at = shadowing_include;
-  cause = shadowing_7 (codes "import") (codes "f") (record {
-    current = _;
-    brought = _;
-    list = (inl (refl, refl), inl (refl, refl));
-    shadowed = record { before = []; after = []; are = refl; there = (0, lit< tt, refl) };
-  });
+  cause = of_imports _ (shadowing_7 (codes "f") (0, refl, (0, lit< tt, refl)));
 }
 
 refused_lists : (lists : EntryLists) → HaveLists (shadowing_first []) 1 lists → ⊥
-refused_lists _ (made at has fine) = fine 0 _ shadows
+refused_lists _ (made at has fine) = refused_where (shadowing_first []) 1 0 _ shadows (fine 0)
 refused_lists _ (written at none) = some_includes (include_of 0) (subst (λ (w : World). w.includes ≡ []) (world_same (shadowing_first []) 1 at shadowing_world).1 none)
 
 behind_shadowing : (k : ℕ) → IsReached (shadowing_first []) k → ClashAt (shadowing_first []) k → ⊥
-behind_shadowing zero reached c = none_alike (shadowing_first []) 0 (record { id = 0; world = _; is = refl }) (record { imports = refl; exports = refl; written = λ none. (refl, refl) }) c
+behind_shadowing zero reached c = none_alike (shadowing_first []) 0 (record { id = 0; world = _; is = refl }) (record { imports = refl; exports = refl }) c
 behind_shadowing (suc zero) reached c = refused_lists c.lists c.have
 behind_shadowing (suc (suc k)) reached c =
     let below : 1 < suc (suc k) = omega arith in
-    includes_accepted (shadowing_first []) 1 shadowing_image (reached 1 below) 0 _ shadows
+    refused_where (shadowing_first []) 1 0 _ shadows (includes_accepted (shadowing_first []) 1 shadowing_image (reached 1 below) 0)
 
 pub later_worlds : ExamplesOfLaterWorlds
 later_worlds = record {
-  second_include = reason.of_world 2 _ fine_before (world_reason.of_include 1 _ gates_image include_fine mismatch);
+  second_include = reason.of_world 2 _ fine_before (at_world two_gates 2 _ (of_include 1 gates_image include_fine mismatch));
   second_world = reason.of_world 1 _ nothing_before (written_alike (before_alike []) 1 1 refl);
   first_told = λ span message c. let found = of_alike setter_first span message c in first_told found.0 found.1 found.2;
   unversioned = reason.of_world 0 _ (first_reached alike_unversioned) (written_alike alike_unversioned 0 0 refl);

@@ -1,5 +1,5 @@
 -- The cause of each error: of one error there is one alone.
-use Rattle.std.proofs.Common.{◌≡◌, ℕ, Bool, true, false, List, [], ◌∷◌, refl, sym, subst, Contains}
+use Rattle.std.proofs.Common.{◌≡◌, ◌∙◌, ◌⊎◌, inl, inr, ℕ, Bool, true, false, List, [], ◌∷◌, map, Some, slice_get, refl, sym, ap, Contains}
 use Rattle.std.proofs.lemmas.Bool.{false≢true}
 use Rattle.std.specs.Prelude.{nat_eq}
 use Rattle.std.specs.List.{list_any}
@@ -24,137 +24,174 @@ use Rattle.wit_link_spec.specs.Addition.{Addition}
 use Rattle.wit_link_spec.specs.Cause.{IsAdditionCause}
 use Rattle.wit_link_spec.specs.facts.Linked.{IncludeIsReached}
 use Rattle.wit_link_spec.specs.Cause as reason
-use Rattle.wit_link_spec.specs.WorldReasons.{IsFinishCause, LabelsClash, SetterIsAlone, IsFirstUnmatched, IsIncludeCause, LabelIsTaken, StabilitiesAreApart, IsCauseAtFinish, IsCauseAtInclude, IsCauseAtWorld}
+use Rattle.wit_link_spec.specs.WorldReasons.{IsCauseAtWorld, IsFinishCause, IsIncludeCause, IsJoinCause, IsLabelCause, IsListCause, IsRenamed, IsShadowed, renamed_key}
+use Rattle.wit_remap_spec.specs.Joined.{include_stability, Disagree, HasStability}
 use Rattle.wit_link_spec.specs.Gates.{OptionalSpan}
-use Rattle.wit_link_spec.specs.Include.{EntryLists, IsListCalled, PartiallyLinked, lists_of}
+use Rattle.wit_link_spec.specs.Include.{EntryLists, PartiallyLinked, is_other_package, lists_of, with_entry_lists}
 use Rattle.wit_link_spec.specs.Reasons.{ForeignTypeMissing, HasExcludedOwner, IsDuplicate, IsNoResource, IsUnreleased, LacksInterface, LacksPackage, LacksVersion, LacksWorld, RefersToExcluded, ReturnsBorrow}
 use Rattle.wit_link_spec.specs.WorldReasons as world
-use Rattle.examples_link.proofs.AtWorlds.{HaveLists, made, written}
-use Rattle.wit_link_spec.specs.steps.Parts.{AdditionOverflows, WorldIsInConflict, IsReached}
+use Rattle.examples_link.proofs.AtWorlds.{HaveLists, IsCauseAtFinish, IsCauseAtInclude, IsMet, made, met, of_finish, of_include, of_labels, written}
+use Rattle.wit_link_spec.specs.steps.Parts.{begun_whole, image_at, AdditionOverflows, WorldIsInConflict, IsReached}
 
 -- ---- an include, and a world that is finished
 
+-- one list of a world, and the other that is brought to it
+abbrev pub AreLists : EntryLists → EntryLists → List Entry → List Entry → Type 0
+AreLists now old current brought = ((current ≡ now.imports) × (brought ≡ old.imports)) ⊎ ((current ≡ now.exports) × (brought ≡ old.exports))
+
+-- a label is brought that is there
+pub record LabelIsTaken (b : PartiallyLinked) (include : WorldInclude) (old : World) (name : List ℕ) : Type 0 where
+  pub current : List Entry
+  pub brought : List Entry
+  pub lists : AreLists b.lists (lists_of old) current brought
+  pub shadowed : IsShadowed current (map (λ (e : Entry). renamed_key include.names e.0) brought) name
+
+-- an interface is brought that is there with another stability
+pub record StabilitiesAreApart (home : ℕ) (b : PartiallyLinked) (old : World) (brings has : Stability) : Type 0 where
+  pub current : List Entry
+  pub brought : List Entry
+  pub lists : AreLists b.lists (lists_of old) current brought
+  pub i : ℕ
+  pub comes : HasStability brought i brings
+  pub there : HasStability current i has
+  pub apart : Disagree brings has
+  pub counts : include_stability (is_other_package old.package home) brings has ≡ brings
+
 module _ (home : ℕ) (b : PartiallyLinked) (i : WorldInclude) (old : World) where
-  pub taken_of : (span : OptionalSpan) (word name : List ℕ) → IsIncludeCause home b i old (ItemShadowing span word name) → LabelIsTaken b i old word name
-  taken_of _ _ _ (world.shadowing_7 word name is) = is
+  taken_in : (other : Bool) (current brought : List Entry) (span : OptionalSpan) (word called name : List ℕ) → AreLists b.lists (lists_of old) current brought
+      → IsJoinCause other i called current brought (ItemShadowing span word name) → LabelIsTaken b i old name
+  taken_in other current brought _ _ _ _ lists (world.shadowing_7 name is) = record { current = current; brought = brought; lists = lists; shadowed = is }
+
+  pub taken_of : (span : OptionalSpan) (word name : List ℕ) → IsIncludeCause home b i old (ItemShadowing span word name) → LabelIsTaken b i old name
+  taken_of span word name (world.of_imports _ is) = taken_in _ b.lists.imports old.imports span word _ name (inl (refl, refl)) is
+  taken_of span word name (world.of_exports _ is) = taken_in _ b.lists.exports old.exports span word _ name (inr (refl, refl)) is
+
+  apart_in : (current brought : List Entry) (span : OptionalSpan) (word : List ℕ) (brings has : Stability) → AreLists b.lists (lists_of old) current brought
+      → IsJoinCause (is_other_package old.package home) i word current brought (StabilityMismatch span brings has) → StabilitiesAreApart home b old brings has
+  apart_in current brought _ _ _ _ lists (world.mismatch_8 at brings has comes there apart counts) =
+      record { current = current; brought = brought; lists = lists; i = at; comes = comes; there = there; apart = apart; counts = counts }
 
   pub apart_of : (span : OptionalSpan) (brings has : Stability) → IsIncludeCause home b i old (StabilityMismatch span brings has) → StabilitiesAreApart home b old brings has
-  apart_of _ _ _ (world.mismatch_8 brings has is) = is
+  apart_of span brings has (world.of_imports _ is) = apart_in b.lists.imports old.imports span _ brings has (inl (refl, refl)) is
+  apart_of span brings has (world.of_exports _ is) = apart_in b.lists.exports old.exports span _ brings has (inr (refl, refl)) is
 
-  pub unmatched_of : (span : OptionalSpan) (message : List ℕ) → IsIncludeCause home b i old (Semantic span message cause.RenameUnmatched) → (name : IncludeName) × IsFirstUnmatched old i.names name
-  unmatched_of _ _ (world.rename_unmatched_16 name is) = (name, is)
+  join_number : (other : Bool) (word : List ℕ) (current brought : List Entry) (numbers : List ℕ) → list_any (nat_eq 7) numbers ≡ true → list_any (nat_eq 8) numbers ≡ true → (error : ResolveErrorKind)
+      → IsJoinCause other i word current brought error → list_any (nat_eq (error_number error)) numbers ≡ true
+  join_number other word current brought numbers seven eight _ (world.shadowing_7 name is) = seven
+  join_number other word current brought numbers seven eight _ (world.mismatch_8 at brings has comes there apart counts) = eight
+
+  no_join : (other : Bool) (word : List ℕ) (current brought : List Entry) (span : OptionalSpan) (message : List ℕ) → IsJoinCause other i word current brought (Semantic span message cause.RenameUnmatched) → ⊥
+  no_join other word current brought span message is = false≢true (join_number other word current brought (7 ∷ 8 ∷ []) refl refl (Semantic span message cause.RenameUnmatched) is)
+
+  -- a renaming is of no label
+  pub unmatched_of : (span : OptionalSpan) (message : List ℕ) → IsIncludeCause home b i old (Semantic span message cause.RenameUnmatched)
+      → (j : ℕ) × (name : IncludeName) × (slice_get i.names j ≡ Some name) × (IsRenamed old name → ⊥)
+  unmatched_of span message (world.of_imports _ is) = absurd (no_join _ _ _ _ span message is)
+  unmatched_of span message (world.of_exports _ is) = absurd (no_join _ _ _ _ span message is)
+  unmatched_of _ _ (world.rename_unmatched_16 j name is earlier unmatched) = (j, name, is, unmatched)
 
   include_number : (numbers : List ℕ) → list_any (nat_eq 7) numbers ≡ true → list_any (nat_eq 8) numbers ≡ true → list_any (nat_eq 16) numbers ≡ true → (error : ResolveErrorKind) → IsIncludeCause home b i old error
       → list_any (nat_eq (error_number error)) numbers ≡ true
-  include_number numbers seven eight sixteen _ (world.shadowing_7 word name is) = seven
-  include_number numbers seven eight sixteen _ (world.mismatch_8 brings has is) = eight
-  include_number numbers seven eight sixteen _ (world.rename_unmatched_16 name is) = sixteen
+  include_number numbers seven eight sixteen error (world.of_imports _ is) = join_number _ _ _ _ numbers seven eight error is
+  include_number numbers seven eight sixteen error (world.of_exports _ is) = join_number _ _ _ _ numbers seven eight error is
+  include_number numbers seven eight sixteen _ (world.rename_unmatched_16 j name is earlier unmatched) = sixteen
+
+list_number : (called word : List ℕ) (entries : List Entry) (numbers : List ℕ) → list_any (nat_eq 17) numbers ≡ true → list_any (nat_eq 18) numbers ≡ true → (error : ResolveErrorKind) → IsListCause called word entries error
+    → list_any (nat_eq (error_number error)) numbers ≡ true
+list_number called word entries numbers seventeen eighteen _ (world.not_strongly_unique_17 n m is) = seventeen
+list_number called word entries numbers seventeen eighteen _ (world.no_getter_18 label f has setter absent) = eighteen
+
+label_number : (w : World) (numbers : List ℕ) → list_any (nat_eq 17) numbers ≡ true → list_any (nat_eq 18) numbers ≡ true → (error : ResolveErrorKind) → IsLabelCause w error → list_any (nat_eq (error_number error)) numbers ≡ true
+label_number w numbers seventeen eighteen error (inl is) = list_number _ _ _ numbers seventeen eighteen error is
+label_number w numbers seventeen eighteen error (inr is) = list_number _ _ _ numbers seventeen eighteen error is
 
 module _ (g : Graph) (w : World) where
-  pub conflict_in : (span : OptionalSpan) (name : List ℕ) → IsFinishCause g w (InvalidTransitiveDependency span name) → WorldIsInConflict g w name
-  conflict_in _ _ (world.conflict_4 name conflict name_is) = record { conflict = conflict; name_is = name_is }
-
-  clash_in : (span : OptionalSpan) (message : List ℕ) → IsFinishCause g w (Semantic span message cause.NotStronglyUnique) → (word : List ℕ) × (n : List ℕ) × (m : List ℕ) × LabelsClash w word n m
-  clash_in _ _ (world.not_strongly_unique_17 word n m is) = (word, n, m, is)
-
-  alone_in : (span : OptionalSpan) (message : List ℕ) → IsFinishCause g w (Semantic span message cause.NoGetter) → (word : List ℕ) × (label : List ℕ) × (f : Function) × SetterIsAlone w word label f
-  alone_in _ _ (world.no_getter_18 word label f is) = (word, label, f, is)
-
   finish_number : (numbers : List ℕ) → list_any (nat_eq 4) numbers ≡ true → list_any (nat_eq 17) numbers ≡ true → list_any (nat_eq 18) numbers ≡ true → (error : ResolveErrorKind) → IsFinishCause g w error
       → list_any (nat_eq (error_number error)) numbers ≡ true
   finish_number numbers four seventeen eighteen _ (world.conflict_4 name conflict name_is) = four
-  finish_number numbers four seventeen eighteen _ (world.not_strongly_unique_17 word n m is) = seventeen
-  finish_number numbers four seventeen eighteen _ (world.no_getter_18 word label f is) = eighteen
+  finish_number numbers four seventeen eighteen error (world.of_labels _ is) = label_number w numbers seventeen eighteen error is
+
+  pub conflict_in : (span : OptionalSpan) (name : List ℕ) → IsFinishCause g w (InvalidTransitiveDependency span name) → WorldIsInConflict g w name
+  conflict_in _ _ (world.conflict_4 name conflict name_is) = record { conflict = conflict; name_is = name_is }
+  conflict_in span name (world.of_labels _ is) = absurd (false≢true (label_number w (17 ∷ 18 ∷ []) refl refl (InvalidTransitiveDependency span name) is))
 
 -- ---- a world
 
--- labels of world k that are not strongly unique, with its includes or as it is written
+-- labels of world k that are not strongly unique
 pub record ClashAt (a : Addition) (k : ℕ) : Type 0 where
   pub lists : EntryLists
   pub have : HaveLists a k lists
-  pub word : List ℕ
   pub n : List ℕ
   pub m : List ℕ
   pub entries : List Entry
-  pub list : IsListCalled word lists entries
+  pub list : (entries ≡ lists.imports) ⊎ (entries ≡ lists.exports)
   pub clash : Clashes (keys_of entries) n m
 
 -- a setter of world k without a getter
 pub record LonelySetterAt (a : Addition) (k : ℕ) : Type 0 where
   pub lists : EntryLists
   pub have : HaveLists a k lists
-  pub word : List ℕ
   pub label : List ℕ
   pub f : Function
   pub entries : List Entry
-  pub list : IsListCalled word lists entries
+  pub list : (entries ≡ lists.imports) ⊎ (entries ≡ lists.exports)
   pub setter : Contains entries (key.Name label, item.Function f) × (is_setter_label label ≡ true)
   pub absent : Contains (keys_of entries) (key.Name (getter_label label)) → ⊥
 
 module _ (a : Addition) (k : ℕ) where
+  clash_in : (lists : EntryLists) → HaveLists a k lists → (w : World) → lists_of w ≡ lists → (span : OptionalSpan) (message : List ℕ) → IsLabelCause w (Semantic span message cause.NotStronglyUnique) → ClashAt a k
+  clash_in lists have w are _ _ (inl (world.not_strongly_unique_17 n m is)) =
+      record { lists = lists; have = have; n = n; m = m; entries = w.imports; list = inl (ap (λ (l : EntryLists). l.imports) are); clash = is }
+  clash_in lists have w are _ _ (inr (world.not_strongly_unique_17 n m is)) =
+      record { lists = lists; have = have; n = n; m = m; entries = w.exports; list = inr (ap (λ (l : EntryLists). l.exports) are); clash = is }
+
+  pub clash_met : (span : OptionalSpan) (message : List ℕ) → IsMet a k (Semantic span message cause.NotStronglyUnique) → ClashAt a k
+  clash_met span message (of_include j image earlier c) =
+      absurd (false≢true (include_number _ _ _ _ (7 ∷ 8 ∷ 16 ∷ []) refl refl refl (Semantic span message cause.NotStronglyUnique) c.cause))
+  clash_met span message (of_finish image fine c) = by c.cause
+    where
+      by : IsFinishCause c.whole.graph (with_entry_lists (image_at a c.at.id c.at.world) c.whole.lists) (Semantic span message cause.NotStronglyUnique) → ClashAt a k
+      by (world.of_labels _ is) =
+          clash_in (begun_whole a k c.at).lists (made c.at image fine) (with_entry_lists (image_at a c.at.id c.at.world) c.whole.lists) (ap (λ (b : PartiallyLinked). b.lists) c.whole_is) span message is
+  clash_met span message (of_labels at none is) = clash_in (lists_of (image_at a at.id at.world)) (written at none) (image_at a at.id at.world) refl span message is
+
   pub clash_at : (span : OptionalSpan) (message : List ℕ) → IsCauseAtWorld a k (Semantic span message cause.NotStronglyUnique) → ClashAt a k
-  clash_at span message (world.of_include j _ image earlier is) =
-      absurd (false≢true (include_number _ _ _ _ (7 ∷ 8 ∷ 16 ∷ []) refl refl refl (Semantic span message cause.NotStronglyUnique) is.cause))
-  clash_at span message (world.of_finish _ image includes is) =
-      let found = clash_in _ _ span message is.cause in
-      record {
-        lists = is.whole.lists;
-        have = subst (λ (b : PartiallyLinked). HaveLists a k b.lists) (sym is.whole_is) (made is.at image includes);
-        word = found.0;
-        n = found.1;
-        m = found.2;
-        entries = found.3.entries;
-        list = found.3.list;
-        clash = found.3.clash;
-      }
-  clash_at _ _ (world.written_not_strongly_unique_17 message is) = record {
-    lists = lists_of is.at.world;
-    have = written is.at is.no_includes;
-    word = is.word;
-    n = is.n;
-    m = is.m;
-    entries = is.clash.entries;
-    list = is.clash.list;
-    clash = is.clash.clash;
-  }
+  clash_at span message c = clash_met span message (met a k _ c)
+
+  alone_in : (lists : EntryLists) → HaveLists a k lists → (w : World) → lists_of w ≡ lists → (span : OptionalSpan) (message : List ℕ) → IsLabelCause w (Semantic span message cause.NoGetter) → LonelySetterAt a k
+  alone_in lists have w are _ _ (inl (world.no_getter_18 label f has setter absent)) =
+      record { lists = lists; have = have; label = label; f = f; entries = w.imports; list = inl (ap (λ (l : EntryLists). l.imports) are); setter = (has, setter); absent = absent }
+  alone_in lists have w are _ _ (inr (world.no_getter_18 label f has setter absent)) =
+      record { lists = lists; have = have; label = label; f = f; entries = w.exports; list = inr (ap (λ (l : EntryLists). l.exports) are); setter = (has, setter); absent = absent }
+
+  pub lonely_met : (span : OptionalSpan) (message : List ℕ) → IsMet a k (Semantic span message cause.NoGetter) → LonelySetterAt a k
+  lonely_met span message (of_include j image earlier c) =
+      absurd (false≢true (include_number _ _ _ _ (7 ∷ 8 ∷ 16 ∷ []) refl refl refl (Semantic span message cause.NoGetter) c.cause))
+  lonely_met span message (of_finish image fine c) = by c.cause
+    where
+      by : IsFinishCause c.whole.graph (with_entry_lists (image_at a c.at.id c.at.world) c.whole.lists) (Semantic span message cause.NoGetter) → LonelySetterAt a k
+      by (world.of_labels _ is) =
+          alone_in (begun_whole a k c.at).lists (made c.at image fine) (with_entry_lists (image_at a c.at.id c.at.world) c.whole.lists) (ap (λ (b : PartiallyLinked). b.lists) c.whole_is) span message is
+  lonely_met span message (of_labels at none is) = alone_in (lists_of (image_at a at.id at.world)) (written at none) (image_at a at.id at.world) refl span message is
 
   pub lonely_at : (span : OptionalSpan) (message : List ℕ) → IsCauseAtWorld a k (Semantic span message cause.NoGetter) → LonelySetterAt a k
-  lonely_at span message (world.of_include j _ image earlier is) =
-      absurd (false≢true (include_number _ _ _ _ (7 ∷ 8 ∷ 16 ∷ []) refl refl refl (Semantic span message cause.NoGetter) is.cause))
-  lonely_at span message (world.of_finish _ image includes is) =
-      let found = alone_in _ _ span message is.cause in
-      record {
-        lists = is.whole.lists;
-        have = subst (λ (b : PartiallyLinked). HaveLists a k b.lists) (sym is.whole_is) (made is.at image includes);
-        word = found.0;
-        label = found.1;
-        f = found.2;
-        entries = found.3.entries;
-        list = found.3.list;
-        setter = found.3.setter;
-        absent = found.3.absent;
-      }
-  lonely_at _ _ (world.written_no_getter_18 span message is) = record {
-    lists = lists_of is.at.world;
-    have = written is.at is.no_includes;
-    word = is.word;
-    label = is.label;
-    f = is.f;
-    entries = is.setter.entries;
-    list = is.setter.list;
-    setter = is.setter.setter;
-    absent = is.setter.absent;
-  }
+  lonely_at span message c = lonely_met span message (met a k _ c)
 
   finish_at : (span : OptionalSpan) (name : List ℕ) → IsCauseAtWorld a k (InvalidTransitiveDependency span name) → IsCauseAtFinish a k (InvalidTransitiveDependency span name)
-  finish_at span name (world.of_include j _ image earlier is) = elim is.cause [ ]
-  finish_at span name (world.of_finish _ image includes is) = is
+  finish_at span name c = by (met a k _ c)
+    where
+      by : IsMet a k (InvalidTransitiveDependency span name) → IsCauseAtFinish a k (InvalidTransitiveDependency span name)
+      by (of_include j image earlier is) = absurd (false≢true (include_number _ _ _ _ (7 ∷ 8 ∷ 16 ∷ []) refl refl refl (InvalidTransitiveDependency span name) is.cause))
+      by (of_finish image fine is) = is
+      by (of_labels at none is) = absurd (false≢true (label_number _ (17 ∷ 18 ∷ []) refl refl (InvalidTransitiveDependency span name) is))
 
   world_number : (error : ResolveErrorKind) → IsCauseAtWorld a k error → list_any (nat_eq (error_number error)) (4 ∷ 7 ∷ 8 ∷ 16 ∷ 17 ∷ 18 ∷ []) ≡ true
-  world_number _ (world.of_include j error image earlier is) = include_number _ _ _ _ (4 ∷ 7 ∷ 8 ∷ 16 ∷ 17 ∷ 18 ∷ []) refl refl refl error is.cause
-  world_number _ (world.of_finish error image includes is) = finish_number _ _ (4 ∷ 7 ∷ 8 ∷ 16 ∷ 17 ∷ 18 ∷ []) refl refl refl error is.cause
-  world_number _ (world.written_not_strongly_unique_17 message is) = refl
-  world_number _ (world.written_no_getter_18 span message is) = refl
+  world_number error c = by (met a k error c)
+    where
+      by : IsMet a k error → list_any (nat_eq (error_number error)) (4 ∷ 7 ∷ 8 ∷ 16 ∷ 17 ∷ 18 ∷ []) ≡ true
+      by (of_include j image earlier is) = include_number _ _ _ _ (4 ∷ 7 ∷ 8 ∷ 16 ∷ 17 ∷ 18 ∷ []) refl refl refl error is.cause
+      by (of_finish image fine is) = finish_number _ _ (4 ∷ 7 ∷ 8 ∷ 16 ∷ 17 ∷ 18 ∷ []) refl refl refl error is.cause
+      by (of_labels at none is) = label_number _ (4 ∷ 7 ∷ 8 ∷ 16 ∷ 17 ∷ 18 ∷ []) refl refl error is
 
   -- an error of another number is told of no world
   not_of_world : (error : ResolveErrorKind) → list_any (nat_eq (error_number error)) (4 ∷ 7 ∷ 8 ∷ 16 ∷ 17 ∷ 18 ∷ []) ≡ false → IsCauseAtWorld a k error → ⊥
@@ -190,19 +227,16 @@ module _ (a : Addition) where
   abbrev FoundAtInclude : ResolveErrorKind → Type 0
   FoundAtInclude error = (k : ℕ) × (j : ℕ) × IncludeIsReached a k j × IsCauseAtInclude a k j error
 
+  at_include : (k : ℕ) (error : ResolveErrorKind) → list_any (nat_eq (error_number error)) (4 ∷ 17 ∷ 18 ∷ []) ≡ false → IsReached a k → IsMet a k error → FoundAtInclude error
+  at_include k error other reached (of_include j image earlier is) = (k, j, record { has_image = image; worlds = reached; includes = earlier }, is)
+  at_include k error other reached (of_finish image fine is) = absurd (false≢true (sym other ∙ finish_number _ _ (4 ∷ 17 ∷ 18 ∷ []) refl refl refl error is.cause))
+  at_include k error other reached (of_labels at none is) = absurd (false≢true (sym other ∙ label_number _ (4 ∷ 17 ∷ 18 ∷ []) refl refl error is))
+
   pub of_shadowing : (span : OptionalSpan) (word name : List ℕ) → IsAdditionCause a (ItemShadowing span word name) → FoundAtInclude (ItemShadowing span word name)
-  of_shadowing span word name (reason.of_world k _ reached c) = by c
-    where
-      by : IsCauseAtWorld a k (ItemShadowing span word name) → FoundAtInclude (ItemShadowing span word name)
-      by (world.of_include j _ image earlier is) = (k, j, record { has_image = image; worlds = reached; includes = earlier }, is)
-      by (world.of_finish _ image includes is) = elim is.cause [ ]
+  of_shadowing span word name (reason.of_world k _ reached c) = at_include k _ refl reached (met a k _ c)
 
   pub of_mismatch : (span : OptionalSpan) (from into : Stability) → IsAdditionCause a (StabilityMismatch span from into) → FoundAtInclude (StabilityMismatch span from into)
-  of_mismatch span from into (reason.of_world k _ reached c) = by c
-    where
-      by : IsCauseAtWorld a k (StabilityMismatch span from into) → FoundAtInclude (StabilityMismatch span from into)
-      by (world.of_include j _ image earlier is) = (k, j, record { has_image = image; worlds = reached; includes = earlier }, is)
-      by (world.of_finish _ image includes is) = elim is.cause [ ]
+  of_mismatch span from into (reason.of_world k _ reached c) = at_include k _ refl reached (met a k _ c)
 
   pub of_version : (span : OptionalSpan) (message : List ℕ) → IsAdditionCause a (Semantic span message cause.GateWithoutVersion) → LacksVersion a span message
   of_version _ _ (reason.gate_without_version_9 span message c) = c
@@ -233,12 +267,7 @@ module _ (a : Addition) where
   of_borrow span message (reason.of_world k _ reached c) = absurd (not_of_world a k _ refl c)
 
   pub of_rename : (span : OptionalSpan) (message : List ℕ) → IsAdditionCause a (Semantic span message cause.RenameUnmatched) → FoundAtInclude (Semantic span message cause.RenameUnmatched)
-  of_rename span message (reason.of_world k _ reached c) = by span message c
-    where
-      by : (span : OptionalSpan) (message : List ℕ) → IsCauseAtWorld a k (Semantic span message cause.RenameUnmatched) → FoundAtInclude (Semantic span message cause.RenameUnmatched)
-      by span message (world.of_include j _ image earlier is) = (k, j, record { has_image = image; worlds = reached; includes = earlier }, is)
-      by span message (world.of_finish _ image includes is) =
-          absurd (false≢true (finish_number _ _ (4 ∷ 17 ∷ 18 ∷ []) refl refl refl (Semantic span message cause.RenameUnmatched) is.cause))
+  of_rename span message (reason.of_world k _ reached c) = at_include k _ refl reached (met a k _ c)
 
   pub of_alike : (span : OptionalSpan) (message : List ℕ) → IsAdditionCause a (Semantic span message cause.NotStronglyUnique) → (k : ℕ) × IsReached a k × ClashAt a k
   of_alike span message (reason.of_world k _ reached c) = (k, reached, clash_at a k span message c)

@@ -1,5 +1,5 @@
 -- The examples of worlds that a package is refused for.
-use Rattle.std.proofs.Common.{◌≡◌, ◌∙◌, ℕ, ◌++◌, zero, suc, true, List, [], ◌∷◌, Some, None, refl, ap, sym, subst, inl, inr, lit<, Contains, arith}
+use Rattle.std.proofs.Common.{◌≡◌, ◌∙◌, ℕ, zero, suc, true, List, [], ◌∷◌, Some, None, slice_get, refl, ap, sym, subst, inl, inr, lit<, Contains, arith}
 use Rattle.std.proofs.lemmas.Bool.{false≢true}
 use Rattle.std.specs.Prelude.{codes, is_some}
 use Rattle.wit_values.specs.facts.Lists.{differ}
@@ -20,23 +20,24 @@ use Rattle.wit_graph_data.specs.declared.error_kind.ResolveErrorKind.{ResolveErr
 use Rattle.wit_graph_data.specs.declared.error_kind.ResolveErrorKind.TheVariants.{InvalidTransitiveDependency, ItemShadowing, Semantic, StabilityMismatch}
 use Rattle.wit_graph_data.specs.examples.Samples.{entry_of, no_docs, world_of}
 use Rattle.wit_graph_theory.specs.examples.TestFacts.{feature_of, none_in, one_of_two, only_one}
+use Rattle.wit_graph_theory.specs.facts.ListFacts.{contained_at}
 use Rattle.wit_labels.specs.examples.Examples.{function_entry, named_as}
 use Rattle.wit_labels.specs.Rename.{renamed_label_by}
 use Rattle.wit_link_spec.specs.Addition.{Addition}
 use Rattle.wit_link_spec.specs.Cause as reason
 use Rattle.wit_link_spec.specs.Gates.{OptionalSpan}
 use Rattle.wit_link_spec.specs.Gates as asked
-use Rattle.wit_link_spec.specs.Include.{EntryLists, lists_of}
+use Rattle.wit_link_spec.specs.Include.{EntryLists}
 use Rattle.wit_link_spec.specs.Reasons.{IsResolved, LacksVersion}
-use Rattle.wit_link_spec.specs.WorldReasons.{IsRenamed, mismatch_8, rename_unmatched_16, shadowing_7, AtInclude, AtWorld, IsCauseAtFinish, IsCauseAtInclude, of_finish, of_include, written_no_getter_18, written_not_strongly_unique_17, conflict_4}
+use Rattle.wit_link_spec.specs.WorldReasons.{IsRenamed, conflict_4, mismatch_8, no_getter_18, not_strongly_unique_17, of_imports, of_labels_alone, rename_unmatched_16, shadowing_7}
 use Rattle.wit_remap_spec.specs.Joined.{HasStability}
-use Rattle.examples_link.proofs.AtWorlds.{fine_without, include_same, list_world, no_include, of_first, of_first_include}
+use Rattle.examples_link.proofs.AtWorlds.{AtInclude, IsCauseAtFinish, IsCauseAtInclude, at_world, fine_without, include_same, list_world, no_include, of_finish, of_first, of_first_include, of_include}
 use Rattle.examples_link.proofs.HasImage.{image}
 use Rattle.examples_link.proofs.Matching.{ClashAt, LonelySetterAt, apart_of, of_alike, of_conflict, of_getter, of_mismatch, of_rename, of_shadowing, unmatched_of}
-use Rattle.examples_link.proofs.WorldTests.{conflict_of, none_alike, none_lacks, one_list, unshadowed}
+use Rattle.examples_link.proofs.WorldTests.{conflict_of, none_alike, none_lacks, unshadowed}
 use Rattle.examples_link.specs.Packages.{adding, all_features, exporting_with, gate_f, gate_g, gated_entry, including_package, no_features, since_package, three, with_world}
 use Rattle.examples_link.specs.WorldCauses.{ExamplesOfWorldCauses, importing}
-use Rattle.wit_link_spec.specs.steps.Parts.{IsReached}
+use Rattle.wit_link_spec.specs.steps.Parts.{AtWorld, IsReached}
 
 -- the first world is reached
 pub first_reached : (a : Addition) → IsReached a 0
@@ -63,33 +64,19 @@ of_gates note label names P at not k j p = of_first_include (gates note label na
 mismatch : (label : List ℕ) (names : List IncludeName) → IsCauseAtInclude (gates gate_g label names) 0 0 (StabilityMismatch (Some (50, 60)) gate_g gate_f)
 mismatch label names = record {
   at = the_include gate_g label names;
-  cause = mismatch_8 gate_g gate_f (record {
-    word = codes "import";
-    current = _;
-    brought = _;
-    i = 0;
-    list = (inl (refl, refl), inl (refl, refl));
-    there = (no_docs, None, None, (0, lit< tt, refl));
-    comes = (no_docs, None, None, (0, lit< tt, refl));
-    apart = record { from_known = λ same. cc; into_known = λ same. cc; differ = other_feature };
-    counts = refl;
-  });
+  cause = of_imports _
+      (mismatch_8 0 gate_g gate_f (no_docs, None, None, (0, lit< tt, refl)) (no_docs, None, None, (0, lit< tt, refl)) (record { from_known = λ same. cc; into_known = λ same. cc; differ = other_feature }) refl);
 }
 
 shadows : (note : Stability) → IsCauseAtInclude (gates note (codes "f") []) 0 0 (ItemShadowing (Some (50, 60)) (codes "import") (codes "f"))
 shadows note = record {
   at = the_include note (codes "f") [];
-  cause = shadowing_7 (codes "import") (codes "f") (record {
-    current = _;
-    brought = _;
-    list = (inl (refl, refl), inl (refl, refl));
-    shadowed = record { before = key.Interface 0 ∷ []; after = []; are = refl; there = (1, lit< tt, refl) };
-  });
+  cause = of_imports _ (shadowing_7 (codes "f") (1, refl, (1, lit< tt, refl)));
 }
 
 -- a cause of the first include of the first world is one of the addition
 pub at_first_include : (a : Addition) (error : ResolveErrorKind) → IsResolved a → IsCauseAtInclude a 0 0 error → reason.IsAdditionCause a error
-at_first_include a error image is = reason.of_world 0 error (first_reached a) (of_include 0 error image (λ i below. absurd (omega (arith, below))) is)
+at_first_include a error image is = reason.of_world 0 error (first_reached a) (at_world a 0 error (of_include 0 image (λ i below. absurd (omega (arith, below))) is))
 
 -- ---- the gate that is there
 
@@ -114,7 +101,7 @@ same_gate : (span : OptionalSpan) (brings has : Stability) → IsCauseAtInclude 
 same_gate span brings has x =
     let same = include_same (gates gate_f (codes "f") []) 0 0 x.at (the_include gate_f (codes "f") []) in
     let c = apart_of _ _ _ _ span brings has x.cause in
-    elim (one_list c.word x.at.before.lists (lists_of x.at.old) c.current c.brought c.list.0 c.list.1) [
+    elim c.lists [
       | inl both ↦
           let there : HasStability (gated_entry gate_f ∷ function_entry (codes "f") ∷ []) c.i has = subst (λ (es : List Entry). HasStability es c.i has) (both.0 ∙ ap (λ (l : EntryLists). l.imports) same.lists_are) c.there in
           let comes : HasStability (gated_entry gate_f ∷ function_entry (codes "f") ∷ []) c.i brings = subst (λ (es : List Entry). HasStability es c.i brings) (both.1 ∙ ap (λ (w : World). w.imports) same.old_is) c.comes in
@@ -134,19 +121,14 @@ unmatched (label, (suc zero, below, is), matches) =
     false≢true (subst (λ (l : List ℕ). is_some (renamed_label_by (named_as (codes "x") (codes "y")) l) ≡ true) (sym (label_same (codes "f") label is)) matches)
 unmatched (label, (suc (suc k), below, is), matches) = absurd (omega (arith, below))
 
-only_name : (one : IncludeName) (before after : List IncludeName) (name : IncludeName) → one ∷ [] ≡ before ++ name ∷ after → one ≡ name
-only_name one [] after name split = cc
-only_name one (a ∷ []) after name split = cc
-only_name one (a ∷ b ∷ before) after name split = cc
-
 renames : (span : OptionalSpan) (message : List ℕ) → IsCauseAtInclude (gates gate_g (codes "f") (named_as (codes "f") (codes "y") ∷ [])) 0 0 (Semantic span message cause.RenameUnmatched) → ⊥
 renames span message x =
     let same = include_same (gates gate_g (codes "f") (named_as (codes "f") (codes "y") ∷ [])) 0 0 x.at (the_include gate_g (codes "f") (named_as (codes "f") (codes "y") ∷ [])) in
     let found = unmatched_of _ _ _ _ span message x.cause in
-    let c = found.1 in
-    let split : named_as (codes "f") (codes "y") ∷ [] ≡ c.before ++ found.0 ∷ c.after = sym (ap (λ (i : WorldInclude). i.names) same.include_is) ∙ c.are in
-    let name = only_name (named_as (codes "f") (codes "y")) c.before c.after found.0 split in
-    c.unmatched (subst (λ (n : IncludeName). IsRenamed x.at.old n) name (subst (λ (w : World). IsRenamed w (named_as (codes "f") (codes "y"))) (sym same.old_is) (codes "f", (1, lit< tt, refl), refl)))
+    let inside : Contains (named_as (codes "f") (codes "y") ∷ []) found.1 =
+    contained_at (named_as (codes "f") (codes "y") ∷ []) found.0 found.1 (subst (λ (names : List IncludeName). slice_get names found.0 ≡ Some found.1) (ap (λ (i : WorldInclude). i.names) same.include_is) found.2) in
+    let name : named_as (codes "f") (codes "y") ≡ found.1 = only_one (named_as (codes "f") (codes "y")) found.1 inside in
+    found.3 (subst (λ (n : IncludeName). IsRenamed x.at.old n) name (subst (λ (w : World). IsRenamed w (named_as (codes "f") (codes "y"))) (sym same.old_is) (codes "f", (1, lit< tt, refl), refl)))
 
 -- ---- no image
 
@@ -162,10 +144,10 @@ abbrev labelled_world : (a b : List ℕ) → AtWorld (two_labels a b) 0
 labelled_world a b = record { id = 0; world = _; is = refl }
 
 not_alike : ClashAt (two_labels (codes "ab") (codes "ac")) 0 → ⊥
-not_alike = none_alike (two_labels (codes "ab") (codes "ac")) 0 (labelled_world (codes "ab") (codes "ac")) (record { imports = refl; exports = refl; written = λ none. (refl, refl) })
+not_alike = none_alike (two_labels (codes "ab") (codes "ac")) 0 (labelled_world (codes "ab") (codes "ac")) (record { imports = refl; exports = refl })
 
 has_getter : LonelySetterAt (two_labels (codes "[get]p") (codes "[set]p")) 0 → ⊥
-has_getter = none_lacks (two_labels (codes "[get]p") (codes "[set]p")) 0 (labelled_world (codes "[get]p") (codes "[set]p")) (record { imports = refl; exports = refl; written = λ none. (refl, refl) })
+has_getter = none_lacks (two_labels (codes "[get]p") (codes "[set]p")) 0 (labelled_world (codes "[get]p") (codes "[set]p")) (record { imports = refl; exports = refl })
 
 -- ---- exports
 
@@ -208,14 +190,14 @@ one_setter = importing (function_entry (codes "[set]p") ∷ [])
 
 pub world_causes : ExamplesOfWorldCauses
 world_causes = record {
-  conflict = reason.of_world 0 _ (first_reached (exporting (codes "c"))) (of_finish _ c_image (λ j. fine_without (exporting (codes "c")) 0 j (no_include (exporting (codes "c")) 0 (exporting_world (codes "c")) j refl)) (record {
+  conflict = reason.of_world 0 _ (first_reached (exporting (codes "c"))) (at_world (exporting (codes "c")) 0 _ (of_finish c_image (λ j. fine_without (exporting (codes "c")) 0 j (no_include (exporting (codes "c")) 0 (exporting_world (codes "c")) j refl)) (record {
     at = exporting_world (codes "c");
     whole = _;
     whole_is = refl;
     cause = conflict_4 (codes "foo:bar/c")
         (2, 1, (1, lit< tt, refl), (0, lit< tt, refl), (b_outside, 0, (0 ∷ [], ((0, lit< tt, refl), refl)), (0, lit< tt, refl)))
         (key.Interface 2, (entry_of 0 ∷ [], entry_of 2, [], refl, a_clear, (2, (0, lit< tt, refl), (1, 1, (0, lit< tt, refl), ([], refl), (b_outside, 0, (0 ∷ [], ((0, lit< tt, refl), refl)), (0, lit< tt, refl)))), refl), refl);
-  }));
+  })));
   closed = λ span name c.
       let found = of_conflict (exporting (codes "b")) span name c in
       of_first (exporting (codes "b")) (λ k. refl) (λ (k : ℕ). IsCauseAtFinish (exporting (codes "b")) k (InvalidTransitiveDependency span name)) (λ k x. x.at)
@@ -236,40 +218,19 @@ world_causes = record {
   same_label = at_first_include _ _ (gates_image gate_f (codes "f") []) (shadows gate_f);
   unmatched = at_first_include _ _ (gates_image gate_g (codes "f") (named_as (codes "x") (codes "y") ∷ [])) (record {
     at = the_include gate_g (codes "f") (named_as (codes "x") (codes "y") ∷ []);
-    cause = rename_unmatched_16 (named_as (codes "x") (codes "y")) (record { before = []; after = []; are = refl; earlier = λ i x at. cc; unmatched = unmatched });
+    cause = rename_unmatched_16 0 (named_as (codes "x") (codes "y")) refl (λ i x at. cc) unmatched;
   });
   renames = λ span message c.
       let found = of_rename (gates gate_g (codes "f") (named_as (codes "f") (codes "y") ∷ [])) span message c in
       of_gates gate_g (codes "f") (named_as (codes "f") (codes "y") ∷ []) (λ (k j : ℕ). IsCauseAtInclude (gates gate_g (codes "f") (named_as (codes "f") (codes "y") ∷ [])) k j (Semantic span message cause.RenameUnmatched))
       (λ k j x. x.at) (renames span message) found.0 found.1 found.3;
   renamed_gate = at_first_include _ _ (gates_image gate_g (codes "f") (named_as (codes "f") (codes "y") ∷ [])) (mismatch (codes "f") (named_as (codes "f") (codes "y") ∷ []));
-  alike = reason.of_world 0 _ (first_reached (two_labels (codes "ab") (codes "AB"))) (written_not_strongly_unique_17 _ (record {
-    at = labelled_world (codes "ab") (codes "AB");
-    no_includes = refl;
-    word = codes "import";
-    n = codes "AB";
-    m = codes "ab";
-    clash = record { entries = _; list = inl (refl, refl); clash = (0, 1, lit< tt, refl, refl, refl) };
-    message_is = refl;
-  }));
+  alike = reason.of_world 0 _ (first_reached (two_labels (codes "ab") (codes "AB"))) (of_labels_alone 0 _ refl refl (inl (not_strongly_unique_17 (codes "AB") (codes "ab") (0, 1, lit< tt, refl, refl, refl))));
   not_alike = λ span message c.
       let found = of_alike (two_labels (codes "ab") (codes "ac")) span message c in
       of_first (two_labels (codes "ab") (codes "ac")) (λ k. refl) (ClashAt (two_labels (codes "ab") (codes "ac"))) (λ k x. list_world _ k x.lists x.have) not_alike found.0 found.2;
-  no_getter = reason.of_world 0 _ (first_reached one_setter) (written_no_getter_18 _ _ (record {
-    at = record { id = 0; world = _; is = refl };
-    no_includes = refl;
-    word = codes "import";
-    label = codes "[set]p";
-    f = _;
-    setter = record {
-      entries = _;
-      list = inl (refl, refl);
-      setter = ((0, lit< tt, refl), refl);
-      absent = λ has. differ (codes "[set]p") (codes "[get]p") refl (label_same _ _ (only_one (key.Name (codes "[set]p")) (key.Name (codes "[get]p")) has));
-    };
-    span_is = refl;
-    message_is = refl;
-  }));
+  no_getter = reason.of_world 0 _ (first_reached one_setter) (of_labels_alone 0 _ refl refl
+      (inl (no_getter_18 (codes "[set]p") _ (0, lit< tt, refl) refl (λ has. differ (codes "[set]p") (codes "[get]p") refl (label_same _ _ (only_one (key.Name (codes "[set]p")) (key.Name (codes "[get]p")) has))))));
   has_getter = λ span message c.
       let found = of_getter (two_labels (codes "[get]p") (codes "[set]p")) span message c in
       of_first (two_labels (codes "[get]p") (codes "[set]p")) (λ k. refl) (LonelySetterAt (two_labels (codes "[get]p") (codes "[set]p"))) (λ k x. list_world _ k x.lists x.have) has_getter found.0 found.1;

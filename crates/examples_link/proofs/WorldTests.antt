@@ -1,5 +1,5 @@
 -- Tests that compute whether something is wrong with a small include, and with the labels of a small list.
-use Rattle.std.proofs.Common.{◌≡◌, ◌∙◌, ◌⊎◌, ℕ, ◌<◌, zero, suc, Bool, true, not, ◌&&◌, List, [], ◌∷◌, ◌++◌, length, map, Some, slice_get, refl, sym, ap, subst, inl, inr, arith, Contains, append_assoc}
+use Rattle.std.proofs.Common.{◌≡◌, ◌∙◌, ◌⊎◌, ℕ, ◌<◌, zero, suc, Bool, true, not, ◌&&◌, List, [], ◌∷◌, ◌++◌, map, take, Some, slice_get, refl, sym, ap, subst, inl, inr, arith, Contains, append_assoc}
 use Rattle.std.proofs.lemmas.Bool.{and_parts, both_ways, not-true}
 use Rattle.std.proofs.lemmas.List.{append-nil}
 use Rattle.std.proofs.lemmas.Map.Views.{Contains-from_any, list_any-from_Contains}
@@ -30,15 +30,15 @@ use Rattle.wit_graph_data.specs.declared.error_kind.ResolveErrorKind.{ResolveErr
 use Rattle.wit_graph_data.specs.declared.error_kind.ResolveErrorKind.TheVariants.{InvalidTransitiveDependency, ItemShadowing}
 use Rattle.wit_link_spec.specs.Addition.{Addition}
 use Rattle.wit_link_spec.specs.Gates.{OptionalSpan}
-use Rattle.wit_link_spec.specs.Include.{EntryLists, IsListCalled, PartiallyLinked, lists_of}
-use Rattle.wit_link_spec.specs.WorldReasons.{IsFirstUnmatched, IsIncludeCause, IsShadowed, LabelIsTaken, StabilitiesAreApart, mismatch_8, rename_unmatched_16, renamed_key, shadowing_7, AtInclude, AtWorld, IsCauseAtFinish, IsCauseAtInclude, of_finish, of_include, written_no_getter_18, written_not_strongly_unique_17, IsFinishCause, conflict_4, no_getter_18, not_strongly_unique_17}
+use Rattle.wit_link_spec.specs.Include.{EntryLists, PartiallyLinked, lists_of, with_entry_lists}
+use Rattle.wit_link_spec.specs.WorldReasons.{IsFinishCause, IsIncludeCause, IsJoinCause, IsLabelCause, IsListCause, IsShadowed, conflict_4, mismatch_8, no_getter_18, not_strongly_unique_17, of_exports, of_imports, rename_unmatched_16, renamed_key, shadowing_7}
+use Rattle.wit_link_spec.specs.WorldReasons as world
 use Rattle.wit_remap_spec.specs.Joined.{HasStability}
-use Rattle.wit_link_spec.specs.Added.{unfinished_world, with_worlds}
 use Rattle.wit_link_spec.specs.Reasons.{IsResolved}
-use Rattle.examples_link.proofs.Matching.{ClashAt, LonelySetterAt, clash_at, conflict_in, lonely_at, taken_of}
-use Rattle.examples_link.proofs.AtWorlds.{HaveLists, include_same, lists_are, world_same}
+use Rattle.examples_link.proofs.Matching.{AreLists, ClashAt, LabelIsTaken, LonelySetterAt, StabilitiesAreApart, conflict_in, taken_of}
+use Rattle.examples_link.proofs.AtWorlds.{AtInclude, HaveLists, IsCauseAtFinish, IsCauseAtInclude, IsMet, fine_where, include_same, lists_are, made, met, of_finish, of_include, of_labels, refused_where, whole_same, written}
 use Rattle.wit_elaboration.specs.steps.Parts.{exported_keys}
-use Rattle.wit_link_spec.specs.steps.Parts.{updated_include, with_all_includes, IncludeIsAccepted, WorldIsAccepted}
+use Rattle.wit_link_spec.specs.steps.Parts.{begun_whole, home_of, image_at, AtWorld, IncludeIsAccepted, WorldIsAccepted}
 
 -- ---- labels that come
 
@@ -52,16 +52,16 @@ rest_new : (k : WorldKey) (seen ks : List WorldKey) → are_new seen (k ∷ ks) 
 rest_new (key.Name n) seen ks h = (and_parts (not (list_any (same_key (key.Name n)) seen)) (are_new (seen ++ key.Name n ∷ []) ks) h).1
 rest_new (key.Interface i) seen ks h = h
 
-none_shadowed : (before seen brought after : List WorldKey) (n : List ℕ) → brought ≡ before ++ key.Name n ∷ after → Contains (seen ++ before) (key.Name n) → are_new seen brought ≡ true → ⊥
-none_shadowed [] seen brought after n are there new =
-    let here : are_new seen (key.Name n ∷ after) ≡ true = subst (λ (ks : List WorldKey). are_new seen ks ≡ true) are new in
+none_shadowed : (seen brought : List WorldKey) (j : ℕ) (n : List ℕ) → slice_get brought j ≡ Some (key.Name n) → Contains (seen ++ take j brought) (key.Name n) → are_new seen brought ≡ true → ⊥
+none_shadowed seen [] j n is there new = cc
+none_shadowed seen (b ∷ brought) zero n is there new =
+    let same : b ≡ key.Name n = some_same b (key.Name n) is in
+    let here : are_new seen (key.Name n ∷ brought) ≡ true = subst (λ (k : WorldKey). are_new seen (k ∷ brought) ≡ true) same new in
     let inside : Contains seen (key.Name n) = subst (λ (ks : List WorldKey). Contains ks (key.Name n)) (append-nil seen) there in
-    let off = not-true _ (and_parts (not (list_any (same_key (key.Name n)) seen)) (are_new (seen ++ key.Name n ∷ []) after) here).0 in
+    let off = not-true _ (and_parts (not (list_any (same_key (key.Name n)) seen)) (are_new (seen ++ key.Name n ∷ []) brought) here).0 in
     both_ways _ off (list_any-from_Contains key_laws (key.Name n) seen inside)
-none_shadowed (b ∷ before) seen brought after n are there new =
-    let all : are_new seen (b ∷ (before ++ key.Name n ∷ after)) ≡ true = subst (λ (ks : List WorldKey). are_new seen ks ≡ true) are new in
-    none_shadowed before (seen ++ b ∷ []) (before ++ key.Name n ∷ after) after n refl
-    (subst (λ (ks : List WorldKey). Contains ks (key.Name n)) (sym (append_assoc seen (b ∷ []) before)) there) (rest_new b seen (before ++ key.Name n ∷ after) all)
+none_shadowed seen (b ∷ brought) (suc j) n is there new =
+    none_shadowed (seen ++ b ∷ []) brought j n is (subst (λ (ks : List WorldKey). Contains ks (key.Name n)) (sym (append_assoc seen (b ∷ []) (take j brought))) there) (rest_new b seen brought new)
 
 abbrev labels_come : WorldInclude → List Entry → List Entry → Bool
 labels_come include current brought = are_new (keys_of current) (map (λ (e : Entry). renamed_key include.names e.0) brought)
@@ -77,60 +77,47 @@ apart current brought i has brings (docs, place, external_id, there) (docs', pla
     let off = not-true _ (all_are (λ (e : Entry). not (list_any (same_key e.0) (keys_of current))) brought none _ comes) in
     both_ways _ off (list_any-from_Contains key_laws (key.Interface i) (keys_of current) (Contains-map (λ (e : Entry). e.0) current _ there))
 
--- ---- one of the two lists
-
-pub one_list : (word : List ℕ) (l l' : EntryLists) (es es' : List Entry) → IsListCalled word l es → IsListCalled word l' es'
-    → ((es ≡ l.imports) × (es' ≡ l'.imports)) ⊎ ((es ≡ l.exports) × (es' ≡ l'.exports))
-one_list word l l' es es' (inl a) (inl b) = inl (a.1, b.1)
-one_list word l l' es es' (inl a) (inr b) = absurd (differ (codes "import") (codes "export") refl (sym a.0 ∙ b.0))
-one_list word l l' es es' (inr a) (inl b) = absurd (differ (codes "import") (codes "export") refl (sym b.0 ∙ a.0))
-one_list word l l' es es' (inr a) (inr b) = inr (a.1, b.1)
-
 -- ---- an include
 
 module _ (a : Addition) (k j : ℕ) (y : AtInclude a k j) where
+  -- what is told of both lists is told of either, at each sight of the include
+  of_lists : (P : List Entry → List Entry → Type 0) → P y.before.lists.imports y.old.imports → P y.before.lists.exports y.old.exports → (x : AtInclude a k j) (current brought : List Entry)
+      → AreLists x.before.lists (lists_of x.old) current brought → P current brought
+  of_lists P imports exports x current brought lists =
+      let same = include_same a k j x y in
+      elim lists [
+        | inl both ↦
+            subst (λ (es : List Entry). P es brought) (sym (both.0 ∙ ap (λ (l : EntryLists). l.imports) same.lists_are))
+            (subst (P y.before.lists.imports) (sym (both.1 ∙ ap (λ (w : World). w.imports) same.old_is)) imports)
+        | inr both ↦
+            subst (λ (es : List Entry). P es brought) (sym (both.0 ∙ ap (λ (l : EntryLists). l.exports) same.lists_are))
+            (subst (P y.before.lists.exports) (sym (both.1 ∙ ap (λ (w : World). w.exports) same.old_is)) exports)
+      ]
+
   untaken : labels_come y.include y.before.lists.imports y.old.imports ≡ true → labels_come y.include y.before.lists.exports y.old.exports ≡ true
-      → (x : AtInclude a k j) (word name : List ℕ) → LabelIsTaken x.before (updated_include a x.include) x.old word name → ⊥
-  untaken imports exports x word name c =
+      → (x : AtInclude a k j) (name : List ℕ) → LabelIsTaken x.before x.include x.old name → ⊥
+  untaken imports exports x name c =
       let same = include_same a k j x y in
       let shadowed : IsShadowed c.current (map (λ (e : Entry). renamed_key y.include.names e.0) c.brought) name =
       subst (λ (i : WorldInclude). IsShadowed c.current (map (λ (e : Entry). renamed_key i.names e.0) c.brought) name) same.include_is c.shadowed in
-      let new : labels_come y.include c.current c.brought ≡ true =
-      elim (one_list word x.before.lists (lists_of x.old) c.current c.brought c.list.0 c.list.1) [
-        | inl both ↦
-            subst (λ (es : List Entry). labels_come y.include es c.brought ≡ true) (sym (both.0 ∙ ap (λ (l : EntryLists). l.imports) same.lists_are))
-            (subst (λ (es : List Entry). labels_come y.include y.before.lists.imports es ≡ true) (sym (both.1 ∙ ap (λ (w : World). w.imports) same.old_is)) imports)
-        | inr both ↦
-            subst (λ (es : List Entry). labels_come y.include es c.brought ≡ true) (sym (both.0 ∙ ap (λ (l : EntryLists). l.exports) same.lists_are))
-            (subst (λ (es : List Entry). labels_come y.include y.before.lists.exports es ≡ true) (sym (both.1 ∙ ap (λ (w : World). w.exports) same.old_is)) exports)
-      ] in
-      none_shadowed shadowed.before (keys_of c.current) _ shadowed.after name shadowed.are shadowed.there new
+      let new : labels_come y.include c.current c.brought ≡ true = of_lists (λ (current brought : List Entry). labels_come y.include current brought ≡ true) imports exports x c.current c.brought c.lists in
+      none_shadowed (keys_of c.current) (map (λ (e : Entry). renamed_key y.include.names e.0) c.brought) shadowed.0 name shadowed.1 shadowed.2 new
 
   pub unshadowed : labels_come y.include y.before.lists.imports y.old.imports ≡ true → labels_come y.include y.before.lists.exports y.old.exports ≡ true
       → (span : OptionalSpan) (word name : List ℕ) → IsCauseAtInclude a k j (ItemShadowing span word name) → ⊥
-  unshadowed imports exports span word name c = untaken imports exports c.at word name (taken_of _ _ _ _ span word name c.cause)
+  unshadowed imports exports span word name c = untaken imports exports c.at name (taken_of _ _ _ _ span word name c.cause)
 
   agrees : none_common y.before.lists.imports y.old.imports ≡ true → none_common y.before.lists.exports y.old.exports ≡ true
-      → (x : AtInclude a k j) (brings has : Stability) → StabilitiesAreApart (length a.graph.packages) x.before x.old brings has → ⊥
+      → (x : AtInclude a k j) (brings has : Stability) → StabilitiesAreApart (home_of a) x.before x.old brings has → ⊥
   agrees imports exports x brings has c =
-      let same = include_same a k j x y in
-      let none : none_common c.current c.brought ≡ true =
-      elim (one_list c.word x.before.lists (lists_of x.old) c.current c.brought c.list.0 c.list.1) [
-        | inl both ↦
-            subst (λ (es : List Entry). none_common es c.brought ≡ true) (sym (both.0 ∙ ap (λ (l : EntryLists). l.imports) same.lists_are))
-            (subst (λ (es : List Entry). none_common y.before.lists.imports es ≡ true) (sym (both.1 ∙ ap (λ (w : World). w.imports) same.old_is)) imports)
-        | inr both ↦
-            subst (λ (es : List Entry). none_common es c.brought ≡ true) (sym (both.0 ∙ ap (λ (l : EntryLists). l.exports) same.lists_are))
-            (subst (λ (es : List Entry). none_common y.before.lists.exports es ≡ true) (sym (both.1 ∙ ap (λ (w : World). w.exports) same.old_is)) exports)
-      ] in
-      apart c.current c.brought c.i has brings c.there c.comes none
+      apart c.current c.brought c.i has brings c.there c.comes (of_lists (λ (current brought : List Entry). none_common current brought ≡ true) imports exports x c.current c.brought c.lists)
 
-  without_names : y.include.names ≡ [] → (x : AtInclude a k j) (name : IncludeName) → IsFirstUnmatched x.old x.include.names name → ⊥
-  without_names none x name c = empty c.before name c.after (sym none ∙ (sym (ap (λ (i : WorldInclude). i.names) (include_same a k j x y).include_is) ∙ c.are))
+  without_names : y.include.names ≡ [] → (x : AtInclude a k j) (i : ℕ) (name : IncludeName) → slice_get x.include.names i ≡ Some name → ⊥
+  without_names none x i name is =
+      no_name i (subst (λ (names : List IncludeName). slice_get names i ≡ Some name) (ap (λ (i : WorldInclude). i.names) (include_same a k j x y).include_is ∙ none) is)
     where
-      empty : (before : List IncludeName) (name : IncludeName) (after : List IncludeName) → [] ≡ before ++ name ∷ after → ⊥
-      empty [] name after split = cc
-      empty (b ∷ before) name after split = cc
+      no_name : (i : ℕ) → slice_get [] i ≡ Some name → ⊥
+      no_name i is = cc
 
   -- what the include passes
   pub record Passes : Type 0 where
@@ -141,41 +128,37 @@ module _ (a : Addition) (k j : ℕ) (y : AtInclude a k j) where
     pub names : y.include.names ≡ []
 
   pub fine : Passes → IncludeIsAccepted a k j
-  fine p error c = none c.at error c.cause
+  fine p = fine_where a k j (λ error c. none c.at error c.cause)
     where
-      none : (x : AtInclude a k j) (error : ResolveErrorKind) → IsIncludeCause (length a.graph.packages) x.before (updated_include a x.include) x.old error → ⊥
-      none x _ (shadowing_7 word name is) = untaken p.import_labels p.export_labels x word name is
-      none x _ (mismatch_8 brings has is) = agrees p.import_keys p.export_keys x brings has is
-      none x _ (rename_unmatched_16 name is) = without_names p.names x name is
+      joins : (x : AtInclude a k j) (other : Bool) (word : List ℕ) (current brought : List Entry) (error : ResolveErrorKind) → AreLists x.before.lists (lists_of x.old) current brought
+          → IsJoinCause other x.include word current brought error → ⊥
+      joins x other word current brought _ lists (shadowing_7 name is) = untaken p.import_labels p.export_labels x name (record { current = current; brought = brought; lists = lists; shadowed = is })
+      joins x other word current brought _ lists (mismatch_8 i brings has comes there differ counts) =
+          apart current brought i has brings there comes (of_lists (λ (now old : List Entry). none_common now old ≡ true) p.import_keys p.export_keys x current brought lists)
+
+      none : (x : AtInclude a k j) (error : ResolveErrorKind) → IsIncludeCause (home_of a) x.before x.include x.old error → ⊥
+      none x error (of_imports _ is) = joins x _ _ x.before.lists.imports x.old.imports error (inl (refl, refl)) is
+      none x error (of_exports _ is) = joins x _ _ x.before.lists.exports x.old.exports error (inr (refl, refl)) is
+      none x _ (rename_unmatched_16 i name is earlier unmatched) = without_names p.names x i name is
 
 -- ---- the lists of a world
 
 module _ (a : Addition) (k : ℕ) (y : AtWorld a k) where
-  -- both lists of the world pass a test, with its includes and, where it has none, as they are written
+  -- both lists of the world pass a test, with its includes
   pub record BothPass (test : List Entry → Bool) : Type 0 where
-    pub imports : test (with_all_includes a y.id y.world (with_worlds a k)).lists.imports ≡ true
-    pub exports : test (with_all_includes a y.id y.world (with_worlds a k)).lists.exports ≡ true
-    pub written : y.world.includes ≡ [] → (test y.world.imports ≡ true) × (test y.world.exports ≡ true)
+    pub imports : test (begun_whole a k y).lists.imports ≡ true
+    pub exports : test (begun_whole a k y).lists.exports ≡ true
 
   -- then each list passes by which its labels are told
-  list_passes : (test : List Entry → Bool) → BothPass test → (lists : EntryLists) → HaveLists a k lists → (word : List ℕ) (entries : List Entry) → IsListCalled word lists entries → test entries ≡ true
-  list_passes test both lists have word entries called =
-      elim (lists_are a k y lists have) [
-        | inl made ↦ of made both.imports both.exports called
-        | inr plain ↦ let written = both.written plain.0 in of plain.1 written.0 written.1 called
-      ]
-    where
-      of : {l : EntryLists} → lists ≡ l → test l.imports ≡ true → test l.exports ≡ true → IsListCalled word lists entries → test entries ≡ true
-      of same imports exports (inl import) = subst (λ (es : List Entry). test es ≡ true) (sym (import.1 ∙ ap (λ (x : EntryLists). x.imports) same)) imports
-      of same imports exports (inr export) = subst (λ (es : List Entry). test es ≡ true) (sym (export.1 ∙ ap (λ (x : EntryLists). x.exports) same)) exports
+  list_passes : (test : List Entry → Bool) → BothPass test → (lists : EntryLists) → HaveLists a k lists → (entries : List Entry) → (entries ≡ lists.imports) ⊎ (entries ≡ lists.exports) → test entries ≡ true
+  list_passes test both lists have entries (inl import) =
+      subst (λ (es : List Entry). test es ≡ true) (sym (import ∙ ap (λ (l : EntryLists). l.imports) (lists_are a k y lists have))) both.imports
+  list_passes test both lists have entries (inr export) =
+      subst (λ (es : List Entry). test es ≡ true) (sym (export ∙ ap (λ (l : EntryLists). l.exports) (lists_are a k y lists have))) both.exports
 
   -- what passes a test passes a weaker one
   pub both_weaker : (test other : List Entry → Bool) → ((es : List Entry) → test es ≡ true → other es ≡ true) → BothPass test → BothPass other
-  both_weaker test other weaker both = record {
-    imports = weaker _ both.imports;
-    exports = weaker _ both.exports;
-    written = λ none. let written = both.written none in (weaker _ written.0, weaker _ written.1);
-  }
+  both_weaker test other weaker both = record { imports = weaker _ both.imports; exports = weaker _ both.exports }
 
 -- ---- labels that are not strongly unique
 
@@ -227,12 +210,9 @@ getters_there entries = list_all (getter_there (keys_of entries)) entries
 
 -- a conflict is one of what is begun
 pub conflict_of : (a : Addition) (k : ℕ) (y : AtWorld a k) (span : OptionalSpan) (name : List ℕ) → IsCauseAtFinish a k (InvalidTransitiveDependency span name)
-    → HasTransitiveConflict (graph_uses (with_all_includes a y.id y.world (with_worlds a k)).graph) (setters_placed (with_all_includes a y.id y.world (with_worlds a k)).lists.exports)
+    → HasTransitiveConflict (graph_uses (begun_whole a k y).graph) (setters_placed (begun_whole a k y).lists.exports)
 conflict_of a k y span name c =
-    let same = world_same a k c.at y in
-    let is : c.whole ≡ with_all_includes a y.id y.world (with_worlds a k) =
-    c.whole_is ∙ (ap (λ (p : ℕ). with_all_includes a p c.at.world (with_worlds a k)) same.0 ∙ ap (λ (w : World). with_all_includes a y.id w (with_worlds a k)) same.1) in
-    subst (λ (b : PartiallyLinked). HasTransitiveConflict (graph_uses b.graph) (setters_placed b.lists.exports)) is (conflict_in _ _ span name c.cause).conflict
+    subst (λ (b : PartiallyLinked). HasTransitiveConflict (graph_uses b.graph) (setters_placed b.lists.exports)) (c.whole_is ∙ whole_same a k c.at y) (conflict_in _ _ span name c.cause).conflict
 
 -- ---- a world with which nothing is wrong
 
@@ -245,15 +225,15 @@ is_plain entries = labels_differ entries && getters_there entries
 module _ (a : Addition) (k : ℕ) (y : AtWorld a k) where
   pub none_alike : BothPass a k y labels_differ → ClashAt a k → ⊥
   none_alike both c =
-      no_clash (keys_of c.entries) c.clash.0 c.clash.1 c.n c.m c.clash.2 c.clash.3 c.clash.4 c.clash.5 (list_passes a k y labels_differ both c.lists c.have c.word c.entries c.list)
+      no_clash (keys_of c.entries) c.clash.0 c.clash.1 c.n c.m c.clash.2 c.clash.3 c.clash.4 c.clash.5 (list_passes a k y labels_differ both c.lists c.have c.entries c.list)
 
   pub none_lacks : BothPass a k y getters_there → LonelySetterAt a k → ⊥
-  none_lacks both c = has_getters c.entries c.label c.f c.setter.0 c.setter.1 c.absent (list_passes a k y getters_there both c.lists c.have c.word c.entries c.list)
+  none_lacks both c = has_getters c.entries c.label c.f c.setter.0 c.setter.1 c.absent (list_passes a k y getters_there both c.lists c.have c.entries c.list)
 
   -- both lists are plain, and it exports no interface under its own key
   pub record IsPlain : Type 0 where
     pub lists : BothPass a k y is_plain
-    pub no_exports : exported_keys (setters_placed (with_all_includes a y.id y.world (with_worlds a k)).lists.exports) ≡ []
+    pub no_exports : exported_keys (setters_placed (begun_whole a k y).lists.exports) ≡ []
 
   plain_labels : IsPlain → ClashAt a k → ⊥
   plain_labels p = none_alike (both_weaker a k y is_plain labels_differ (λ es passes. (and_parts (labels_differ es) (getters_there es) passes).0) p.lists)
@@ -268,14 +248,26 @@ module _ (a : Addition) (k : ℕ) (y : AtWorld a k) where
 
   -- then no cause holds against it, where its includes are accepted
   pub plain_accepted : IsPlain → (IsResolved a → (j : ℕ) → IncludeIsAccepted a k j) → WorldIsAccepted a k
-  plain_accepted p includes _ (of_include j error image earlier is) = includes image j error is
-  plain_accepted p includes _ (of_finish error image accepted is) = none error is.cause
+  plain_accepted p includes error c = none (met a k error c)
     where
-      none : (error : ResolveErrorKind) → IsFinishCause is.whole.graph (unfinished_world a is.at.id is.at.world is.whole.lists) error → ⊥
-      none _ (conflict_4 name conflict name_is) = plain_exports p _ name (record { at = is.at; whole = is.whole; whole_is = is.whole_is; cause = conflict_4 name conflict name_is })
-      none _ (not_strongly_unique_17 word n m c) =
-          plain_labels p (clash_at a k _ _ (of_finish _ image accepted (record { at = is.at; whole = is.whole; whole_is = is.whole_is; cause = not_strongly_unique_17 word n m c })))
-      none _ (no_getter_18 word label f c) =
-          plain_getters p (lonely_at a k _ _ (of_finish _ image accepted (record { at = is.at; whole = is.whole; whole_is = is.whole_is; cause = no_getter_18 word label f c })))
-  plain_accepted p includes _ (written_not_strongly_unique_17 message is) = plain_labels p (clash_at a k _ _ (written_not_strongly_unique_17 message is))
-  plain_accepted p includes _ (written_no_getter_18 span message is) = plain_getters p (lonely_at a k _ _ (written_no_getter_18 span message is))
+      in_list : (word : List ℕ) (entries : List Entry) (lists : EntryLists) → HaveLists a k lists → (entries ≡ lists.imports) ⊎ (entries ≡ lists.exports) → (called : List ℕ) (e : ResolveErrorKind) → IsListCause called word entries e → ⊥
+      in_list word entries lists have list called _ (not_strongly_unique_17 n m is) = plain_labels p (record { lists = lists; have = have; n = n; m = m; entries = entries; list = list; clash = is })
+      in_list word entries lists have list called _ (no_getter_18 label f has setter absent) =
+          plain_getters p (record { lists = lists; have = have; label = label; f = f; entries = entries; list = list; setter = (has, setter); absent = absent })
+
+      in_world : (w : World) (lists : EntryLists) → HaveLists a k lists → lists_of w ≡ lists → IsLabelCause w error → ⊥
+      in_world w lists have are (inl is) = in_list (codes "import") w.imports lists have (inl (ap (λ (l : EntryLists). l.imports) are)) w.name error is
+      in_world w lists have are (inr is) = in_list (codes "export") w.exports lists have (inr (ap (λ (l : EntryLists). l.exports) are)) w.name error is
+
+      finishing : (e : ResolveErrorKind) → e ≡ error → (is : IsCauseAtFinish a k error) → IsResolved a → ((j : ℕ) → IncludeIsAccepted a k j)
+          → IsFinishCause is.whole.graph (with_entry_lists (image_at a is.at.id is.at.world) is.whole.lists) e → ⊥
+      finishing _ same is image accepted (conflict_4 name conflict name_is) =
+          plain_exports p _ name (record { at = is.at; whole = is.whole; whole_is = is.whole_is; cause = conflict_4 name conflict name_is })
+      finishing e same is image accepted (world.of_labels _ why) =
+          in_world (with_entry_lists (image_at a is.at.id is.at.world) is.whole.lists) (begun_whole a k is.at).lists (made is.at image accepted) (ap (λ (b : PartiallyLinked). b.lists) is.whole_is)
+          (subst (IsLabelCause (with_entry_lists (image_at a is.at.id is.at.world) is.whole.lists)) same why)
+
+      none : IsMet a k error → ⊥
+      none (of_include j image earlier is) = refused_where a k j error is (includes image j)
+      none (of_finish image accepted is) = finishing error refl is image accepted is.cause
+      none (of_labels at without why) = in_world (image_at a at.id at.world) (lists_of (image_at a at.id at.world)) (written at without) refl why

@@ -32,12 +32,11 @@ use Rattle.wit_link_spec.specs.Gates as asked
 use Rattle.wit_link_spec.specs.Added.{added}
 use Rattle.wit_link_spec.specs.Reasons.{IsActiveFunction, IsResolved, RefersTo, Thing}
 use Rattle.wit_link_spec.specs.Reasons as part
-use Rattle.wit_link_spec.specs.WorldReasons.{AtWorld}
 use Rattle.wit_link_spec.specs.facts.WorldCauseFacts.{cause_world}
 use Rattle.wit_link.specs.Appending.{AreAdded, FilesPassTheEnd, IsGroupsCause, addition, files_end}
 use Rattle.wit_resolve_graph.specs.examples.Examples.{first_package}
 use Rattle.examples_script.specs.SourceExamples.{made_of}
-use Rattle.wit_link_spec.specs.steps.Parts.{AdditionIsAccepted}
+use Rattle.wit_link_spec.specs.steps.Parts.{AtWorld, AdditionIsAccepted}
 
 nowhere : {X : Type 0} (k : ℕ) (x : X) → slice_get [] k ≡ Some x → ⊥
 nowhere k x at = cc

@@ -14,11 +14,10 @@ use Rattle.wit_graph_data.specs.declared.error_kind.ResolveErrorKind.TheVariants
 use Rattle.wit_remap_spec.specs.Image.{world_image}
 use Rattle.wit_graph_theory.specs.facts.ListFacts.{contained_at, place_of}
 use Rattle.wit_elaboration.specs.facts.Filters.{Contains-filter}
-use Rattle.wit_link_spec.specs.Addition.{Addition, active_includes, addition_maps, own_worlds, remapped_world}
+use Rattle.wit_link_spec.specs.Addition.{Addition, addition_maps, own_worlds, remapped_world, updated_includes}
 use Rattle.wit_link_spec.specs.steps.AdditionRefs.{new_ids_of}
 use Rattle.wit_link_spec.specs.Cause.{IsAdditionCause, borrow_in_result_15, duplicate_5, excluded_11, excluded_owner_12, gate_unreleased_10, gate_without_version_9, interface_not_found_3, not_a_resource_14, of_world, offset_overflow_27, package_not_found_1, type_not_defined_13, world_not_found_2}
 use Rattle.wit_link_spec.specs.Added.{added}
-use Rattle.wit_link_spec.specs.facts.Linked.{updated_includes}
 use Rattle.wit_link_spec.specs.facts.PassedFacts.{has_image}
 use Rattle.wit_link_spec.specs.Reasons.{HasPackage, IsResolved}
 use Rattle.wit_link_spec.specs.facts.OwnThingFacts.{own_world_from}
@@ -29,7 +28,7 @@ use Rattle.wit_link.specs.Appending.{IsAdded}
 use Rattle.wit_link.specs.steps.Checked.{IsChecked, IsNameTaken, IsNew, PackageFits}
 use Rattle.wit_link.specs.steps.Including.{include_at, ready_world, ready_worlds, world_with}
 use Rattle.wit_link.proofs.FitsIsExact.{fitting_passes_not, passes-of_not_fitting}
-use Rattle.wit_link_spec.specs.steps.Parts.{include_is_active, updated_include, WorldIsAccepted, AdditionIsAccepted, active_world_id}
+use Rattle.wit_link_spec.specs.steps.Parts.{active_includes, include_is_active, updated_include, WorldIsAccepted, AdditionIsAccepted, active_world_id}
 
 module _ (a : Addition) (is_new : IsNew a) (checked : IsChecked a) (each_world : (k : ℕ) → WorldIsAccepted a k) where
   pub is_accepted : AdditionIsAccepted a

@@ -13,20 +13,19 @@ use Rattle.wit_graph_data.specs.declared.graph.Graph.{Graph}
 use Rattle.wit_graph_data.specs.declared.error_kind.ResolveErrorKind.{ResolveErrorKind}
 use Rattle.wit_graph_data.specs.declared.error_kind.ResolveErrorKind.TheVariants.{OutOfMemory}
 use Rattle.wit_graph_theory.specs.facts.ListFacts.{from_map}
-use Rattle.wit_link_spec.specs.Addition.{Addition, own_worlds}
+use Rattle.wit_link_spec.specs.Addition.{Addition, own_worlds, updated_includes}
 use Rattle.wit_link_spec.specs.Cause.{IsAdditionCause}
 use Rattle.wit_link_spec.specs.Added.{added, with_parts, with_world, with_worlds}
-use Rattle.wit_link_spec.specs.facts.Linked.{updated_includes}
 use Rattle.wit_link_spec.specs.Reasons.{IsResolved}
-use Rattle.wit_link_spec.specs.WorldReasons.{AtWorld}
+use Rattle.wit_link_spec.specs.WorldReasons.{IsWorldCause}
 use Rattle.wit_link_spec.specs.facts.WorldCauseFacts.{cause_world}
 use Rattle.wit_link_laws.specs.laws.StageFacts.{IncludedAreThere, IncludesCanBe, WorldsCanBe}
-use Rattle.wit_link_include.specs.facts.AdditionFacts.{home, image_at, next_stage, reached_accepted, world_cause}
+use Rattle.wit_link_include.specs.facts.AdditionFacts.{next_stage, reached_accepted, world_cause}
 use Rattle.wit_link_include.specs.steps.Included as local
 use Rattle.wit_link_include.specs.facts.ReadyFacts.{can_be_added}
 use Rattle.wit_remap.specs.declared.worlds.UpdatedWorld.{UpdatedWorld}
 use Rattle.wit_link.specs.steps.Including.{ready_world, ready_worlds}
-use Rattle.wit_link_spec.specs.steps.Parts.{WorldIsAccepted, IsReached}
+use Rattle.wit_link_spec.specs.steps.Parts.{AtWorld, WorldIsAccepted, IsReached, home_of, image_at, with_including}
 
 -- so many worlds are added, and no cause holds against them
 pub record IsAdding (a : Addition) (done : List UpdatedWorld) (g : Graph) : Type 0 where
@@ -51,22 +50,22 @@ module _ (a : Addition) (done rest : List UpdatedWorld) (updated : UpdatedWorld)
   back : (P : Graph → World → List WorldInclude → Type 0) → P g updated.world updated.includes → P (with_worlds a (length done)) (image_at a turn.id turn.world) (updated_includes a turn.world)
   back P p = subst (λ (h : Graph). P h (image_at a turn.id turn.world) (updated_includes a turn.world)) is.graph (subst (λ (x : UpdatedWorld). P g x.world x.includes) (sym from.2) p)
 
-  pub is_ready : IncludedAreThere → IncludesCanBe → WorldsCanBe → IsValid a.graph → IsShaped a.unresolved → IsResolved a → local.CanBeAdded (home a) g updated.world updated.includes
-  is_ready there includes worlds valid shaped image = told (local.CanBeAdded (home a)) (can_be_added there includes worlds a valid shaped image (length done) is.fine turn)
+  pub is_ready : IncludedAreThere → IncludesCanBe → WorldsCanBe → IsValid a.graph → IsShaped a.unresolved → IsResolved a → local.CanBeAdded (home_of a) g updated.world updated.includes
+  is_ready there includes worlds valid shaped image = told (local.CanBeAdded (home_of a)) (can_be_added there includes worlds a valid shaped image (length done) is.fine turn)
 
-  pub adding-next : (new : Graph) → new ≡ local.with_including (home a) g updated.world updated.includes → NoCause (local.IsWorldCause (home a) g updated.world updated.includes) → IsAdding a (done ++ updated ∷ []) new
+  pub adding-next : (new : Graph) → new ≡ with_including (home_of a) g updated.world updated.includes → NoCause (IsWorldCause (home_of a) g updated.world updated.includes) → IsAdding a (done ++ updated ∷ []) new
   adding-next new new_is fine =
       let long : length (done ++ updated ∷ []) ≡ length done + 1 = length_push done updated in
-      let one : WorldIsAccepted a (length done) = reached_accepted a (length done) turn (back (λ (h : Graph) (w : World) (l : List WorldInclude). NoCause (local.IsWorldCause (home a) h w l)) fine) in
+      let one : WorldIsAccepted a (length done) = reached_accepted a (length done) turn (back (λ (h : Graph) (w : World) (l : List WorldInclude). NoCause (IsWorldCause (home_of a) h w l)) fine) in
       record {
-        graph = back (λ (h : Graph) (w : World) (l : List WorldInclude). new ≡ local.with_including (home a) h w l) new_is ∙ sym (next_stage a (length done) turn) ∙ ap (with_worlds a) (sym long);
+        graph = back (λ (h : Graph) (w : World) (l : List WorldInclude). new ≡ with_including (home_of a) h w l) new_is ∙ sym (next_stage a (length done) turn) ∙ ap (with_worlds a) (sym long);
         fine = subst (IsReached a) (sym long) (below_more (WorldIsAccepted a) (length done) is.fine one);
       }
 
-  pub refused_here : IsResolved a → (kind : ResolveErrorKind) → (kind ≡ OutOfMemory) ⊎ local.IsWorldCause (home a) g updated.world updated.includes kind → (kind ≡ OutOfMemory) ⊎ IsAdditionCause a kind
+  pub refused_here : IsResolved a → (kind : ResolveErrorKind) → (kind ≡ OutOfMemory) ⊎ IsWorldCause (home_of a) g updated.world updated.includes kind → (kind ≡ OutOfMemory) ⊎ IsAdditionCause a kind
   refused_here image kind (inl memory) = inl memory
   refused_here image kind (inr why) =
-      inr (world_cause a (length done) turn image is.fine kind (back (λ (h : Graph) (w : World) (l : List WorldInclude). local.IsWorldCause (home a) h w l kind) why))
+      inr (world_cause a (length done) turn image is.fine kind (back (λ (h : Graph) (w : World) (l : List WorldInclude). IsWorldCause (home_of a) h w l kind) why))
 
 -- ---- all of them
 

@@ -1,5 +1,5 @@
 -- Why a world can't be finished, from what its steps tell.
-use Rattle.std.proofs.Common.{◌≡◌, ◌⊎◌, inl, inr, ℕ, List, None, Some, Contains, codes, refl, sym, subst, slice_get, true}
+use Rattle.std.proofs.Common.{◌≡◌, ◌⊎◌, inl, inr, ℕ, List, None, Some, Contains, refl, sym, subst, slice_get, true}
 use Rattle.std.specs.Map.{keys_of}
 use Rattle.wit_data.specs.Entries.{Entry}
 use Rattle.wit_data.specs.declared.function.Function.{Function}
@@ -17,9 +17,8 @@ use Rattle.wit_graph_theory.specs.facts.ListFacts.{contained_at, same_at}
 use Rattle.wit_labels.specs.Setters.{HaveGetters, IsSetter, LacksGetterAt, getter_label, setters_placed, is_setter_label}
 use Rattle.wit_labels.specs.Strong.{AreStronglyUnique, Clashes}
 use Rattle.wit_link_spec.specs.CauseText.{clash_text, getter_text}
-use Rattle.wit_link_spec.specs.Include.{IsListCalled, lists_of}
-use Rattle.wit_link_spec.specs.WorldReasons.{IsFinishCause, conflict_4, no_getter_18, not_strongly_unique_17}
-use Rattle.wit_link_include.specs.steps.Included.{IsLabelError, IsListError, LabelsAreAccepted, ListIsAccepted, alone, clash}
+use Rattle.wit_link_spec.specs.WorldReasons.{IsFinishCause, IsLabelCause, IsListCause, conflict_4, no_getter_18, not_strongly_unique_17, of_labels}
+use Rattle.wit_link_include.specs.steps.Included.{LabelsAreAccepted, ListIsAccepted}
 use Rattle.wit_link_spec.specs.steps.Parts.{with_setters_placed}
 
 -- ---- labels
@@ -29,37 +28,31 @@ name_same l m h = cc
 
 -- the error of two labels that clash
 pub clash_error : (world word : List ℕ) (entries : List Entry) (n m : List ℕ) → Clashes (keys_of entries) n m → (e : ResolveErrorKind) → e ≡ Semantic None (clash_text word n world m) cause.NotStronglyUnique
-    → (e ≡ OutOfMemory) ⊎ IsListError world word entries e
-clash_error world word entries n m is e same = inr (subst (IsListError world word entries) (sym same) (clash n m is))
+    → (e ≡ OutOfMemory) ⊎ IsListCause world word entries e
+clash_error world word entries n m is e same = inr (subst (IsListCause world word entries) (sym same) (not_strongly_unique_17 n m is))
 
 -- the error of a setter that is found to be alone
 pub alone_error : (world word : List ℕ) (entries : List Entry) (place : ℕ) (label : List ℕ) (f : Function) → LacksGetterAt entries place → slice_get entries place ≡ Some (key.Name label, item.Function f)
-    → (e : ResolveErrorKind) → e ≡ Semantic f.span (getter_text word label world (getter_label label)) cause.NoGetter → IsListError world word entries e
+    → (e : ResolveErrorKind) → e ≡ Semantic f.span (getter_text word label world (getter_label label)) cause.NoGetter → IsListCause world word entries e
 alone_error world word entries place label f lacks at e same =
     let here : lacks.entry ≡ (key.Name label, item.Function f) = same_at entries place place lacks.entry (key.Name label, item.Function f) refl lacks.at at in
     let is : IsSetter lacks.label (key.Name label, item.Function f) = subst (λ (x : Entry). IsSetter lacks.label x) here lacks.setter in
     let called : lacks.label ≡ label = name_same lacks.label label (sym is.0) in
-    subst (IsListError world word entries) (sym same)
-    (alone label f (contained_at entries place (key.Name label, item.Function f) at, subst (λ (l : List ℕ). is_setter_label l ≡ true) called is.1)
+    subst (IsListCause world word entries) (sym same)
+    (no_getter_18 label f (contained_at entries place (key.Name label, item.Function f) at) (subst (λ (l : List ℕ). is_setter_label l ≡ true) called is.1)
     (subst (λ (l : List ℕ). Contains (keys_of entries) (key.Name (getter_label l)) → ⊥) called lacks.absent))
 
 -- a list without either is refused for nothing
 pub list_accepted : (world word : List ℕ) (entries : List Entry) → AreStronglyUnique (keys_of entries) → HaveGetters entries → ListIsAccepted world word entries
 list_accepted world word entries unique getters = record { no_cause = none }
   where
-    none : NoCause (IsListError world word entries)
-    none _ (clash n m is) = unique n m is
-    none _ (alone label f setter absent) = absent (getters (key.Name label, item.Function f) label setter.0 (refl, setter.1))
+    none : NoCause (IsListCause world word entries)
+    none _ (not_strongly_unique_17 n m is) = unique n m is
+    none _ (no_getter_18 label f has setter absent) = absent (getters (key.Name label, item.Function f) label has (refl, setter))
 
--- the errors of one list of a world
-list_cause : (g : Graph) (world : World) (word : List ℕ) (entries : List Entry) (kind : ResolveErrorKind) → IsListCalled word (lists_of world) entries → IsListError world.name word entries kind → IsFinishCause g world kind
-list_cause g world word entries _ list (clash n m is) = not_strongly_unique_17 word n m (record { entries = entries; list = list; clash = is })
-list_cause g world word entries _ list (alone label f setter absent) = no_getter_18 word label f (record { entries = entries; list = list; setter = setter; absent = absent })
-
-pub label_cause : (g : Graph) (world : World) (kind : ResolveErrorKind) → (kind ≡ OutOfMemory) ⊎ IsLabelError world kind → (kind ≡ OutOfMemory) ⊎ IsFinishCause g world kind
+pub label_cause : (g : Graph) (world : World) (kind : ResolveErrorKind) → (kind ≡ OutOfMemory) ⊎ IsLabelCause world kind → (kind ≡ OutOfMemory) ⊎ IsFinishCause g world kind
 label_cause g world kind (inl none) = inl none
-label_cause g world kind (inr (inl error)) = inr (list_cause g world (codes "import") world.imports kind (inl (refl, refl)) error)
-label_cause g world kind (inr (inr error)) = inr (list_cause g world (codes "export") world.exports kind (inr (refl, refl)) error)
+label_cause g world kind (inr error) = inr (of_labels kind error)
 
 -- ---- the conflict
 
@@ -69,13 +62,7 @@ conflict_cause g world kind (inr is) = inr (subst (λ k. IsFinishCause g world k
 
 -- ---- a world that is refused for nothing
 
-list_of_both : (world : World) (word : List ℕ) (entries : List Entry) → LabelsAreAccepted world → IsListCalled word (lists_of world) entries → NoCause (IsListError world.name word entries)
-list_of_both world word entries labels (inl is) error found =
-    labels.imports.no_cause error (subst (λ (w : List ℕ). IsListError world.name w world.imports error) is.0 (subst (λ (l : List Entry). IsListError world.name word l error) is.1 found))
-list_of_both world word entries labels (inr is) error found =
-    labels.exports.no_cause error (subst (λ (w : List ℕ). IsListError world.name w world.exports error) is.0 (subst (λ (l : List Entry). IsListError world.name word l error) is.1 found))
-
 pub finish_accepted : (g : Graph) (world : World) → LabelsAreAccepted world → (HasTransitiveConflict (graph_uses g) (setters_placed world.exports) → ⊥) → NoCause (IsFinishCause g world)
 finish_accepted g world labels no_conflict _ (conflict_4 name conflict name_is) = no_conflict conflict
-finish_accepted g world labels no_conflict _ (not_strongly_unique_17 word n m is) = list_of_both world word is.entries labels is.list _ (clash n m is.clash)
-finish_accepted g world labels no_conflict _ (no_getter_18 word label f is) = list_of_both world word is.entries labels is.list _ (alone label f is.setter is.absent)
+finish_accepted g world labels no_conflict _ (of_labels error (inl is)) = labels.imports.no_cause error is
+finish_accepted g world labels no_conflict _ (of_labels error (inr is)) = labels.exports.no_cause error is

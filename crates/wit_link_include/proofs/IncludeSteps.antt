@@ -32,12 +32,12 @@ use Rattle.wit_remap_spec.specs.Image.{Maps, entry_image, item_image, key_image}
 use Rattle.wit_graph_theory.specs.facts.ListFacts.{Contains-map, Contains-map_cases, contained_at, found_at, from_map, place_of, same_at}
 use Rattle.wit_labels.specs.Rename.{renamed_label}
 use Rattle.wit_link_spec.specs.Gates.{OptionalSpan}
-use Rattle.wit_link_spec.specs.Include.{EntryLists, IsListCalled, PartiallyLinked, belongs_to, copy_maps, is_other_package, is_owned_within, joined_entries, lists_of, with_copies, with_world_included}
+use Rattle.wit_link_spec.specs.Include.{PartiallyLinked, belongs_to, copy_maps, is_other_package, is_owned_within, joined_entries, lists_of, with_copies, with_entry_lists, with_world_included}
 use Rattle.wit_remap_spec.specs.Joined.{include_stability, Disagree, HasStability}
-use Rattle.wit_link_spec.specs.WorldReasons.{IsFirstUnmatched, IsIncludeCause, IsShadowed, mismatch_8, rename_unmatched_16, renamed_key, shadowing_7}
+use Rattle.wit_link_spec.specs.WorldReasons.{IsCauseOfInclude, IsIncludeCause, IsJoinCause, IsShadowed, mismatch_8, of_exports, of_imports, rename_unmatched_16, renamed_key, shadowing_7}
 use Rattle.wit_link_laws.specs.laws.StageFacts.{CanInclude}
-use Rattle.wit_link_include.specs.steps.Included.{StayApart, AreRenamed, ComeOnce, HaveOwnKeys, IsCauseOfInclude, IsJoinCause, JoinIsAccepted, StandsWith, before_includes, item_shadowing_7, stability_mismatch_8, with_one}
-use Rattle.wit_link_spec.specs.steps.Parts.{interface_copy, with_entry_lists, rename_text}
+use Rattle.wit_link_include.specs.steps.Included.{StayApart, AreRenamed, ComeOnce, HaveOwnKeys, IsFirstUnmatched, IsJoinError, JoinIsAccepted, StandsWith, item_shadowing_7, stability_mismatch_8}
+use Rattle.wit_link_spec.specs.steps.Parts.{before_includes, interface_copy, rename_text, with_one}
 
 -- ---- a list of a good world
 
@@ -148,42 +148,21 @@ own_stands entries n stability has = (n, has.0, has.1, has.2, has.3)
 
 -- ---- reasons of one list are reasons of the include
 
-list_cause : (g : Graph) (include : WorldInclude) (old world : World) (home : ℕ) (word : List ℕ) (current brought : List Entry) (kind : ResolveErrorKind) → IsKeyed g.interfaces brought
-    → AllByRecursion (λ (e : Entry). IsUnderOwnKey e.0 e.1) current → IsListCalled word (lists_of world) current → IsListCalled word (lists_of old) brought
-    → IsJoinCause (is_other_package old.package home) include.span word current (bring g include.id old include.names (length g.worlds) home brought) kind → IsIncludeCause home (before_includes g world) include old kind
-list_cause g include old world home word current brought _ keyed own list_now list_old (item_shadowing_7 name is) =
-    shadowing_7 word name (record {
-      current = current;
-      brought = brought;
-      list = (list_now, list_old);
-      shadowed = subst (λ (ks : List WorldKey). IsShadowed current ks name) (brought_keys g include.id old include.names (length g.worlds) home brought keyed) is;
-    })
-list_cause g include old world home word current brought _ keyed own list_now list_old (stability_mismatch_8 brings has is) =
-    mismatch_8 brings has (record {
-      word = word;
-      current = current;
-      brought = brought;
-      i = is.i;
-      list = (list_now, list_old);
-      there = stands_own current own is.i has is.there;
-      comes = came_with g include.id old include.names (length g.worlds) home brought keyed is.i brings is.comes;
-      apart = is.apart;
-      counts = is.counts;
-    })
+list_cause : (g : Graph) (include : WorldInclude) (old : World) (home : ℕ) (other : Bool) (word : List ℕ) (current brought : List Entry) (kind : ResolveErrorKind) → IsKeyed g.interfaces brought
+    → AllByRecursion (λ (e : Entry). IsUnderOwnKey e.0 e.1) current → IsJoinError other include.span word current (bring g include.id old include.names (length g.worlds) home brought) kind
+    → IsJoinCause other include word current brought kind
+list_cause g include old home other word current brought _ keyed own (item_shadowing_7 name is) =
+    shadowing_7 name (subst (λ (ks : List WorldKey). IsShadowed current ks name) (brought_keys g include.id old include.names (length g.worlds) home brought keyed) is)
+list_cause g include old home other word current brought _ keyed own (stability_mismatch_8 brings has is) =
+    mismatch_8 is.i brings has (came_with g include.id old include.names (length g.worlds) home brought keyed is.i brings is.comes) (stands_own current own is.i has is.there) is.apart is.counts
 
 -- ---- an include of which no list is refused, and no renaming
 
-words_differ : codes "import" ≡ codes "export" → ⊥
-words_differ = differ (codes "import") (codes "export") refl
-
-unshadowed : (g : Graph) (include : WorldInclude) (old : World) (home : ℕ) (other : Bool) (span : OptionalSpan) (word : List ℕ) (current brought : List Entry) (name : List ℕ) → IsKeyed g.interfaces brought
-    → JoinIsAccepted other span word current (bring g include.id old include.names (length g.worlds) home brought) → IsShadowed current (map (λ (e : Entry). renamed_key include.names e.0) brought) name → ⊥
-unshadowed g include old home other span word current brought name keyed can is =
+list_accepted : (g : Graph) (include : WorldInclude) (old : World) (home : ℕ) (other : Bool) (word : List ℕ) (current brought : List Entry) → IsKeyed g.interfaces brought
+    → JoinIsAccepted other include.span word current (bring g include.id old include.names (length g.worlds) home brought) → NoCause (IsJoinCause other include word current brought)
+list_accepted g include old home other word current brought keyed can _ (shadowing_7 name is) =
     can.no_cause _ (item_shadowing_7 name (subst (λ (ks : List WorldKey). IsShadowed current ks name) (sym (brought_keys g include.id old include.names (length g.worlds) home brought keyed)) is))
-
-agree : (g : Graph) (include : WorldInclude) (old : World) (home : ℕ) (other : Bool) (span : OptionalSpan) (word : List ℕ) (current brought : List Entry) (brings has : Stability) (i : ℕ) → IsKeyed g.interfaces brought
-    → JoinIsAccepted other span word current (bring g include.id old include.names (length g.worlds) home brought) → HasStability current i has → HasStability brought i brings → Disagree brings has → include_stability other brings has ≡ brings → ⊥
-agree g include old home other span word current brought brings has i keyed can there comes apart counts =
+list_accepted g include old home other word current brought keyed can _ (mismatch_8 i brings has comes there apart counts) =
     can.no_cause _ (stability_mismatch_8 brings has (record {
       i = i;
       there = own_stands current i has there;
@@ -198,26 +177,13 @@ pub record ListsJoin (g : Graph) (include : WorldInclude) (old world : World) (h
   pub exports : JoinIsAccepted (is_other_package old.package home) include.span (codes "export") world.exports (bring g include.id old include.names (length g.worlds) home old.exports)
   pub names : AreRenamed old include.names
 
--- one of the two lists, whichever the word means
-both : (P : List Entry → List Entry → Type 0) (now old : EntryLists) (word : List ℕ) (current brought : List Entry) → IsListCalled word now current → IsListCalled word old brought → P now.imports old.imports → P now.exports old.exports → P current brought
-both P now old word current brought (inl a) (inl b) imports exports = subst (λ (x : List Entry). P x brought) (sym a.1) (subst (P now.imports) (sym b.1) imports)
-both P now old word current brought (inl a) (inr b) imports exports = absurd (words_differ (sym a.0 ∙ b.0))
-both P now old word current brought (inr a) (inl b) imports exports = absurd (words_differ (sym b.0 ∙ a.0))
-both P now old word current brought (inr a) (inr b) imports exports = subst (λ (x : List Entry). P x brought) (sym a.1) (subst (P now.exports) (sym b.1) exports)
-
 not_a_cause : (g : Graph) (include : WorldInclude) (old world : World) (home : ℕ) → IsGoodWorld g.types g.interfaces include.id old → ListsJoin g include old world home
     → (kind : ResolveErrorKind) → IsIncludeCause home (before_includes g world) include old kind → ⊥
-not_a_cause g include old world home good join _ (shadowing_7 word name is) =
-    both (λ (current brought : List Entry). IsShadowed current (map (λ (e : Entry). renamed_key include.names e.0) brought) name → ⊥) (lists_of world) (lists_of old) word is.current is.brought is.list.0 is.list.1
-    (unshadowed g include old home (is_other_package old.package home) include.span (codes "import") world.imports old.imports name (imports_keyed g include.id old good) join.imports)
-    (unshadowed g include old home (is_other_package old.package home) include.span (codes "export") world.exports old.exports name (exports_keyed g include.id old good) join.exports) is.shadowed
-not_a_cause g include old world home good join _ (mismatch_8 brings has is) =
-    both (λ (current brought : List Entry). HasStability current is.i has → HasStability brought is.i brings → Disagree brings has → include_stability (is_other_package old.package home) brings has ≡ brings → ⊥)
-    (lists_of world) (lists_of old) is.word is.current is.brought is.list.0 is.list.1
-    (agree g include old home (is_other_package old.package home) include.span (codes "import") world.imports old.imports brings has is.i (imports_keyed g include.id old good) join.imports)
-    (agree g include old home (is_other_package old.package home) include.span (codes "export") world.exports old.exports brings has is.i (exports_keyed g include.id old good) join.exports) is.there is.comes is.apart is.counts
-not_a_cause g include old world home good join _ (rename_unmatched_16 name is) =
-    is.unmatched (join.names (length is.before) name (subst (λ (l : List IncludeName). slice_get l (length is.before) ≡ Some name) (sym is.are) (slice_get-behind is.before is.after name)))
+not_a_cause g include old world home good join kind (of_imports _ is) =
+    list_accepted g include old home (is_other_package old.package home) (codes "import") world.imports old.imports (imports_keyed g include.id old good) join.imports kind is
+not_a_cause g include old world home good join kind (of_exports _ is) =
+    list_accepted g include old home (is_other_package old.package home) (codes "export") world.exports old.exports (exports_keyed g include.id old good) join.exports kind is
+not_a_cause g include old world home good join _ (rename_unmatched_16 j name is earlier unmatched) = unmatched (join.names j name is)
 
 -- so no cause holds against it
 pub include_is_accepted : (g : Graph) (include : WorldInclude) (old world : World) (home : ℕ) → slice_get g.worlds include.id ≡ Some old → IsGoodWorld g.types g.interfaces include.id old → ListsJoin g include old world home
@@ -294,22 +260,22 @@ module _ (g : Graph) (include : WorldInclude) (home : ℕ) (world : World) (g' :
       })
 
   pub step_cause : HaveOwnKeys (lists_of world) → (kind : ResolveErrorKind)
-      → (kind ≡ OutOfMemory) ⊎ (IsJoinCause other include.span (codes "import") world.imports imports kind ⊎ IsJoinCause other include.span (codes "export") world.exports exports kind)
+      → (kind ≡ OutOfMemory) ⊎ (IsJoinError other include.span (codes "import") world.imports imports kind ⊎ IsJoinError other include.span (codes "export") world.exports exports kind)
       → (kind ≡ OutOfMemory) ⊎ IsCauseOfInclude home (before_includes g world) include kind
   step_cause own kind (inl memory) = inl memory
   step_cause own kind (inr (inl is)) =
       inr (
         step.old,
         step.at,
-        list_cause g include step.old world home (codes "import") world.imports step.old.imports kind (imports_keyed g include.id step.old step.good) own.imports (inl (refl, refl)) (inl (refl, refl))
-            (told_of (λ (b : Bool) (l : List Entry). IsJoinCause b include.span (codes "import") world.imports l kind) imports _ step.imports_are is),
+        of_imports kind (list_cause g include step.old home (is_other_package step.old.package home) (codes "import") world.imports step.old.imports kind (imports_keyed g include.id step.old step.good) own.imports
+            (told_of (λ (b : Bool) (l : List Entry). IsJoinError b include.span (codes "import") world.imports l kind) imports _ step.imports_are is)),
       )
   step_cause own kind (inr (inr is)) =
       inr (
         step.old,
         step.at,
-        list_cause g include step.old world home (codes "export") world.exports step.old.exports kind (exports_keyed g include.id step.old step.good) own.exports (inr (refl, refl)) (inr (refl, refl))
-            (told_of (λ (b : Bool) (l : List Entry). IsJoinCause b include.span (codes "export") world.exports l kind) exports _ step.exports_are is),
+        of_exports kind (list_cause g include step.old home (is_other_package step.old.package home) (codes "export") world.exports step.old.exports kind (exports_keyed g include.id step.old step.good) own.exports
+            (told_of (λ (b : Bool) (l : List Entry). IsJoinError b include.span (codes "export") world.exports l kind) exports _ step.exports_are is)),
       )
 
   pub step_imports_once : ComeOnce imports
@@ -355,4 +321,4 @@ pub names_cause : (g : Graph) (include : WorldInclude) (home : ℕ) (world old :
     → (kind ≡ OutOfMemory) ⊎ IsCauseOfInclude home (before_includes g world) include kind
 names_cause g include home world old kind at (inl memory) = inl memory
 names_cause g include home world old kind at (inr is) =
-    inr (old, at, subst (IsIncludeCause home (before_includes g world) include old) (sym is.2) (rename_unmatched_16 is.0 is.1))
+    inr (old, at, subst (IsIncludeCause home (before_includes g world) include old) (sym is.2) (rename_unmatched_16 is.1.j is.0 is.1.is is.1.earlier is.1.unmatched))

@@ -1,5 +1,5 @@
 -- The steps of joining: a list that is joined to some entries, and one entry more.
-use Rattle.std.proofs.Common.{◌≡◌, ◌∙◌, ◌⊎◌, inl, inr, ℕ, zero, suc, ◌<◌, Bool, true, false, cond, not, List, [], ◌∷◌, ◌++◌, Option, Some, None, map, filter, length, refl, ap, sym, subst, slice_get, Contains, arith}
+use Rattle.std.proofs.Common.{◌≡◌, ◌∙◌, ◌⊎◌, inl, inr, ℕ, zero, suc, ◌<◌, Bool, true, false, cond, not, List, [], ◌∷◌, ◌++◌, Option, Some, None, map, filter, take, length, refl, ap, sym, subst, slice_get, Contains, arith}
 use Rattle.std.proofs.lemmas.List.{append_assoc, append-nil, map-append}
 use Rattle.std.proofs.lemmas.List.Elements.{Contains-append_cases, Contains-append_left, Contains-append_right, filter-append}
 use Rattle.std.proofs.lemmas.Map.Views.{lookup-from_Contains}
@@ -8,7 +8,7 @@ use Rattle.std.specs.List.{AllByRecursion, IsDistinct}
 use Rattle.std.specs.Map.{keys_of, lookup}
 use Rattle.std.specs.Option.{option_map_or}
 use Rattle.indexmap.specs.Layout.{set_value_at}
-use Rattle.wit_values.specs.facts.Lists.{key_at, slice_get-append, slice_get-behind}
+use Rattle.wit_values.specs.facts.Lists.{key_at, push-cases, slice_get-append, slice_get-behind}
 use Rattle.wit_data.specs.Entries.{Entry}
 use Rattle.wit_data.specs.facts.WorldKeyFacts.{key_is, key_laws, same_key}
 use Rattle.wit_data.specs.declared.stability.Docs.{Docs}
@@ -26,7 +26,7 @@ use Rattle.wit_link_spec.specs.Gates.{OptionalSpan}
 use Rattle.wit_link_spec.specs.Include.{joined_entries, new_item}
 use Rattle.wit_remap_spec.specs.Joined.{include_stability, joined_entry, joined_item, Disagree}
 use Rattle.wit_link_spec.specs.WorldReasons.{IsShadowed}
-use Rattle.wit_link_include.specs.steps.Included.{ComeOnce, IsItemError, IsJoinCause, ItemsAgree, JoinIsAccepted, StabilitiesDiffer, StandsWith, item_shadowing_7, stability_mismatch_8}
+use Rattle.wit_link_include.specs.steps.Included.{ComeOnce, IsItemError, IsJoinError, ItemsAgree, JoinIsAccepted, StabilitiesDiffer, StandsWith, item_shadowing_7, stability_mismatch_8}
 use Rattle.wit_link_include.proofs.Keys.{Lacks, has_key-has, has_key-lacks, key_there, lacks-head, lacks-tail, lookup-lacks, lookup-last, lookup-other, under_key}
 use Rattle.wit_link_spec.specs.steps.Parts.{has_key}
 
@@ -193,23 +193,16 @@ joined_entries-there other current brought k v into i lacks distinct at =
 
 -- ---- no cause holds against one entry more
 
-snoc-empty : {X : Type 0} (xs ys : List X) (n : X) → [] ≡ xs ++ n ∷ ys → ⊥
-snoc-empty [] ys n h = cc
-snoc-empty (x ∷ xs) ys n h = cc
+-- what is taken of a list stays where one comes behind it
+take-front : {X : Type 0} (xs : List X) (x y : X) (j : ℕ) → slice_get xs j ≡ Some y → take j (xs ++ x ∷ []) ≡ take j xs
+take-front [] x y j at = cc
+take-front (z ∷ zs) x y zero at = refl
+take-front {X} (z ∷ zs) x y (suc j) at = ap (λ (l : List X). z ∷ l) (take-front zs x y j at)
 
--- what stands in a list with one element more is that one, or stands before it
-snoc-cases : {X : Type 0} (xs : List X) (x : X) (before : List X) (n : X) (after : List X) → xs ++ x ∷ [] ≡ before ++ n ∷ after
-    → ((xs ≡ before) × (x ≡ n)) ⊎ ((more : List X) × (xs ≡ before ++ n ∷ more))
-snoc-cases [] x [] n after h = let same : x ≡ n = cc in inl (refl, same)
-snoc-cases [] x (b ∷ bs) n after h = let none : [] ≡ bs ++ n ∷ after = cc in absurd (snoc-empty bs after n none)
-snoc-cases (z ∷ zs) x [] n after h = let same : z ≡ n = cc in inr (zs, ap (λ (y : _). y ∷ zs) same)
-snoc-cases (z ∷ zs) x (b ∷ bs) n after h =
-    let rest : zs ++ x ∷ [] ≡ bs ++ n ∷ after = cc in
-    let same : z ≡ b = cc in
-    elim (snoc-cases zs x bs n after rest) [
-      | inl last ↦ inl (cc (same, last.0), last.1)
-      | inr more ↦ inr (more.0, cc (same, more.1))
-    ]
+take-before : {X : Type 0} (xs ys : List X) → take (length xs) (xs ++ ys) ≡ xs
+take-before [] [] = refl
+take-before [] (y ∷ ys) = refl
+take-before {X} (x ∷ xs) ys = ap (λ (l : List X). x ∷ l) (take-before xs ys)
 
 one-key : (k : WorldKey) (v : WorldItem) (done : List Entry) → keys_of (done ++ (k, v) ∷ []) ≡ keys_of done ++ k ∷ []
 one-key k v done = map-append (λ (e : Entry). e.0) done ((k, v) ∷ [])
@@ -217,9 +210,15 @@ one-key k v done = map-append (λ (e : Entry). e.0) done ((k, v) ∷ [])
 unshadowed-more : (current done : List Entry) (k : WorldKey) (v : WorldItem) → ((name : List ℕ) → IsShadowed current (keys_of done) name → ⊥)
     → ((name : List ℕ) → k ≡ key.Name name → Contains (keys_of current ++ keys_of done) k → ⊥) → (name : List ℕ) → IsShadowed current (keys_of (done ++ (k, v) ∷ [])) name → ⊥
 unshadowed-more current done k v earlier last name is =
-    elim (snoc-cases (keys_of done) k is.before (key.Name name) is.after (sym (one-key k v done) ∙ is.are)) [
-      | inl here ↦ last name here.1 (subst (Contains (keys_of current ++ keys_of done)) (sym here.1) (subst (λ (ks : List WorldKey). Contains (keys_of current ++ ks) (key.Name name)) (sym here.0) is.there))
-      | inr there ↦ earlier name (record { before = is.before; after = there.0; are = there.1; there = is.there })
+    let at : slice_get (keys_of done ++ k ∷ []) is.0 ≡ Some (key.Name name) = subst (λ (ks : List WorldKey). slice_get ks is.0 ≡ Some (key.Name name)) (one-key k v done) is.1 in
+    let there : Contains (keys_of current ++ take is.0 (keys_of done ++ k ∷ [])) (key.Name name) = subst (λ (ks : List WorldKey). Contains (keys_of current ++ take is.0 ks) (key.Name name)) (one-key k v done) is.2 in
+    elim (push-cases (keys_of done) k is.0 (key.Name name) at) [
+      | inl old ↦
+          earlier name (is.0, old, subst (λ (ks : List WorldKey). Contains (keys_of current ++ ks) (key.Name name)) (take-front (keys_of done) k (key.Name name) is.0 old) there)
+      | inr new ↦
+          let behind : Contains (keys_of current ++ keys_of done) (key.Name name) =
+          subst (λ (ks : List WorldKey). Contains (keys_of current ++ ks) (key.Name name)) (ap (λ (j : ℕ). take j (keys_of done ++ k ∷ [])) new.0 ∙ take-before (keys_of done) (k ∷ [])) there in
+          last name (sym new.1) (subst (Contains (keys_of current ++ keys_of done)) new.1 behind)
     ]
 
 -- the one more entry brings this stability
@@ -255,7 +254,7 @@ pub record IsJoining (other : Bool) (current done entries : List Entry) : Type 0
 pub joining_accepted : (other : Bool) (span : OptionalSpan) (word : List ℕ) (current done entries : List Entry) → IsJoining other current done entries → JoinIsAccepted other span word current done
 joining_accepted other span word current done entries joining = record { no_cause = none }
   where
-    none : NoCause (IsJoinCause other span word current done)
+    none : NoCause (IsJoinError other span word current done)
     none _ (item_shadowing_7 name is) = joining.unshadowed name is
     none _ (stability_mismatch_8 brings has is) = joining.agree brings has is
 
@@ -263,13 +262,16 @@ joined_entries-none : (other : Bool) (es : List Entry) → map (joined_entry oth
 joined_entries-none other [] = refl
 joined_entries-none other (e ∷ es) = ap (λ (ds : List Entry). e ∷ ds) (joined_entries-none other es)
 
+none_at : {X : Type 0} (i : ℕ) (x : X) → slice_get [] i ≡ Some x → ⊥
+none_at i x at = cc
+
 no-place : {X : Type 0} (x : X) → Contains [] x → ⊥
 no-place x has = absurd (omega (arith, has.1))
 
 pub joining-none : (other : Bool) (current : List Entry) → IsJoining other current [] current
 joining-none other current = record {
   is = sym (append-nil (map (joined_entry other []) current) ∙ joined_entries-none other current);
-  unshadowed = λ name is. snoc-empty is.before is.after (key.Name name) is.are;
+  unshadowed = λ name is. none_at is.0 (key.Name name) is.1;
   agree = λ brings has is. no-place (key.Interface is.i, item.Interface is.comes.0 brings is.comes.1 is.comes.2 is.comes.3) is.comes.4;
 }
 
@@ -348,19 +350,22 @@ not-done brought done rest n v once are has =
     absurd (omega arith)
 
 pub shadow-cause : (other : Bool) (span : OptionalSpan) (word label : List ℕ) (current brought done rest entries : List Entry) (v into : WorldItem) (i : ℕ) → IsJoining other current done entries
-    → done ++ (key.Name label, v) ∷ rest ≡ brought → slice_get entries i ≡ Some (key.Name label, into) → IsJoinCause other span word current brought (ItemShadowing span word label)
+    → done ++ (key.Name label, v) ∷ rest ≡ brought → slice_get entries i ≡ Some (key.Name label, into) → IsJoinError other span word current brought (ItemShadowing span word label)
 shadow-cause other span word label current brought done rest entries v into i joining are at =
-    item_shadowing_7 label (record {
-      before = keys_of done;
-      after = keys_of rest;
-      are = ap keys_of (sym are) ∙ map-append (λ (e : Entry). e.0) done ((key.Name label, v) ∷ rest);
-      there = joined_entries-key other current done (key.Name label) (subst (λ (es : List Entry). Contains (keys_of es) (key.Name label)) joining.is (key_there entries i (key.Name label) into at));
-    })
+    item_shadowing_7 label (
+      length (keys_of done),
+      subst (λ (ks : List WorldKey). slice_get ks (length (keys_of done)) ≡ Some (key.Name label)) (sym keys_are) (slice_get-behind (keys_of done) (keys_of rest) (key.Name label)),
+      subst (λ (ks : List WorldKey). Contains (keys_of current ++ ks) (key.Name label)) (sym (ap (take (length (keys_of done))) keys_are ∙ take-before (keys_of done) (key.Name label ∷ keys_of rest)))
+          (joined_entries-key other current done (key.Name label) (subst (λ (es : List Entry). Contains (keys_of es) (key.Name label)) joining.is (key_there entries i (key.Name label) into at))),
+    )
+  where
+    keys_are : keys_of brought ≡ keys_of done ++ key.Name label ∷ keys_of rest
+    keys_are = ap keys_of (sym are) ∙ map-append (λ (e : Entry). e.0) done ((key.Name label, v) ∷ rest)
 
 differ-from : (other : Bool) (span : OptionalSpan) (word : List ℕ) (current brought : List Entry) (n : ℕ) (v into : WorldItem) (kind : ResolveErrorKind) → Contains current (key.Interface n, into)
-    → Contains brought (key.Interface n, v) → IsItemError other span v into kind → IsJoinCause other span word current brought kind
+    → Contains brought (key.Interface n, v) → IsItemError other span v into kind → IsJoinError other span word current brought kind
 differ-from other span word current brought n (item.Interface a from docs place external_id) (item.Interface b into docs' place' external_id') kind there comes is =
-    subst (IsJoinCause other span word current brought) (sym is.0) (stability_mismatch_8 from into (record {
+    subst (IsJoinError other span word current brought) (sym is.0) (stability_mismatch_8 from into (record {
       i = n;
       there = (b, docs', place', external_id', there);
       comes = (a, docs, place, external_id, comes);
@@ -374,7 +379,7 @@ differ-from other span word current brought n (item.Type_ t s) into kind there c
 
 pub differ-cause : (other : Bool) (span : OptionalSpan) (word : List ℕ) (current brought done rest entries : List Entry) (n : ℕ) (v into : WorldItem) (i : ℕ) (kind : ResolveErrorKind) → IsJoining other current done entries
     → ComeOnce brought → done ++ (key.Interface n, v) ∷ rest ≡ brought → slice_get entries i ≡ Some (key.Interface n, into) → IsItemError other span v into kind
-    → IsJoinCause other span word current brought kind
+    → IsJoinError other span word current brought kind
 differ-cause other span word current brought done rest entries n v into i kind joining once are at is =
     let here : slice_get (joined_entries other current done) i ≡ Some (key.Interface n, into) = subst (λ (es : List Entry). slice_get es i ≡ Some (key.Interface n, into)) joining.is at in
     let there = there-before other current done (key.Interface n) into i (not-done brought done rest n v once are) here in

@@ -18,7 +18,8 @@ use Rattle.wit_elaboration.specs.Sound.{IsUnderOwnKey}
 use Rattle.wit_remap_spec.specs.Image.{Maps, entry_image}
 use Rattle.wit_link_spec.specs.Include.{PartiallyLinked, copy_maps, is_other_package, joined_entries, new_item}
 use Rattle.wit_remap_spec.specs.Joined.{joined_entry, joined_item}
-use Rattle.wit_link_include.specs.steps.Included.{CanBeIncluded, HaveOwnKeys, with_one}
+use Rattle.wit_link_include.specs.steps.Included.{CanBeIncluded, HaveOwnKeys}
+use Rattle.wit_link_spec.specs.steps.Parts.{with_one}
 use Rattle.wit_link_include.specs.facts.SeveralFacts.{none_is, some_is}
 use Rattle.wit_link_include.proofs.IncludeSteps.{IsKeyed, exports_keyed, imports_keyed}
 use Rattle.wit_link_spec.specs.steps.Parts.{has_key}

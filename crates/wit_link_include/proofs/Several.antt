@@ -14,14 +14,14 @@ use Rattle.wit_graph_data.specs.declared.graph.Graph.{Graph}
 use Rattle.wit_graph_data.specs.declared.error_kind.ResolveErrorKind.{ResolveErrorKind}
 use Rattle.wit_graph_data.specs.declared.error_kind.ResolveErrorKind.TheVariants.{OutOfMemory}
 use Rattle.wit_graph_theory.specs.facts.ListFacts.{same_at}
-use Rattle.wit_link_spec.specs.Include.{PartiallyLinked, lists_of}
-use Rattle.wit_link_spec.specs.WorldReasons.{IsFinishCause}
+use Rattle.wit_link_spec.specs.Include.{PartiallyLinked, lists_of, with_entry_lists, with_several}
+use Rattle.wit_link_spec.specs.WorldReasons.{IsAcceptedAt, IsCauseOfInclude, IsFinishCause, IsWorldCause, as_finished, at_include}
 use Rattle.wit_remap.specs.Grown.{Grown}
 use Rattle.wit_remap.specs.facts.GrownFacts.{Begins-more, Begins-same, Grown-same, Grown-then}
-use Rattle.wit_link_include.specs.steps.Included.{CanBeAdded, CanBeIncluded, CanIncludeAll, HaveOwnKeys, IsAcceptedAt, IsCauseOfInclude, IsWorldCause, StopsAtInclude, as_finished, at_include, before_includes, with_including, with_one, with_several}
+use Rattle.wit_link_include.specs.steps.Included.{CanBeAdded, CanBeIncluded, CanIncludeAll, HaveOwnKeys, StopsAtInclude}
 use Rattle.wit_link_include.specs.facts.SeveralFacts.{several_worlds}
 use Rattle.wit_link_include.proofs.OwnKeys.{one_own}
-use Rattle.wit_link_spec.specs.steps.Parts.{with_finished, with_entry_lists}
+use Rattle.wit_link_spec.specs.steps.Parts.{before_includes, with_finished, with_including, with_one}
 
 -- ---- the state of including
 
@@ -128,7 +128,7 @@ world_added home g world includes g' new world' graph_is world_is is =
 
 pub world_fine : (home : ℕ) (g : Graph) (world : World) (includes : List WorldInclude) (g' : Graph) (world' : World) → g' ≡ (with_several home g world includes).graph
     → world' ≡ with_entry_lists world (with_several home g world includes).lists → ((j : ℕ) → IsAcceptedAt home g world includes j) → NoCause (IsFinishCause g' world') → NoCause (IsWorldCause home g world includes)
-world_fine home g world includes g' world' graph_is world_is fine can kind (at_include j stops) = fine j stops.include stops.is kind stops.cause
+world_fine home g world includes g' world' graph_is world_is fine can kind (at_include j include is earlier why) = fine j include is kind why
 world_fine home g world includes g' world' graph_is world_is fine can kind (as_finished accepted is) =
     can kind
     (subst (λ (h : Graph). IsFinishCause h world' kind) (sym graph_is) (subst (λ (w : World). IsFinishCause (with_several home g world includes).graph w kind) (sym world_is) is))
@@ -136,7 +136,7 @@ world_fine home g world includes g' world' graph_is world_is fine can kind (as_f
 pub include_stops : (home : ℕ) (g : Graph) (world : World) (includes : List WorldInclude) (kind : ResolveErrorKind) → (kind ≡ OutOfMemory) ⊎ ((j : ℕ) × StopsAtInclude home g world includes j kind)
     → (kind ≡ OutOfMemory) ⊎ IsWorldCause home g world includes kind
 include_stops home g world includes kind (inl memory) = inl memory
-include_stops home g world includes kind (inr stop) = inr (at_include stop.0 stop.1)
+include_stops home g world includes kind (inr stop) = inr (at_include stop.0 stop.1.include stop.1.is stop.1.earlier stop.1.cause)
 
 pub finishing_stops : (home : ℕ) (g : Graph) (world : World) (includes : List WorldInclude) (g' : Graph) (world' : World) (kind : ResolveErrorKind) → g' ≡ (with_several home g world includes).graph
     → world' ≡ with_entry_lists world (with_several home g world includes).lists → ((j : ℕ) → IsAcceptedAt home g world includes j) → (kind ≡ OutOfMemory) ⊎ IsFinishCause g' world' kind

@@ -16,8 +16,8 @@ use Rattle.wit_data.specs.declared.world.WorldKey.TheVariants as key
 use Rattle.wit_graph_theory.specs.facts.ListFacts.{contained_at, place_of}
 use Rattle.wit_labels.specs.Groups.{begins_group, groups_of, rest_of}
 use Rattle.wit_labels.specs.Rename.{renamed_label_by}
-use Rattle.wit_link_spec.specs.WorldReasons.{IsFirstUnmatched, IsRenamed}
-use Rattle.wit_link_include.specs.steps.Included.{AreRenamed, has_word, word_of}
+use Rattle.wit_link_spec.specs.WorldReasons.{IsRenamed}
+use Rattle.wit_link_include.specs.steps.Included.{AreRenamed, IsFirstUnmatched, has_word, word_of}
 
 -- ---- a renaming is of a label exactly where it is of its word
 
@@ -125,18 +125,7 @@ renamed-next world names i name earlier at here = subst (AreRenamed world) (sym 
     pushed (z ∷ zs) all (suc j) x there = pushed zs (λ k. all (suc k)) j x there
 
 pub first-unmatched : (world : World) (names : List IncludeName) (i : ℕ) (name : IncludeName) → AreRenamed world (take i names) → slice_get names i ≡ Some name → (IsRenamed world name → ⊥) → IsFirstUnmatched world names name
-first-unmatched world names i name earlier at unmatched = record {
-  before = take i names;
-  after = drop (suc i) names;
-  are = split names i at;
-  earlier = earlier;
-  unmatched = unmatched;
-}
-  where
-    split : (xs : List IncludeName) (j : ℕ) → slice_get xs j ≡ Some name → xs ≡ take j xs ++ name ∷ drop (suc j) xs
-    split [] j there = cc
-    split (z ∷ zs) zero there = let same : z ≡ name = cc in ap (λ (x : IncludeName). x ∷ zs) same
-    split (z ∷ zs) (suc j) there = ap (λ (l : List IncludeName). z ∷ l) (split zs j there)
+first-unmatched world names i name earlier at unmatched = record { j = i; is = at; earlier = earlier; unmatched = unmatched }
 
 pub renamed-all : (world : World) (names : List IncludeName) (i : ℕ) → AreRenamed world (take i names) → length names ≤ i → AreRenamed world names
 renamed-all world names i all reached = subst (AreRenamed world) (take-all names i reached) all

@@ -3,9 +3,11 @@ ghost use Rattle.std.specs.Prelude.{◌≡◌, ◌⊎◌, ℕ, IfErr, IfOk, OnOk
 ghost use Rattle.wit_elaboration.specs.Elaboration.{graph_uses};
 ghost use Rattle.wit_graph_data.specs.Error.{NoCause};
 ghost use Rattle.wit_graph_data.specs.declared.error_kind.ResolveErrorKind.TheVariants.{OutOfMemory};
-ghost use Rattle.wit_link_include.specs.steps.Included.{CanBeAdded, CanIncludeAll, IsAcceptedAt, IsWorldCause, StopsAtInclude, with_including, with_several};
+ghost use Rattle.wit_link_include.specs.steps.Included.{CanBeAdded, CanIncludeAll, StopsAtInclude};
 ghost use Rattle.wit_remap.specs.Grown.{Begins, Grown};
-ghost use Rattle.wit_link_spec.specs.steps.Parts.{with_entry_lists};
+ghost use Rattle.wit_link_spec.specs.Include.{with_entry_lists, with_several};
+ghost use Rattle.wit_link_spec.specs.WorldReasons.{IsAcceptedAt, IsWorldCause};
+ghost use Rattle.wit_link_spec.specs.steps.Parts.{with_including};
 
 use crate::finishing::finish_world;
 use crate::including::include;

@@ -1,11 +1,12 @@
 //! A world of a graph is included in one that comes next.
 ghost use Rattle.std.specs.Prelude.{◌≡◌, ◌⊎◌, ◌<◌, IfErr, IfOk, OnOk, codes, length};
 ghost use Rattle.wit_graph_data.specs.Error.{NoCause};
-ghost use Rattle.wit_link_spec.specs.Include.{is_other_package, lists_of};
+ghost use Rattle.wit_link_spec.specs.Include.{is_other_package, lists_of, with_entry_lists};
+ghost use Rattle.wit_link_spec.specs.WorldReasons.{IsCauseOfInclude};
 ghost use Rattle.wit_graph_data.specs.declared.error_kind.ResolveErrorKind.TheVariants.{OutOfMemory};
-ghost use Rattle.wit_link_include.specs.steps.Included.{CanBeIncluded, ComeOnce, HaveOwnKeys, IsCauseOfInclude, IsJoinCause, JoinIsAccepted, before_includes, copied_entries, with_joined, with_one};
+ghost use Rattle.wit_link_include.specs.steps.Included.{CanBeIncluded, ComeOnce, HaveOwnKeys, IsJoinError, JoinIsAccepted, copied_entries, with_joined};
 ghost use Rattle.wit_remap.specs.Grown.{Grown};
-ghost use Rattle.wit_link_spec.specs.steps.Parts.{with_entry_lists};
+ghost use Rattle.wit_link_spec.specs.steps.Parts.{before_includes, with_one};
 
 use crate::copies::Copies;
 use crate::fresh_copies::add_copies;
@@ -66,7 +67,7 @@ fn join_copies(
     ensures ok { IfOk result (λ new. new ≡ with_joined (is_other_package included.now.package home) world (copied_entries copies.now included.now.imports) (copied_entries copies.now included.now.exports)) }
     ensures imports { OnOk result (JoinIsAccepted (is_other_package included.now.package home) span (codes "import") world.imports (copied_entries copies.now included.now.imports)) }
     ensures exports { OnOk result (JoinIsAccepted (is_other_package included.now.package home) span (codes "export") world.exports (copied_entries copies.now included.now.exports)) }
-    ensures cause { IfErr result (λ kind. (kind ≡ OutOfMemory) ⊎ (IsJoinCause (is_other_package included.now.package home) span (codes "import") world.imports (copied_entries copies.now included.now.imports) kind ⊎ IsJoinCause (is_other_package included.now.package home) span (codes "export") world.exports (copied_entries copies.now included.now.exports) kind)) }
+    ensures cause { IfErr result (λ kind. (kind ≡ OutOfMemory) ⊎ (IsJoinError (is_other_package included.now.package home) span (codes "import") world.imports (copied_entries copies.now included.now.imports) kind ⊎ IsJoinError (is_other_package included.now.package home) span (codes "export") world.exports (copied_entries copies.now included.now.exports) kind)) }
 {
     let imports = copies.entries(alloc, &included.imports)?;
     let exports = copies.entries(alloc, &included.exports)?;
@@ -88,7 +89,7 @@ fn join_lists(
     ensures ok { IfOk result (λ new. new ≡ with_joined other world imports exports) }
     ensures imports { OnOk result (JoinIsAccepted other span (codes "import") world.imports imports) }
     ensures exports { OnOk result (JoinIsAccepted other span (codes "export") world.exports exports) }
-    ensures cause { IfErr result (λ kind. (kind ≡ OutOfMemory) ⊎ (IsJoinCause other span (codes "import") world.imports imports kind ⊎ IsJoinCause other span (codes "export") world.exports exports kind)) }
+    ensures cause { IfErr result (λ kind. (kind ≡ OutOfMemory) ⊎ (IsJoinError other span (codes "import") world.imports imports kind ⊎ IsJoinError other span (codes "export") world.exports exports kind)) }
 {
     let mut world = world;
     let current = mem::replace(&mut world.imports, Table::new(alloc));

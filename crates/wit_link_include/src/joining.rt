@@ -8,7 +8,7 @@ ghost use Rattle.wit_graph_data.specs.declared.error_kind.ResolveErrorKind.TheVa
 ghost use Rattle.wit_data.specs.declared.world.WorldItem.{WorldItem};
 ghost use Rattle.wit_data.specs.declared.world.WorldKey.{WorldKey};
 ghost use Rattle.wit_data.specs.facts.WorldKeyFacts.{same_key};
-ghost use Rattle.wit_link_include.specs.steps.Included.{ComeOnce, IsItemError, IsJoinCause, ItemsAgree, JoinIsAccepted};
+ghost use Rattle.wit_link_include.specs.steps.Included.{ComeOnce, IsItemError, IsJoinError, ItemsAgree, JoinIsAccepted};
 
 use crate::stabilities::join_stability;
 use std::alloc::{AllocError, Global};
@@ -31,7 +31,7 @@ pub(crate) fn join(
     requires { ComeOnce brought }
     ensures ok { IfOk result (λ new. new ≡ joined_entries other current brought) }
     ensures fine { OnOk result (JoinIsAccepted other span word.now current brought) }
-    ensures cause { IfErr result (λ kind. (kind ≡ OutOfMemory) ⊎ IsJoinCause other span word.now current brought kind) }
+    ensures cause { IfErr result (λ kind. (kind ≡ OutOfMemory) ⊎ IsJoinError other span word.now current brought kind) }
 {
     let mut entries = current;
     for (key, item) in brought.into_vec() {

@@ -1,7 +1,8 @@
 //! Labels of a world: whether some are not strongly unique, and whether each setter has its getter.
 ghost use Rattle.std.specs.Prelude.{◌≡◌, ◌⊎◌, IfErr, IfOk, OnOk, None};
 ghost use Rattle.wit_link_spec.specs.CauseText.{clash_text};
-ghost use Rattle.wit_link_include.specs.steps.Included.{IsLabelError, IsListError, LabelsAreAccepted, ListIsAccepted};
+ghost use Rattle.wit_link_spec.specs.WorldReasons.{IsLabelCause, IsListCause};
+ghost use Rattle.wit_link_include.specs.steps.Included.{LabelsAreAccepted, ListIsAccepted};
 ghost use Rattle.wit_graph_data.specs.declared.cause.Cause.TheVariants as cause;
 ghost use Rattle.wit_graph_data.specs.declared.error_kind.ResolveErrorKind.TheVariants.{OutOfMemory, Semantic};
 ghost use Rattle.wit_labels.specs.Setters.{LacksGetterAt};
@@ -14,7 +15,7 @@ use wit_labels::{Clash, find_clash, find_setter_without_getter, getter_label};
 /// Refuses labels that are not strongly unique (17) and setters without getters (18).
 pub(crate) fn check_labels(alloc: Global, world: &World) -> ResolveResult<()>
     ensures fine { OnOk result (LabelsAreAccepted world.now) }
-    ensures cause { IfErr result (λ kind. (kind ≡ OutOfMemory) ⊎ IsLabelError world.now kind) }
+    ensures cause { IfErr result (λ kind. (kind ≡ OutOfMemory) ⊎ IsLabelCause world.now kind) }
 {
     check_list(alloc, "import", &world.imports, &world.name)?;
     check_list(alloc, "export", &world.exports, &world.name)
@@ -28,7 +29,7 @@ fn check_list(
     world: &Text,
 ) -> ResolveResult<()>
     ensures fine { OnOk result (ListIsAccepted world.now word.now entries.now) }
-    ensures cause { IfErr result (λ kind. (kind ≡ OutOfMemory) ⊎ IsListError world.now word.now entries.now kind) }
+    ensures cause { IfErr result (λ kind. (kind ≡ OutOfMemory) ⊎ IsListCause world.now word.now entries.now kind) }
 {
     if let Some(clash) = find_clash(alloc, entries)? {
         return Err(not_strongly_unique(alloc, word, clash, world)?);
@@ -69,7 +70,7 @@ fn no_getter(
     world: &Text,
 ) -> Result<ResolveError, AllocError>
     requires { LacksGetterAt entries.now index }
-    ensures { IfOk result (IsListError world.now word.now entries.now) }
+    ensures { IfOk result (IsListCause world.now word.now entries.now) }
 {
     match entries.entry_at(index) {
         (WorldKey::Name(label), WorldItem::Function(function)) => {

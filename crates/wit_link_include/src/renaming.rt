@@ -7,8 +7,7 @@ ghost use Rattle.std.specs.Str.{bytes_eq};
 ghost use Rattle.wit_graph_data.specs.declared.cause.Cause.TheVariants as cause;
 ghost use Rattle.wit_graph_data.specs.declared.error_kind.ResolveErrorKind.TheVariants.{OutOfMemory, Semantic};
 ghost use Rattle.wit_data.specs.declared.world.IncludeName.{IncludeName};
-ghost use Rattle.wit_link_spec.specs.WorldReasons.{IsFirstUnmatched};
-ghost use Rattle.wit_link_include.specs.steps.Included.{AreRenamed, has_word, word_of};
+ghost use Rattle.wit_link_include.specs.steps.Included.{AreRenamed, IsFirstUnmatched, has_word, word_of};
 ghost use Rattle.wit_link_spec.specs.steps.Parts.{rename_text};
 
 use std::alloc::{AllocError, Global};

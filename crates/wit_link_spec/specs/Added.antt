@@ -2,20 +2,18 @@
 -- Everything of the graph stays at its ids. Behind it come the images of what is active, the `own`s that
 -- values ask for, and, world by world, the copies of its includes and the world, elaborated.
 -- Source: `append` of wit-parser 0.263.0.
-use Rattle.std.specs.Prelude.{ℕ, List, [], ◌∷◌, ◌++◌, map, filter_map, fold, take, length, option_map, slice_get}
+use Rattle.std.specs.Prelude.{ℕ, List, [], ◌∷◌, ◌++◌, map, filter_map, fold, take, length, option_map}
 use Rattle.wit_data.specs.declared.interface.Interface.{Interface}
 use Rattle.wit_data.specs.declared.world.World.{World}
-use Rattle.wit_data.specs.declared.world.WorldInclude.{WorldInclude}
 use Rattle.wit_elaboration.specs.Elaboration.{elaborated_world}
 use Rattle.wit_graph_data.specs.declared.graph.Graph.{Graph}
 use Rattle.wit_graph_data.specs.declared.graph.Package.{Package}
 use Rattle.wit_remap_spec.specs.Image.{interface_image, world_image}
-use Rattle.wit_link_spec.specs.Addition.{Addition, active_includes, addition_maps, own_interface, own_interfaces, own_world, own_worlds, remap_of_addition, remapped_interface, remapped_world}
+use Rattle.wit_link_spec.specs.Addition.{Addition, addition_maps, own_interface, own_interfaces, own_world, own_worlds, remap_of_addition, remapped_interface, remapped_world, updated_includes}
 use Rattle.wit_remap_spec.specs.Selected.{selected_with_index}
-use Rattle.wit_link_spec.specs.Include.{EntryLists, PartiallyLinked, lists_of, with_world_included}
+use Rattle.wit_link_spec.specs.Include.{with_entry_lists, with_several}
 use Rattle.wit_remap_spec.specs.ValueRemap.{types_behind}
 use Rattle.wit_labels.specs.Setters.{setters_placed}
-use Rattle.std.specs.Option.{option_map_or}
 
 -- ---- the package
 
@@ -40,27 +38,16 @@ with_parts a = record {
 
 -- ---- its worlds
 
--- world w of the package with these includes, one after another, over a partially linked graph; one of a world that isn't
--- there changes nothing
-abbrev pub with_includes : Addition → ℕ → World → List WorldInclude → Graph → PartiallyLinked
-with_includes a w world includes g =
-    fold (λ (b : PartiallyLinked) (i : WorldInclude).
-    option_map_or (λ (included : World). with_world_included (length a.graph.packages) (length g.worlds) i.names (remapped_world a i.id) included b) (slice_get b.graph.worlds (remapped_world a i.id)) b)
-    (record { graph = g; lists = lists_of (world_image (addition_maps a) w world) }) includes
-
 -- a world, finished: its setters after their getters, elaborated over the types and interfaces of a graph
 abbrev pub finished_world : Graph → World → World
 finished_world g world = elaborated_world g (record world { imports = setters_placed world.imports; exports = setters_placed world.exports })
 
--- world w of the package with these lists, before it is finished
-abbrev pub unfinished_world : Addition → ℕ → World → EntryLists → World
-unfinished_world a w world lists = record (world_image (addition_maps a) w world) { imports = lists.imports; exports = lists.exports }
-
 -- the graph with one world more behind its worlds, with all its active includes, finished
 abbrev pub with_world : Addition → Graph → ℕ × World → Graph
 with_world a g e =
-    let b = with_includes a e.0 e.1 (active_includes a e.1) g in
-    record b.graph { worlds = b.graph.worlds ++ finished_world b.graph (unfinished_world a e.0 e.1 b.lists) ∷ [] }
+    let world = world_image (addition_maps a) e.0 e.1 in
+    let b = with_several (length a.graph.packages) g world (updated_includes a e.1) in
+    record b.graph { worlds = b.graph.worlds ++ finished_world b.graph (with_entry_lists world b.lists) ∷ [] }
 
 -- the graph with the first so many of the package's worlds
 abbrev pub with_worlds : Addition → ℕ → Graph

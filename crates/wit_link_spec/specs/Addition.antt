@@ -1,6 +1,7 @@
 -- What an addition is made of, what of its package is active, and what its things are remapped to: the things of other
 -- packages to those of the graph that they name, its own to the next ids, in their order.
 use Rattle.std.specs.Prelude.{ℕ, ◌+◌, ◌&&◌, Bool, not, List, ◌++◌, map, filter, length, Option, None, Some, unwrap_or, if◌then◌else◌, flat_map}
+use Rattle.wit_sources.specs.Span.{moved_by}
 use Rattle.wit_data.specs.declared.function.Function.{Function}
 use Rattle.wit_data.specs.declared.interface.Interface.{Interface}
 use Rattle.wit_data.specs.declared.unresolved.UnresolvedPackage.{UnresolvedPackage}
@@ -54,10 +55,6 @@ own_interfaces a = map (cut_interface (active a)) (selected (own_interface a) a.
 abbrev pub own_worlds : Addition → List (ℕ × World)
 own_worlds a = map (λ (e : ℕ × World). (e.0, cut_world (active a) e.1)) (selected_with_index (own_world a) a.unresolved.worlds)
 
--- the includes of a world that are active
-abbrev pub active_includes : Addition → World → List WorldInclude
-active_includes a world = filter (λ (i : WorldInclude). is_active a.features i.stability) world.includes
-
 -- ---- where it goes
 
 -- the id in the graph of a thing that has this id in the package: of an active one of another package that of what it
@@ -77,6 +74,11 @@ remapped_interface a i =
 abbrev pub remapped_world : Addition → ℕ → ℕ
 remapped_world a w =
     remapped (world_is_active a.features a.unresolved w) (is_foreign_world a.unresolved w) (foreign_world_id a.graph a.unresolved w) (length a.graph.worlds + rank (own_world a) w) w
+
+-- the includes of a world that are active, with the ids and the spans that they have in the graph
+abbrev pub updated_includes : Addition → World → List WorldInclude
+updated_includes a world =
+    map (λ (i : WorldInclude). record i { id = remapped_world a i.id; span = moved_by a.offset i.span }) (filter (λ (i : WorldInclude). is_active a.features i.stability) world.includes)
 
 -- what ids are remapped to, all of them plainly
 abbrev pub maps_without_owns : Addition → Maps

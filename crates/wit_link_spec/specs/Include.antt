@@ -3,7 +3,7 @@
 -- Source: the WIT page of the component model, "include"; `resolve_include` of wit-parser 0.263.0. What is
 -- copied is a rule of this project.
 use Rattle.wit_remap_spec.specs.Joined.{joined_entry}
-use Rattle.std.specs.Prelude.{◌≡◌, ◌⊎◌, ℕ, ◌+◌, ◌&&◌, ◌||◌, Bool, not, true, false, List, [], ◌∷◌, ◌++◌, codes, map, filter, length, nat_eq, is_some, slice_get, Option, Some, if◌then◌else◌, flat_map}
+use Rattle.std.specs.Prelude.{ℕ, ◌+◌, ◌&&◌, ◌||◌, Bool, not, true, false, List, [], ◌∷◌, ◌++◌, map, filter, fold, length, nat_eq, is_some, slice_get, Option, Some, if◌then◌else◌, flat_map}
 use Rattle.std.specs.List.{list_any}
 use Rattle.std.specs.Option.{option_eq, option_map_or}
 use Rattle.wit_digraph.specs.PostOrder.{post_order}
@@ -15,6 +15,7 @@ use Rattle.wit_data.specs.declared.interface.Interface.{Interface}
 use Rattle.wit_data.specs.declared.types.TypeDef.{TypeDef}
 use Rattle.wit_data.specs.declared.types.TypeOwner.{TypeOwner}
 use Rattle.wit_data.specs.declared.world.World.{World}
+use Rattle.wit_data.specs.declared.world.WorldInclude.{WorldInclude}
 use Rattle.wit_data.specs.declared.world.WorldItem.{WorldItem}
 use Rattle.wit_data.specs.declared.world.WorldKey.{WorldKey}
 use Rattle.wit_data.specs.declared.stability.Stability.TheVariants.{Unknown, Stable}
@@ -35,9 +36,9 @@ pub record EntryLists : Type 0 where
 abbrev pub lists_of : World → EntryLists
 lists_of world = record { imports = world.imports; exports = world.exports }
 
--- `import` and `export`, with the lists that they mean
-abbrev pub IsListCalled : List ℕ → EntryLists → List Entry → Type 0
-IsListCalled word lists entries = ((word ≡ codes "import") × (entries ≡ lists.imports)) ⊎ ((word ≡ codes "export") × (entries ≡ lists.exports))
+-- a world with these lists
+abbrev pub with_entry_lists : World → EntryLists → World
+with_entry_lists world lists = record world { imports = lists.imports; exports = lists.exports }
 
 -- ---- what is copied
 --
@@ -147,3 +148,10 @@ with_world_included home into names from world b =
         exports = joined_entries (is_other_package world.package home) b.lists.exports (map (entry_image m from) world.exports);
       };
     }
+
+-- a world of package `home` that comes next in a graph, with these includes, one after another; one of a world that isn't
+-- there changes nothing
+abbrev pub with_several : ℕ → Graph → World → List WorldInclude → PartiallyLinked
+with_several home g world includes =
+    fold (λ (b : PartiallyLinked) (i : WorldInclude). option_map_or (λ (old : World). with_world_included home (length b.graph.worlds) i.names i.id old b) (slice_get b.graph.worlds i.id) b)
+    (record { graph = g; lists = lists_of world }) includes

@@ -1,13 +1,12 @@
 -- What a package names of other packages, and where the graph has it. The package that is added counts as
 -- there and empty: nothing is ever found under its own name.
 -- Source: `process_foreign_deps` of wit-parser 0.263.0.
-use Rattle.std.specs.Prelude.{ℕ, Bool, List, map, nat_eq, nat_lt, find, length, slice_get, Option, None, Some, option_and_then, if◌then◌else◌, flat_map, bytes_eq}
+use Rattle.std.specs.Prelude.{ℕ, Bool, List, map, nat_eq, nat_lt, find, length, slice_get, Option, None, Some, option_and_then, if◌then◌else◌, flat_map}
 use Rattle.std.specs.List.{enumerate_from, list_any}
 use Rattle.std.specs.Map.{lookup}
 use Rattle.wit_data.specs.Foreign.{ForeignItem, ForeignItems, interface_id, world_id}
 use Rattle.wit_names.specs.PackageName.{same_package}
 use Rattle.wit_data.specs.declared.unresolved.AstItem.{AstItem}
-use Rattle.wit_data.specs.declared.interface.Interface.{Interface}
 use Rattle.wit_names.specs.declared.package_name.PackageName.{PackageName}
 use Rattle.wit_data.specs.declared.types.TypeDef.{TypeDef}
 use Rattle.wit_data.specs.declared.types.TypeOwner.{TypeOwner}

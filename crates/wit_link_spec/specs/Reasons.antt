@@ -1,7 +1,7 @@
 -- Why an addition is refused: a record for each reason, with the fields and the span that the error tells.
 -- Most read the features, the graph and the package alone.
 -- Source: `append` of wit-parser 0.263.0.
-use Rattle.std.specs.Prelude.{◌≡◌, ◌≢◌, ◌⊎◌, ◌+◌, ℕ, true, false, List, [], ◌∷◌, ◌++◌, map, slice_get, Option, None, Some, Contains, codes, is_some, if◌then◌else◌, flat_map}
+use Rattle.std.specs.Prelude.{◌≡◌, ◌≢◌, ◌⊎◌, ℕ, true, false, List, [], ◌∷◌, ◌++◌, map, slice_get, Option, None, Some, Contains, codes, is_some, if◌then◌else◌, flat_map}
 use Rattle.std.specs.Map.{keys_of, lookup}
 use Rattle.std.specs.declared.cmp.Ordering.TheVariants.{Less}
 use Rattle.wit_values.specs.Version.{Parts, version_cmp}

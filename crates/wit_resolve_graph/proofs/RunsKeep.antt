@@ -15,11 +15,11 @@ use Rattle.wit_data.specs.declared.world.World.{World}
 use Rattle.wit_data.specs.declared.world.WorldInclude.{WorldInclude}
 use Rattle.wit_graph_theory.specs.facts.ListFacts.{found_at, same_at, some_at}
 use Rattle.wit_link.specs.GroupOrder.{Unresolved}
-use Rattle.wit_link_spec.specs.Addition.{Addition, active_includes, addition_maps, own_worlds, remapped_world}
-use Rattle.wit_link_spec.specs.Include.{PartiallyLinked, lists_of, with_copies, with_world_included}
+use Rattle.wit_link_spec.specs.Addition.{Addition, own_worlds, updated_includes}
+use Rattle.wit_link_spec.specs.Include.{PartiallyLinked, with_copies, with_several, with_world_included}
 use Rattle.wit_link_spec.specs.Added.{added, new_package, with_parts, with_world}
 use Rattle.wit_link_spec.specs.facts.Linked.{linked_world}
-use Rattle.wit_remap_spec.specs.Image.{Maps, world_image}
+use Rattle.wit_remap_spec.specs.Image.{Maps}
 use Rattle.wit_link.specs.Appending.{AreAdded, addition}
 use Rattle.wit_merge_spec.specs.Matches.{GraphMerge}
 use Rattle.wit_merge_spec.specs.facts.Unchanged.{SameHome, SameInterface, SamePackage, SameType}
@@ -37,7 +37,7 @@ use Rattle.wit_resolve_graph.specs.declared.command.Command.{Command}
 use Rattle.wit_resolve_graph.specs.declared.command.Command.TheVariants.{AddFeature, PushGroups, Merge, Importize, Exportize, Semver}
 use Rattle.wit_resolve_graph.specs.declared.command.Reply.{Reply}
 use Rattle.wit_resolve_graph.specs.declared.command.Reply.TheVariants as reply
-use Rattle.wit_link_spec.specs.steps.Parts.{with_include, with_all_includes}
+use Rattle.wit_link_spec.specs.steps.Parts.{before_includes, home_of, image_at, with_one}
 use Rattle.wit_transform.specs.steps.Parts.{put_last, transformed_world}
 
 nothing_more : {X : Type 0} (xs : List X) → (more : List X) × (xs ≡ xs ++ more)
@@ -127,23 +127,23 @@ keeps_copies g from world m = record {
   names = nothing_more g.package_names;
 }
 
+keeps_include : (home : ℕ) (b : PartiallyLinked) (include : WorldInclude) → Keeps b.graph (with_one home b include).graph
+keeps_include home b include = by (slice_get b.graph.worlds include.id)
+  where
+    by : (o : Option World) → Keeps b.graph (option_map_or (λ (world : World). with_world_included home (length b.graph.worlds) include.names include.id world b) o b).graph
+    by None = keeps_all b.graph
+    by (Some world) = keeps_copies b.graph include.id world _
+
+keeps_includes : (home : ℕ) (includes : List WorldInclude) (b : PartiallyLinked) → Keeps b.graph (fold (with_one home) b includes).graph
+keeps_includes home [] b = keeps_all b.graph
+keeps_includes home (include ∷ includes) b =
+    keeps_on b.graph (with_one home b include).graph (fold (with_one home) (with_one home b include) includes).graph (keeps_include home b include) (keeps_includes home includes (with_one home b include))
+
 module _ (a : Addition) where
-  keeps_include : (into : ℕ) (b : PartiallyLinked) (include : WorldInclude) → Keeps b.graph (with_include a into b include).graph
-  keeps_include into b include = by (slice_get b.graph.worlds (remapped_world a include.id))
-    where
-      by : (o : Option World) → Keeps b.graph (option_map_or (λ (world : World). with_world_included (length a.graph.packages) into include.names (remapped_world a include.id) world b) o b).graph
-      by None = keeps_all b.graph
-      by (Some world) = keeps_copies b.graph (remapped_world a include.id) world _
-
-  keeps_includes : (into : ℕ) (includes : List WorldInclude) (b : PartiallyLinked) → Keeps b.graph (fold (with_include a into) b includes).graph
-  keeps_includes into [] b = keeps_all b.graph
-  keeps_includes into (include ∷ includes) b =
-      keeps_on b.graph (with_include a into b include).graph (fold (with_include a into) (with_include a into b include) includes).graph (keeps_include into b include) (keeps_includes into includes (with_include a into b include))
-
   keeps_world : (g : Graph) (e : ℕ × World) → Keeps g (with_world a g e)
   keeps_world g e =
-      let b = with_all_includes a e.0 e.1 g in
-      keeps_on g b.graph (with_world a g e) (keeps_includes (length g.worlds) (active_includes a e.1) (record { graph = g; lists = lists_of (world_image (addition_maps a) e.0 e.1) })) (keeps_with_worlds b.graph (linked_world a e.0 e.1 b ∷ []))
+      let b = with_several (home_of a) g (image_at a e.0 e.1) (updated_includes a e.1) in
+      keeps_on g b.graph (with_world a g e) (keeps_includes (home_of a) (updated_includes a e.1) (before_includes g (image_at a e.0 e.1))) (keeps_with_worlds b.graph (linked_world a e.0 e.1 b ∷ []))
 
   pub keeps_worlds : (es : List (ℕ × World)) (g : Graph) → Keeps g (fold (with_world a) g es)
   keeps_worlds [] g = keeps_all g

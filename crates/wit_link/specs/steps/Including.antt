@@ -4,9 +4,8 @@ use Rattle.wit_sources.specs.Span.{moved_by}
 use Rattle.wit_data.specs.declared.world.World.{World}
 use Rattle.wit_data.specs.declared.world.WorldInclude.{WorldInclude}
 use Rattle.wit_remap_spec.specs.Image.{world_image}
-use Rattle.wit_link_spec.specs.Addition.{Addition, addition_maps, own_worlds}
+use Rattle.wit_link_spec.specs.Addition.{Addition, addition_maps, own_worlds, updated_includes}
 use Rattle.wit_link_spec.specs.declared.addition.NewIds.{NewIds}
-use Rattle.wit_link_spec.specs.facts.Linked.{updated_includes}
 use Rattle.wit_remap.specs.steps.Movers.{goes}
 use Rattle.wit_remap.specs.declared.worlds.UpdatedWorld.{UpdatedWorld}
 

@@ -1,6 +1,7 @@
 -- A world of an addition that is reached can be added with its includes, as the laws of stages have it. For the proofs of
 -- the crates above.
-use Rattle.std.proofs.Common.{◌≡◌, ℕ, ◌<◌, List, [], ◌∷◌, map, length, take, None, Some, slice_get, refl, sym, ap, subst, suc, arith}
+use Rattle.wit_labels.specs.facts.PlacedFacts.{placed_into}
+
 use Rattle.std.proofs.lemmas.Option.{slice_get_within}
 use Rattle.std.specs.List.{AllByRecursion}
 use Rattle.wit_values.specs.facts.Lists.{AllByRecursion-at}
@@ -11,22 +12,21 @@ use Rattle.wit_data.specs.declared.world.WorldInclude.{WorldInclude}
 use Rattle.wit_elaboration.specs.Sound.{HasSoundEntries, IsUnderOwnKey}
 use Rattle.wit_elaboration.specs.Valid.{IsValid}
 use Rattle.wit_graph_data.specs.declared.graph.Graph.{Graph}
-use Rattle.wit_graph_theory.specs.facts.ListFacts.{contained_at, from_map, place_of}
+use Rattle.wit_graph_theory.specs.facts.ListFacts.{contained_at, place_of}
 use Rattle.wit_labels.specs.Setters.{setters_placed}
 use Rattle.wit_labels.specs.facts.PlacedFacts.{placed_into}
-use Rattle.wit_link_spec.specs.Addition.{Addition, active_includes, remapped_world}
+use Rattle.wit_link_spec.specs.Addition.{Addition, updated_includes}
 use Rattle.wit_link_spec.specs.facts.Linked.{IncludeIsReached}
-use Rattle.wit_link_spec.specs.Include.{PartiallyLinked}
+use Rattle.wit_link_spec.specs.Include.{with_several}
 use Rattle.wit_link_spec.specs.Added.{with_parts, with_worlds}
-use Rattle.wit_link_spec.specs.facts.Linked.{updated_includes}
 use Rattle.wit_link_spec.specs.Reasons.{IsResolved}
-use Rattle.wit_link_spec.specs.WorldReasons.{AtWorld}
+use Rattle.wit_link_spec.specs.WorldReasons.{IsAcceptedAt}
 use Rattle.wit_link_laws.specs.facts.ListedWorlds.{listed_worlds}
 use Rattle.wit_link_laws.specs.laws.StageFacts.{CanBeLinked, IncludedAreThere, IncludesCanBe, IsPartiallyLinked, WorldsCanBe}
 use Rattle.wit_link_include.specs.steps.Included as local
-use Rattle.wit_link_include.specs.facts.AdditionFacts.{begun_same, home, image_at, include_reached, stage_is}
+use Rattle.wit_link_include.specs.facts.AdditionFacts.{include_reached}
 use Rattle.wit_link_include.specs.facts.SeveralFacts.{several_worlds}
-use Rattle.wit_link_spec.specs.steps.Parts.{updated_include, IsReached}
+use Rattle.wit_link_spec.specs.steps.Parts.{before_includes, begun, begun_whole, home_of, image_at, AtWorld, IsReached}
 
 -- where setters stand says nothing of keys of interfaces
 each_of : (P : Entry → Type 0) (xs : List Entry) → ((i : ℕ) (x : Entry) → slice_get xs i ≡ Some x → P x) → AllByRecursion P xs
@@ -46,35 +46,21 @@ module _ (there : IncludedAreThere) (includes : IncludesCanBe) (worlds : WorldsC
   abbrev its : List WorldInclude
   its = updated_includes a at.world
 
-  abbrev begins : ℕ → PartiallyLinked
-  begins j = local.with_several (home a) here (image_at a at.id at.world) (take j its)
-
   abbrev Fine : ℕ → Type 0
-  Fine j = local.IsAcceptedAt (home a) here (image_at a at.id at.world) its j
+  Fine j = IsAcceptedAt (home_of a) here (image_at a at.id at.world) its j
 
   is_reached : (j : ℕ) → ((i : ℕ) → i < j → Fine i) → IncludeIsReached a k j
   is_reached j fine = record { has_image = image; worlds = reached; includes = λ i before. include_reached a k i at (fine i before) }
 
   -- the world that an include names is there
-  old_of : (j : ℕ) (include : WorldInclude) → slice_get (active_includes a at.world) j ≡ Some include → ((i : ℕ) → i < j → Fine i) → (old : World) × local.IsIncluded (begins j) (updated_include a include) old
-  old_of j include is fine =
-      let found = there a k j valid shaped (is_reached j fine) at include is in
-      (found.0, subst (λ (b : PartiallyLinked). slice_get b.graph.worlds (remapped_world a include.id) ≡ Some found.0) (sym (stage_is a here at.id at.world j)) found.1)
+  old_of : (j : ℕ) (include : WorldInclude) → slice_get its j ≡ Some include → ((i : ℕ) → i < j → Fine i) → (old : World) × local.IsIncluded (begun a k j at) include old
+  old_of j include is fine = there a k j valid shaped (is_reached j fine) at include is
 
-  can_include : (j : ℕ) (include : WorldInclude) → slice_get (active_includes a at.world) j ≡ Some include → ((i : ℕ) → i < j → Fine i) → local.CanBeIncluded (begins j) (updated_include a include)
-  can_include j include is fine old found =
-      includes a k j valid shaped (is_reached j fine) (record {
-        at = at;
-        include = include;
-        is = is;
-        before = begins j;
-        before_is = stage_is a here at.id at.world j;
-        old = old;
-        old_is = found;
-      })
+  can_include : (j : ℕ) (include : WorldInclude) → slice_get its j ≡ Some include → ((i : ℕ) → i < j → Fine i) → local.CanBeIncluded (begun a k j at) include
+  can_include j include is fine old found = includes a k j valid shaped (is_reached j fine) at include is old found
 
-  can_finish : ((j : ℕ) → Fine j) → CanBeLinked (local.with_several (home a) here (image_at a at.id at.world) its)
-  can_finish fine = subst CanBeLinked (sym (begun_same a k at)) (worlds a k valid shaped image reached (λ j. include_reached a k j at (fine j)) at)
+  can_finish : ((j : ℕ) → Fine j) → CanBeLinked (begun_whole a k at)
+  can_finish fine = worlds a k valid shaped image reached (λ j. include_reached a k j at (fine j)) at
 
   -- its lists are in order before its includes
   listed : HasSoundEntries (with_parts a).types (length (with_parts a).interfaces) (setters_placed (image_at a at.id at.world).imports) (setters_placed (image_at a at.id at.world).exports)
@@ -83,40 +69,32 @@ module _ (there : IncludedAreThere) (includes : IncludesCanBe) (worlds : WorldsC
   none_before : (i : ℕ) → i < 0 → Fine i
   none_before i before = absurd (omega (arith, before))
 
-  on_its_way : (l : List WorldInclude) → active_includes a at.world ≡ l → IsPartiallyLinked here
+  on_its_way : (l : List WorldInclude) → its ≡ l → IsPartiallyLinked here
   on_its_way [] none =
-      let nothing : its ≡ [] = ap (map (updated_include a)) none in
-      let fine : (j : ℕ) → Fine j = λ j include found. nowhere j include (subst (λ (l : List WorldInclude). slice_get l j ≡ Some include) nothing found) in
-      subst (λ (l : List WorldInclude). IsPartiallyLinked (local.with_several (home a) here (image_at a at.id at.world) l).graph) nothing (can_finish fine).graph
+      let fine : (j : ℕ) → Fine j = λ j include found. absurd (nowhere j include (subst (λ (l : List WorldInclude). slice_get l j ≡ Some include) none found)) in
+      subst (λ (l : List WorldInclude). IsPartiallyLinked (with_several (home_of a) here (image_at a at.id at.world) l).graph) none (can_finish fine).graph
     where
-      nowhere : {P : Type 0} (j : ℕ) (include : WorldInclude) → slice_get [] j ≡ Some include → P
-      nowhere j include found = absurd (let none : None ≡ Some include = found in impossible none)
-        where
-          impossible : {X : Type 0} {x : X} → None ≡ Some x → ⊥
-          impossible h = cc
+      nowhere : (j : ℕ) (include : WorldInclude) → slice_get [] j ≡ Some include → ⊥
+      nowhere j include found = cc
   on_its_way (x ∷ xs) are =
-      let is : slice_get (active_includes a at.world) 0 ≡ Some x = ap (λ (l : List WorldInclude). slice_get l 0) are in
+      let is : slice_get its 0 ≡ Some x = ap (λ (l : List WorldInclude). slice_get l 0) are in
       let old = old_of 0 x is none_before in
       (can_include 0 x is none_before old.0 old.1).graph
 
-  pub can_be_added : local.CanBeAdded (home a) here (image_at a at.id at.world) its
+  pub can_be_added : local.CanBeAdded (home_of a) here (image_at a at.id at.world) its
   can_be_added = record {
-    graph = on_its_way (active_includes a at.world) refl;
+    graph = on_its_way its refl;
     begins = record {
       there = λ j include is fine.
-          let from = from_map (updated_include a) (active_includes a at.world) j include is in
-          let old = old_of j from.0 from.1 fine in
-          let front : slice_get here.worlds (remapped_world a from.0.id) ≡ Some old.0 =
-          subst (λ (ws : List World). slice_get ws (remapped_world a from.0.id) ≡ Some old.0) (several_worlds (home a) (take j its) (local.before_includes here (image_at a at.id at.world))) old.1 in
-          let within : remapped_world a from.0.id < length here.worlds = slice_get_within here.worlds (remapped_world a from.0.id) old.0 front in
-          subst (λ (x : WorldInclude). x.id < length here.worlds) from.2 within;
+          let old = old_of j include is fine in
+          let front : slice_get here.worlds include.id ≡ Some old.0 =
+          subst (λ (ws : List World). slice_get ws include.id ≡ Some old.0) (several_worlds (home_of a) (take j its) (before_includes here (image_at a at.id at.world))) old.1 in
+          slice_get_within here.worlds include.id old.0 front;
       own_keys = record {
         imports = own_from_placed (image_at a at.id at.world).imports listed.of_imports.own_keys;
         exports = own_from_placed (image_at a at.id at.world).exports listed.of_exports.own_keys;
       };
-      each = λ j include is fine.
-          let from = from_map (updated_include a) (active_includes a at.world) j include is in
-          subst (λ (x : WorldInclude). local.CanBeIncluded (begins j) x) from.2 (can_include j from.0 from.1 fine);
+      each = can_include;
     };
     finishes = can_finish;
   }

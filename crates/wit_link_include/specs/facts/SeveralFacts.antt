@@ -5,7 +5,7 @@ use Rattle.std.specs.Option.{option_map_or}
 use Rattle.wit_data.specs.declared.world.World.{World}
 use Rattle.wit_data.specs.declared.world.WorldInclude.{WorldInclude}
 use Rattle.wit_link_spec.specs.Include.{PartiallyLinked, with_world_included}
-use Rattle.wit_link_include.specs.steps.Included.{with_one}
+use Rattle.wit_link_spec.specs.steps.Parts.{with_one}
 
 pub some_is : (home : ℕ) (b : PartiallyLinked) (include : WorldInclude) (old : World) → slice_get b.graph.worlds include.id ≡ Some old → with_one home b include ≡ with_world_included home (length b.graph.worlds) include.names include.id old b
 some_is home b include old at = ap (λ (o : Option World). option_map_or (λ (w : World). with_world_included home (length b.graph.worlds) include.names include.id w b) o b) at

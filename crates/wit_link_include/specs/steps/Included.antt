@@ -1,16 +1,15 @@
 -- A world of a graph that is included in one that comes next, all includes of a world, and the world finished; why a
--- list can't be joined to another, and what is looked at of labels. What an include makes is `with_include_of`, what the
--- list becomes is `joined_entries`; why an include and a finished world are refused is `IsIncludeCause` and `IsFinishCause`.
+-- list can't be joined to another, and what is looked at of labels. What includes make is `with_several`, what the list
+-- becomes is `joined_entries`; why a world is refused is `IsWorldCause`.
 -- Source: the WIT page of the component model, "include"; `resolve_include` and `process_world_includes` of
 -- wit-parser 0.263.0.
-use Rattle.std.specs.Prelude.{◌≡◌, ◌<◌, ℕ, Bool, List, fold, length, map, take, slice_get, Some, false, ◌==◌, Option, None, if◌then◌else◌, Contains, ◌⊎◌, codes, bytes_eq, ◌+◌, ◌++◌, ◌||◌, true, [], ◌∷◌, nat_eq, not, is_some, unwrap_or, flat_map}
+use Rattle.std.specs.Prelude.{◌≡◌, ◌<◌, ℕ, Bool, List, length, map, take, slice_get, Some, false, ◌==◌, Option, None, if◌then◌else◌, Contains, codes, bytes_eq, ◌+◌, ◌++◌, ◌||◌, true, [], ◌∷◌, nat_eq, not, is_some, unwrap_or, flat_map}
 use Rattle.std.specs.List.{AllByRecursion, before_first, list_any}
 use Rattle.std.specs.Map.{keys_of, lookup}
 use Rattle.std.specs.Option.{option_map_or}
 use Rattle.wit_data.specs.Each.{Each}
 use Rattle.wit_data.specs.Entries.{Entry}
 use Rattle.wit_data.specs.declared.stability.Docs.{Docs}
-use Rattle.wit_data.specs.declared.function.Function.{Function}
 use Rattle.wit_data.specs.declared.world.IncludeName.{IncludeName}
 use Rattle.wit_data.specs.declared.stability.Stability.{Stability}
 use Rattle.wit_data.specs.declared.world.World.{World}
@@ -21,19 +20,15 @@ use Rattle.wit_data.specs.declared.world.WorldItem.TheVariants as item
 use Rattle.wit_data.specs.declared.world.WorldKey.TheVariants as key
 use Rattle.wit_elaboration.specs.Sound.{IsUnderOwnKey}
 use Rattle.wit_graph_data.specs.Error.{NoCause}
-use Rattle.wit_graph_data.specs.declared.cause.Cause.TheVariants as cause
 use Rattle.wit_graph_data.specs.declared.graph.Graph.{Graph}
 use Rattle.wit_graph_data.specs.declared.error_kind.ResolveErrorKind.{ResolveErrorKind}
-use Rattle.wit_graph_data.specs.declared.error_kind.ResolveErrorKind.TheVariants.{ItemShadowing, Semantic, StabilityMismatch}
+use Rattle.wit_graph_data.specs.declared.error_kind.ResolveErrorKind.TheVariants.{ItemShadowing, StabilityMismatch}
 use Rattle.wit_remap_spec.specs.Image.{entry_image, Maps, interface_image, type_image}
 use Rattle.wit_labels.specs.Groups.{begins_group, rest_of}
-use Rattle.wit_labels.specs.Setters.{getter_label, is_setter_label}
-use Rattle.wit_labels.specs.Strong.{Clashes}
-use Rattle.wit_link_spec.specs.CauseText.{clash_text, getter_text}
 use Rattle.wit_link_spec.specs.Gates.{OptionalSpan}
-use Rattle.wit_link_spec.specs.Include.{EntryLists, PartiallyLinked, joined_entries, lists_of, belongs_to, entry_mentions, is_owned_within, is_unnamed_type, named_types, owner_belongs_to}
+use Rattle.wit_link_spec.specs.Include.{EntryLists, PartiallyLinked, joined_entries, lists_of, belongs_to, entry_mentions, is_owned_within, is_unnamed_type, named_types, owner_belongs_to, with_several}
 use Rattle.wit_remap_spec.specs.Joined.{include_stability, Disagree}
-use Rattle.wit_link_spec.specs.WorldReasons.{IsFinishCause, IsIncludeCause, IsRenamed, IsShadowed}
+use Rattle.wit_link_spec.specs.WorldReasons.{IsAcceptedAt, IsCauseOfInclude, IsListCause, IsRenamed, IsShadowed}
 use Rattle.wit_link_laws.specs.laws.StageFacts.{CanBeLinked, CanInclude, IsPartiallyLinked}
 use Rattle.wit_link_include.specs.declared.copies.Copies.{Copies}
 use Rattle.wit_data.specs.Kind.{referred, type_references}
@@ -43,7 +38,6 @@ use Rattle.wit_digraph.specs.PostOrder.{post_order}
 use Rattle.wit_labels.specs.Rename.{renamed_label}
 use Rattle.wit_remap_spec.specs.Selected.{selected, selected_with_index}
 use Rattle.wit_link_include.specs.declared.origin.Origin.{Origin}
-use Rattle.wit_link_spec.specs.steps.Parts.{with_finished, with_entry_lists, with_include_of}
 use Rattle.wit_remap_spec.specs.steps.Parts.{include_maps}
 
 -- Where copies go by tables, and what the types that a world names lead to.
@@ -129,6 +123,13 @@ known_of o roots t = if list_any (nat_eq t) (flat_map (post_order (open_rows o))
 abbrev pub AreRenamed : World → List IncludeName → Type 0
 AreRenamed world names = Each (IsRenamed world) names
 
+-- 16: this renaming is the first that is of no label of the world
+pub record IsFirstUnmatched (world : World) (names : List IncludeName) (name : IncludeName) : Type 0 where
+  pub j : ℕ
+  pub is : slice_get names j ≡ Some name
+  pub earlier : AreRenamed world (take j names)
+  pub unmatched : IsRenamed world name → ⊥
+
 -- the word of a label that a renaming has to be of: what stands behind its groups, up to the first dot; none where
 -- a bracket that isn't closed stands there
 abbrev pub word_of : List ℕ → Option (List ℕ)
@@ -140,10 +141,6 @@ has_word word (key.Name label) = option_map_or (bytes_eq word) (word_of label) f
 has_word word (key.Interface i) = false
 
 -- ---- one include
-
--- what is begun, with an include more, where the world that includes comes next in package `home`
-abbrev pub with_one : ℕ → PartiallyLinked → WorldInclude → PartiallyLinked
-with_one home b include = with_include_of home (length b.graph.worlds) include.names include.id b
 
 -- the copies of entries
 abbrev pub copied_entries : Copies → List Entry → List Entry
@@ -157,10 +154,6 @@ with_joined other world imports exports = record world { imports = joined_entrie
 abbrev pub IsIncluded : PartiallyLinked → WorldInclude → World → Type 0
 IsIncluded b include old = slice_get b.graph.worlds include.id ≡ Some old
 
--- a cause of the include, of the world that it names
-abbrev pub IsCauseOfInclude : ℕ → PartiallyLinked → WorldInclude → ResolveErrorKind → Type 0
-IsCauseOfInclude home b include error = (old : World) × IsIncluded b include old × IsIncludeCause home b include old error
-
 -- each entry under the key of an interface is that interface
 pub record HaveOwnKeys (lists : EntryLists) : Type 0 where
   pub imports : AllByRecursion (λ (e : Entry). IsUnderOwnKey e.0 e.1) lists.imports
@@ -171,18 +164,6 @@ abbrev pub CanBeIncluded : PartiallyLinked → WorldInclude → Type 0
 CanBeIncluded b include = (old : World) → IsIncluded b include old → CanInclude b.graph include.id old
 
 -- ---- all includes of a world, one after another
-
--- a world that comes next in a graph, before its includes
-abbrev pub before_includes : Graph → World → PartiallyLinked
-before_includes g world = record { graph = g; lists = lists_of world }
-
--- with some of them
-abbrev pub with_several : ℕ → Graph → World → List WorldInclude → PartiallyLinked
-with_several home g world includes = fold (with_one home) (before_includes g world) includes
-
--- include j is accepted, as it is when its turn comes
-abbrev pub IsAcceptedAt : ℕ → Graph → World → List WorldInclude → ℕ → Type 0
-IsAcceptedAt home g world includes j = (include : WorldInclude) → slice_get includes j ≡ Some include → NoCause (IsCauseOfInclude home (with_several home g world (take j includes)) include)
 
 -- include j is refused for this reason, and none before it is
 pub record StopsAtInclude (home : ℕ) (g : Graph) (world : World) (includes : List WorldInclude) (j : ℕ) (kind : ResolveErrorKind) : Type 0 where
@@ -199,21 +180,11 @@ pub record CanIncludeAll (home : ℕ) (g : Graph) (world : World) (includes : Li
 
 -- ---- a world, finished
 
--- the graph with a world behind its worlds that has these includes
-abbrev pub with_including : ℕ → Graph → World → List WorldInclude → Graph
-with_including home g world includes = let b = with_several home g world includes in with_finished b.graph (with_entry_lists world b.lists)
-
 -- the world can be begun, and finished where its includes are accepted
 pub record CanBeAdded (home : ℕ) (g : Graph) (world : World) (includes : List WorldInclude) : Type 0 where
   pub graph : IsPartiallyLinked g
   pub begins : CanIncludeAll home g world includes
   pub finishes : ((j : ℕ) → IsAcceptedAt home g world includes j) → CanBeLinked (with_several home g world includes)
-
--- why it is refused: for an include, or as it is finished
-pub data IsWorldCause (home : ℕ) (g : Graph) (world : World) (includes : List WorldInclude) (kind : ResolveErrorKind) : Type 0 where
-  at_include : (j : ℕ) → StopsAtInclude home g world includes j kind → IsWorldCause home g world includes kind
-  as_finished : ((j : ℕ) → IsAcceptedAt home g world includes j) → IsFinishCause (with_several home g world includes).graph (with_entry_lists world (with_several home g world includes).lists) kind
-      → IsWorldCause home g world includes kind
 
 -- no interface comes twice under its own key
 abbrev pub ComeOnce : List Entry → Type 0
@@ -244,29 +215,20 @@ IsItemError other span (item.Interface i from docs place external_id) (item.Inte
     (kind ≡ StabilityMismatch span from into) × Disagree from into × (include_stability other from into ≡ from)
 IsItemError other span from into kind = ⊥
 
--- the table of these reasons, in the order of their numbers; `word` is `import` or `export`
-pub data IsJoinCause (other : Bool) (span : OptionalSpan) (word : List ℕ) (current brought : List Entry) : ResolveErrorKind → Type 0 where
-  item_shadowing_7 : (name : List ℕ) → IsShadowed current (keys_of brought) name → IsJoinCause other span word current brought (ItemShadowing span word name)
-  stability_mismatch_8 : (brings has : Stability) → StabilitiesDiffer other current brought brings has → IsJoinCause other span word current brought (StabilityMismatch span brings has)
+-- `IsJoinCause` of a list and of copies that are brought to it
+pub data IsJoinError (other : Bool) (span : OptionalSpan) (word : List ℕ) (current brought : List Entry) : ResolveErrorKind → Type 0 where
+  item_shadowing_7 : (name : List ℕ) → IsShadowed current (keys_of brought) name → IsJoinError other span word current brought (ItemShadowing span word name)
+  stability_mismatch_8 : (brings has : Stability) → StabilitiesDiffer other current brought brings has → IsJoinError other span word current brought (StabilityMismatch span brings has)
 
 -- no cause holds against joining them
 pub record JoinIsAccepted (other : Bool) (span : OptionalSpan) (word : List ℕ) (current brought : List Entry) : Type 0 where
-  pub no_cause : NoCause (IsJoinCause other span word current brought)
+  pub no_cause : NoCause (IsJoinError other span word current brought)
 
--- the error of two labels that clash, or of a setter without its getter
-pub data IsListError (world word : List ℕ) (entries : List Entry) : ResolveErrorKind → Type 0 where
-  clash : (n m : List ℕ) → Clashes (keys_of entries) n m → IsListError world word entries (Semantic None (clash_text word n world m) cause.NotStronglyUnique)
-  alone : (label : List ℕ) (f : Function) → Contains entries (key.Name label, item.Function f) × (is_setter_label label ≡ true)
-      → (Contains (keys_of entries) (key.Name (getter_label label)) → ⊥) → IsListError world word entries (Semantic f.span (getter_text word label world (getter_label label)) cause.NoGetter)
-
--- no such error is one of the list
+-- no cause of labels holds against a list
 pub record ListIsAccepted (world word : List ℕ) (entries : List Entry) : Type 0 where
-  pub no_cause : NoCause (IsListError world word entries)
+  pub no_cause : NoCause (IsListCause world word entries)
 
 -- so of the lists of a world
 pub record LabelsAreAccepted (world : World) : Type 0 where
   pub imports : ListIsAccepted world.name (codes "import") world.imports
   pub exports : ListIsAccepted world.name (codes "export") world.exports
-
-abbrev pub IsLabelError : World → ResolveErrorKind → Type 0
-IsLabelError world kind = IsListError world.name (codes "import") world.imports kind ⊎ IsListError world.name (codes "export") world.exports kind

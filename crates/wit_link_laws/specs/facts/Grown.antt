@@ -11,13 +11,14 @@ use Rattle.wit_data.specs.declared.world.World.{World}
 use Rattle.wit_graph_data.specs.declared.graph.Graph.{Graph}
 use Rattle.wit_remap_spec.specs.Image.{interface_image, type_image}
 use Rattle.wit_graph_theory.specs.facts.ListFacts.{SomeAt-old, get_at, same_at, some_at}
-use Rattle.wit_link_spec.specs.Addition.{Addition, addition_maps, own_interfaces, own_worlds, remap_of_addition}
+use Rattle.wit_link_spec.specs.Addition.{Addition, addition_maps, own_interfaces, own_worlds, remap_of_addition, updated_includes}
 use Rattle.wit_link_spec.specs.Added.{new_package, with_parts, with_world, with_worlds}
+use Rattle.wit_link_spec.specs.Include.{with_several}
 use Rattle.wit_link_spec.specs.facts.Linked.{linked_world}
 use Rattle.wit_link_laws.specs.facts.StageGrows.{IsCopy, each_joined}
 use Rattle.wit_link_laws.specs.facts.Stages.{whole_more, with_worlds_next}
 use Rattle.wit_remap_spec.specs.steps.Parts.{owns}
-use Rattle.wit_link_spec.specs.steps.Parts.{own_types, with_all_includes}
+use Rattle.wit_link_spec.specs.steps.Parts.{image_at, own_types}
 
 -- a world has its name, and is of the new package
 abbrev pub IsCalled : Addition → ℕ × World → World → Type 0
@@ -41,7 +42,7 @@ module _ (a : Addition) where
   grown_next : (k : ℕ) (e : ℕ × World) → slice_get (own_worlds a) k ≡ Some e → IsGrown a k (with_worlds a k) → IsGrown a (suc k) (with_world a (with_worlds a k) e)
   grown_next k e at are =
       let more = whole_more a k e at in
-      let done = linked_world a e.0 e.1 (with_all_includes a e.0 e.1 (with_worlds a k)) in
+      let done = linked_world a e.0 e.1 (with_several (length a.graph.packages) (with_worlds a k) (image_at a e.0 e.1) (updated_includes a e.1)) in
       record {
         types = are.types ++ more.types;
         types_are = more.types_are ∙ ap (λ (l : List TypeDef). l ++ more.types) are.types_are ∙ append_assoc (with_parts a).types are.types more.types;

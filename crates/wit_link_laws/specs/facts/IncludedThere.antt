@@ -8,8 +8,8 @@ use Rattle.wit_data.specs.declared.world.World.{World}
 use Rattle.wit_data.specs.declared.world.WorldInclude.{WorldInclude}
 use Rattle.wit_elaboration.specs.facts.Filters.{Contains-filter}
 use Rattle.wit_elaboration.specs.Valid.{IsValid}
-use Rattle.wit_graph_theory.specs.facts.ListFacts.{contained_at, get_at, place_of}
-use Rattle.wit_link_spec.specs.Addition.{Addition, active_includes, own_world, own_worlds, remapped_world}
+use Rattle.wit_graph_theory.specs.facts.ListFacts.{contained_at, from_map, get_at, place_of}
+use Rattle.wit_link_spec.specs.Addition.{Addition, own_world, own_worlds, remapped_world, updated_includes}
 use Rattle.wit_link_spec.specs.facts.ClosedCut.{kept_world}
 use Rattle.wit_link_spec.specs.Gates.{is_foreign_world, world_is_active}
 use Rattle.wit_link_spec.specs.Added.{with_worlds}
@@ -20,7 +20,7 @@ use Rattle.wit_link_laws.specs.facts.Grown.{grown}
 use Rattle.wit_link_spec.specs.facts.OwnThingFacts.{own_world_from}
 use Rattle.wit_link_laws.specs.laws.StageFacts.{IncludedAreThere}
 use Rattle.wit_link_laws.specs.facts.StageGrows.{begun_more}
-use Rattle.wit_link_spec.specs.steps.Parts.{include_is_active}
+use Rattle.wit_link_spec.specs.steps.Parts.{active_includes, begun, image_at, include_is_active, updated_include}
 
 both : (foreign active : Bool) → foreign ≡ false → active ≡ true → not foreign && active ≡ true
 both false true h k = refl
@@ -55,7 +55,11 @@ included_are_there a k j valid shaped reached at include is =
     let are = grown a k (omega arith) in
     let long = ap length are.worlds_are in
     let many = are.many in
-    let within = included_within a valid shaped reached.has_image k e include at.is (contained_at (active_includes a at.world) j include is) in
-    let there = get_at (with_worlds a k).worlds (remapped_world a include.id) (omega (arith, within, long, many, length-append a.graph.worlds are.done)) in
-    let more = begun_more a at.id at.world (take j (active_includes a at.world)) (with_worlds a k) in
-    (there.0, ap (λ (worlds : List World). slice_get worlds (remapped_world a include.id)) more.worlds_are ∙ there.1)
+    let from = from_map (updated_include a) (active_includes a at.world) j include is in
+    let within = included_within a valid shaped reached.has_image k e from.0 at.is (contained_at (active_includes a at.world) j from.0 from.1) in
+    let there = get_at (with_worlds a k).worlds (remapped_world a from.0.id) (omega (arith, within, long, many, length-append a.graph.worlds are.done)) in
+    let more = begun_more (length a.graph.packages) (with_worlds a k) (image_at a at.id at.world) (take j (updated_includes a at.world)) in
+    (
+      there.0,
+      subst (λ (x : WorldInclude). slice_get (begun a k j at).graph.worlds x.id ≡ Some there.0) from.2 (ap (λ (worlds : List World). slice_get worlds (remapped_world a from.0.id)) more.worlds_are ∙ there.1),
+    )

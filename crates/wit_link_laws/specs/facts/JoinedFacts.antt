@@ -1,5 +1,5 @@
 -- A list that an include joins: no key comes twice where nothing is shadowed, and what comes under a label is there.
-use Rattle.std.proofs.Common.{◌≡◌, ◌∙◌, ◌⊎◌, inl, inr, ℕ, ◌<◌, Bool, true, false, not, List, filter, map, Some, slice_get, refl, sym, ap, subst, Contains, nat_eq, if◌then◌else◌}
+use Rattle.std.proofs.Common.{◌≡◌, ◌∙◌, ◌⊎◌, inl, inr, ℕ, ◌<◌, Bool, true, false, not, List, filter, map, take, Some, slice_get, refl, sym, ap, subst, Contains, nat_eq, if◌then◌else◌}
 use Rattle.std.specs.Map.{keys_of}
 use Rattle.std.proofs.lemmas.Bool.{cases_Bool, cases_order, eq-eqb, false≢true}
 use Rattle.std.proofs.lemmas.List.Elements.{Contains-append_left, Contains-append_right, Contains-append_cases}
@@ -23,7 +23,7 @@ use Rattle.wit_link_spec.specs.WorldReasons.{IsShadowed, renamed_key}
 use Rattle.wit_labels.specs.Rename.{renamed_label}
 use Rattle.wit_link_laws.specs.facts.Copies.{interface_stays, named_left}
 use Rattle.wit_link_laws.specs.facts.IncludedWorld.{Including, brought, maps}
-use Rattle.wit_link_laws.specs.facts.KeysApart.{joined_apart, split_at}
+use Rattle.wit_link_laws.specs.facts.KeysApart.{joined_apart, taken}
 use Rattle.wit_link_laws.specs.facts.PartiallyLinked.{IsSoundSoFar}
 use Rattle.wit_link_laws.specs.facts.Truth.{one_passes, passing}
 use Rattle.wit_link_spec.specs.steps.Parts.{has_key}
@@ -68,14 +68,12 @@ module _ (g : Graph) (stands : IsSoundSoFar g) (i : Including g) (current entrie
   -- a label isn't brought twice
   twice : (a b : ℕ) (n : List ℕ) → a < b → slice_get renamed_keys a ≡ Some (key.Name n) → slice_get renamed_keys b ≡ Some (key.Name n) → ⊥
   twice a b n below first second =
-      let split = split_at renamed_keys b (key.Name n) second in
-      joins.unshadowed n (record { before = split.before; after = split.after; are = split.is; there = Contains-append_right (keys_of current) split.before (key.Name n) (split.among a (key.Name n) below first) })
+      joins.unshadowed n (b, second, Contains-append_right (keys_of current) (take b renamed_keys) (key.Name n) (taken renamed_keys a b (key.Name n) below first))
 
   -- nor one that is there
   there_too : (b : ℕ) (n : List ℕ) → slice_get renamed_keys b ≡ Some (key.Name n) → Contains (keys_of current) (key.Name n) → ⊥
   there_too b n second first =
-      let split = split_at renamed_keys b (key.Name n) second in
-      joins.unshadowed n (record { before = split.before; after = split.after; are = split.is; there = Contains-append_left (keys_of current) split.before (key.Name n) first })
+      joins.unshadowed n (b, second, Contains-append_left (keys_of current) (take b renamed_keys) (key.Name n) first)
 
   -- where an entry is brought from
   pub from_brought : (d : Entry) → Contains (brought g i entries) d → (e : Entry) × Contains entries e × (entry_image (maps g i) i.from e ≡ d)

@@ -1,5 +1,5 @@
--- Keys of lists that are joined end to end, and what stands before a place of a list.
-use Rattle.std.proofs.Common.{◌≡◌, inl, inr, ℕ, zero, suc, ◌<◌, List, [], ◌∷◌, ◌++◌, Some, slice_get, sym, ap, subst, arith, Contains}
+-- Keys of lists that are joined end to end, and what stands before a place.
+use Rattle.std.proofs.Common.{◌≡◌, inl, inr, ℕ, zero, suc, ◌<◌, List, [], ◌∷◌, ◌++◌, take, Some, slice_get, sym, subst, arith, Contains}
 use Rattle.wit_digraph.specs.facts.MemberFacts.{Contains-here, Contains-there}
 use Rattle.wit_values.specs.Table.{HasDistinctKeys}
 use Rattle.wit_graph_theory.specs.facts.ListFacts.{contained_at, old_or_new}
@@ -23,21 +23,9 @@ module _ {K V : Type 0} where
         ]
       ]
 
--- what stands before a place, and behind it
-pub record Split {X : Type 0} (xs : List X) (i : ℕ) (x : X) : Type 0 where
-  pub before : List X
-  pub after : List X
-  pub is : xs ≡ before ++ x ∷ after
-  pub among : (j : ℕ) (y : X) → j < i → slice_get xs j ≡ Some y → Contains before y
-
-pub split_at : {X : Type 0} (xs : List X) (i : ℕ) (x : X) → slice_get xs i ≡ Some x → Split xs i x
-split_at [] i x at = cc
-split_at {X} (z ∷ zs) zero x at =
-    let same : z ≡ x = cc in
-    let none : List X = [] in
-    record { before = none; after = zs; is = ap (λ (y : X). y ∷ zs) same; among = λ j y below at. absurd (omega arith) }
-split_at {X} (z ∷ zs) (suc i) x at = let rest = split_at zs i x at in record { before = z ∷ rest.before; after = rest.after; is = ap (λ (l : List X). z ∷ l) rest.is; among = among rest }
-  where
-    among : (rest : Split zs i x) (j : ℕ) (y : X) → j < suc i → slice_get (z ∷ zs) j ≡ Some y → Contains (z ∷ rest.before) y
-    among rest zero y below at = let same : z ≡ y = cc in subst (λ (w : X). Contains (z ∷ rest.before) w) same (Contains-here z rest.before)
-    among rest (suc j) y below at = Contains-there z y rest.before (rest.among j y (omega arith) at)
+-- what stands at a place is among what stands before a later one
+pub taken : {X : Type 0} (xs : List X) (i j : ℕ) (x : X) → i < j → slice_get xs i ≡ Some x → Contains (take j xs) x
+taken xs i zero x below at = absurd (omega (arith, below))
+taken [] i (suc j) x below at = cc
+taken (z ∷ zs) zero (suc j) x below at = let same : z ≡ x = cc in subst (Contains (z ∷ take j zs)) same (Contains-here z (take j zs))
+taken (z ∷ zs) (suc i) (suc j) x below at = Contains-there z x (take j zs) (taken zs i j x (omega arith) at)

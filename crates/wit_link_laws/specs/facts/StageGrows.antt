@@ -12,13 +12,11 @@ use Rattle.wit_graph_data.specs.declared.graph.Graph.{Graph}
 use Rattle.wit_remap_spec.specs.Image.{interface_image, type_image}
 use Rattle.wit_graph_theory.specs.facts.ListFacts.{from_map, old_or_new}
 use Rattle.wit_graph_theory.specs.facts.OptionFacts.{none_there}
-use Rattle.wit_link_spec.specs.Addition.{Addition, remapped_world}
 use Rattle.wit_remap_spec.specs.Selected.{selected, selected_with_index}
-use Rattle.wit_link_spec.specs.Include.{PartiallyLinked, belongs_to, copy_maps, is_copied, with_world_included}
-use Rattle.wit_link_spec.specs.Added.{with_includes}
+use Rattle.wit_link_spec.specs.Include.{PartiallyLinked, belongs_to, copy_maps, is_copied, with_several, with_world_included}
 use Rattle.wit_link_spec.specs.facts.RankFacts.{selected_with_index-from}
 use Rattle.wit_link_laws.specs.facts.CopiedPart.{goes_parts}
-use Rattle.wit_link_spec.specs.steps.Parts.{with_include}
+use Rattle.wit_link_spec.specs.steps.Parts.{before_includes, with_one}
 
 -- a copied interface: it has no name, and is of this package
 abbrev pub IsCopy : ℕ → Interface → Type 0
@@ -89,20 +87,19 @@ included_more home into include from world b = record {
         unnamed : (xs : List Interface) (f : ℕ) (y : Interface) → slice_get xs f ≡ Some y → is_unnamed xs f ≡ true → y.name ≡ None
         unnamed xs f y at is = none_there y.name (sym (ap (λ (o : Option Interface). option_map_or (λ (interface : Interface). not (is_some interface.name)) o false) at) ∙ is)
 
-module _ (a : Addition) where
-  -- an include, whatever it names
-  pub include_more : (into : ℕ) (b : PartiallyLinked) (include : WorldInclude) → HasMore (length a.graph.packages) b.graph (with_include a into b include).graph
-  include_more into b include = by (slice_get b.graph.worlds (remapped_world a include.id))
-    where
-      by : (o : Option World) → HasMore (length a.graph.packages) b.graph (option_map_or (λ (world : World). with_world_included (length a.graph.packages) into include.names (remapped_world a include.id) world b) o b).graph
-      by None = has_itself (length a.graph.packages) b.graph
-      by (Some world) = included_more (length a.graph.packages) into include (remapped_world a include.id) world b
+-- an include, whatever it names
+pub include_more : (home : ℕ) (b : PartiallyLinked) (include : WorldInclude) → HasMore home b.graph (with_one home b include).graph
+include_more home b include = by (slice_get b.graph.worlds include.id)
+  where
+    by : (o : Option World) → HasMore home b.graph (option_map_or (λ (world : World). with_world_included home (length b.graph.worlds) include.names include.id world b) o b).graph
+    by None = has_itself home b.graph
+    by (Some world) = included_more home (length b.graph.worlds) include include.id world b
 
-  all_more : (into : ℕ) (includes : List WorldInclude) (b : PartiallyLinked) → HasMore (length a.graph.packages) b.graph (fold (with_include a into) b includes).graph
-  all_more into [] b = has_itself (length a.graph.packages) b.graph
-  all_more into (x ∷ includes) b =
-      has_more_still (length a.graph.packages) b.graph (with_include a into b x).graph (fold (with_include a into) (with_include a into b x) includes).graph (include_more into b x) (all_more into includes (with_include a into b x))
+all_more : (home : ℕ) (includes : List WorldInclude) (b : PartiallyLinked) → HasMore home b.graph (fold (with_one home) b includes).graph
+all_more home [] b = has_itself home b.graph
+all_more home (x ∷ includes) b =
+    has_more_still home b.graph (with_one home b x).graph (fold (with_one home) (with_one home b x) includes).graph (include_more home b x) (all_more home includes (with_one home b x))
 
-  -- what is begun with includes
-  pub begun_more : (w : ℕ) (world : World) (includes : List WorldInclude) (g : Graph) → HasMore (length a.graph.packages) g (with_includes a w world includes g).graph
-  begun_more w world includes g = all_more (length g.worlds) includes _
+-- what is begun with includes
+pub begun_more : (home : ℕ) (g : Graph) (world : World) (includes : List WorldInclude) → HasMore home g (with_several home g world includes).graph
+begun_more home g world includes = all_more home includes (before_includes g world)

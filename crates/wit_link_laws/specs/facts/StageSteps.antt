@@ -1,7 +1,7 @@
 -- The stages of an addition, one after another: the partially linked graph, with the world whose turn it is as it is begun, and
 -- behind it those to come as they are listed. An include more, or a world that is finished, leads from a stage that
 -- stands to one that stands.
-use Rattle.std.proofs.Common.{◌≡◌, ℕ, zero, suc, List, [], ◌∷◌, ◌++◌, drop, map, length, Option, None, Some, slice_get, refl, ap, subst, arith}
+use Rattle.std.proofs.Common.{◌≡◌, ℕ, zero, suc, List, [], ◌∷◌, ◌++◌, drop, map, length, Option, None, Some, slice_get, refl, sym, ap, subst, arith}
 use Rattle.std.specs.Option.{option_map_or}
 use Rattle.std.proofs.lemmas.Option.{slice_get_within}
 use Rattle.wit_values.specs.facts.Lists.{slice_get-append, slice_get-behind}
@@ -13,10 +13,9 @@ use Rattle.wit_elaboration.specs.Elaboration.{graph_uses}
 use Rattle.wit_elaboration.specs.Imported.{HasTransitiveConflict}
 use Rattle.wit_graph_data.specs.declared.graph.Graph.{Graph}
 use Rattle.wit_graph_theory.specs.facts.LawsOfElaboration.{LawsOfElaboration}
-use Rattle.wit_link_spec.specs.Addition.{Addition, remapped_world}
+use Rattle.wit_link_spec.specs.Addition.{Addition}
 use Rattle.wit_link_spec.specs.Include.{PartiallyLinked, with_world_included}
-use Rattle.wit_link_spec.specs.Added.{unfinished_world}
-use Rattle.wit_link_spec.specs.facts.Linked.{linked_world}
+use Rattle.wit_link_spec.specs.facts.Linked.{linked_world, unfinished_world}
 use Rattle.wit_link_spec.specs.WorldReasons.{IsShadowed, renamed_key}
 use Rattle.wit_labels.specs.Setters.{setters_placed}
 use Rattle.wit_link_laws.specs.facts.ListedStage.{listed_images}
@@ -25,7 +24,7 @@ use Rattle.wit_link_laws.specs.facts.FinishedStands.{finished_stands}
 use Rattle.wit_link_laws.specs.facts.IncludedOnce.{included_stands}
 use Rattle.wit_link_laws.specs.facts.IncludedWorld.{Including, IsIncluded}
 use Rattle.wit_link_laws.specs.facts.PartiallyLinked.{IsSoundSoFar}
-use Rattle.wit_link_spec.specs.steps.Parts.{with_include, with_setters_placed}
+use Rattle.wit_link_spec.specs.steps.Parts.{with_include_of, with_one, with_setters_placed}
 
 -- ---- lists
 
@@ -49,7 +48,7 @@ pub record IsFree (b : PartiallyLinked) (include : WorldInclude) (old : World) :
 
 module _ (a : Addition) (before : List World) (k : ℕ) (e : ℕ × World) (b : PartiallyLinked) (include : WorldInclude) where
   abbrev from : ℕ
-  from = remapped_world a include.id
+  from = include.id
 
   abbrev later : List World
   later = drop (suc k) (listed_images a)
@@ -82,8 +81,9 @@ module _ (a : Addition) (before : List World) (k : ℕ) (e : ℕ × World) (b : 
 
   -- an include more
   pub include_step : b.graph.worlds ≡ before → IsSoundSoFar (staged a before k e b) → ((old : World) → slice_get b.graph.worlds from ≡ Some old → IsFree b include old)
-      → IsSoundSoFar (staged a before k e (with_include a (length before) b include))
-  include_step are stands free = by (slice_get b.graph.worlds from) refl
+      → IsSoundSoFar (staged a before k e (with_one (length a.graph.packages) b include))
+  include_step are stands free =
+      subst (λ (worlds : List World). IsSoundSoFar (staged a before k e (with_include_of (length a.graph.packages) (length worlds) include.names from b))) (sym are) (by (slice_get b.graph.worlds from) refl)
     where
       by : (o : Option World) → slice_get b.graph.worlds from ≡ o
           → IsSoundSoFar (staged a before k e (option_map_or (λ (old : World). with_world_included (length a.graph.packages) (length before) include.names from old b) o b))

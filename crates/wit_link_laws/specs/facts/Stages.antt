@@ -1,6 +1,6 @@
 -- The stages of an addition, one after another: before each world, before each of its includes, and before it is
 -- finished, what is there is partially linked.
-use Rattle.std.proofs.Common.{◌≡◌, ◌∙◌, inl, inr, ℕ, zero, suc, ◌<◌, ◌≤◌, List, [], ◌∷◌, ◌++◌, drop, fold, map, take, length, Some, slice_get, refl, sym, ap, subst, arith, codes}
+use Rattle.std.proofs.Common.{◌≡◌, ◌∙◌, inl, inr, ℕ, zero, suc, ◌<◌, ◌≤◌, List, [], ◌∷◌, ◌++◌, drop, fold, take, length, Some, slice_get, refl, sym, ap, subst, arith}
 use Rattle.std.proofs.Math.Numerals.{add-one}
 use Rattle.std.proofs.lemmas.Bool.{cases_lt}
 use Rattle.std.proofs.lemmas.List.{append_assoc, take_all}
@@ -8,7 +8,6 @@ use Rattle.std.proofs.lemmas.List.Sums.{fold-append}
 use Rattle.wit_values.specs.facts.Lists.{push-cases, slice_get-append, slice_get-behind, take-next_at}
 use Rattle.wit_digraph.specs.Relation.{IsAcyclic}
 use Rattle.wit_data.specs.Each.{Each}
-use Rattle.wit_data.specs.Entries.{Entry}
 use Rattle.wit_data.specs.Uses.{uses_of}
 use Rattle.wit_data.specs.declared.interface.Interface.{Interface}
 use Rattle.wit_data.specs.declared.types.TypeDef.{TypeDef}
@@ -22,12 +21,12 @@ use Rattle.wit_graph_data.specs.declared.graph.Graph.{Graph}
 use Rattle.wit_remap_spec.specs.Image.{world_image}
 use Rattle.wit_graph_theory.specs.facts.LawsOfElaboration.{LawsOfElaboration}
 use Rattle.wit_graph_theory.specs.facts.ListFacts.{at_map, get_at}
-use Rattle.wit_link_spec.specs.Addition.{Addition, active_includes, addition_maps, own_worlds, remapped_world}
-use Rattle.wit_link_spec.specs.Include.{IsListCalled, PartiallyLinked, lists_of}
-use Rattle.wit_link_spec.specs.Added.{unfinished_world, with_includes, with_parts, with_world, with_worlds}
-use Rattle.wit_link_spec.specs.facts.Linked.{linked_world}
+use Rattle.wit_link_spec.specs.Addition.{Addition, addition_maps, own_worlds, updated_includes}
+use Rattle.wit_link_spec.specs.Include.{PartiallyLinked, with_several}
+use Rattle.wit_link_spec.specs.Added.{with_parts, with_world, with_worlds}
+use Rattle.wit_link_spec.specs.facts.Linked.{linked_world, unfinished_world}
 use Rattle.wit_link_spec.specs.Reasons.{IsResolved}
-use Rattle.wit_link_spec.specs.WorldReasons.{conflict_4, IsShadowed, renamed_key, shadowing_7, of_finish}
+use Rattle.wit_link_spec.specs.WorldReasons.{as_finished, conflict_4, of_exports, of_image, of_imports, shadowing_7}
 use Rattle.wit_link_spec.specs.facts.WorldCauseFacts.{includes_accepted}
 use Rattle.wit_labels.specs.Setters.{setters_placed}
 use Rattle.wit_link_laws.specs.facts.ListedStage.{listed_images}
@@ -37,7 +36,7 @@ use Rattle.wit_link_laws.specs.facts.CanonicalStays.{canonical_longer}
 use Rattle.wit_link_laws.specs.facts.PartiallyLinked.{IsSoundSoFar}
 use Rattle.wit_link_laws.specs.facts.PlacedWorlds.{placed_in_order}
 use Rattle.wit_link_spec.specs.facts.DropFacts.{drop_at}
-use Rattle.wit_link_spec.specs.steps.Parts.{with_include, with_all_includes, with_setters_placed, IncludeIsAccepted, WorldIsAccepted}
+use Rattle.wit_link_spec.specs.steps.Parts.{before_includes, image_at, with_one, with_setters_placed, AtWorld, IncludeIsAccepted, WorldIsAccepted}
 
 -- the stage before world k
 abbrev pub stage : Addition → ℕ → Graph
@@ -65,17 +64,24 @@ module _ (a : Addition) where
     before = (with_worlds a k).worlds
 
     abbrev includes : List WorldInclude
-    includes = active_includes a e.1
+    includes = updated_includes a e.1
 
-    -- it with so many of its includes
+    abbrev home : ℕ
+    home = length a.graph.packages
+
+    -- it with all its includes
+    abbrev whole : PartiallyLinked
+    whole = with_several home (with_worlds a k) (image_at a e.0 e.1) includes
+
+    -- and with so many
     abbrev pub begun_at : ℕ → PartiallyLinked
-    begun_at j = with_includes a e.0 e.1 (take j includes) (with_worlds a k)
+    begun_at j = with_several home (with_worlds a k) (image_at a e.0 e.1) (take j includes)
 
     pub more_at : (j : ℕ) → HasMore (length a.graph.packages) (with_worlds a k) (begun_at j).graph
-    more_at j = begun_more a e.0 e.1 (take j includes) (with_worlds a k)
+    more_at j = begun_more home (with_worlds a k) (image_at a e.0 e.1) (take j includes)
 
-    pub begun_is : with_all_includes a e.0 e.1 (with_worlds a k) ≡ begun_at (length includes)
-    begun_is = sym (fold_past (with_include a (length before)) _ includes (length includes) (omega arith))
+    pub begun_is : whole ≡ begun_at (length includes)
+    begun_is = sym (fold_past (with_one home) (before_includes (with_worlds a k) (image_at a e.0 e.1)) includes (length includes) (omega arith))
 
     -- before the first include it is as listed
     first_staged : staged a before k e (begun_at zero) ≡ stage a k
@@ -84,18 +90,14 @@ module _ (a : Addition) where
         ap (λ (later : List World). let r : Graph = record (with_worlds a k) { worlds = before ++ later } in r) (sym next)
 
     -- nothing is shadowed by an include that is accepted
-    free_at : (j : ℕ) (include : WorldInclude) (old : World) → slice_get includes j ≡ Some include → IncludeIsAccepted a k j → slice_get (begun_at j).graph.worlds (remapped_world a include.id) ≡ Some old → IsFree (begun_at j) include old
+    free_at : (j : ℕ) (include : WorldInclude) (old : World) → slice_get includes j ≡ Some include → IncludeIsAccepted a k j → slice_get (begun_at j).graph.worlds include.id ≡ Some old → IsFree (begun_at j) include old
     free_at j include old is fine there = record {
-      imports = λ n. none_shadowed (codes "import") (begun_at j).lists.imports old.imports n (inl (refl, refl), inl (refl, refl));
-      exports = λ n. none_shadowed (codes "export") (begun_at j).lists.exports old.exports n (inr (refl, refl), inr (refl, refl));
+      imports = λ n shadowed. fine here include is _ (old, there, of_imports _ (shadowing_7 n shadowed));
+      exports = λ n shadowed. fine here include is _ (old, there, of_exports _ (shadowing_7 n shadowed));
     }
       where
-        none_shadowed : (word : List ℕ) (current brought : List Entry) (n : List ℕ) → IsListCalled word (begun_at j).lists current × IsListCalled word (lists_of old) brought
-            → IsShadowed current (map (λ (d : Entry). renamed_key include.names d.0) brought) n → ⊥
-        none_shadowed word current brought n list shadowed = fine _ (record {
-          at = record { at = record { id = e.0; world = e.1; is = at }; include = include; is = is; before = begun_at j; before_is = refl; old = old; old_is = there };
-          cause = shadowing_7 word n (record { current = current; brought = brought; list = list; shadowed = shadowed });
-        })
+        here : AtWorld a k
+        here = record { id = e.0; world = e.1; is = at }
 
     -- before each include what is begun is partially linked
     pub begun_stands : IsSoundSoFar (stage a k) → (j : ℕ) → ((i : ℕ) → i < j → IncludeIsAccepted a k i) → IsSoundSoFar (staged a before k e (begun_at j))
@@ -106,23 +108,20 @@ module _ (a : Addition) where
         next so_far = elim (cases_lt j (length includes)) [
           | inl below ↦
               let x = get_at includes j below in
-              let one_more : begun_at (suc j) ≡ with_include a (length before) (begun_at j) x.0 = fold_next (with_include a (length before)) _ includes j x.0 x.1 in
+              let one_more : begun_at (suc j) ≡ with_one home (begun_at j) x.0 = fold_next (with_one home) (before_includes (with_worlds a k) (image_at a e.0 e.1)) includes j x.0 x.1 in
               subst (λ (b : PartiallyLinked). IsSoundSoFar (staged a before k e b)) (sym one_more)
               (include_step a before k e (begun_at j) x.0 (more_at j).worlds_are so_far (λ old there. free_at j x.0 old x.1 (fine j (omega arith)) there))
           | inr past ↦
-              let same : begun_at (suc j) ≡ begun_at j = fold_past (with_include a (length before)) _ includes (suc j) (omega arith) ∙ sym (fold_past (with_include a (length before)) _ includes j past) in
+              let same : begun_at (suc j) ≡ begun_at j = fold_past (with_one home) (before_includes (with_worlds a k) (image_at a e.0 e.1)) includes (suc j) (omega arith) ∙ sym (fold_past (with_one home) (before_includes (with_worlds a k) (image_at a e.0 e.1)) includes j past) in
               subst (λ (b : PartiallyLinked). IsSoundSoFar (staged a before k e b)) (sym same) so_far
         ]
 
     -- and before it is finished
-    pub whole_stands : IsSoundSoFar (stage a k) → ((j : ℕ) → IncludeIsAccepted a k j) → IsSoundSoFar (staged a before k e (with_all_includes a e.0 e.1 (with_worlds a k)))
+    pub whole_stands : IsSoundSoFar (stage a k) → ((j : ℕ) → IncludeIsAccepted a k j) → IsSoundSoFar (staged a before k e whole)
     whole_stands stands fine = subst (λ (b : PartiallyLinked). IsSoundSoFar (staged a before k e b)) (sym begun_is) (begun_stands stands (length includes) (λ i below. fine i))
 
-    abbrev whole : PartiallyLinked
-    whole = with_all_includes a e.0 e.1 (with_worlds a k)
-
     pub whole_more : HasMore (length a.graph.packages) (with_worlds a k) whole.graph
-    whole_more = begun_more a e.0 e.1 includes (with_worlds a k)
+    whole_more = begun_more home (with_worlds a k) (image_at a e.0 e.1) includes
 
     -- the next stage
     stage_next : stage a (suc k) ≡ record whole.graph { worlds = before ++ linked_world a e.0 e.1 whole ∷ drop (suc k) (listed_images a) }
@@ -145,12 +144,8 @@ module _ (a : Addition) where
           let there = slice_get-behind before (drop (suc k) (listed_images a)) (unfinished_world a e.0 e.1 whole.lists) in
           let refused = (laws.refused whole.graph.types (graph_uses whole.graph) (setters_placed whole.lists.imports) (setters_placed whole.lists.exports) so_far.uses
           (placed_in_order (staged a before k e whole) so_far (length before) (unfinished_world a e.0 e.1 whole.lists) there)).0 conflict in
-          fine _ (of_finish _ image includes_fine (record {
-            at = record { id = e.0; world = e.1; is = at };
-            whole = whole;
-            whole_is = refl;
-            cause = conflict_4 (key_text whole.graph.packages whole.graph.interfaces refused.0) conflict (refused.0, refused.1, refl);
-          }))
+          fine _ (of_image e.0 e.1 at image (as_finished (λ j. includes_fine j (record { id = e.0; world = e.1; is = at }))
+          (conflict_4 (key_text whole.graph.packages whole.graph.interfaces refused.0) conflict (refused.0, refused.1, refl))))
 
       pub next_stands : IsSoundSoFar (stage a (suc k))
       next_stands = subst IsSoundSoFar (sym stage_next) (finish_step laws a before k e whole (whole_stands stands includes_fine) no_conflict)

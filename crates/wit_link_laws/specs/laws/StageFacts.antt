@@ -1,6 +1,6 @@
 -- What is known at each stage of an addition, so that a contract can say it: of the graph before an include, where all
 -- before it is accepted, and of the graph and the lists before a world is finished.
-use Rattle.std.specs.Prelude.{◌≡◌, ℕ, true, false, length, slice_get, take, Some, IsSome, Contains}
+use Rattle.std.specs.Prelude.{◌≡◌, ℕ, true, false, length, slice_get, Some, IsSome, Contains}
 use Rattle.wit_digraph.specs.Relation.{IsAcyclic, Reaches}
 use Rattle.wit_data.specs.Each.{EachAt}
 use Rattle.wit_data.specs.Kind.{type_references}
@@ -13,14 +13,13 @@ use Rattle.wit_elaboration.specs.Sound.{HasSoundEntries}
 use Rattle.wit_elaboration.specs.Valid.{IsValid}
 use Rattle.wit_graph_data.specs.declared.graph.Graph.{Graph}
 use Rattle.wit_graph_theory.specs.facts.Good.{IsGoodInterface, IsGoodWorld}
-use Rattle.wit_link_spec.specs.Addition.{Addition, active_includes, own_worlds, remapped_world}
+use Rattle.wit_link_spec.specs.Addition.{Addition, own_worlds, updated_includes}
 use Rattle.wit_link_spec.specs.facts.Linked.{IncludeIsReached}
 use Rattle.wit_link_spec.specs.Include.{PartiallyLinked, is_owned_within, named_types}
-use Rattle.wit_link_spec.specs.Added.{added, with_includes, with_worlds}
+use Rattle.wit_link_spec.specs.Added.{added}
 use Rattle.wit_link_spec.specs.Reasons.{HasPackage, IsResolved}
-use Rattle.wit_link_spec.specs.WorldReasons.{AtInclude, AtWorld}
 use Rattle.wit_labels.specs.Setters.{setters_placed}
-use Rattle.wit_link_spec.specs.steps.Parts.{with_all_includes, IncludeIsAccepted, IsReached}
+use Rattle.wit_link_spec.specs.steps.Parts.{begun, begun_whole, AtWorld, IncludeIsAccepted, IsReached}
 
 -- a partially linked graph: no interface uses itself, no type refers to itself, ids are in range, and interfaces list and use
 -- types of their own
@@ -41,12 +40,13 @@ pub record CanInclude (g : Graph) (from : ℕ) (old : World) : Type 0 where
 
 -- before each include that is reached
 abbrev pub IncludesCanBe : Type 0
-IncludesCanBe = (a : Addition) (k j : ℕ) → IsValid a.graph → IsShaped a.unresolved → IncludeIsReached a k j → (at : AtInclude a k j) → CanInclude at.before.graph (remapped_world a at.include.id) at.old
+IncludesCanBe = (a : Addition) (k j : ℕ) → IsValid a.graph → IsShaped a.unresolved → IncludeIsReached a k j → (at : AtWorld a k) (include : WorldInclude) → slice_get (updated_includes a at.world) j ≡ Some include
+    → (old : World) → slice_get (begun a k j at).graph.worlds include.id ≡ Some old → CanInclude (begun a k j at).graph include.id old
 
 -- the world that it names is there: one of the graph, or one of the package that is finished
 abbrev pub IncludedAreThere : Type 0
-IncludedAreThere = (a : Addition) (k j : ℕ) → IsValid a.graph → IsShaped a.unresolved → IncludeIsReached a k j → (at : AtWorld a k) (include : WorldInclude) → slice_get (active_includes a at.world) j ≡ Some include
-    → (old : World) × (slice_get (with_includes a at.id at.world (take j (active_includes a at.world)) (with_worlds a k)).graph.worlds (remapped_world a include.id) ≡ Some old)
+IncludedAreThere = (a : Addition) (k j : ℕ) → IsValid a.graph → IsShaped a.unresolved → IncludeIsReached a k j → (at : AtWorld a k) (include : WorldInclude) → slice_get (updated_includes a at.world) j ≡ Some include
+    → (old : World) × (slice_get (begun a k j at).graph.worlds include.id ≡ Some old)
 
 -- what is begun of a world can be finished: the graph is partially linked, and the keys and ids of the lists are in order
 pub record CanBeLinked (b : PartiallyLinked) : Type 0 where
@@ -56,7 +56,7 @@ pub record CanBeLinked (b : PartiallyLinked) : Type 0 where
 -- before each world that is reached is finished, where its includes are accepted
 abbrev pub WorldsCanBe : Type 0
 WorldsCanBe = (a : Addition) (k : ℕ) → IsValid a.graph → IsShaped a.unresolved → IsResolved a → IsReached a k → ((j : ℕ) → IncludeIsAccepted a k j) → (at : AtWorld a k)
-    → CanBeLinked (with_all_includes a at.id at.world (with_worlds a k))
+    → CanBeLinked (begun_whole a k at)
 
 -- a valid graph to which a package is added is valid, where the package has its shape and an image in the graph, the
 -- graph doesn't have it yet, and each of its worlds is accepted

@@ -1,12 +1,13 @@
 -- What is known before each include, and before each world is finished, of any addition whose worlds are accepted so far.
-use Rattle.std.proofs.Common.{◌≡◌, ℕ, suc, List, drop, length, take, Some, slice_get, sym, subst, arith}
+use Rattle.std.proofs.Common.{◌≡◌, ℕ, suc, List, drop, length, take, Some, slice_get, subst, arith}
 use Rattle.std.proofs.lemmas.Option.{slice_get_within}
 use Rattle.wit_values.specs.facts.Lists.{slice_get-append, slice_get-behind}
 use Rattle.wit_data.specs.declared.world.World.{World}
 use Rattle.wit_graph_theory.specs.facts.LawsOfElaboration.{LawsOfElaboration}
-use Rattle.wit_link_spec.specs.Addition.{Addition, active_includes, own_worlds, remapped_world}
+use Rattle.wit_link_spec.specs.Addition.{Addition, own_worlds, updated_includes}
 use Rattle.wit_link_spec.specs.Include.{PartiallyLinked}
-use Rattle.wit_link_spec.specs.Added.{unfinished_world, with_includes, with_worlds}
+use Rattle.wit_link_spec.specs.Added.{with_worlds}
+use Rattle.wit_link_spec.specs.facts.Linked.{unfinished_world}
 use Rattle.wit_link_laws.specs.facts.CopiedPart.{belonging_mentioned}
 use Rattle.wit_link_laws.specs.facts.ListedStage.{listed_images}
 use Rattle.wit_link_laws.specs.laws.StageFacts.{CanBeLinked, CanInclude, IncludesCanBe, IsPartiallyLinked, WorldsCanBe}
@@ -17,7 +18,7 @@ use Rattle.wit_link_laws.specs.facts.ValidFacts.{stage_stands}
 use Rattle.wit_link_laws.specs.facts.Mentioned.{apart}
 use Rattle.wit_link_laws.specs.facts.PartiallyLinked.{IsSoundSoFar}
 use Rattle.wit_link_laws.specs.facts.PlacedWorlds.{placed_listed}
-use Rattle.wit_link_spec.specs.steps.Parts.{with_all_includes}
+use Rattle.wit_link_spec.specs.steps.Parts.{begun, begun_whole, image_at}
 
 module _ (a : Addition) (before : List World) (k : ℕ) (e : ℕ × World) (b : PartiallyLinked) (stands : IsSoundSoFar (staged a before k e b)) where
   on_its_way : IsPartiallyLinked b.graph
@@ -43,16 +44,12 @@ pub worlds_can_be : LawsOfElaboration → WorldsCanBe
 worlds_can_be laws a k valid shaped image reached fine at =
     let e : ℕ × World = (at.id, at.world) in
     let below = slice_get_within (own_worlds a) k e at.is in
-    can_finish a (with_worlds a k).worlds k e (with_all_includes a at.id at.world (with_worlds a k)) (whole_stands a k e at.is (stage_stands laws a valid shaped image k (omega arith) reached) fine)
+    can_finish a (with_worlds a k).worlds k e (begun_whole a k at) (whole_stands a k e at.is (stage_stands laws a valid shaped image k (omega arith) reached) fine)
 
 pub includes_can_be : LawsOfElaboration → IncludesCanBe
-includes_can_be laws a k j valid shaped reached at =
-    let e : ℕ × World = (at.at.id, at.at.world) in
-    let includes = active_includes a at.at.world in
-    let b = with_includes a at.at.id at.at.world (take j includes) (with_worlds a k) in
-    let below = slice_get_within (own_worlds a) k e at.at.is in
-    let more = begun_more a at.at.id at.at.world (take j includes) (with_worlds a k) in
-    let there : slice_get b.graph.worlds (remapped_world a at.include.id) ≡ Some at.old = subst (λ (x : PartiallyLinked). slice_get x.graph.worlds (remapped_world a at.include.id) ≡ Some at.old) at.before_is at.old_is in
-    let in_front : slice_get (with_worlds a k).worlds (remapped_world a at.include.id) ≡ Some at.old = subst (λ (worlds : List World). slice_get worlds (remapped_world a at.include.id) ≡ Some at.old) more.worlds_are there in
-    subst (λ (x : PartiallyLinked). CanInclude x.graph (remapped_world a at.include.id) at.old) (sym at.before_is)
-    (can_include a (with_worlds a k).worlds k e b (begun_stands a k e at.at.is (stage_stands laws a valid shaped reached.has_image k (omega arith) reached.worlds) j reached.includes) (remapped_world a at.include.id) at.old in_front)
+includes_can_be laws a k j valid shaped reached at include is old there =
+    let e : ℕ × World = (at.id, at.world) in
+    let below = slice_get_within (own_worlds a) k e at.is in
+    let more = begun_more (length a.graph.packages) (with_worlds a k) (image_at a at.id at.world) (take j (updated_includes a at.world)) in
+    let in_front : slice_get (with_worlds a k).worlds include.id ≡ Some old = subst (λ (worlds : List World). slice_get worlds include.id ≡ Some old) more.worlds_are there in
+    can_include a (with_worlds a k).worlds k e (begun a k j at) (begun_stands a k e at.is (stage_stands laws a valid shaped reached.has_image k (omega arith) reached.worlds) j reached.includes) include.id old in_front

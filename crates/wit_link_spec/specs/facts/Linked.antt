@@ -1,16 +1,15 @@
 -- A world of a package behind its includes, and what was reached where one of them is looked at.
-use Rattle.std.specs.Prelude.{ℕ, ◌<◌, List, map}
+use Rattle.std.specs.Prelude.{ℕ, ◌<◌}
 use Rattle.wit_data.specs.declared.world.World.{World}
-use Rattle.wit_data.specs.declared.world.WorldInclude.{WorldInclude}
-use Rattle.wit_link_spec.specs.Addition.{Addition, active_includes}
-use Rattle.wit_link_spec.specs.Include.{PartiallyLinked}
-use Rattle.wit_link_spec.specs.Added.{finished_world, unfinished_world}
+use Rattle.wit_link_spec.specs.Added.{finished_world}
+use Rattle.wit_link_spec.specs.Addition.{Addition}
+use Rattle.wit_link_spec.specs.Include.{EntryLists, PartiallyLinked, with_entry_lists}
 use Rattle.wit_link_spec.specs.Reasons.{IsResolved}
-use Rattle.wit_link_spec.specs.steps.Parts.{updated_include, IncludeIsAccepted, IsReached}
+use Rattle.wit_link_spec.specs.steps.Parts.{image_at, IncludeIsAccepted, IsReached}
 
--- the active includes of a world, with the ids and the spans that they have in the graph
-abbrev pub updated_includes : Addition → World → List WorldInclude
-updated_includes a world = map (updated_include a) (active_includes a world)
+-- world w of the package with these lists, before it is finished
+abbrev pub unfinished_world : Addition → ℕ → World → EntryLists → World
+unfinished_world a w world lists = with_entry_lists (image_at a w world) lists
 
 -- world w of the package behind its includes, finished
 abbrev pub linked_world : Addition → ℕ → World → PartiallyLinked → World

@@ -1,9 +1,9 @@
 -- Parts of the definitions under names of their own, for contracts of inner functions and for proofs. Each is what stands
 -- in a definition in its place, so none has to be believed.
-use Rattle.std.specs.Prelude.{◌≡◌, ◌⊎◌, ℕ, true, Some, List, ◌++◌, codes, Bool, flat_map, ◌+◌, ◌&&◌, length, nat_eq, if◌then◌else◌, [], ◌∷◌, Option, None, ◌<◌, map, slice_get, ◌≤◌, ◌^◌, Contains}
+use Rattle.std.specs.Prelude.{◌≡◌, ◌⊎◌, ℕ, true, Some, List, ◌++◌, codes, Bool, flat_map, ◌+◌, ◌&&◌, length, nat_eq, if◌then◌else◌, [], ◌∷◌, Option, None, ◌<◌, map, filter, take, slice_get, ◌≤◌, ◌^◌, Contains}
 use Rattle.wit_digraph.specs.Relation.{Reaches}
 use Rattle.wit_graph_data.specs.Queries.{type_contents}
-use Rattle.wit_link_spec.specs.Addition.{Addition, own_type, active_includes, remapped_world, own_world, own_interface}
+use Rattle.wit_link_spec.specs.Addition.{Addition, addition_maps, own_type, own_worlds, remapped_world, own_world, own_interface, updated_includes}
 use Rattle.wit_remap_spec.specs.Borrows.{HoldsBorrow}
 use Rattle.wit_link_spec.specs.Gates.{type_is_active, is_active, is_foreign_interface, is_foreign_world, interface_is_active, world_is_active, package_spans}
 use Rattle.wit_link_spec.specs.Lookup.{foreign_type_id, foreign_interface_id, foreign_world_id, is_foreign_type}
@@ -26,12 +26,13 @@ use Rattle.wit_data.specs.declared.world.World.{World}
 use Rattle.wit_data.specs.declared.world.WorldKey.{WorldKey}
 use Rattle.wit_elaboration.specs.Entries.{same_key}
 use Rattle.wit_graph_data.specs.declared.graph.Graph.{Graph}
-use Rattle.wit_link_spec.specs.Include.{belongs_to, is_owned_within, named_types, PartiallyLinked, EntryLists, with_world_included}
+use Rattle.wit_link_spec.specs.Include.{belongs_to, is_owned_within, lists_of, named_types, PartiallyLinked, with_entry_lists, with_several, with_world_included}
 use Rattle.wit_sources.specs.Span.{moved_by}
 use Rattle.wit_labels.specs.Setters.{setters_placed}
-use Rattle.wit_link_spec.specs.Added.{with_includes, finished_world}
+use Rattle.wit_link_spec.specs.Added.{finished_world, with_worlds}
+use Rattle.wit_remap_spec.specs.Image.{world_image}
 use Rattle.wit_graph_data.specs.Error.{NoCause}
-use Rattle.wit_link_spec.specs.WorldReasons.{IsCauseAtInclude, IsCauseAtWorld}
+use Rattle.wit_link_spec.specs.WorldReasons.{IsAcceptedAt, IsCauseAtWorld}
 use Rattle.wit_link_spec.specs.Cause.{IsAdditionCause}
 use Rattle.std.specs.Option.{option_map_or}
 use Rattle.wit_data.specs.declared.world.IncludeName.{IncludeName}
@@ -94,6 +95,10 @@ interface_copy g world i = if belongs_to g world i then length g.interfaces + ra
 abbrev pub has_key : List Entry → WorldKey → Bool
 has_key entries k = list_any (λ (e : Entry). same_key k e.0) entries
 
+-- the includes of a world that are active
+abbrev pub active_includes : Addition → World → List WorldInclude
+active_includes a world = filter (include_is_active a.features) world.includes
+
 -- an include of the package with the id and the span that it has in the graph
 abbrev pub updated_include : Addition → WorldInclude → WorldInclude
 updated_include a include = record include { id = remapped_world a include.id; span = moved_by a.offset include.span }
@@ -103,13 +108,13 @@ updated_include a include = record include { id = remapped_world a include.id; s
 abbrev pub with_include_of : ℕ → ℕ → List IncludeName → ℕ → PartiallyLinked → PartiallyLinked
 with_include_of home into names from b = option_map_or (λ (world : World). with_world_included home into names from world b) (slice_get b.graph.worlds from) b
 
--- one include more of the world that comes next
-abbrev pub with_include : Addition → ℕ → PartiallyLinked → WorldInclude → PartiallyLinked
-with_include a into b include = with_include_of (length a.graph.packages) into include.names (remapped_world a include.id) b
+-- what is begun of a world, with an include more
+abbrev pub with_one : ℕ → PartiallyLinked → WorldInclude → PartiallyLinked
+with_one home b include = with_include_of home (length b.graph.worlds) include.names include.id b
 
--- world w of the package with all its active includes, over a partially linked graph
-abbrev pub with_all_includes : Addition → ℕ → World → Graph → PartiallyLinked
-with_all_includes a w world g = with_includes a w world (active_includes a world) g
+-- a world that comes next in a graph, before its includes
+abbrev pub before_includes : Graph → World → PartiallyLinked
+before_includes g world = record { graph = g; lists = lists_of world }
 
 -- a world with its setters after their getters
 abbrev pub with_setters_placed : World → World
@@ -119,9 +124,33 @@ with_setters_placed world = record world { imports = setters_placed world.import
 abbrev pub with_finished : Graph → World → Graph
 with_finished g world = record g { worlds = g.worlds ++ finished_world g world ∷ [] }
 
--- a world with these lists
-abbrev pub with_entry_lists : World → EntryLists → World
-with_entry_lists world lists = record world { imports = lists.imports; exports = lists.exports }
+-- the graph with a world behind its worlds that has these includes
+abbrev pub with_including : ℕ → Graph → World → List WorldInclude → Graph
+with_including home g world includes = let b = with_several home g world includes in with_finished b.graph (with_entry_lists world b.lists)
+
+-- ---- worlds of a package
+
+-- the package that is added
+abbrev pub home_of : Addition → ℕ
+home_of a = length a.graph.packages
+
+-- world w of the package, as it comes into the graph
+abbrev pub image_at : Addition → ℕ → World → World
+image_at a w world = world_image (addition_maps a) w world
+
+-- world k of those that are active
+pub record AtWorld (a : Addition) (k : ℕ) : Type 0 where
+  pub id : ℕ
+  pub world : World
+  pub is : slice_get (own_worlds a) k ≡ Some (id, world)
+
+-- what is begun of it with so many of its includes
+abbrev pub begun : (a : Addition) (k j : ℕ) → AtWorld a k → PartiallyLinked
+begun a k j at = with_several (home_of a) (with_worlds a k) (image_at a at.id at.world) (take j (updated_includes a at.world))
+
+-- and with all
+abbrev pub begun_whole : (a : Addition) (k : ℕ) → AtWorld a k → PartiallyLinked
+begun_whole a k at = with_several (home_of a) (with_worlds a k) (image_at a at.id at.world) (updated_includes a at.world)
 
 -- 16: a renaming of nothing
 abbrev pub rename_text : List ℕ → List ℕ
@@ -129,7 +158,7 @@ rename_text name = codes "no import or export kebab-name `" ++ (name ++ codes "`
 
 -- include j of world k is accepted: no cause holds against it
 abbrev pub IncludeIsAccepted : Addition → ℕ → ℕ → Type 0
-IncludeIsAccepted a k j = NoCause (IsCauseAtInclude a k j)
+IncludeIsAccepted a k j = (at : AtWorld a k) → IsAcceptedAt (home_of a) (with_worlds a k) (image_at a at.id at.world) (updated_includes a at.world) j
 
 -- world k is accepted: no cause holds against it
 abbrev pub WorldIsAccepted : Addition → ℕ → Type 0

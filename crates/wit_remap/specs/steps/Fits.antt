@@ -23,7 +23,7 @@ use Rattle.wit_graph_data.specs.declared.graph.Graph.{Graph}
 use Rattle.wit_graph_data.specs.declared.graph.Package.{Package}
 use Rattle.wit_remap_spec.specs.Kept.{KeptIds, cut_interface, cut_world}
 use Rattle.wit_remap_spec.specs.Image.{Maps, entry_image, interface_image, type_image, world_image}
-use Rattle.wit_link_spec.specs.Addition.{Addition, active_includes, addition_maps, own_worlds}
+use Rattle.wit_link_spec.specs.Addition.{Addition, addition_maps, own_worlds}
 use Rattle.wit_remap_spec.specs.Selected.{selected, selected_with_index}
 use Rattle.wit_link_spec.specs.declared.addition.NewIds.{NewIds}
 use Rattle.wit_link_spec.specs.steps.NewThings.{is_new}
@@ -31,7 +31,7 @@ use Rattle.wit_remap.specs.steps.Parts.{kept_of}
 use Rattle.wit_remap.specs.declared.part.Part.{Part}
 use Rattle.wit_remap.specs.declared.worlds.UpdatedWorld.{UpdatedWorld}
 use Rattle.wit_remap_spec.specs.steps.Parts.{kind_spans}
-use Rattle.wit_link_spec.specs.steps.Parts.{include_is_active}
+use Rattle.wit_link_spec.specs.steps.Parts.{active_includes, include_is_active}
 
 -- the span, moved, still ends within the last position
 abbrev pub Fits : ℕ → OptionalSpan → Type 0

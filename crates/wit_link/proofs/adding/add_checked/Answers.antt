@@ -11,6 +11,8 @@ use Rattle.wit_graph_data.specs.Error.{NoCause}
 use Rattle.wit_graph_data.specs.declared.error_kind.ResolveErrorKind.{ResolveErrorKind}
 use Rattle.wit_graph_data.specs.declared.error_kind.ResolveErrorKind.TheVariants.{OutOfMemory}
 use Rattle.wit_link_spec.specs.Cause.{IsAdditionCause}
+use Rattle.wit_link_spec.specs.WorldReasons.{IsWorldCause}
+use Rattle.wit_link_spec.specs.steps.Parts.{with_including}
 use Rattle.wit_link_include.specs.steps.Included as local
 use Rattle.wit_link_include.specs.facts.RowsFacts.{rows_of_valid}
 use Rattle.wit_remap.specs.facts.GrownFacts.{Begins-same, Begins-then, Grown-then}
@@ -57,8 +59,8 @@ loop-updated-preserved c =
     record {
       adding =
           adding-next a c.loop-updated.yielded (into_iter_items c.next.new.self) c.in-Some.updated c.loop-updated.graph c.loop-updated.invariant.adding are c.add_world.new.graph
-          (c.in_ok-add_world.ensures.ok ∙ ap (λ (home : ℕ). local.with_including home c.loop-updated.graph c.in-Some.updated.world c.in-Some.updated.includes) id)
-          (subst (λ (home : ℕ). NoCause (local.IsWorldCause home c.loop-updated.graph c.in-Some.updated.world c.in-Some.updated.includes)) id c.in_ok-add_world.ensures.fine);
+          (c.in_ok-add_world.ensures.ok ∙ ap (λ (home : ℕ). with_including home c.loop-updated.graph c.in-Some.updated.world c.in-Some.updated.includes) id)
+          (subst (λ (home : ℕ). NoCause (IsWorldCause home c.loop-updated.graph c.in-Some.updated.world c.in-Some.updated.includes)) id c.in_ok-add_world.ensures.fine);
       uses = c.in_ok-add_world.ensures.uses;
       grown = Grown-then c.args.graph.now c.loop-updated.graph c.add_world.new.graph c.loop-updated.invariant.grown c.add_world.ensures.grown;
       rows = Begins-then c.args.elaborator.now c.loop-updated.elaborator c.add_world.new.elaborator c.loop-updated.invariant.rows c.add_world.ensures.rows;
@@ -98,7 +100,7 @@ returns-in_err-add_world-clause-cause c =
     let same : e ≡ c.in_err-add_world.field-0.0 = is in
     subst (λ (x : ResolveErrorKind). (x ≡ OutOfMemory) ⊎ IsAdditionCause a x) (sym same)
     (refused_here a c.loop-updated.yielded (into_iter_items c.next.new.self) c.in-Some.updated c.loop-updated.graph c.loop-updated.invariant.adding are (checked_image a c.requires.checked) c.in_err-add_world.field-0.0
-    (subst (λ (home : ℕ). (c.in_err-add_world.field-0.0 ≡ OutOfMemory) ⊎ local.IsWorldCause home c.loop-updated.graph c.in-Some.updated.world c.in-Some.updated.includes c.in_err-add_world.field-0.0) id c.in_err-add_world.ensures.cause)))
+    (subst (λ (home : ℕ). (c.in_err-add_world.field-0.0 ≡ OutOfMemory) ⊎ IsWorldCause home c.loop-updated.graph c.in-Some.updated.world c.in-Some.updated.includes c.in_err-add_world.field-0.0) id c.in_err-add_world.ensures.cause)))
 
 pub returns-in_err-worlds-clause-rows : goal.returns-in_err-worlds-clause-rows
 returns-in_err-worlds-clause-rows c = Begins-same c.args.elaborator.now

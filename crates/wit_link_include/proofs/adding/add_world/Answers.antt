@@ -7,7 +7,7 @@ use Rattle.wit_graph_data.specs.declared.error_kind.ResolveErrorKind.{ResolveErr
 use Rattle.wit_graph_data.specs.declared.error_kind.ResolveErrorKind.TheVariants.{OutOfMemory}
 use Rattle.wit_remap.specs.Grown.{Grown}
 use Rattle.wit_remap.specs.facts.GrownFacts.{Begins-same, Grown-then}
-use Rattle.wit_link_include.specs.steps.Included.{IsWorldCause}
+use Rattle.wit_link_spec.specs.WorldReasons.{IsWorldCause}
 use Rattle.wit_link_include.specs.facts.RowsFacts.{rows_on_its_way}
 use Rattle.wit_link_include.proofs.Several.{begun_acyclic, begun_listed, finished_grown, finishing_stops, include_stops, world_added, world_fine}
 use Rattle.wit_link_include.proofs.adding.add_world.Goals as goal

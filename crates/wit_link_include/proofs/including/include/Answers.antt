@@ -4,7 +4,9 @@ use Rattle.wit_graph_data.specs.declared.error_kind.ResolveErrorKind.{ResolveErr
 use Rattle.wit_graph_data.specs.declared.error_kind.ResolveErrorKind.TheVariants.{OutOfMemory}
 use Rattle.wit_data.specs.declared.world.World.{World}
 use Rattle.wit_link_spec.specs.Include.{is_other_package}
-use Rattle.wit_link_include.specs.steps.Included.{maps_of, IsCauseOfInclude, before_includes, copied_entries}
+use Rattle.wit_link_spec.specs.WorldReasons.{IsCauseOfInclude}
+use Rattle.wit_link_spec.specs.steps.Parts.{before_includes}
+use Rattle.wit_link_include.specs.steps.Included.{maps_of, copied_entries}
 use Rattle.wit_remap.specs.facts.GrownFacts.{Grown-same}
 use Rattle.wit_link_include.proofs.IncludeSteps.{step_is, names_cause, stay_apart, step_cause, step_exports_once, step_fine, step_graph, step_imports_once, step_world}
 use Rattle.wit_link_include.proofs.NamesThere.{names_there}

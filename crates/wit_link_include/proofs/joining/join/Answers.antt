@@ -9,7 +9,7 @@ use Rattle.wit_graph_data.specs.declared.error_kind.ResolveErrorKind.TheVariants
 use Rattle.wit_data.specs.facts.WorldKeyFacts.{same_key}
 use Rattle.wit_data.specs.declared.world.WorldKey.{WorldKey}
 use Rattle.wit_data.specs.declared.world.WorldKey.TheVariants as key
-use Rattle.wit_link_include.specs.steps.Included.{IsJoinCause, JoinIsAccepted}
+use Rattle.wit_link_include.specs.steps.Included.{IsJoinError, JoinIsAccepted}
 use Rattle.wit_link_include.proofs.JoinSteps.{IsJoining, differ-cause, joining-new, joining-none, joining-there, joining_accepted, not-done, shadow-cause}
 use Rattle.wit_link_include.proofs.Keys.{found_key, lacks_from}
 use Rattle.wit_link_include.proofs.joining.join.Goals as goal
@@ -38,7 +38,7 @@ returns-in-Name-clause-cause c =
     let at : position (same_key c.in-Some.key) (keys_of c.loop-key.entries) ≡ Some c.in-Some-get_index_of.place = sym c.in-Some-get_index_of.ensures.index in
     let found = found_key c.in-Some.key c.loop-key.entries c.in-Some-get_index_of.place at in
     let is : c.in_ok-shadowing-in-Name.field-0 ≡ ItemShadowing c.args.span c.args.word.now c.in-Name.label = search rules in
-    inr (subst (IsJoinCause c.args.other c.args.span c.args.word.now c.args.current c.args.brought) (sym is)
+    inr (subst (IsJoinError c.args.other c.args.span c.args.word.now c.args.current c.args.brought) (sym is)
     (shadow-cause c.args.other c.args.span c.args.word.now c.in-Name.label c.args.current c.args.brought c.loop-key.yielded (into_iter_items c.next.new.self) c.loop-key.entries c.in-Some.item found.0 c.in-Some-get_index_of.place
     c.loop-key.invariant.joining (subst (λ (k : WorldKey). c.loop-key.yielded ++ (k, c.in-Some.item) ∷ into_iter_items c.next.new.self ≡ c.args.brought) called are)
     (subst (λ (k : WorldKey). slice_get c.loop-key.entries c.in-Some-get_index_of.place ≡ Some (k, found.0)) called found.1)))
@@ -69,7 +69,7 @@ returns-in_err-join_at-in-Interface-clause-cause c =
     residual_error c.from_residual-in_err-join_at-in-Interface.result c.from_residual-in_err-join_at-in-Interface.ensures.1
     (λ e is.
     let same : e ≡ c.in_err-join_at-in-Interface.field-0.0 = is in
-    inr (subst (IsJoinCause c.args.other c.args.span c.args.word.now c.args.current c.args.brought) (sym same)
+    inr (subst (IsJoinError c.args.other c.args.span c.args.word.now c.args.current c.args.brought) (sym same)
     (differ-cause c.args.other c.args.span c.args.word.now c.args.current c.args.brought c.loop-key.yielded (into_iter_items c.next.new.self) c.loop-key.entries c.in-Interface.field-0 c.in-Some.item found.0
     c.in-Some-get_index_of.place c.in_err-join_at-in-Interface.field-0.0 c.loop-key.invariant.joining c.requires
     (subst (λ (k : WorldKey). c.loop-key.yielded ++ (k, c.in-Some.item) ∷ into_iter_items c.next.new.self ≡ c.args.brought) called are)
