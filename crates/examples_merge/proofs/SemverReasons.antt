@@ -31,7 +31,8 @@ use Rattle.wit_elaboration.specs.AllElaborated.{DependsOnItself, RefersToItself}
 use Rattle.wit_remap_spec.specs.FunctionMismatch.{FunctionMismatch, parameter_names_differ}
 use Rattle.wit_graph_theory.specs.facts.OptionFacts.{some_same}
 use Rattle.wit_graph_theory.specs.examples.TestFacts.{all_are, all_uses, falls, is_empty, no_cycle, not_on_cycle, only_one}
-use Rattle.wit_semver_spec.specs.SemverMerged.{Agrees, IsComplete, IsSemverMergeCause, LacksType, SemverMerge, SemverMergeCause, conflict_4, functions_disagree_25, interface_cycle_22, is_replaced, newest, package_cycle_6, rewritable_types, type_cycle_23, type_missing_25, semver_merge, with_new_entries_at}
+use Rattle.wit_semver_spec.specs.SemverMerged.{IsComplete, IsSemverMergeCause, LacksType, SemverMerge, SemverMergeCause, conflict_4, functions_disagree_25, interface_cycle_22, is_replaced, newest, package_cycle_6, rewritable_types, type_cycle_23, type_missing_25, semver_merge, with_new_entries_at}
+use Rattle.wit_semver_spec.specs.steps.SemverMerged.{Agrees}
 use Rattle.examples_merge.proofs.SemverFine.{Clear, complete, has_target, is_fine, no_functions}
 use Rattle.examples_merge.proofs.SemverMismatches.{x_is_not_y, x_of, y_of}
 use Rattle.examples_merge.specs.CauseExamples.{ExamplesOfCauses, IsCauseOf, IsFine, around_main, around_z, exporting, f_of, failed, foo_app, newer_x, older_x, with_functions, with_newer, without_type, without_type_but_cycle}

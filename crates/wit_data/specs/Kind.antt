@@ -1,6 +1,6 @@
 -- What a kind of type holds, and the kind with what it holds changed. Whatever is said of all kinds goes over these:
 -- what a kind refers to, what its values hold, its spans, its structure and its image under maps.
-use Rattle.std.specs.Prelude.{ℕ, List, [], ◌∷◌, map, codes, decimal, nat_eq, Option, None, Some, if◌then◌else◌, option_map, Bool, ◌++◌, flat_map, option_to_list}
+use Rattle.std.specs.Prelude.{ℕ, List, [], ◌∷◌, map, codes, decimal, Option, None, Some, if◌then◌else◌, option_map, Bool, ◌++◌, flat_map, option_to_list}
 use Rattle.std.specs.List.{enumerate_from}
 use Rattle.wit_sources.specs.Span.{OptionalSpan}
 use Rattle.wit_data.specs.declared.types.Case.{Case}
@@ -65,10 +65,6 @@ named_part name ty span = record { role = Value; step = name; ty = ty; span = So
 abbrev pub plain_part : PartRole → List ℕ → Option Type_ → KindPart
 plain_part role step ty = record { role = role; step = step; ty = ty; span = None }
 
--- its name, where it has one of its own
-abbrev pub part_name : KindPart → Option (List ℕ)
-part_name p = option_map (λ (span : OptionalSpan). p.step) p.span
-
 -- the resource of which a handle is one
 abbrev pub handle_resource : Handle → ℕ
 handle_resource (handle.Own id) = id
@@ -92,16 +88,6 @@ kind_parts (kind.Future ty) = plain_part Value (codes "element") ty ∷ []
 kind_parts (kind.Stream ty) = plain_part Value (codes "element") ty ∷ []
 kind_parts (kind.Type_ ty) = plain_part Target (codes "alias") (Some ty) ∷ []
 kind_parts kind.Unknown = []
-
--- what the code calls those of a variant that have no names of their own
-abbrev pub plain_step : Variant → ℕ → List ℕ
-plain_step variants.Own i = codes "handle"
-plain_step variants.Borrow i = codes "handle"
-plain_step variants.Alias i = codes "alias"
-plain_step variants.Map i = if nat_eq i 0 then codes "key" else codes "value"
-plain_step variants.Result_ i = if nat_eq i 0 then codes "ok" else codes "err"
-plain_step variants.Tuple i = decimal i
-plain_step other i = codes "element"
 
 -- ---- a kind with its parts changed
 

@@ -30,11 +30,6 @@ entry_type _ _ = []
 abbrev pub world_types : World → List (List ℕ × ℕ)
 world_types world = flat_map (λ (e : WorldKey × WorldItem). entry_type e.0 e.1) world.imports
 
--- the item is there, and is type id
-abbrev pub IsTypeItem : Option WorldItem → ℕ → Type 0
-IsTypeItem (Some (item.Type_ id span)) i = id ≡ i
-IsTypeItem _ i = ⊥
-
 -- a type with an owner has a name and is listed by its owner under it, one without has none
 abbrev pub IsListed : List Interface → List World → ℕ → Option (List ℕ) → TypeOwner → Type 0
 IsListed interfaces worlds i name owner.None = name ≡ None

@@ -3,7 +3,8 @@ ghost use Rattle.std.specs.Prelude.{◌≡◌, ◌≢◌, ◌∷◌, ◌++◌, [
 ghost use Rattle.std.specs.List.{flat_map};
 ghost use Rattle.std.specs.Option.{option_copied};
 ghost use Rattle.wit_data.specs.Each.{Each};
-ghost use Rattle.wit_data.specs.Kind.{KindPart, fixed_length, kind_parts, part_name, plain_step, variant_of, named_option, named_type};
+ghost use Rattle.wit_data.specs.Kind.{KindPart, fixed_length, kind_parts, variant_of, named_option, named_type};
+ghost use Rattle.wit_data.specs.steps.Kind.{part_name, plain_step};
 ghost use Rattle.wit_data.specs.declared.kind.Variant.TheVariants.{Tuple};
 ghost use Rattle.wit_data.specs.declared.types.Case.{Case};
 ghost use Rattle.wit_data.specs.declared.types.Field.{Field};

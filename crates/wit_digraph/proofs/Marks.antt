@@ -7,7 +7,7 @@ use Rattle.std.proofs.lemmas.Option.{get_or_from_slice_get, slice_get_cases}
 use Rattle.wit_digraph.specs.facts.BitFacts.{bit_of-selected_same, bit_of-selected_other, bit_of-longer}
 use Rattle.wit_digraph.specs.facts.MemberFacts.{Contains-nil, Contains-cons_cases}
 use Rattle.wit_digraph.specs.steps.Rows.{HasBit, bit_of}
-use Rattle.wit_digraph.specs.PostOrder.{AreMarksOf}
+use Rattle.wit_digraph.specs.steps.PostOrder.{AreMarksOf}
 
 -- without bits none is listed
 pub AreMarksOf-none : (nodes : ℕ) (marks : List ℕ) → nodes ≤ 64 * length marks → ((i : ℕ) → bit_of marks i ≡ 0) → AreMarksOf nodes marks []

@@ -6,7 +6,8 @@ use Rattle.std.proofs.lemmas.List.Elements.{All-nil, All-pop, All-push, Contains
 use Rattle.wit_digraph.specs.facts.MemberFacts.{Contains-nil, Contains-here, Contains-cons_cases}
 use Rattle.wit_digraph.proofs.Searching.{KeepsDone, set_done, set_open, DoneAreClear-open, DoneAreClear-done, IsWay, IsWay-keeps, last_done, IsWay-replaced, IsWay-popped, IsWay-reaches}
 use Rattle.wit_digraph.specs.Relation.{direct, Reaches, IsInRange}
-use Rattle.wit_digraph.specs.Cycles.{IsOnCycle, mark_of, DoneAreClear, IsFinished}
+use Rattle.wit_digraph.specs.Cycles.{IsOnCycle}
+use Rattle.wit_digraph.specs.steps.Cycles.{mark_of, DoneAreClear, IsFinished}
 use Rattle.wit_digraph.specs.declared.cycle.Mark.{Mark}
 use Rattle.wit_digraph.specs.declared.cycle.Mark.TheVariants.{Unseen, Open, Done}
 use Rattle.wit_digraph.specs.declared.frame.Frame.{Frame}

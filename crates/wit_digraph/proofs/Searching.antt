@@ -4,7 +4,7 @@ use Rattle.std.proofs.lemmas.Bool.{cases_eq}
 use Rattle.std.proofs.lemmas.List.{get_or-set_same, get_or-set_other}
 use Rattle.wit_digraph.specs.facts.MemberFacts.{Contains-nil, Contains-here, Contains-cons_cases}
 use Rattle.wit_digraph.specs.Relation.{direct, IsPath, Reaches}
-use Rattle.wit_digraph.specs.Cycles.{mark_of, DoneAreClear}
+use Rattle.wit_digraph.specs.steps.Cycles.{mark_of, DoneAreClear}
 use Rattle.wit_digraph.specs.declared.cycle.Mark.{Mark}
 use Rattle.wit_digraph.specs.declared.cycle.Mark.TheVariants.{Unseen, Open, Done}
 use Rattle.wit_digraph.specs.declared.frame.Frame.{Frame}

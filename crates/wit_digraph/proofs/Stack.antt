@@ -7,7 +7,8 @@ use Rattle.std.proofs.lemmas.List.Concat.{flat_map-append}
 use Rattle.wit_digraph.specs.facts.PostOrderFacts.{post_order_is, UsesFirst-append, UsesFirst-left, UsesFirst-post_order, UsesFirst-IsPath, Reaches-from_post_order, Contains-post_order_end}
 use Rattle.wit_digraph.specs.facts.FreshFacts.{fresh-there, fresh-absent, fresh-append, fresh-all_seen, UsesFirst-fresh}
 use Rattle.wit_digraph.specs.Relation.{direct, IsAcyclic}
-use Rattle.wit_digraph.specs.PostOrder.{post_order, fresh, first_of_each, UsesFirst}
+use Rattle.wit_digraph.specs.PostOrder.{post_order, fresh, first_of_each}
+use Rattle.wit_digraph.specs.steps.PostOrder.{UsesFirst}
 use Rattle.wit_digraph.specs.declared.frame.Frame.{Frame}
 
 -- what a frame still has to walk: the post-orders of its node's uses from the next one on, then the node

@@ -1,8 +1,7 @@
 -- The post-order of a node: the post-orders of its direct uses, in order, then the node; and the first of each member.
-use Rattle.std.specs.Prelude.{◌↔◌, ℕ, ◌<◌, ◌≤◌, ◌*◌, zero, suc, List, [], ◌∷◌, ◌++◌, length, Contains, All, nat_eq, if◌then◌else◌, flat_map}
+use Rattle.std.specs.Prelude.{ℕ, zero, suc, List, [], ◌∷◌, ◌++◌, length, nat_eq, if◌then◌else◌, flat_map}
 use Rattle.std.specs.List.{list_any}
 use Rattle.wit_digraph.specs.Relation.{direct}
-use Rattle.wit_digraph.specs.steps.Rows.{HasBit}
 
 -- the post-orders of i's direct uses in order, then i, along paths of at most `members` members
 unfoldable pub post_order_within : List (List ℕ) → ℕ → ℕ → List ℕ
@@ -22,19 +21,3 @@ fresh seen (x ∷ xs) = if list_any (nat_eq x) seen then fresh seen xs else x �
 -- the first of each member
 abbrev pub first_of_each : List ℕ → List ℕ
 first_of_each xs = fresh [] xs
-
--- each member's direct uses are among those seen, or stand before it
-abbrev pub UsesFirst : List (List ℕ) → List ℕ → List ℕ → Type 0
-UsesFirst uses seen [] = Unit {0}
-UsesFirst uses seen (i ∷ rest) = All (Contains seen) (direct uses i) × UsesFirst uses (seen ++ i ∷ []) rest
-
--- what a listing of nodes is: how many nodes there are, and the order of those that are listed
-pub record Listed : Type 0 where
-  pub nodes : ℕ
-  pub order : List ℕ
-
--- the bits of the marks tell which nodes are listed, and no other is
-pub record AreMarksOf (nodes : ℕ) (marks order : List ℕ) : Type 0 where
-  pub enough : nodes ≤ 64 * length marks
-  pub each : (i : ℕ) → HasBit marks i ↔ Contains order i
-  pub in_range : All (λ i. i < nodes) order

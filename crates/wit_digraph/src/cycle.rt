@@ -1,6 +1,7 @@
 //! Cycles along uses: whether there is one, and a use on it.
 ghost use Rattle.std.specs.Prelude.{◌≡◌, ◌<◌, ◌↔◌, IfOk, IfSome, IfNone, IsNone, IsTrue, length};
-ghost use Rattle.wit_digraph.specs.Cycles.{Finishes, IsFinished, IsOnCycle};
+ghost use Rattle.wit_digraph.specs.Cycles.{IsOnCycle};
+ghost use Rattle.wit_digraph.specs.steps.Cycles.{Finishes, IsFinished};
 ghost use Rattle.wit_digraph.specs.Relation.{IsAcyclic, IsInRange};
 
 use crate::frame::Frame;

@@ -5,7 +5,8 @@
 ghost use Rattle.std.specs.Prelude.{◌≡◌, ℕ, ◌<◌, ◌≤◌, ◌+◌, ◌++◌, ◌∷◌, ◌↔◌, [], OnOk, OnErr, IfOk, IsTrue, All, Contains, length};
 ghost use Rattle.std.specs.List.{flat_map};
 ghost use Rattle.wit_digraph.specs.Relation.{IsAcyclic};
-ghost use Rattle.wit_digraph.specs.PostOrder.{UsesFirst, first_of_each, fresh, post_order};
+ghost use Rattle.wit_digraph.specs.PostOrder.{first_of_each, fresh, post_order};
+ghost use Rattle.wit_digraph.specs.steps.PostOrder.{UsesFirst};
 
 use crate::frame::Frame;
 use crate::relation::direct_uses;
@@ -24,7 +25,7 @@ pub struct Listing {
 }
 
 impl Model for Listing {
-    ghost use Rattle.wit_digraph.specs.PostOrder.{AreMarksOf, Listed};
+    ghost use Rattle.wit_digraph.specs.steps.PostOrder.{AreMarksOf, Listed};
 
     ghost Value = { Listed };
 

@@ -10,7 +10,7 @@ use Rattle.wit_data.specs.declared.world.WorldKey.TheVariants.{Name, Interface}
 use Rattle.wit_digraph.specs.facts.MemberFacts.{Contains-nil, Contains-here, Contains-there}
 use Rattle.wit_digraph.specs.facts.PostOrderFacts.{Reaches-from_post_order, UsesFirst-append, UsesFirst-IsPath}
 use Rattle.wit_digraph.specs.Relation.{IsAcyclic}
-use Rattle.wit_digraph.specs.PostOrder.{UsesFirst}
+use Rattle.wit_digraph.specs.steps.PostOrder.{UsesFirst}
 use Rattle.wit_elaboration.specs.Entries.{Entry, Role, Instance, TypeUse, TypeDefinition, FreeFunction, ResourceFunction, role_of, key_interface, same_key, fresh_entries}
 use Rattle.wit_elaboration.specs.Elaborated.{InheritedData, dependency_of, dependencies_before}
 use Rattle.wit_elaboration.specs.laws.ElaborationLaws.{stands_on, DependenciesFirst}

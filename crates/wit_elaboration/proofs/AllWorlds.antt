@@ -7,7 +7,8 @@ use Rattle.wit_data.specs.Each.{EachAt}
 use Rattle.wit_data.specs.facts.EachFacts.{EachBelow, all, more}
 use Rattle.wit_data.specs.declared.world.World.{World}
 use Rattle.wit_elaboration.specs.Elaborated.{elaborated_exports, elaborated_imports}
-use Rattle.wit_elaboration.specs.Elaboration.{IsConflictError, graph_uses, AreListsOf, IsRefusedWorld, elaborated_world, with_lists}
+use Rattle.wit_elaboration.specs.Elaboration.{IsConflictError, graph_uses, elaborated_world}
+use Rattle.wit_elaboration.specs.steps.Elaboration.{AreListsOf, IsRefusedWorld, with_lists}
 use Rattle.wit_elaboration.specs.declared.entries.Lists.{Lists}
 use Rattle.wit_graph_data.specs.declared.graph.Graph.{Graph}
 use Rattle.wit_graph_data.specs.declared.error_kind.ResolveErrorKind.{ResolveErrorKind}

@@ -8,7 +8,8 @@ use Rattle.wit_digraph.specs.facts.MemberFacts.{Contains-flat_map, Contains-flat
 use Rattle.wit_digraph.specs.facts.PostOrderFacts.{Contains-post_order_end, Reaches-from_post_order, UsesFirst-post_order, UsesFirst-flat_map}
 use Rattle.wit_digraph.specs.facts.FreshFacts.{fresh_in, fresh_all, UsesFirst-fresh, IsDistinct-fresh}
 use Rattle.wit_digraph.specs.Relation.{direct, IsPath, IsAcyclic}
-use Rattle.wit_digraph.specs.PostOrder.{UsesFirst, post_order, first_of_each}
+use Rattle.wit_digraph.specs.PostOrder.{post_order, first_of_each}
+use Rattle.wit_digraph.specs.steps.PostOrder.{UsesFirst}
 use Rattle.wit_elaboration.proofs.Marking.{UsesFirst-at}
 use Rattle.wit_elaboration.specs.steps.Closures.{AreRowsOfAll, IsOrder, IsRowOf}
 

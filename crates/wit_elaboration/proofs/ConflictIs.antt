@@ -7,7 +7,8 @@ use Rattle.wit_digraph.specs.facts.FreshFacts.{fresh_all, fresh_in, contains_fro
 use Rattle.wit_digraph.specs.facts.MemberFacts.{Contains-flat_map, Contains-flat_map_cases}
 use Rattle.wit_digraph.specs.facts.PostOrderFacts.{Contains-post_order_end, UsesFirst-IsPath}
 use Rattle.wit_digraph.specs.Relation.{direct, IsPath, Reaches, IsAcyclic}
-use Rattle.wit_digraph.specs.PostOrder.{UsesFirst, post_order, first_of_each}
+use Rattle.wit_digraph.specs.PostOrder.{post_order, first_of_each}
+use Rattle.wit_digraph.specs.steps.PostOrder.{UsesFirst}
 use Rattle.wit_elaboration.specs.Elaborated.{dependencies_before}
 use Rattle.wit_elaboration.specs.steps.Elaborating.{AreMarked, AreOutside, HasMarkedUse, IsExportedList}
 use Rattle.wit_elaboration.specs.Entries.{Entry, Instance, item_interface}

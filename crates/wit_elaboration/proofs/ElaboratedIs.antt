@@ -14,7 +14,7 @@ use Rattle.wit_data.specs.contracts.world.WorldKeyPartialEq.TheImpl.{eq-value}
 use Rattle.wit_digraph.specs.facts.FreshFacts.{any_from_contains, contains_from_any}
 use Rattle.wit_digraph.specs.facts.MemberFacts.{Contains-nil, Contains-here, Contains-there, Contains-cons_cases, Contains-flat_map, Contains-flat_map_cases}
 use Rattle.wit_digraph.specs.Relation.{IsAcyclic}
-use Rattle.wit_digraph.specs.PostOrder.{Listed}
+use Rattle.wit_digraph.specs.steps.PostOrder.{Listed}
 use Rattle.wit_elaboration.specs.Elaborated.{dependency_of, export_needs, inherited_by_export, import_with_needs, elaborated_imports, elaborated_exports}
 use Rattle.wit_elaboration.specs.steps.Elaborating.{IsExportedList, is_listed}
 use Rattle.wit_elaboration.specs.Entries.{Entry, role_of, item_interface, key_interface, same_key, by_class, fresh_entries}

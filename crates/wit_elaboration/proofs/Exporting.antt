@@ -8,7 +8,8 @@ use Rattle.wit_data.specs.declared.world.WorldItem.{WorldItem}
 use Rattle.wit_data.specs.declared.world.WorldItem.TheVariants as item
 use Rattle.wit_data.specs.declared.world.WorldKey.TheVariants.{Interface}
 use Rattle.wit_digraph.specs.facts.FreshFacts.{fresh_in}
-use Rattle.wit_digraph.specs.PostOrder.{Listed, fresh}
+use Rattle.wit_digraph.specs.PostOrder.{fresh}
+use Rattle.wit_digraph.specs.steps.PostOrder.{Listed}
 use Rattle.wit_elaboration.specs.Elaborated.{InheritedData, dependencies_before, dependency_of, export_needs, inherited_by_export}
 use Rattle.wit_elaboration.specs.steps.Elaborating.{IsPostOrder, IsExporting}
 use Rattle.wit_elaboration.specs.steps.Parts.{export_with_needs, interface_needs}

@@ -8,7 +8,8 @@ use Rattle.std.proofs.lemmas.List.Elements.{Contains-append_cases}
 use Rattle.wit_data.specs.declared.types.TypeDef.{TypeDef}
 use Rattle.wit_data.specs.declared.world.WorldKey.TheVariants.{Interface}
 use Rattle.wit_digraph.specs.facts.FreshFacts.{fresh-append, fresh_in}
-use Rattle.wit_digraph.specs.PostOrder.{Listed, fresh, post_order}
+use Rattle.wit_digraph.specs.PostOrder.{fresh, post_order}
+use Rattle.wit_digraph.specs.steps.PostOrder.{Listed}
 use Rattle.wit_elaboration.specs.Elaborated.{InheritedData, dependency_of, inherited_by_import, dependencies_before, without_span, import_with_needs}
 use Rattle.wit_elaboration.specs.steps.Elaborating.{IsPostOrder, IsImporting}
 use Rattle.wit_elaboration.specs.Entries.{Entry, role_of, fresh_entries}

@@ -6,7 +6,8 @@ use Rattle.wit_values.specs.facts.Lists.{take-next_at}
 use Rattle.wit_digraph.specs.facts.FreshFacts.{fresh_in, fresh_all}
 use Rattle.wit_digraph.specs.facts.MemberFacts.{Contains-nil, Contains-here, Contains-there, Contains-cons_cases}
 use Rattle.wit_digraph.specs.Relation.{direct, IsPath}
-use Rattle.wit_digraph.specs.PostOrder.{UsesFirst, fresh}
+use Rattle.wit_digraph.specs.PostOrder.{fresh}
+use Rattle.wit_digraph.specs.steps.PostOrder.{UsesFirst}
 use Rattle.wit_elaboration.specs.steps.Elaborating.{ReachesOneOf, AreMarked, AreOutside, HasMarkedUse}
 
 -- what stands at a place is a member

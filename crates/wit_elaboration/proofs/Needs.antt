@@ -7,7 +7,8 @@ use Rattle.wit_digraph.specs.facts.FreshFacts.{any_from_contains, contains_from_
 use Rattle.wit_digraph.specs.facts.MemberFacts.{Contains-nil, Contains-here, Contains-there, Contains-cons_cases, Contains-flat_map, Contains-flat_map_cases}
 use Rattle.wit_digraph.specs.facts.PostOrderFacts.{Reaches-from_post_order, UsesFirst-append, UsesFirst-post_order, UsesFirst-IsPath, post_order-from_IsPath}
 use Rattle.wit_digraph.specs.Relation.{direct, IsPath, IsAcyclic, Reaches}
-use Rattle.wit_digraph.specs.PostOrder.{UsesFirst, post_order}
+use Rattle.wit_digraph.specs.PostOrder.{post_order}
+use Rattle.wit_digraph.specs.steps.PostOrder.{UsesFirst}
 use Rattle.wit_elaboration.specs.Elaborated.{dependencies_before}
 use Rattle.wit_elaboration.specs.Entries.{Entry, Role, Instance, TypeUse, TypeDefinition, FreeFunction, ResourceFunction, item_interface}
 use Rattle.wit_elaboration.specs.Imported.{HasTransitiveConflict, is_exported}

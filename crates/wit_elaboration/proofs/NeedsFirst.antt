@@ -10,7 +10,7 @@ use Rattle.wit_data.specs.declared.world.WorldKey.TheVariants.{Interface}
 use Rattle.wit_digraph.specs.facts.MemberFacts.{Contains-nil, Contains-here, Contains-cons_cases, Contains-flat_map_cases}
 use Rattle.wit_digraph.specs.facts.PostOrderFacts.{UsesFirst-append}
 use Rattle.wit_digraph.specs.Relation.{IsAcyclic}
-use Rattle.wit_digraph.specs.PostOrder.{UsesFirst}
+use Rattle.wit_digraph.specs.steps.PostOrder.{UsesFirst}
 use Rattle.wit_elaboration.specs.Entries.{Entry, Instance, same_key, fresh_entries}
 use Rattle.wit_elaboration.specs.Elaborated.{InheritedData, dependencies_before, dependency_of, export_needs, inherited_by_export}
 use Rattle.wit_elaboration.specs.facts.Filters.{Contains-filter, filter-pass, filter-fail}

@@ -5,7 +5,7 @@ use Rattle.std.proofs.lemmas.List.{take_more, take_all}
 use Rattle.std.proofs.lemmas.List.Elements.{Contains-append_cases}
 use Rattle.wit_digraph.specs.facts.MemberFacts.{Contains-nil, Contains-cons_cases}
 use Rattle.wit_digraph.specs.Relation.{IsPath}
-use Rattle.wit_digraph.specs.PostOrder.{UsesFirst}
+use Rattle.wit_digraph.specs.steps.PostOrder.{UsesFirst}
 use Rattle.wit_digraph.specs.steps.Rows.{HasBit, bit_of}
 use Rattle.wit_elaboration.specs.steps.Closures.{HasUse, ReachesTarget, IsMarkRow}
 use Rattle.wit_elaboration.proofs.Marking.{UsesFirst-at}

@@ -9,7 +9,8 @@ use Rattle.wit_digraph.specs.Relation.{IsAcyclic}
 use Rattle.wit_graph_data.specs.declared.graph.Graph.{Graph}
 use Rattle.wit_graph_data.specs.declared.error_kind.ResolveErrorKind.{ResolveErrorKind}
 use Rattle.wit_elaboration.specs.steps.Elaborating.{IsFirstConflict}
-use Rattle.wit_elaboration.specs.Elaboration.{graph_uses, HasConflictAt, IsConflictError, IsErrorAt}
+use Rattle.wit_elaboration.specs.Elaboration.{graph_uses, HasConflictAt, IsConflictError}
+use Rattle.wit_elaboration.specs.steps.Elaboration.{IsErrorAt}
 use Rattle.wit_elaboration.specs.Entries.{Entry}
 use Rattle.wit_graph_data.specs.IdText.{key_text}
 use Rattle.wit_data.specs.Each.{First}

@@ -1,19 +1,15 @@
 -- The elaboration of one world of a graph.
-use Rattle.std.specs.Prelude.{ℕ, ◌≡◌, ◌<◌, List, Some, length, slice_get, slice_set, map, Contains, Option, None}
+use Rattle.std.specs.Prelude.{ℕ, ◌≡◌, ◌<◌, List, Some, length, slice_get, slice_set, map}
 use Rattle.std.specs.Option.{ForSome}
 use Rattle.wit_data.specs.Uses.{uses_of}
 use Rattle.wit_data.specs.declared.world.World.{World}
 use Rattle.wit_digraph.specs.Relation.{IsAcyclic}
-use Rattle.wit_elaboration.specs.declared.entries.Lists.{Lists}
 use Rattle.wit_graph_data.specs.declared.graph.Graph.{Graph}
 use Rattle.wit_graph_data.specs.declared.error_kind.ResolveErrorKind.{ResolveErrorKind}
 use Rattle.wit_graph_data.specs.declared.error_kind.ResolveErrorKind.TheVariants.{InvalidTransitiveDependency}
 use Rattle.wit_elaboration.specs.Elaborated.{Elaborated, with_elaborated_lists}
-use Rattle.wit_elaboration.specs.Entries.{Entry}
-use Rattle.wit_graph_data.specs.IdText.{key_text}
 use Rattle.wit_elaboration.specs.Imported.{HasTransitiveConflict, IsRefusedName}
 use Rattle.wit_elaboration.specs.Sound.{HasSoundEntries}
-use Rattle.std.specs.List.{AllZip}
 
 -- which interfaces of a graph use which
 abbrev pub graph_uses : Graph → List (List ℕ)
@@ -44,11 +40,6 @@ IsConflictError g world error =
 abbrev pub IsElaborationError : Graph → ℕ → ResolveErrorKind → Type 0
 IsElaborationError g id error = ForSome (slice_get g.worlds id) (λ (world : World). IsConflictError g world error)
 
--- the error that names the export at a place
-abbrev pub IsErrorAt : Graph → World → ℕ → ResolveErrorKind → Type 0
-IsErrorAt g world at e =
-    (entry : Entry) × (slice_get world.exports at ≡ Some entry) × (e ≡ InvalidTransitiveDependency world.span (key_text g.packages g.interfaces entry.0))
-
 -- a world can be elaborated: it is there, its keys and ids are in order, and uses are acyclic
 pub record CanElaborate (g : Graph) (id : ℕ) : Type 0 where
   pub there : id < length g.worlds
@@ -64,21 +55,3 @@ elaborated_world g world = with_elaborated_lists g.types (graph_uses g) world
 -- the graph with all its worlds elaborated
 abbrev pub all_elaborated : Graph → Graph
 all_elaborated g = record g { worlds = map (elaborated_world g) g.worlds }
-
--- a world with other lists in place of its own, where there are others
-abbrev pub with_lists : World → Option Lists → World
-with_lists world None = world
-with_lists world (Some lists) = record world { imports = lists.imports; exports = lists.exports }
-
--- of each world its lists, which make of it the elaborated one
-abbrev pub AreListsOf : Graph → List World → List (Option Lists) → Type 0
-AreListsOf g worlds lists = AllZip (λ (world : World) (new : Option Lists). with_lists world new ≡ elaborated_world g world) worlds lists
-
--- some world is in conflict, and the error tells it: at its span, by the name that is refused
-pub record IsRefusedWorld (g : Graph) (error : ResolveErrorKind) : Type 0 where
-  pub world : World
-  pub there : Contains g.worlds world
-  pub conflict : HasTransitiveConflict (graph_uses g) world.exports
-  pub name : List ℕ
-  pub name_is : IsRefusedName g.packages g.interfaces (graph_uses g) world.exports name
-  pub error_is : error ≡ InvalidTransitiveDependency world.span name

@@ -1,3 +1,4 @@
 pub mod Closures
 pub mod Elaborating
+pub mod Elaboration
 pub mod Parts

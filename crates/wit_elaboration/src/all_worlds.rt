@@ -1,6 +1,7 @@
 //! All worlds of a graph are elaborated, or none.
 ghost use Rattle.std.specs.Prelude.{◌≡◌, ◌⊎◌, IfErr, IfOk, OnErr, OnOk, length};
-ghost use Rattle.wit_elaboration.specs.Elaboration.{IsConflictError, graph_uses, AreListsOf, IsRefusedWorld, all_elaborated, elaborated_world, with_lists};
+ghost use Rattle.wit_elaboration.specs.Elaboration.{IsConflictError, graph_uses, all_elaborated, elaborated_world};
+ghost use Rattle.wit_elaboration.specs.steps.Elaboration.{AreListsOf, IsRefusedWorld, with_lists};
 ghost use Rattle.wit_elaboration.specs.Imported.{HasTransitiveConflict};
 ghost use Rattle.wit_elaboration.specs.Sound.{HasSoundEntries};
 ghost use Rattle.wit_graph_data.specs.declared.error_kind.ResolveErrorKind.TheVariants.{OutOfMemory};

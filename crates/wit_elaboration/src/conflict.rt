@@ -12,7 +12,8 @@ ghost use Rattle.wit_elaboration.specs.steps.Elaborating.{AreMarked, AreOutside,
 ghost use Rattle.wit_elaboration.specs.Entries.{Entry, item_interface};
 ghost use Rattle.wit_elaboration.specs.Imported.{HasTransitiveConflict};
 ghost use Rattle.wit_digraph.specs.Relation.{IsAcyclic, direct};
-ghost use Rattle.wit_digraph.specs.PostOrder.{UsesFirst, first_of_each, fresh};
+ghost use Rattle.wit_digraph.specs.PostOrder.{first_of_each, fresh};
+ghost use Rattle.wit_digraph.specs.steps.PostOrder.{UsesFirst};
 ghost use Rattle.wit_elaboration.specs.steps.Parts.{exported_keys, exported_interfaces, LeadsToConflict};
 
 use crate::closure_rows::ClosureRows;

@@ -3,7 +3,8 @@
 //! A listed world says what it imports and exports; its elaboration adds what these need. Imports
 //! get what they use before them, exports too, and what exports need from outside is imported.
 ghost use Rattle.std.specs.Prelude.{◌≡◌, ◌⊎◌, ◌<◌, ◌++◌, ◌∷◌, [], IfOk, IfErr, IsTrue, OnOk, OnErr, length, take};
-ghost use Rattle.wit_elaboration.specs.Elaboration.{elaborated_world, ElaboratesWorld, HasConflictAt, IsConflictError, IsElaborationError, IsErrorAt, HasSoundEntriesAt, graph_uses};
+ghost use Rattle.wit_elaboration.specs.Elaboration.{elaborated_world, ElaboratesWorld, HasConflictAt, IsConflictError, IsElaborationError, HasSoundEntriesAt, graph_uses};
+ghost use Rattle.wit_elaboration.specs.steps.Elaboration.{IsErrorAt};
 ghost use Rattle.wit_elaboration.specs.Elaborated.{elaborated_exports, elaborated_imports};
 ghost use Rattle.wit_elaboration.specs.steps.Elaborating.{HaveNodes, IsExportedList};
 ghost use Rattle.wit_elaboration.specs.Imported.{HasTransitiveConflict};

@@ -2,7 +2,7 @@
 ghost use Rattle.std.specs.Prelude.{◌≡◌, ℕ, ◌*◌, ◌<◌, ◌≤◌, ◌↔◌, All, IsTrue, length, []};
 ghost use Rattle.wit_digraph.specs.Relation.{IsAcyclic};
 ghost use Rattle.wit_digraph.specs.steps.Rows.{HasBit};
-ghost use Rattle.wit_digraph.specs.PostOrder.{UsesFirst};
+ghost use Rattle.wit_digraph.specs.steps.PostOrder.{UsesFirst};
 ghost use Rattle.wit_elaboration.specs.steps.Closures.{HasUse, IsMarkRow};
 
 use crate::rows::clear;

@@ -10,7 +10,8 @@ use Rattle.std.specs.Str.{bytes_eq}
 use Rattle.wit_data.specs.declared.world.WorldKey.{WorldKey}
 use Rattle.wit_data.specs.declared.world.WorldKey.TheVariants as key
 use Rattle.wit_values.specs.facts.Lists.{lookup-push}
-use Rattle.wit_labels.specs.Strong.{AreStronglyUnique, Clashes, strong_key}
+use Rattle.wit_labels.specs.Strong.{Clashes, strong_key}
+use Rattle.wit_labels.specs.steps.Strong.{AreStronglyUnique}
 use Rattle.wit_labels.specs.declared.strong.StrongKey.{StrongKey}
 use Rattle.wit_labels.specs.contracts.strong.StrongKeyPartialEq.TheImpl.{eq-value}
 use Rattle.wit_labels.specs.contracts.strong.ClassPartialEq.TheImpl as class

@@ -7,7 +7,8 @@ use Rattle.wit_values.specs.facts.Lists.{differ}
 use Rattle.wit_data.specs.Entries.{Entry}
 use Rattle.wit_data.specs.declared.world.WorldKey.TheVariants as key
 use Rattle.wit_labels.specs.examples.Examples.{ExamplesOfSetters, function_entry}
-use Rattle.wit_labels.specs.Setters.{IsSetter, getter_label, is_function, is_setter_label}
+use Rattle.wit_labels.specs.Setters.{getter_label, is_setter_label}
+use Rattle.wit_labels.specs.steps.Setters.{IsSetter, is_function}
 
 name_same : (a b : List ℕ) → key.Name a ≡ key.Name b → a ≡ b
 name_same a b same = cc

@@ -17,7 +17,8 @@ use Rattle.wit_data.specs.declared.world.WorldItem.{WorldItem}
 use Rattle.wit_data.specs.declared.world.WorldKey.{WorldKey}
 use Rattle.wit_data.specs.declared.world.WorldItem.TheVariants as item
 use Rattle.wit_data.specs.declared.world.WorldKey.TheVariants as key
-use Rattle.wit_labels.specs.Setters.{HaveGetters, IsSetter, LacksGetterAt, getter_label, is_setter_label, replaced_first, wanted_getter}
+use Rattle.wit_labels.specs.Setters.{getter_label, is_setter_label, replaced_first, wanted_getter}
+use Rattle.wit_labels.specs.steps.Setters.{HaveGetters, IsSetter, LacksGetterAt}
 
 -- ---- the first occurrence of a text
 

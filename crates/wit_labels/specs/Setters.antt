@@ -1,10 +1,9 @@
 -- Where setters stand in a list of a world: beside their getters.
 -- Source: getters and setters on the WIT page of the component model; `process_world_includes` of wit-parser
 -- 0.263.0. That a setter is told by its label is a rule of this project.
-use Rattle.std.specs.Prelude.{◌≡◌, ℕ, ◌&&◌, Bool, not, false, List, [], ◌∷◌, ◌++◌, length, drop, nat_eq, codes, Contains, Option, Some, None, slice_get, if◌then◌else◌, bytes_eq}
+use Rattle.std.specs.Prelude.{ℕ, ◌&&◌, Bool, not, false, List, [], ◌∷◌, ◌++◌, length, drop, nat_eq, codes, Option, Some, None, if◌then◌else◌, bytes_eq}
 use Rattle.std.specs.List.{list_any, starts_with}
 use Rattle.std.specs.Option.{option_map_or}
-use Rattle.std.specs.Map.{keys_of}
 use Rattle.wit_data.specs.Entries.{Entry}
 use Rattle.wit_data.specs.declared.world.WorldItem.{WorldItem}
 use Rattle.wit_data.specs.declared.world.WorldKey.{WorldKey}
@@ -25,34 +24,10 @@ is_setter_label label = list_any (bytes_eq (codes "[set]")) (groups_of label) &&
 abbrev pub getter_label : List ℕ → List ℕ
 getter_label label = replaced_first (codes "[set]") (codes "[get]") label
 
--- is the entry a function?
-abbrev pub is_function : WorldItem → Bool
-is_function (item.Interface id stability docs span external_id) = false
-is_function (item.Function function) = Bool.true
-is_function (item.Type_ id span) = false
-
 -- the label of the getter that an entry asks for, where the entry is a setter
 abbrev pub wanted_getter : WorldKey → WorldItem → Option (List ℕ)
 wanted_getter (key.Name label) (item.Function function) = if is_setter_label label then Some (getter_label label) else None
 wanted_getter k held = None
-
--- ---- setters without a getter
-
--- the entry is a setter under this label
-abbrev pub IsSetter : List ℕ → Entry → Type 0
-IsSetter label e = (e.0 ≡ key.Name label) × (is_function e.1 && is_setter_label label ≡ Bool.true)
-
--- each setter's getter, or whatever has its label, is in the same list
-abbrev pub HaveGetters : List Entry → Type 0
-HaveGetters entries = (e : Entry) (label : List ℕ) → Contains entries e → IsSetter label e → Contains (keys_of entries) (key.Name (getter_label label))
-
--- the entry at this index is a setter without a getter
-pub record LacksGetterAt (entries : List Entry) (index : ℕ) : Type 0 where
-  pub label : List ℕ
-  pub entry : Entry
-  pub at : slice_get entries index ≡ Some entry
-  pub setter : IsSetter label entry
-  pub absent : Contains (keys_of entries) (key.Name (getter_label label)) → ⊥
 
 -- ---- where setters stand
 

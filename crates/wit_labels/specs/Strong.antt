@@ -24,7 +24,3 @@ strong_key label = record { class = slice_get (filter_map class_named (groups_of
 -- label n clashes with the label m that stands earlier in the list
 abbrev pub Clashes : List WorldKey → List ℕ → List ℕ → Type 0
 Clashes keys n m = (i : ℕ) × (j : ℕ) × (i < j) × (slice_get keys i ≡ Some (key.Name m)) × (slice_get keys j ≡ Some (key.Name n)) × (strong_key n ≡ strong_key m)
-
--- no two labels of the list clash
-abbrev pub AreStronglyUnique : List WorldKey → Type 0
-AreStronglyUnique keys = (n m : List ℕ) → Clashes keys n m → ⊥

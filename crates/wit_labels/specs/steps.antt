@@ -1,3 +1,5 @@
 pub mod FirstRenamings
 pub mod Parts
 pub mod Placing
+pub mod Setters
+pub mod Strong

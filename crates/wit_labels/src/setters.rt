@@ -1,6 +1,7 @@
 //! Setters and their getters.
 ghost use Rattle.std.specs.Prelude.{◌≡◌, IfOk, IfSome, IfNone, Some, None, if◌then◌else◌, is_some};
-ghost use Rattle.wit_labels.specs.Setters.{HaveGetters, LacksGetterAt, getter_label, is_setter_label, wanted_getter};
+ghost use Rattle.wit_labels.specs.Setters.{getter_label, is_setter_label, wanted_getter};
+ghost use Rattle.wit_labels.specs.steps.Setters.{HaveGetters, LacksGetterAt};
 
 use crate::groups::has_group;
 use std::alloc::{AllocError, Global};

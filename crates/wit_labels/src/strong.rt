@@ -1,7 +1,8 @@
 //! Which labels of a world are not strongly unique.
 ghost use Rattle.std.specs.Prelude.{◌≡◌, IfOk, IfSome, IfNone};
 ghost use Rattle.std.specs.Map.{keys_of};
-ghost use Rattle.wit_labels.specs.Strong.{AreStronglyUnique, Clashes, class_named, strong_key};
+ghost use Rattle.wit_labels.specs.Strong.{Clashes, class_named, strong_key};
+ghost use Rattle.wit_labels.specs.steps.Strong.{AreStronglyUnique};
 ghost use Rattle.wit_labels.specs.steps.Parts.{label_class};
 
 use crate::groups::{rest_of, split_group};

@@ -14,8 +14,10 @@ use Rattle.wit_graph_data.specs.declared.graph.Graph.{Graph}
 use Rattle.wit_graph_data.specs.declared.error_kind.ResolveErrorKind.{ResolveErrorKind}
 use Rattle.wit_graph_data.specs.declared.error_kind.ResolveErrorKind.TheVariants.{PackageNotFound, WorldNotFound, InterfaceNotFound, InvalidTransitiveDependency, DuplicatePackage, PackageCycle, ItemShadowing, StabilityMismatch, Semantic, OffsetOverflow, OutOfMemory}
 use Rattle.wit_graph_theory.specs.facts.ListFacts.{contained_at, same_at}
-use Rattle.wit_labels.specs.Setters.{HaveGetters, IsSetter, LacksGetterAt, getter_label, setters_placed, is_setter_label}
-use Rattle.wit_labels.specs.Strong.{AreStronglyUnique, Clashes}
+use Rattle.wit_labels.specs.Setters.{getter_label, setters_placed, is_setter_label}
+use Rattle.wit_labels.specs.steps.Setters.{HaveGetters, IsSetter, LacksGetterAt}
+use Rattle.wit_labels.specs.Strong.{Clashes}
+use Rattle.wit_labels.specs.steps.Strong.{AreStronglyUnique}
 use Rattle.wit_link_spec.specs.CauseText.{clash_text, getter_text}
 use Rattle.wit_link_spec.specs.WorldReasons.{IsFinishCause, IsLabelCause, IsListCause, conflict_4, no_getter_18, not_strongly_unique_17, of_labels}
 use Rattle.wit_link_include.specs.steps.Included.{LabelsAreAccepted, ListIsAccepted}

@@ -7,7 +7,8 @@ use Rattle.std.proofs.lemmas.List.Elements.{All-contains, Contains-append_left, 
 use Rattle.wit_digraph.specs.facts.MemberFacts.{Contains-cons_cases, Contains-flat_map, Contains-flat_map_cases, Contains-here, Contains-nil, Contains-there}
 use Rattle.wit_digraph.specs.Relation.{IsAcyclic, IsPath, direct}
 use Rattle.wit_digraph.specs.facts.PostOrderFacts.{Contains-post_order_end, Reaches-from_post_order, UsesFirst-append, UsesFirst-post_order, UsesFirst-wider, post_order_is}
-use Rattle.wit_digraph.specs.PostOrder.{UsesFirst, post_order}
+use Rattle.wit_digraph.specs.PostOrder.{post_order}
+use Rattle.wit_digraph.specs.steps.PostOrder.{UsesFirst}
 use Rattle.wit_link_include.specs.declared.leading.Step.{Step}
 use Rattle.wit_link_include.specs.declared.leading.Step.TheVariants as step
 

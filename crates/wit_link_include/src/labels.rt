@@ -5,7 +5,7 @@ ghost use Rattle.wit_link_spec.specs.WorldReasons.{IsLabelCause, IsListCause};
 ghost use Rattle.wit_link_include.specs.steps.Included.{LabelsAreAccepted, ListIsAccepted};
 ghost use Rattle.wit_graph_data.specs.declared.cause.Cause.TheVariants as cause;
 ghost use Rattle.wit_graph_data.specs.declared.error_kind.ResolveErrorKind.TheVariants.{OutOfMemory, Semantic};
-ghost use Rattle.wit_labels.specs.Setters.{LacksGetterAt};
+ghost use Rattle.wit_labels.specs.steps.Setters.{LacksGetterAt};
 
 use std::alloc::{AllocError, Global};
 use wit_data::{Span, Table, Text, World, WorldItem, WorldKey};

@@ -7,7 +7,8 @@ use Rattle.wit_data.specs.Kind.{named_option, type_references}
 use Rattle.wit_data.specs.Uses.{uses_of}
 use Rattle.wit_data.specs.declared.function.Function.{Function}
 use Rattle.wit_data.specs.declared.world.World.{World}
-use Rattle.wit_elaboration.specs.Elaboration.{IsRefusedWorld, elaborated_world, graph_uses}
+use Rattle.wit_elaboration.specs.Elaboration.{elaborated_world, graph_uses}
+use Rattle.wit_elaboration.specs.steps.Elaboration.{IsRefusedWorld}
 use Rattle.wit_elaboration.specs.Imported.{HasTransitiveConflict}
 use Rattle.wit_elaboration.specs.Sound.{HasSoundEntries}
 use Rattle.wit_elaboration.specs.Valid.{IsValid}

@@ -3,7 +3,8 @@ use Rattle.std.proofs.Common.{◌≡◌, ◌⊎◌, inl, inr, ℕ, List, [], ◌
 use Rattle.std.proofs.lemmas.List.Elements.{Contains-append_cases}
 use Rattle.wit_digraph.specs.facts.MemberFacts.{Contains-cons_cases, Contains-nil}
 use Rattle.wit_data.specs.declared.world.World.{World}
-use Rattle.wit_elaboration.specs.Elaboration.{IsConflictError, IsRefusedWorld, graph_uses}
+use Rattle.wit_elaboration.specs.Elaboration.{IsConflictError, graph_uses}
+use Rattle.wit_elaboration.specs.steps.Elaboration.{IsRefusedWorld}
 use Rattle.wit_elaboration.specs.Imported.{HasTransitiveConflict}
 use Rattle.wit_graph_data.specs.declared.graph.Graph.{Graph}
 use Rattle.wit_graph_data.specs.declared.error_kind.ResolveErrorKind.{ResolveErrorKind}

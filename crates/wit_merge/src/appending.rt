@@ -3,7 +3,8 @@ ghost use Rattle.std.specs.Prelude.{◌≡◌, ◌++◌, ◌⊎◌, IfErr, IfOk,
 ghost use Rattle.wit_digraph.specs.Relation.{IsAcyclic};
 ghost use Rattle.wit_values.specs.Table.{HasDistinctKeys};
 ghost use Rattle.wit_data.specs.declared.world.World.{World};
-ghost use Rattle.wit_elaboration.specs.Elaboration.{IsConflictError, IsRefusedWorld, elaborated_world as elaborated_by, graph_uses};
+ghost use Rattle.wit_elaboration.specs.Elaboration.{IsConflictError, elaborated_world as elaborated_by, graph_uses};
+ghost use Rattle.wit_elaboration.specs.steps.Elaboration.{IsRefusedWorld};
 ghost use Rattle.wit_elaboration.specs.Imported.{HasTransitiveConflict};
 ghost use Rattle.wit_elaboration.specs.Sound.{HasSoundEntries};
 ghost use Rattle.wit_graph_data.specs.declared.error_kind.ResolveErrorKind.TheVariants.{OutOfMemory};

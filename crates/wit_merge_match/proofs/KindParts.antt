@@ -15,7 +15,8 @@ use Rattle.wit_data.specs.declared.types.Handle.TheVariants as handle
 use Rattle.wit_data.specs.declared.types.TypeDefKind.TheVariants as kind
 use Rattle.wit_merge_spec.specs.facts.DifferenceFacts.{first_behind, first_here}
 use Rattle.wit_merge_match.specs.steps.Kinds.{HeadsDiffer, name_at, step_at, steps_of}
-use Rattle.wit_data.specs.Kind.{KindPart, fixed_length, kind_parts, named_part, part_name, plain_part, plain_step, variant_of}
+use Rattle.wit_data.specs.Kind.{KindPart, fixed_length, kind_parts, named_part, plain_part, variant_of}
+use Rattle.wit_data.specs.steps.Kind.{part_name, plain_step}
 use Rattle.wit_data.specs.facts.KindFacts.{plain_read}
 use Rattle.wit_data.specs.declared.kind.PartRole.TheVariants.{Value}
 use Rattle.wit_merge_spec.specs.Structure.{Content, Feature, FirstDifference, fixed, head_features, here, names, variant}

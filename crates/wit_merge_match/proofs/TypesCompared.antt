@@ -28,7 +28,7 @@ use Rattle.wit_merge_spec.specs.facts.DifferenceFacts.{same_no_first}
 use Rattle.wit_merge_spec.specs.Structure.{DifferInStructure}
 use Rattle.wit_merge_match.specs.declared.comparison.Comparison.{Comparison}
 use Rattle.wit_merge_match.specs.declared.comparison.Sides.{Sides}
-use Rattle.wit_merge_match.specs.Differing.{merging_of}
+use Rattle.wit_merge_match.specs.steps.Differing.{merging_of}
 use Rattle.wit_merge_match.specs.steps.Structures.{AreComparable, FirstMismatch, IsOf, IsThere, ListsThere, NoneDiffer, TypesThere}
 use Rattle.wit_merge_match.specs.declared.matched_graphs.MatchedGraphs.{MatchedGraphs}
 use Rattle.wit_merge_spec.specs.steps.Parts.{StructuresDiffer, type_link}

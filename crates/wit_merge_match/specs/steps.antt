@@ -1,5 +1,6 @@
 pub mod Classes
 pub mod ComparisonSteps
+pub mod Differing
 pub mod Kinds
 pub mod Leaving
 pub mod Matched

@@ -2,7 +2,7 @@
 ghost use Rattle.std.specs.Prelude.{◌≡◌, ◌↔◌, IfOk, IsTrue, Some};
 ghost use Rattle.wit_merge_spec.specs.Cause.{EntriesDiffer, ItemsDiffer, same_sort};
 ghost use Rattle.wit_merge_spec.specs.Matches.{counterpart_interface};
-ghost use Rattle.wit_merge_match.specs.Differing.{AreKnown, EntryDiffers, HeldDiffer, SidesDiffer, merging_of};
+ghost use Rattle.wit_merge_match.specs.steps.Differing.{AreKnown, EntryDiffers, HeldDiffer, SidesDiffer, merging_of};
 ghost use Rattle.wit_merge_match.specs.steps.Told.{Tells, TellsNone};
 
 use crate::matched_graphs::MatchedGraphs;

@@ -9,7 +9,8 @@ ghost use Rattle.wit_elaboration.specs.Valid.{IsValid};
 ghost use Rattle.wit_graph_data.specs.declared.graph.Package.{Package};
 ghost use Rattle.wit_merge_spec.specs.Matches.{counterpart_interface, counterpart_package, counterpart_type, counterpart_world};
 ghost use Rattle.wit_merge_spec.specs.steps.Leaving.{LeavesGraph};
-ghost use Rattle.wit_merge_match.specs.Differing.{AreKnown, merge_of_graphs_by, merging_of};
+ghost use Rattle.wit_merge_match.specs.Differing.{merge_of_graphs_by};
+ghost use Rattle.wit_merge_match.specs.steps.Differing.{AreKnown, merging_of};
 ghost use Rattle.wit_merge_match.specs.steps.Leaving.{EntriesLeave, EntryLeaves, InterfaceLeaves, LeavesAt, PackageLeaves, Stays, TypeLeaves, WorldLeaves, stability_under_id};
 ghost use Rattle.wit_merge_match.specs.steps.Matched.{AreMatches, moves};
 

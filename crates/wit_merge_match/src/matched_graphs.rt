@@ -2,7 +2,7 @@
 ghost use Rattle.std.specs.Prelude.{◌≡◌, option_and_then, slice_get};
 ghost use Rattle.std.specs.Option.{option_copied};
 ghost use Rattle.wit_merge_spec.specs.Matches.{counterpart_interface, counterpart_item, counterpart_type, matched_interface, matched_world};
-ghost use Rattle.wit_merge_match.specs.Differing.{AreKnown, merging_of};
+ghost use Rattle.wit_merge_match.specs.steps.Differing.{AreKnown, merging_of};
 
 use crate::matches::Matches;
 use wit_data::{Interface, InterfaceId, PackageId, Table, TypeDef, World, WorldItem, WorldKey};

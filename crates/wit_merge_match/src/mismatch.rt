@@ -3,7 +3,7 @@ ghost use Rattle.std.specs.Prelude.{IfNone, IfOk};
 ghost use Rattle.wit_elaboration.specs.Valid.{IsValid};
 ghost use Rattle.wit_merge_spec.specs.Cause.{GraphsDiffer, HasNoMismatch};
 ghost use Rattle.wit_merge_match.specs.steps.Matched.{AreMatches, merge_of_graphs};
-ghost use Rattle.wit_merge_match.specs.Differing.{AreKnown, InterfaceDiffersAt, WorldDiffersAt, merging_of};
+ghost use Rattle.wit_merge_match.specs.steps.Differing.{AreKnown, InterfaceDiffersAt, WorldDiffersAt, merging_of};
 ghost use Rattle.wit_merge_match.specs.steps.Told.{Tells, TellsNone};
 
 use crate::matched_graphs::{MatchedGraphs, package_at};

@@ -3,7 +3,7 @@ ghost use Rattle.std.specs.Prelude.{◌≡◌, ℕ, IfNone, IfOk, IfSome};
 ghost use Rattle.std.specs.Option.{option_copied};
 ghost use Rattle.wit_data.specs.declared.stability.Stability.{Stability};
 ghost use Rattle.wit_merge_match.specs.steps.Matched.{AreMatches, merge_of_graphs};
-ghost use Rattle.wit_merge_match.specs.Differing.{AreKnown, merging_of};
+ghost use Rattle.wit_merge_match.specs.steps.Differing.{AreKnown, merging_of};
 ghost use Rattle.wit_merge_match.specs.steps.Stabilities.{AreApart, EntriesApart, EntryApart, InterfacesApartAt, TypesApartAt, WorldsApart, WorldsApartAt, matched_stability, own_stability};
 ghost use Rattle.wit_merge_spec.specs.steps.Parts.{StabilitiesMismatch};
 

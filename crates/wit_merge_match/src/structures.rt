@@ -3,7 +3,7 @@ ghost use Rattle.std.specs.Prelude.{◌≡◌, ◌∷◌, ◌<◌, ℕ, [], None
 ghost use Rattle.wit_graph_data.specs.Queries.{topological_packages, package_uses};
 ghost use Rattle.wit_digraph.specs.Relation.{IsAcyclic};
 ghost use Rattle.wit_merge_spec.specs.Matches.{entry_pairs, interface_pairs, item_pairs, paired, type_pairs, world_pairs};
-ghost use Rattle.wit_merge_match.specs.Differing.{AreKnown, merging_of};
+ghost use Rattle.wit_merge_match.specs.steps.Differing.{AreKnown, merging_of};
 ghost use Rattle.wit_merge_match.specs.steps.Structures.{AreComparable, FirstMismatch, IsOf, IsThere, ListsThere, NoneDiffer, TypesThere, common_pair, package_interface_pairs, package_world_pairs, pairs_in_order, side_pairs, unnamed_pairs};
 ghost use Rattle.wit_merge_match.specs.steps.Told.{Tells};
 

@@ -10,7 +10,8 @@ use Rattle.std.proofs.lemmas.List.Elements.{All-contains, Contains-append_cases,
 use Rattle.wit_digraph.specs.facts.FreshFacts.{any_from_contains, contains_from_any, fresh_all, fresh_in, no_any_from, UsesFirst-fresh}
 use Rattle.wit_digraph.specs.facts.MemberFacts.{Contains-nil, Contains-here, Contains-there, Contains-cons_cases, Contains-flat_map, Contains-flat_map_cases}
 use Rattle.wit_digraph.specs.Relation.{direct, IsAcyclic, IsPath}
-use Rattle.wit_digraph.specs.PostOrder.{first_of_each, post_order, post_order_within, UsesFirst}
+use Rattle.wit_digraph.specs.PostOrder.{first_of_each, post_order, post_order_within}
+use Rattle.wit_digraph.specs.steps.PostOrder.{UsesFirst}
 use Rattle.wit_digraph.specs.facts.PostOrderFacts.{post_order_is, Contains-post_order_end, Reaches-from_post_order, UsesFirst-flat_map, UsesFirst-use, UsesFirst-post_order}
 use Rattle.wit_data.specs.declared.types.TypeDef.{TypeDef}
 use Rattle.wit_graph_data.specs.Queries.{is_future_kind}

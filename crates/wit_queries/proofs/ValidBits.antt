@@ -11,7 +11,8 @@ use Rattle.wit_data.specs.declared.types.TypeDef.{TypeDef}
 use Rattle.wit_data.specs.declared.types.Type_.TheVariants as type
 use Rattle.wit_graph_data.specs.facts.ContentFacts.{content_row}
 use Rattle.wit_graph_data.specs.Queries.{HasAllBitsValid, has_fixed_parts, type_contents}
-use Rattle.wit_queries.specs.ValidBits.{Agrees, AreRightBelow, AreRightOff, AreValidBits, AreValidBitsOf, has_valid_parts, on_count}
+use Rattle.wit_queries.specs.ValidBits.{AreValidBits, AreValidBitsOf}
+use Rattle.wit_queries.specs.steps.ValidBits.{Agrees, AreRightBelow, AreRightOff, has_valid_parts, on_count}
 use Rattle.wit_queries.specs.facts.ValidBitsFacts.{no_flag, no_type}
 use Rattle.wit_queries.proofs.ValidParts.{is_on, parts_fixed, parts_off, parts_on}
 

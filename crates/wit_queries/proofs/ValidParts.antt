@@ -16,7 +16,8 @@ use Rattle.wit_data.specs.declared.types.Handle.TheVariants as handle
 use Rattle.wit_data.specs.declared.types.TypeDefKind.TheVariants as kind
 use Rattle.wit_data.specs.declared.types.Type_.TheVariants as type
 use Rattle.wit_graph_data.specs.Queries.{has_fixed_layout, has_fixed_parts, is_held, is_number_or_listed}
-use Rattle.wit_queries.specs.ValidBits.{has_valid_parts, is_valid_by, is_valid_part}
+use Rattle.wit_queries.specs.ValidBits.{is_valid_by}
+use Rattle.wit_queries.specs.steps.ValidBits.{has_valid_parts, is_valid_part}
 use Rattle.wit_graph_data.specs.steps.Parts.{is_fixed_part, content_types}
 
 -- flag u is on

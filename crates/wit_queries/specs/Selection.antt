@@ -45,12 +45,6 @@ version_part version = option_map_or parts_text version []
 
 -- ---- packages
 
--- the only main package
-abbrev pub only_main : Graph → List ℕ → Choice
-only_main g [] = Err no_main_text
-only_main g (p ∷ []) = Ok p
-only_main g (p ∷ q ∷ mains) = Err (several_mains_text g)
-
 -- the name has a version, and but for it is this one
 abbrev pub is_version_of : PackageName → PackageName → Bool
 is_version_of name candidate = is_some candidate.version && (bytes_eq name.namespace candidate.namespace && bytes_eq name.name candidate.name)

@@ -1,2 +1,4 @@
 pub mod Parts
+pub mod Selection
 pub mod Unfolding
+pub mod ValidBits

@@ -6,7 +6,8 @@ ghost use Rattle.wit_graph_data.specs.declared.error_kind.ResolveErrorKind.TheVa
 ghost use Rattle.wit_data.specs.Kind.{named_type, type_references, signature_types};
 ghost use Rattle.wit_queries.specs.steps.Unfolding.{KeepsOthers, OthersHoldNone, futures_of, places_within};
 ghost use Rattle.wit_digraph.specs.Relation.{IsAcyclic};
-ghost use Rattle.wit_digraph.specs.PostOrder.{UsesFirst, first_of_each, post_order};
+ghost use Rattle.wit_digraph.specs.PostOrder.{first_of_each, post_order};
+ghost use Rattle.wit_digraph.specs.steps.PostOrder.{UsesFirst};
 ghost use Rattle.wit_graph_data.specs.steps.Parts.{is_future};
 
 use crate::contents::type_contents;

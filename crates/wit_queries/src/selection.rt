@@ -3,7 +3,8 @@ ghost use Rattle.std.specs.Prelude.{◌≡◌, ◌⊎◌, ◌≤◌, ◌<◌, �
 ghost use Rattle.std.specs.Option.{option_copied};
 ghost use Rattle.wit_names.specs.UsePath.{use_path_of};
 ghost use Rattle.wit_graph_data.specs.declared.error_kind.ResolveErrorKind.TheVariants as kinds;
-ghost use Rattle.wit_queries.specs.Selection.{IsSelectionResult, IsSelection, selection_error, no_main_text, version_part, is_version_of, versions_of, only_version, named_package, named_world, only_world, only_main, in_package, by_path};
+ghost use Rattle.wit_queries.specs.Selection.{IsSelectionResult, IsSelection, selection_error, no_main_text, version_part, is_version_of, versions_of, only_version, named_package, named_world, only_world, in_package, by_path};
+ghost use Rattle.wit_queries.specs.steps.Selection.{only_main};
 ghost use Rattle.wit_queries.specs.steps.Parts.{no_path_text, all_world_lines, several_versions_text, package_world_lines, several_worlds_text};
 
 use std::alloc::{AllocError, Global};

@@ -3,7 +3,8 @@ ghost use Rattle.std.specs.Prelude.{◌≡◌, ◌≤◌, ◌<◌, ◌⊎◌, Is
 ghost use Rattle.std.specs.List.{list_all};
 ghost use Rattle.wit_data.specs.declared.types.Field.{Field};
 ghost use Rattle.wit_graph_data.specs.Queries.{is_number};
-ghost use Rattle.wit_queries.specs.ValidBits.{Agrees, AreRightBelow, AreRightOff, AreValidBits, AreValidBitsOf, has_valid_parts, is_valid_by, on_count};
+ghost use Rattle.wit_queries.specs.ValidBits.{AreValidBits, AreValidBitsOf, is_valid_by};
+ghost use Rattle.wit_queries.specs.steps.ValidBits.{Agrees, AreRightBelow, AreRightOff, has_valid_parts, on_count};
 
 use std::alloc::{AllocError, Global};
 use wit_data::{Field, Items, Type_, TypeDef, TypeDefKind};

@@ -1,3 +1,4 @@
 pub mod Fits
+pub mod Grown
 pub mod Movers
 pub mod Parts

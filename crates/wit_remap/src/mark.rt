@@ -1,6 +1,7 @@
 //! The lengths of a graph's lists, to which it is cut back.
 ghost use Rattle.std.specs.Prelude.{◌≡◌};
-ghost use Rattle.wit_remap.specs.Grown.{Grown, cut_at, mark_of};
+ghost use Rattle.wit_remap.specs.Grown.{Grown};
+ghost use Rattle.wit_remap.specs.steps.Grown.{cut_at, mark_of};
 ghost use Rattle.wit_graph_data.specs.declared.graph.Graph.{Graph};
 
 use wit_graph_data::Graph;

@@ -1,5 +1,5 @@
 -- What of some lists is selected, and things with their lists cut to that.
-use Rattle.std.specs.Prelude.{ℕ, Bool, true, List, filter}
+use Rattle.std.specs.Prelude.{ℕ, Bool, List, filter}
 use Rattle.wit_data.specs.Entries.{Entry}
 use Rattle.wit_data.specs.declared.function.Function.{Function}
 use Rattle.wit_data.specs.declared.interface.Interface.{Interface}
@@ -13,16 +13,6 @@ pub record KeptIds : Type 0 where
   pub worlds : ℕ → Bool
   pub functions : Function → Bool
   pub items : WorldItem → Bool
-
--- all of them are
-abbrev pub everything : KeptIds
-everything = record {
-  types = λ t. true;
-  interfaces = λ f. true;
-  worlds = λ w. true;
-  functions = λ f. true;
-  items = λ held. true;
-}
 
 -- an interface and a world with what is kept of them
 abbrev pub cut_interface : KeptIds → Interface → Interface

@@ -7,7 +7,8 @@ use Rattle.wit_elaboration.specs.Elaboration.{graph_uses}
 use Rattle.wit_elaboration.specs.Entries.{Entry}
 use Rattle.wit_elaboration.specs.Valid.{IsValid}
 use Rattle.wit_graph_data.specs.declared.graph.Graph.{Graph}
-use Rattle.wit_remap.specs.Grown.{Grown, cut_at, mark_of}
+use Rattle.wit_remap.specs.Grown.{Grown}
+use Rattle.wit_remap.specs.steps.Grown.{cut_at, mark_of}
 use Rattle.wit_remap.specs.facts.GrownFacts.{cut_back}
 use Rattle.wit_remap.specs.declared.mark.Mark.{Mark}
 use Rattle.wit_queries.specs.ValidBits.{AreValidBits, AreValidBitsOf}

@@ -7,7 +7,7 @@ ghost use Rattle.wit_data.specs.Shape.{IsShaped};
 ghost use Rattle.wit_link_spec.specs.Cause.{IsAdditionCause};
 ghost use Rattle.wit_link.specs.Appending.{IsAdded, addition};
 ghost use Rattle.wit_link.specs.steps.CachesMarks.{caches_cut_at};
-ghost use Rattle.wit_remap.specs.Grown.{cut_at};
+ghost use Rattle.wit_remap.specs.steps.Grown.{cut_at};
 ghost use Rattle.wit_queries.specs.ValidBits.{AreValidBits, AreValidBitsOf};
 ghost use Rattle.wit_resolve_graph.specs.State.{AreKept};
 

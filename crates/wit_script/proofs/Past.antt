@@ -1,12 +1,13 @@
 -- A line ahead that mentions nothing.
 use Rattle.std.proofs.Common.{◌≡◌, ◌+◌, ℕ, List, Option, None, Some, Result, Ok, Err, length, refl, sym, ap, ◌∙◌, ◌++◌, IfOk}
 use Rattle.wit_script_package.specs.Draft.{span_after}
-use Rattle.wit_script_package.specs.Mention.{MentionsNothing}
+use Rattle.wit_script_package.specs.steps.Mention.{MentionsNothing}
 use Rattle.wit_script_package.specs.Naming.{OptionalSpan}
 use Rattle.wit_script_package.specs.declared.mention.Mention.{Mention}
 use Rattle.wit_script_lines.specs.declared.statement.Statement.{Statement}
 use Rattle.wit_script_lines.specs.declared.statement.Statement.TheVariants as says
-use Rattle.wit_script.specs.Script.{mentions_at_line, mentions_past, mentions_then, mentions_with}
+use Rattle.wit_script.specs.Script.{mentions_at_line, mentions_past, mentions_with}
+use Rattle.wit_script.specs.steps.Script.{mentions_then}
 use Rattle.wit_script.specs.declared.ahead.Ahead.{Ahead}
 
 module _ (at : ℕ) (line : List ℕ) where

@@ -12,7 +12,8 @@ use Rattle.wit_resolve_graph.specs.Step.{Run}
 use Rattle.wit_resolve_graph.specs.declared.command.Command.{Command}
 use Rattle.wit_resolve_graph.specs.declared.command.Reply.{Reply}
 use Rattle.wit_script_lines.specs.declared.request.Request.{Request}
-use Rattle.wit_script.specs.Answer.{Acts, Answers, AnswersCommand, AnswersPrint, AnswersSelect, IsChoice, IsResultLine, action_of, refusal_text, selected_text}
+use Rattle.wit_script.specs.Answer.{Acts, Answers, AnswersCommand, AnswersPrint, AnswersSelect, IsChoice, action_of, refusal_text, selected_text}
+use Rattle.wit_script.specs.steps.Answer.{IsResultLine}
 use Rattle.wit_script.specs.World.{world_text_at}
 use Rattle.wit_script.specs.declared.answer.Action.{Action}
 use Rattle.wit_script.specs.declared.answer.Stage.{Stage}

@@ -1,6 +1,5 @@
 -- What the commands of a script answer. Between `other` and `merge` commands work on a second graph.
-use Rattle.std.specs.Prelude.{◌≡◌, ◌⊎◌, ℕ, Bool, true, false, List, [], ◌∷◌, ◌++◌, Option, None, Some, Result, Ok, Err, slice_get, codes, MatchOption, String, string_bytes, decimal, flat_map}
-use Rattle.std.specs.declared.alloc.Global.{Global}
+use Rattle.std.specs.Prelude.{◌≡◌, ◌⊎◌, ℕ, Bool, true, false, List, [], ◌∷◌, ◌++◌, Option, None, Some, Result, Ok, Err, slice_get, codes, MatchOption, decimal, flat_map}
 use Rattle.std.specs.Option.{option_map_or}
 use Rattle.wit_graph_data.specs.Error.{error_number}
 use Rattle.wit_graph_data.specs.ErrorText.{kind_text}
@@ -32,11 +31,6 @@ use Rattle.wit_script.specs.declared.ready.ScriptCommand.TheVariants as asks
 -- `refused N TEXT`, N being the number of the refusal
 abbrev pub refusal_text : ResolveErrorKind → List ℕ
 refusal_text kind = codes "refused " ++ (decimal (error_number kind) ++ (codes " " ++ (kind_text kind ++ codes "\n")))
-
--- an answer, or its refusal
-abbrev pub IsResultLine : Result (String Global) ResolveErrorKind → List ℕ → Type 0
-IsResultLine (Ok answer) text = text ≡ string_bytes answer
-IsResultLine (Err kind) text = text ≡ refusal_text kind
 
 -- `pushed PKG`
 abbrev pub pushed_text : Graph → ℕ → List ℕ

@@ -39,10 +39,6 @@ abbrev pub waits_after_all : List ScriptCommand → Bool → Option Bool
 waits_after_all [] other = Some other
 waits_after_all (command ∷ commands) other = option_and_then (waits_after_all commands) (waits_after command other)
 
--- a command can be asked where an `other` waits or none does
-abbrev pub CanBeAsked : ScriptCommand → Bool → Type 0
-CanBeAsked command other = IsTrue (is_some (waits_after command other))
-
 -- commands can be asked, each after those before it
 abbrev pub CanAllBeAsked : List ScriptCommand → Bool → Type 0
 CanAllBeAsked commands other = IsTrue (is_some (waits_after_all commands other))

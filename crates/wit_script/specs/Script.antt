@@ -1,6 +1,6 @@
 -- A script, line by line: what the lines make, which scripts are understood, what they ask, and which line of another is
 -- the first that isn't understood.
-use Rattle.std.specs.Prelude.{◌≡◌, ◌⊎◌, ◌||◌, ℕ, zero, suc, ◌+◌, ◌<◌, Bool, false, List, [], ◌∷◌, ◌++◌, length, Option, Some, None, IsTrue, is_some, option_and_then, Result, Ok, Err, if◌then◌else◌, option_map, option_to_list}
+use Rattle.std.specs.Prelude.{◌≡◌, ◌⊎◌, ◌||◌, ℕ, zero, suc, ◌+◌, ◌<◌, Bool, false, List, [], ◌∷◌, ◌++◌, length, Option, Some, None, IsTrue, is_some, option_and_then, if◌then◌else◌, option_map, option_to_list}
 use Rattle.wit_names.specs.declared.package_name.PackageName.{PackageName}
 use Rattle.wit_data.specs.declared.stability.Stability.{Stability}
 use Rattle.wit_data.specs.declared.unresolved.UnresolvedPackageGroup.{UnresolvedPackageGroup}
@@ -10,8 +10,6 @@ use Rattle.wit_script_package.specs.declared.draft.Draft.{Draft}
 use Rattle.wit_script_lines.specs.Line.{last_statement_line, lines_of}
 use Rattle.wit_script_lines.specs.PackageLine.{each_of}
 use Rattle.wit_script_lines.specs.Statement.{statement_of}
-use Rattle.wit_script_lines.specs.declared.fault.LineFault.{LineFault}
-use Rattle.wit_script_lines.specs.declared.fault.LineFault.TheVariants as line_fault
 use Rattle.wit_script_lines.specs.declared.package_line.PackageLine.{PackageLine}
 use Rattle.wit_script_lines.specs.declared.request.Request.{Request}
 use Rattle.wit_script_lines.specs.declared.statement.Statement.{Statement}
@@ -25,8 +23,6 @@ use Rattle.wit_script.specs.declared.ready.ScriptCommand.TheVariants as asks
 use Rattle.wit_script_package.specs.Mention.{mentions_of}
 use Rattle.wit_script_package.specs.Naming.{OptionalSpan}
 use Rattle.wit_script_package.specs.declared.mention.Mention.{Mention}
-use Rattle.wit_script.specs.declared.ahead.Ahead.{Ahead}
-use Rattle.wit_script.specs.declared.ahead.Ahead.TheVariants as ahead
 
 -- What the lines of a package mention of other packages, looked at ahead, since what is foreign stands first in a package.
 
@@ -59,12 +55,6 @@ mentions_with at line after (Some (Some said)) = mentions_by at line after said
 abbrev pub mentions_ahead : ℕ → List (List ℕ) → List Mention
 mentions_ahead at [] = []
 mentions_ahead at (line ∷ lines) = mentions_with at line (λ after. mentions_ahead after lines) (statement_of line)
-
--- what a line ahead and the lines after it mention, by what the line is
-abbrev pub mentions_then : Ahead → ℕ → (ℕ → List Mention) → List Mention
-mentions_then ahead.End at after = []
-mentions_then ahead.Silent at after = after at
-mentions_then (ahead.Line mention next) at after = option_to_list mention ++ after next
 
 -- no line is read
 abbrev pub new_reading : Reading
@@ -180,18 +170,7 @@ pub record IsLeftOpen (lines : List (List ℕ)) (number : ℕ) : Type 0 where
 abbrev pub IsNotUnderstood : List ℕ → ℕ → Type 0
 IsNotUnderstood text number = IsBadLine (lines_of text) number ⊎ IsLeftOpen (lines_of text) number
 
--- why lines aren't added
-abbrev pub HasLineFault : List (List ℕ) → ReadFault → Type 0
-HasLineFault lines (read_fault.NotUnderstood number) = IsBadLine lines number
-HasLineFault lines read_fault.OutOfMemory = Unit {0}
-
 -- why a script isn't read
 abbrev pub HasReadFault : List ℕ → ReadFault → Type 0
 HasReadFault text (read_fault.NotUnderstood number) = IsNotUnderstood text number
 HasReadFault text read_fault.OutOfMemory = Unit {0}
-
--- a reading that goes on with commands that are ready, or ends at a bad line
-abbrev pub GoesOn : {A : Type 0} → Option Reading → Result A LineFault → Reading → Type 0
-GoesOn expected (Ok done) new = (expected ≡ Some new) × AreReady new.commands
-GoesOn expected (Err line_fault.NotUnderstood) new = IsBad expected
-GoesOn expected (Err line_fault.OutOfMemory) new = Unit {0}

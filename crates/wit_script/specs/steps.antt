@@ -1,1 +1,4 @@
+pub mod Answer
 pub mod BuiltReading
+pub mod Ready
+pub mod Script

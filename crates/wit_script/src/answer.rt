@@ -3,8 +3,10 @@ ghost use Rattle.std.specs.Prelude.{◌≡◌, ◌≢◌, ℕ, None, Some, Ok, E
 ghost use Rattle.std.specs.List.{flat_map};
 ghost use Rattle.wit_resolve_graph.specs.State.{new_state};
 ghost use Rattle.wit_resolve_graph.specs.Step.{IsCommandShaped, Run};
-ghost use Rattle.wit_script.specs.Answer.{Acts, AnswersCommand, IsActionShaped, IsChoice, Answers, AnswersAll, AnswersMerge, AnswersPrint, AnswersSelect, IsResultLine, AnswersByRun, action_of, open_after, working_state, only_first, line_of, refusal_text, selected_text, pushed_text, line_unless_done, reply_text};
-ghost use Rattle.wit_script.specs.Ready.{CanAllBeAsked, CanBeAsked};
+ghost use Rattle.wit_script.specs.Answer.{Acts, AnswersCommand, IsActionShaped, IsChoice, Answers, AnswersAll, AnswersMerge, AnswersPrint, AnswersSelect, AnswersByRun, action_of, open_after, working_state, only_first, line_of, refusal_text, selected_text, pushed_text, line_unless_done, reply_text};
+ghost use Rattle.wit_script.specs.steps.Answer.{IsResultLine};
+ghost use Rattle.wit_script.specs.Ready.{CanAllBeAsked};
+ghost use Rattle.wit_script.specs.steps.Ready.{CanBeAsked};
 ghost use Rattle.wit_script.specs.declared.answer.Action.TheVariants as does;
 ghost use Rattle.wit_script.specs.declared.answer.ReplyStyle.TheVariants.{Aloud, Quietly};
 ghost use Rattle.wit_script.specs.declared.answer.Stage.{Stage};

@@ -11,7 +11,8 @@ ghost use Rattle.wit_script_lines.specs.Line.{is_blank_or_comment, last_statemen
 ghost use Rattle.wit_script.specs.Ready.{AreReady};
 ghost use Rattle.wit_script.specs.steps.BuiltReading.{AreBuilt, AreShapedIfPushable};
 ghost use Rattle.wit_script_package.specs.steps.DraftResult.{DraftResult};
-ghost use Rattle.wit_script.specs.Script.{GoesOn, HasLineFault, HasReadFault, IsUnderstood, after_line, after_statement_in, new_reading, reading_of, with_groups, with_package, with_package_line, with_push, with_request};
+ghost use Rattle.wit_script.specs.Script.{HasReadFault, IsUnderstood, after_line, after_statement_in, new_reading, reading_of, with_groups, with_package, with_package_line, with_push, with_request};
+ghost use Rattle.wit_script.specs.steps.Script.{GoesOn, HasLineFault};
 
 use crate::ahead::mentions_ahead;
 use crate::fault::ReadFault;

@@ -1,6 +1,5 @@
 -- What a command of a script that brings no package says by its tokens alone.
-use Rattle.std.specs.Prelude.{ℕ, ◌||◌, Bool, List, [], ◌∷◌, ◌++◌, Option, Some, None, option_and_then, codes, if◌then◌else◌, option_map, bytes_eq}
-use Rattle.wit_names.specs.PackageName.{package_name_text}
+use Rattle.std.specs.Prelude.{ℕ, ◌||◌, Bool, List, [], ◌∷◌, Option, Some, None, option_and_then, codes, if◌then◌else◌, option_map, bytes_eq}
 use Rattle.wit_names.specs.declared.package_name.PackageName.{PackageName}
 use Rattle.wit_names.specs.declared.track.TrackRule.{TrackRule}
 use Rattle.wit_script_lines.specs.Token.{package_name_of, part_of}
@@ -99,22 +98,3 @@ request_by word arguments =
     else if bytes_eq word (codes "print") then option_map (λ of_package. request.Print of_package.0 of_package.1) (world_of arguments)
     else if bytes_eq word (codes "select") then select_of arguments
     else None
-
--- ---- as it is printed
-
--- `PKG WORLD`
-abbrev pub world_text : PackageName → List ℕ → List ℕ
-world_text owner world = package_name_text owner ++ (codes " " ++ world)
-
--- such a command by its first token, with the package and the world that it works on
-abbrev pub request_text : Request → List ℕ
-request_text (request.Feature name) = codes "feature " ++ name
-request_text request.AllFeatures = codes "all-features"
-request_text (request.Tracks rule) = codes "tracks"
-request_text request.Other = codes "other"
-request_text request.Merge = codes "merge"
-request_text (request.Importize owner world out) = codes "importize " ++ world_text owner world
-request_text (request.Exportize owner world out keys) = codes "exportize " ++ world_text owner world
-request_text (request.Semver owner world) = codes "semver " ++ world_text owner world
-request_text (request.Print owner world) = codes "print " ++ world_text owner world
-request_text (request.Select owner text) = codes "select " ++ package_name_text owner

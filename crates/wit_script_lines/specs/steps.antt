@@ -1,2 +1,3 @@
 pub mod LineWords
 pub mod ReadResult
+pub mod Request

@@ -14,7 +14,8 @@ use Rattle.wit_script_lines.specs.TypeText.{type_text_of}
 use Rattle.wit_script_lines.specs.declared.package_line.PackageLine.{PackageLine}
 use Rattle.wit_script_lines.specs.declared.package_line.PackageLine.TheVariants as says
 use Rattle.wit_script_lines.specs.declared.statement.Statement.TheVariants as line
-use Rattle.wit_script_package.specs.Mention.{MentionsNothing, mentions_of, path_mention, takes_no_path, takes_path}
+use Rattle.wit_script_package.specs.Mention.{mentions_of, path_mention}
+use Rattle.wit_script_package.specs.steps.Mention.{MentionsNothing, takes_no_path, takes_path}
 use Rattle.wit_script_package.specs.Naming.{OptionalSpan}
 use Rattle.wit_script_package.specs.declared.mention.MentionKind.{MentionKind}
 use Rattle.wit_script_package.specs.declared.mention.MentionKind.TheVariants as taken

@@ -1,6 +1,6 @@
 -- What the lines of a package mention of other packages, and what the package knows of it. What is foreign stands first
 -- in the lists of a package, in the order of its first mention.
-use Rattle.std.specs.Prelude.{◌≡◌, ℕ, ◌&&◌, ◌||◌, codes, not, Bool, true, false, List, [], ◌∷◌, map, filter, Option, Some, None, if◌then◌else◌, bytes_eq}
+use Rattle.std.specs.Prelude.{ℕ, ◌&&◌, not, Bool, true, false, List, [], ◌∷◌, map, filter, Option, Some, None, if◌then◌else◌, bytes_eq}
 use Rattle.std.specs.List.{position_or_len}
 use Rattle.wit_data.specs.Foreign.{ForeignItem, ForeignItems}
 use Rattle.wit_names.specs.PackageName.{same_package}
@@ -16,8 +16,6 @@ use Rattle.wit_data.specs.declared.unresolved.AstItem.TheVariants as item
 use Rattle.wit_names.specs.declared.use_path.ParsedUsePath.TheVariants as path
 use Rattle.wit_script_lines.specs.declared.package_line.PackageLine.{PackageLine}
 use Rattle.wit_script_lines.specs.declared.package_line.PackageLine.TheVariants as says
-use Rattle.wit_script_lines.specs.declared.statement.Statement.{Statement}
-use Rattle.wit_script_lines.specs.declared.statement.Statement.TheVariants as line
 use Rattle.wit_script_package.specs.Adding.{empty_interface, empty_world, type_with}
 use Rattle.wit_script_package.specs.Naming.{OptionalSpan}
 use Rattle.wit_script_package.specs.declared.draft.Foreign.{Foreign}
@@ -48,25 +46,6 @@ mentions_of (says.Import label from) gate span = path_mention from taken.Interfa
 mentions_of (says.Export label from) gate span = path_mention from taken.Interface gate span
 mentions_of (says.Include from names) gate span = path_mention from taken.World gate span
 mentions_of said gate span = []
-
--- a first token of lines of a package without a path
-abbrev pub takes_no_path : List ℕ → Bool
-takes_no_path word =
-    bytes_eq word (codes "interface") || (bytes_eq word (codes "world") || (bytes_eq word (codes "type") || (bytes_eq word (codes "record")
-    || (bytes_eq word (codes "resource") || (bytes_eq word (codes "func") || (bytes_eq word (codes "import-func") || bytes_eq word (codes "export-func")))))))
-
--- a first token of lines of a package with a path
-abbrev pub takes_path : List ℕ → Bool
-takes_path word = bytes_eq word (codes "use") || (bytes_eq word (codes "import") || (bytes_eq word (codes "export") || bytes_eq word (codes "include")))
-
--- what a line says, where it is understood, is a line of the package that mentions nothing
-abbrev pub MentionsNothing : Option (Option Statement) → Type 0
-MentionsNothing None = Unit {0}
-MentionsNothing (Some None) = ⊥
-MentionsNothing (Some (Some (line.Package name))) = ⊥
-MentionsNothing (Some (Some (line.Line said gate))) = (span : OptionalSpan) → mentions_of said gate span ≡ []
-MentionsNothing (Some (Some line.Push)) = ⊥
-MentionsNothing (Some (Some (line.Request asked))) = ⊥
 
 -- two mentions of one package
 abbrev pub same_parent : Mention → Mention → Bool

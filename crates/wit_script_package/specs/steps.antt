@@ -1,4 +1,5 @@
 pub mod Built
 pub mod DraftResult
+pub mod Mention
 pub mod Mentioning
 pub mod Pushable

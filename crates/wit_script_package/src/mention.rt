@@ -4,7 +4,8 @@ ghost use Rattle.std.specs.List.{list_any};
 ghost use Rattle.std.specs.Prelude.{◌≡◌, ◌==◌, ◌||◌, ◌&&◌, not, slice_get, IsTrue};
 ghost use Rattle.wit_script_lines.specs.Line.{tokens_of};
 ghost use Rattle.wit_script_lines.specs.Statement.{statement_of};
-ghost use Rattle.wit_script_package.specs.Mention.{MentionsNothing, mentions_of, path_mention, takes_no_path, takes_path};
+ghost use Rattle.wit_script_package.specs.Mention.{mentions_of, path_mention};
+ghost use Rattle.wit_script_package.specs.steps.Mention.{MentionsNothing, takes_no_path, takes_path};
 ghost use Rattle.wit_script_package.specs.steps.Mentioning.{fits};
 
 use wit_data::{AstItem, PackageName, ParsedUsePath, Span, Stability, Text};

@@ -2,7 +2,8 @@
 ghost use Rattle.std.specs.Prelude.{◌≡◌, ◌⊎◌, ℕ, List, IfErr, None, OnOk};
 ghost use Rattle.wit_graph_data.specs.declared.cause.Cause.TheVariants as cause;
 ghost use Rattle.wit_graph_data.specs.declared.error_kind.ResolveErrorKind.TheVariants.{OutOfMemory, Semantic};
-ghost use Rattle.wit_semver_spec.specs.SemverMerged.{Agrees, Disagrees};
+ghost use Rattle.wit_semver_spec.specs.SemverMerged.{Disagrees};
+ghost use Rattle.wit_semver_spec.specs.steps.SemverMerged.{Agrees};
 ghost use Rattle.wit_semver.specs.steps.Replacing.{IsSemverMergeReady, semver_merge_of};
 
 use crate::refusal::functions_disagree;

@@ -8,7 +8,8 @@ use Rattle.std.proofs.lemmas.List.{append-nil}
 use Rattle.std.proofs.lemmas.List.Elements.{All-contains, Contains-append_cases, Contains-append_left, Contains-append_right, Contains-get_or}
 use Rattle.wit_digraph.specs.facts.MemberFacts.{Contains-flat_map_cases, Contains-here, Contains-nil, Contains-there}
 use Rattle.wit_digraph.specs.facts.PostOrderFacts.{Reaches-from_post_order, UsesFirst-append, UsesFirst-IsPath}
-use Rattle.wit_digraph.specs.PostOrder.{UsesFirst, post_order}
+use Rattle.wit_digraph.specs.PostOrder.{post_order}
+use Rattle.wit_digraph.specs.steps.PostOrder.{UsesFirst}
 use Rattle.wit_digraph.specs.Relation.{IsAcyclic, direct}
 use Rattle.wit_data.specs.Function.{resource_of}
 use Rattle.wit_data.specs.Uses.{type_interface_dep}

@@ -48,7 +48,8 @@ use Rattle.wit_graph_theory.specs.facts.ListFacts.{Contains-map, place_of}
 use Rattle.wit_graph_theory.specs.facts.PackageCycleFacts.{row_from, row_into}
 use Rattle.wit_graph_theory.specs.facts.PackagesAcyclic.{is_there, there_is}
 use Rattle.wit_transform.specs.facts.UnnamedOnceTransformed.{set_split}
-use Rattle.wit_semver_spec.specs.SemverMerged.{Agrees, IsComplete, SemverMerge, SemverMergeCause, conflict_4, functions_disagree_25, interface_cycle_22, is_replaced, kept_imports, package_cycle_6, rewritten_types, type_cycle_23, type_missing_25, with_new_entries_at}
+use Rattle.wit_semver_spec.specs.SemverMerged.{IsComplete, SemverMerge, SemverMergeCause, conflict_4, functions_disagree_25, interface_cycle_22, is_replaced, kept_imports, package_cycle_6, rewritten_types, type_cycle_23, type_missing_25, with_new_entries_at}
+use Rattle.wit_semver_spec.specs.steps.SemverMerged.{Agrees}
 use Rattle.wit_semver_spec.specs.facts.Accepting.{in_order, listed_there, relisted_from, rewritten_is}
 use Rattle.wit_semver_spec.specs.facts.Greatest.{any_of}
 use Rattle.wit_semver_spec.specs.facts.KeptKeys.{kept_holds, kept_into, kept_test, passed}

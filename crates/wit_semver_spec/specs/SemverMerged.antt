@@ -207,10 +207,6 @@ pub record Disagrees (u : SemverMerge) (f : ℕ) (message : List ℕ) : Type 0 w
 abbrev pub IsComplete : SemverMerge → Type 0
 IsComplete u = (t : ℕ) (message : List ℕ) → Contains (rewritable_types u) t → LacksType u t message → ⊥
 
--- all replaced interfaces agree with the newest
-abbrev pub Agrees : SemverMerge → Type 0
-Agrees u = (f : ℕ) (message : List ℕ) → Disagrees u f message → ⊥
-
 -- why the imports of the world at place w can't be merged by tracks, by number
 pub data SemverMergeCause (u : SemverMerge) (w : ℕ) : ResolveErrorKind → Type 0 where
   conflict_4 : (span : Option (ℕ × ℕ)) (name : List ℕ) → IsComplete u → HasWorldInConflict (with_new_entries_at u w) span name → SemverMergeCause u w (InvalidTransitiveDependency span name)

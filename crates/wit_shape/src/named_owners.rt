@@ -7,7 +7,7 @@ ghost use Rattle.wit_data.specs.Ownership.{IsOwn, NamesThroughUnnamed};
 ghost use Rattle.wit_data.specs.Kind.{type_references};
 ghost use Rattle.wit_shape.specs.steps.NamedOwners.{AreNamedOwners, IsNamedOwners, IsOnly, IsTold, joined};
 ghost use Rattle.wit_digraph.specs.Relation.{IsAcyclic};
-ghost use Rattle.wit_digraph.specs.PostOrder.{UsesFirst};
+ghost use Rattle.wit_digraph.specs.steps.PostOrder.{UsesFirst};
 
 use std::alloc::{AllocError, Global};
 use wit_data::{TypeDef, TypeId, TypeOwner, referred, type_references};

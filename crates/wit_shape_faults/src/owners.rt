@@ -2,7 +2,8 @@
 ghost use Rattle.std.specs.Prelude.{◌≡◌, ◌↔◌, Contains, ℕ, List, IfOk, IsTrue};
 ghost use Rattle.std.specs.Option.{option_copied};
 ghost use Rattle.wit_data.specs.Each.{SomeAt};
-ghost use Rattle.wit_data.specs.Ownership.{IsListed, IsTypeItem, IsTypeOf, ListsOwn, NamesFunctions, world_types};
+ghost use Rattle.wit_data.specs.Ownership.{IsListed, IsTypeOf, ListsOwn, NamesFunctions, world_types};
+ghost use Rattle.wit_data.specs.steps.Ownership.{IsTypeItem};
 ghost use Rattle.wit_data.specs.declared.function.Function.{Function};
 ghost use Rattle.wit_data.specs.declared.interface.Interface.{Interface};
 ghost use Rattle.wit_data.specs.declared.types.TypeOwner.TheVariants as owners;

@@ -2,3 +2,4 @@ pub mod Lines
 pub mod Locations
 pub mod SourceMap
 pub mod Span
+pub mod steps

@@ -1,5 +1,5 @@
 -- Places of a source map as they are told, and texts that show them.
-use Rattle.std.specs.Prelude.{ℕ, ◌+◌, ◌-◌, ◌≤◌, ◌&&◌, nat_le, nat_lt, Bool, List, ◌++◌, length, replicate, Option, option_and_then, codes, decimal, if◌then◌else◌, find, option_map}
+use Rattle.std.specs.Prelude.{ℕ, ◌+◌, ◌-◌, ◌&&◌, nat_le, nat_lt, Bool, List, ◌++◌, length, replicate, Option, option_and_then, codes, decimal, if◌then◌else◌, find, option_map}
 use Rattle.std.specs.Option.{option_map_or}
 use Rattle.wit_sources.specs.Lines.{column, dashes, line_number, line_text}
 use Rattle.wit_sources.specs.Span.{end_of, start_of}
@@ -12,11 +12,6 @@ has_position position file = nat_le file.start position && nat_le position (file
 -- the file in which a span begins, None where the span is unknown or in no file
 abbrev pub file_at : List SourceFile → Option (ℕ × ℕ) → Option SourceFile
 file_at files span = option_and_then (λ (range : ℕ × ℕ). find (has_position range.0) files) span
-
--- the span begins in the file
-pub record IsIn (file : SourceFile) (span : Option (ℕ × ℕ)) : Type 0 where
-  pub from : file.start ≤ start_of span
-  pub to : start_of span ≤ file.start + length file.contents
 
 -- how far after the beginning of its file a position stands
 abbrev pub offset_in : SourceFile → ℕ → ℕ

@@ -30,7 +30,8 @@ use Rattle.wit_transform.specs.facts.ListsFrom.{ComesFrom, exportized_comes, imp
 use Rattle.wit_transform.proofs.Refusals.{no_types, none_told}
 use Rattle.wit_transform.specs.facts.TransformedWorlds.{in_order}
 use Rattle.wit_transform.proofs.ValidTransformations.{transformed_is_valid}
-use Rattle.wit_transform.specs.Transformed.{IsExportizeCause, IsImportizeCause, HasNameTaken, export_conflict, export_refusal, exportized_name_taken, imports_at, importized_name_taken, label_clash, name_taken_text, not_exported, AreUnderLabels, WorldLists, exportized, importized, is_type, transformed, transformed_at, type_entries}
+use Rattle.wit_transform.specs.Transformed.{IsExportizeCause, IsImportizeCause, HasNameTaken, export_conflict, export_refusal, exportized_name_taken, imports_at, importized_name_taken, label_clash, name_taken_text, not_exported, WorldLists, exportized, importized, is_type, transformed, transformed_at, type_entries}
+use Rattle.wit_transform.specs.steps.Transformed.{AreUnderLabels}
 use Rattle.wit_transform.specs.steps.Parts.{label_clash_text}
 
 -- ---- a valid graph

@@ -20,7 +20,8 @@ use Rattle.wit_digraph.specs.facts.MemberFacts.{Contains-cons_cases, Contains-he
 use Rattle.wit_graph_theory.specs.facts.ListFacts.{found_at, place_of, same_at}
 use Rattle.wit_transform.specs.facts.Distinct.{head_apart, same_entry, tail_distinct}
 use Rattle.wit_transform.specs.facts.Looked.{is_other}
-use Rattle.wit_transform.specs.Transformed.{NameIsFreeAt, with_renamed}
+use Rattle.wit_transform.specs.Transformed.{with_renamed}
+use Rattle.wit_transform.specs.steps.Transformed.{NameIsFreeAt}
 use Rattle.wit_transform.specs.steps.Parts.{put_last, NameIsTakenIn}
 
 -- entries of a table of worlds

@@ -16,7 +16,8 @@ use Rattle.wit_transform.proofs.Accepted.{home_at, under_labels}
 use Rattle.wit_transform.specs.facts.ListsFrom.{exportized_comes, importized_comes}
 use Rattle.wit_transform.proofs.Refusals.{no_types}
 use Rattle.wit_transform.specs.facts.TransformedWorlds.{in_order_over}
-use Rattle.wit_transform.specs.Transformed.{ExportizeCause, ExportsAreInConflict, HasPackageAt, ImportizeCause, IsExportizeCause, IsImportizeCause, NameIsFreeAt, export_conflict, export_refusal, exportized_name_taken, importized_name_taken, label_clash, not_exported, WorldLists, entries_by_answer, exportized, importized, transformed, transformed_at, type_entries}
+use Rattle.wit_transform.specs.Transformed.{ExportizeCause, ImportizeCause, IsExportizeCause, IsImportizeCause, export_conflict, export_refusal, exportized_name_taken, importized_name_taken, label_clash, not_exported, WorldLists, entries_by_answer, exportized, importized, transformed, transformed_at, type_entries}
+use Rattle.wit_transform.specs.steps.Transformed.{ExportsAreInConflict, HasPackageAt, NameIsFreeAt}
 use Rattle.wit_transform.specs.steps.Parts.{listed_world, HasClash}
 
 -- ---- the world and its package

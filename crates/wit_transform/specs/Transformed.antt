@@ -1,6 +1,6 @@
 -- Turned worlds: a world whose exports become its imports, or whose imports become its exports.
 -- Source: `importize` and `exportize` of wit-parser 0.263.0.
-use Rattle.std.specs.Prelude.{ℕ, ◌≡◌, Bool, true, false, not, List, [], ◌∷◌, ◌++◌, Option, Some, None, codes, filter, filter_map, map, nat_eq, slice_get, slice_set, take, Contains, if◌then◌else◌, zip, ◌≢◌, ◌<◌, length, IsSomeAnd, unwrap_or}
+use Rattle.std.specs.Prelude.{ℕ, ◌≡◌, Bool, true, false, not, List, [], ◌∷◌, ◌++◌, Option, Some, None, codes, filter, filter_map, map, nat_eq, slice_get, slice_set, Contains, if◌then◌else◌, zip, ◌≢◌, length, unwrap_or}
 use Rattle.std.specs.Map.{keys_of}
 use Rattle.std.specs.Option.{option_map_or}
 use Rattle.wit_data.specs.declared.world.World.{World}
@@ -14,7 +14,6 @@ use Rattle.wit_graph_data.specs.declared.graph.Graph.{Graph}
 use Rattle.wit_graph_data.specs.declared.graph.Package.{Package}
 use Rattle.std.specs.Borrow.{Bor}
 use Rattle.std.specs.Fn.{Shared}
-use Rattle.wit_data.specs.Each.{SomeAt}
 use Rattle.wit_names.specs.PackageName.{package_name_text}
 use Rattle.wit_names.specs.declared.package_name.PackageName.{PackageName}
 use Rattle.wit_graph_data.specs.Error.{NoCause}
@@ -40,10 +39,6 @@ is_type (item.Type_ t span) = true
 -- the types among some entries
 abbrev pub type_entries : List Entry → List Entry
 type_entries entries = filter (λ (e : Entry). is_type e.1) entries
-
--- no entry stands under the key of an interface
-abbrev pub AreUnderLabels : List Entry → Type 0
-AreUnderLabels entries = (k : WorldKey) → Contains (keys_of entries) k → (label : List ℕ) × (k ≡ key.Name label)
 
 -- the new name is the one that is given, be it empty, or else the old one with a suffix; of the imports the types alone
 -- stay, and behind them stand all exports
@@ -99,14 +94,6 @@ name_taken_text name home = codes "world `" ++ (name ++ (codes "` is already def
 
 -- ---- what holds against a transformation
 
--- the first label of some exports that other entries have too
-pub record IsFirstCommon (entries exports : List Entry) (label : List ℕ) : Type 0 where
-  pub index : ℕ
-  pub item : WorldItem
-  pub here : slice_get exports index ≡ Some (key.Name label, item)
-  pub common : Contains (keys_of entries) (key.Name label)
-  pub first : (earlier : List ℕ) → Contains (keys_of (take index exports)) (key.Name earlier) → Contains (keys_of entries) (key.Name earlier) → ⊥
-
 -- the package of world w is `home`, and has another world of this name
 abbrev pub HasNameTaken : Graph → ℕ → World → List ℕ → Package → Type 0
 HasNameTaken g w world name home = (p : ℕ) × (world.package ≡ Some p) × (slice_get g.packages p ≡ Some home) × ((v : ℕ) × Contains home.worlds (name, v) × (v ≢ w))
@@ -157,20 +144,6 @@ abbrev pub IsExportizeCause : Graph → ℕ → List Bool → Option (List ℕ) 
 IsExportizeCause g w answers out error = (world : World) × (slice_get g.worlds w ≡ Some world) × ExportizeCause g w world (exportized answers out world) error
 
 -- ---- the same of the world at a place
-
--- world w has a package that is there
-abbrev pub HasPackageAt : Graph → ℕ → Type 0
-HasPackageAt g w = SomeAt g.worlds w (λ (world : World). IsSomeAnd world.package (λ p. p < length g.packages))
-
--- no other world of world w's package has this name
-abbrev pub NameIsFreeAt : Graph → ℕ → List ℕ → Type 0
-NameIsFreeAt g w name = (world : World) (home : Package) → slice_get g.worlds w ≡ Some world → HasNameTaken g w world name home → ⊥
-
--- these exports of world w are in conflict, and the error says so
-abbrev pub ExportsAreInConflict : Graph → ℕ → List Entry → ResolveErrorKind → Type 0
-ExportsAreInConflict g w exports error =
-    (world : World) × (name : List ℕ) × (slice_get g.worlds w ≡ Some world) × HasTransitiveConflict (graph_uses g) exports × IsRefusedName g.packages g.interfaces (graph_uses g) exports name
-    × (error ≡ InvalidTransitiveDependency world.span name)
 
 -- the imports of world w, none where it isn't there
 abbrev pub imports_at : Graph → ℕ → List Entry

@@ -6,7 +6,8 @@ ghost use Rattle.wit_graph_data.specs.declared.cause.Cause.TheVariants as cause;
 ghost use Rattle.wit_graph_data.specs.declared.error_kind.ResolveErrorKind.TheVariants.{OutOfMemory, Semantic};
 ghost use Rattle.wit_data.specs.declared.world.WorldKey.{WorldKey};
 ghost use Rattle.wit_data.specs.declared.world.WorldKey.TheVariants as key;
-ghost use Rattle.wit_transform.specs.Transformed.{IsFirstCommon, export_refusal, name_taken_text, type_refusal, AreUnderLabels, entries_by_answer, is_type, type_entries};
+ghost use Rattle.wit_transform.specs.Transformed.{export_refusal, name_taken_text, type_refusal, entries_by_answer, is_type, type_entries};
+ghost use Rattle.wit_transform.specs.steps.Transformed.{IsFirstCommon, AreUnderLabels};
 ghost use Rattle.wit_transform.specs.steps.Parts.{label_clash_text, type_exported_text, HasClash};
 
 use std::alloc::{AllocError, Global};

@@ -13,7 +13,8 @@ ghost use Rattle.wit_graph_data.specs.declared.error_kind.ResolveErrorKind.TheVa
 ghost use Rattle.wit_data.specs.Each.{SomeAt};
 ghost use Rattle.wit_data.specs.declared.world.World.{World};
 ghost use Rattle.wit_digraph.specs.Relation.{IsAcyclic};
-ghost use Rattle.wit_transform.specs.Transformed.{AreAnswers, Exportizes, ExportsAreInConflict, HasPackageAt, IsExportizeCause, IsImportizeCause, MayAnswer, MayGive, NameIsFreeAt, RefusesExportize, imports_at, exportized, importized, transformed};
+ghost use Rattle.wit_transform.specs.Transformed.{AreAnswers, Exportizes, IsExportizeCause, IsImportizeCause, MayAnswer, MayGive, RefusesExportize, imports_at, exportized, importized, transformed};
+ghost use Rattle.wit_transform.specs.steps.Transformed.{ExportsAreInConflict, HasPackageAt, NameIsFreeAt};
 ghost use Rattle.wit_transform.specs.steps.Parts.{new_name, listed_world, with_world, HasNameTakenAt};
 
 use crate::laws::{exportized_stay_valid, importized_stay_valid};

@@ -7,7 +7,8 @@ use Rattle.wit_digraph.specs.Relation.{IsAcyclic}
 use Rattle.wit_data.specs.Each.{Each}
 use Rattle.wit_data.specs.Kind.{type_references}
 use Rattle.wit_data.specs.declared.world.World.{World}
-use Rattle.wit_elaboration.specs.Elaboration.{graph_uses, IsRefusedWorld}
+use Rattle.wit_elaboration.specs.Elaboration.{graph_uses}
+use Rattle.wit_elaboration.specs.steps.Elaboration.{IsRefusedWorld}
 use Rattle.wit_elaboration.specs.Imported.{HasTransitiveConflict}
 use Rattle.wit_graph_data.specs.declared.graph.Graph.{Graph}
 use Rattle.wit_graph_data.specs.declared.error_kind.ResolveErrorKind.{ResolveErrorKind}

@@ -7,7 +7,7 @@ use Rattle.wit_names.specs.PackageName.{package_name_text, version_suffix}
 use Rattle.wit_names.specs.declared.package_name.PackageName.{PackageName}
 use Rattle.wit_script.specs.declared.ready.ScriptCommand.{ScriptCommand}
 use Rattle.wit_script.specs.declared.ready.ScriptCommand.TheVariants as asks
-use Rattle.wit_script_lines.specs.Request.{request_text}
+use Rattle.wit_script_lines.specs.steps.Request.{request_text}
 
 -- between the quotes of a label: a quotation mark, a backslash and an ampersand stand for themselves
 abbrev pub quoted_char : ℕ → List ℕ

@@ -2,7 +2,8 @@
 ghost use Rattle.std.specs.Prelude.{◌≡◌, ◌≢◌, None, Some, IfOk, IsTrue, OnOk, false, is_some};
 ghost use Rattle.wit_resolve_graph.specs.State.{new_state};
 ghost use Rattle.wit_script.specs.Answer.{IsActionShaped, open_after};
-ghost use Rattle.wit_script.specs.Ready.{CanAllBeAsked, CanBeAsked, IsReady};
+ghost use Rattle.wit_script.specs.Ready.{CanAllBeAsked, IsReady};
+ghost use Rattle.wit_script.specs.steps.Ready.{CanBeAsked};
 ghost use Rattle.wit_script.specs.declared.answer.Action.TheVariants as does;
 ghost use Rattle.witgraph_dot.specs.Drawn.{Follows, FollowsAction, FollowsAll, graphs};
 

@@ -1,7 +1,8 @@
 -- Worked rows: what the definitions say of small relations.
 use Rattle.std.specs.Prelude.{◌≡◌, ℕ, List, [], ◌∷◌}
 use Rattle.wit_digraph.specs.Relation.{Reaches, IsAcyclic}
-use Rattle.wit_digraph.specs.PostOrder.{UsesFirst, post_order, first_of_each}
+use Rattle.wit_digraph.specs.PostOrder.{post_order, first_of_each}
+use Rattle.wit_digraph.specs.steps.PostOrder.{UsesFirst}
 use Rattle.wit_digraph.specs.Cycles.{IsOnCycle}
 
 -- 1 uses 0; 2 uses 0 and 1

@@ -9,7 +9,8 @@ use Rattle.std.proofs.lemmas.Map.Keys.{IsDistinct-cons}
 use Rattle.std.proofs.lemmas.Map.Views.{Contains-from_any, list_any-from_Contains}
 use Rattle.std.proofs.lemmas.List.Elements.{Contains-append_cases, Contains-append_left, Contains-append_right, Contains-push, Contains-get_or, recursion_from_All}
 use Rattle.wit_digraph.specs.facts.MemberFacts.{Contains-nil, Contains-here, Contains-there, Contains-cons_cases}
-use Rattle.wit_digraph.specs.PostOrder.{fresh, UsesFirst}
+use Rattle.wit_digraph.specs.PostOrder.{fresh}
+use Rattle.wit_digraph.specs.steps.PostOrder.{UsesFirst}
 
 pub any_from_contains : (x : ℕ) (xs : List ℕ) → Contains xs x → list_any (nat_eq x) xs ≡ true
 any_from_contains x xs has = list_any-from_Contains nat_eq_equiv x xs has

@@ -10,7 +10,8 @@ use Rattle.std.proofs.lemmas.List.Elements.{recursion_from_All, Contains-get_or,
 use Rattle.std.proofs.lemmas.List.{append-nil}
 use Rattle.wit_digraph.specs.facts.MemberFacts.{Contains-nil, Contains-here, Contains-there, Contains-cons_cases, flat_map-same, Contains-flat_map, Contains-flat_map_cases}
 use Rattle.wit_digraph.specs.Relation.{direct, IsPath, Reaches, IsAcyclic}
-use Rattle.wit_digraph.specs.PostOrder.{post_order_within, post_order, UsesFirst}
+use Rattle.wit_digraph.specs.PostOrder.{post_order_within, post_order}
+use Rattle.wit_digraph.specs.steps.PostOrder.{UsesFirst}
 
 -- every path from i has fewer members than this after i
 abbrev pub HasShortPaths : List (List ℕ) → ℕ → ℕ → Type 0

@@ -2,7 +2,8 @@
 use Rattle.std.specs.Prelude.{◌≡◌, ℕ, ◌<◌, ◌↔◌, List, [], ◌∷◌, ◌++◌, length, nat_eq, Contains, All, flat_map}
 use Rattle.std.specs.List.{IsDistinct}
 use Rattle.wit_digraph.specs.Relation.{direct, Reaches, IsAcyclic}
-use Rattle.wit_digraph.specs.PostOrder.{UsesFirst, post_order, first_of_each}
+use Rattle.wit_digraph.specs.PostOrder.{post_order, first_of_each}
+use Rattle.wit_digraph.specs.steps.PostOrder.{UsesFirst}
 
 -- a post-order is the post-orders of the direct uses in order, then the node
 abbrev pub PostOrdersUnfold : Type 0

@@ -12,7 +12,8 @@ use Rattle.wit_data.specs.declared.world.WorldKey.TheVariants.{Interface}
 use Rattle.wit_digraph.specs.facts.MemberFacts.{Contains-nil, Contains-here, Contains-there, Contains-cons_cases, Contains-flat_map}
 use Rattle.wit_digraph.specs.facts.PostOrderFacts.{UsesFirst-post_order, UsesFirst-flat_map, Contains-post_order_end}
 use Rattle.wit_digraph.specs.Relation.{direct, IsAcyclic}
-use Rattle.wit_digraph.specs.PostOrder.{UsesFirst, post_order}
+use Rattle.wit_digraph.specs.PostOrder.{post_order}
+use Rattle.wit_digraph.specs.steps.PostOrder.{UsesFirst}
 use Rattle.wit_elaboration.specs.Entries.{Entry, Role, Instance, TypeUse, TypeDefinition, FreeFunction, ResourceFunction, role_of, same_key, key_interface, keyed_interfaces, fresh_entries}
 use Rattle.wit_elaboration.specs.Elaborated.{InheritedData, dependency_of, dependencies_before}
 use Rattle.wit_elaboration.specs.laws.ElaborationLaws.{stands_on, DependenciesFirst}

@@ -2,7 +2,7 @@
 use Rattle.std.specs.Prelude.{◌≡◌, ℕ, ◌<◌, ◌≤◌, ◌*◌, ◌%◌, ◌↔◌, List, length, Contains, All, [], sum_by}
 use Rattle.wit_digraph.specs.steps.Rows.{HasBit}
 use Rattle.wit_digraph.specs.Relation.{direct, Reaches, IsAcyclic}
-use Rattle.wit_digraph.specs.PostOrder.{UsesFirst}
+use Rattle.wit_digraph.specs.steps.PostOrder.{UsesFirst}
 use Rattle.wit_elaboration.specs.declared.closure_rows.ClosureRows.{ClosureRows}
 
 -- some bit is in both rows

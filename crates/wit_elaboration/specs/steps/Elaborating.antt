@@ -4,7 +4,7 @@ use Rattle.std.specs.List.{list_any}
 use Rattle.std.specs.Map.{keys_of}
 use Rattle.wit_data.specs.declared.world.WorldKey.TheVariants.{Interface}
 use Rattle.wit_digraph.specs.Relation.{direct, Reaches}
-use Rattle.wit_digraph.specs.PostOrder.{Listed, UsesFirst}
+use Rattle.wit_digraph.specs.steps.PostOrder.{Listed, UsesFirst}
 use Rattle.wit_elaboration.specs.declared.marks.Marks.{Marks}
 use Rattle.wit_elaboration.specs.Entries.{Entry}
 use Rattle.wit_elaboration.specs.Imported.{IsEntryInConflict}

@@ -9,7 +9,8 @@ use Rattle.wit_graph_data.specs.declared.graph.Graph.{Graph}
 use Rattle.wit_graph_theory.specs.facts.Covered.{IsCovered}
 use Rattle.wit_graph_theory.specs.Cut.{IsGoodWhere}
 use Rattle.wit_graph_theory.specs.facts.Good.{HasGoodItems, HasGoodThings, IsGoodAsAWhole, IsGoodType}
-use Rattle.wit_remap_spec.specs.Kept.{KeptIds, everything}
+use Rattle.wit_remap_spec.specs.Kept.{KeptIds}
+use Rattle.wit_remap_spec.specs.steps.Kept.{everything}
 use Rattle.wit_graph_theory.specs.steps.Sources.{Carries, IsGoodSource, Source}
 use Rattle.wit_graph_theory.specs.laws.Theory.{HasGoodTables}
 use Rattle.wit_graph_theory.specs.facts.GoodInterfaces.{good_interface}

@@ -14,7 +14,7 @@ use Rattle.wit_graph_data.specs.declared.graph.Graph.{Graph}
 use Rattle.wit_graph_theory.specs.facts.Covered.{IsCovered}
 use Rattle.wit_graph_theory.specs.facts.Growth.{TypesGrow}
 use Rattle.wit_graph_theory.specs.facts.Referred.{RefersUnder, RemapsTo}
-use Rattle.wit_remap_spec.specs.Kept.{everything}
+use Rattle.wit_remap_spec.specs.steps.Kept.{everything}
 use Rattle.wit_graph_theory.specs.steps.Sources.{Carries, IsClosed, IsOwnOf, Source}
 use Rattle.wit_graph_theory.specs.facts.ListFacts.{found_at, from_row, get_at, in_row, some_at}
 use Rattle.wit_graph_theory.specs.facts.OwnedFacts.{in_target, over_goes}

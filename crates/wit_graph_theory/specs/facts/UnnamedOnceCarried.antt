@@ -14,7 +14,7 @@ use Rattle.wit_graph_data.specs.declared.graph.Graph.{Graph}
 use Rattle.wit_graph_theory.specs.facts.Covered.{EntryComes, IsCovered, IsDependency, ItemComes}
 use Rattle.wit_remap_spec.specs.Image.{key_image}
 use Rattle.wit_graph_theory.specs.steps.UnnamedOnce.{Holds, Origin, StandsOnceOnly, StayApart}
-use Rattle.wit_remap_spec.specs.Kept.{everything}
+use Rattle.wit_remap_spec.specs.steps.Kept.{everything}
 use Rattle.wit_graph_theory.specs.steps.Sources.{Carries, InterfaceStands, IsGoodSource, ItemIsActive, Source}
 use Rattle.wit_graph_theory.specs.facts.GoodWorlds.{same_one}
 use Rattle.wit_graph_theory.specs.facts.ListFacts.{found_at, get_at, place_of, same_at}

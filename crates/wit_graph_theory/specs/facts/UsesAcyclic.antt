@@ -16,7 +16,7 @@ use Rattle.wit_graph_theory.specs.facts.Covered.{IsCovered}
 use Rattle.wit_graph_theory.specs.facts.Good.{HasGoodItems}
 use Rattle.wit_graph_theory.specs.facts.Growth.{InterfacesGrow}
 use Rattle.wit_remap_spec.specs.Image.{Maps, owner_image}
-use Rattle.wit_remap_spec.specs.Kept.{everything}
+use Rattle.wit_remap_spec.specs.steps.Kept.{everything}
 use Rattle.wit_graph_theory.specs.steps.Sources.{Carries, InterfaceStands, IsGoodSource, OwnerIsActive, Source, Stands}
 use Rattle.wit_graph_theory.specs.facts.DependencyFacts.{Needs, filter_map_from, filter_map_into, needs_from, needs_into}
 use Rattle.wit_graph_theory.specs.facts.GoodTypes.{alias_referred, IsAliased, from_if}

@@ -5,7 +5,7 @@ use Rattle.wit_elaboration.specs.Valid.{IsInTable, IsValid, IsWorldInTable}
 use Rattle.wit_graph_data.specs.declared.graph.Graph.{Graph}
 use Rattle.wit_graph_theory.specs.facts.Covered.{IsCovered}
 use Rattle.wit_graph_theory.specs.facts.Good.{IsGoodAsAWhole, IsGoodPackage}
-use Rattle.wit_remap_spec.specs.Kept.{everything}
+use Rattle.wit_remap_spec.specs.steps.Kept.{everything}
 use Rattle.wit_graph_theory.specs.steps.Sources.{Carries, IsGoodSource, Source}
 
 -- the tables of packages hold the interfaces and the worlds, and nothing else

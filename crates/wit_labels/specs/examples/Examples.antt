@@ -8,8 +8,10 @@ use Rattle.wit_data.specs.declared.world.WorldKey.{WorldKey}
 use Rattle.wit_data.specs.declared.world.WorldItem.TheVariants as item
 use Rattle.wit_data.specs.declared.world.WorldKey.TheVariants as key
 use Rattle.wit_labels.specs.Rename.{renamed_label_by, renamed_label}
-use Rattle.wit_labels.specs.Setters.{HaveGetters, getter_label, is_setter_label, setters_placed}
-use Rattle.wit_labels.specs.Strong.{AreStronglyUnique, Clashes, strong_key}
+use Rattle.wit_labels.specs.Setters.{getter_label, is_setter_label, setters_placed}
+use Rattle.wit_labels.specs.steps.Setters.{HaveGetters}
+use Rattle.wit_labels.specs.Strong.{Clashes, strong_key}
+use Rattle.wit_labels.specs.steps.Strong.{AreStronglyUnique}
 use Rattle.wit_labels.specs.declared.strong.Class.TheVariants.{Constructor, Getter, Setter}
 
 -- a renaming

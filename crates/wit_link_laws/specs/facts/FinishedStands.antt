@@ -26,7 +26,7 @@ use Rattle.wit_graph_theory.specs.facts.ElaboratedCome.{elaborated_comes, interf
 use Rattle.wit_graph_theory.specs.facts.GoodWorlds.{same_one}
 use Rattle.wit_graph_theory.specs.facts.GraphSource.{graph_stands, items_are_good}
 use Rattle.wit_remap_spec.specs.Image.{key_image}
-use Rattle.wit_remap_spec.specs.Kept.{everything}
+use Rattle.wit_remap_spec.specs.steps.Kept.{everything}
 use Rattle.wit_graph_theory.specs.facts.LawsOfElaboration.{LawsOfElaboration}
 use Rattle.wit_graph_theory.specs.facts.ListFacts.{Contains-map, contained_at, place_of, same_at, some_at}
 use Rattle.wit_graph_theory.specs.steps.UnnamedOnce.{Holds, Origin, StandsOnceOnly, StayApart}

@@ -16,7 +16,8 @@ use Rattle.wit_elaboration.specs.Entries.{same_key}
 use Rattle.wit_graph_data.specs.declared.graph.Graph.{Graph}
 use Rattle.wit_graph_theory.specs.facts.CarriedImages.{image_carried}
 use Rattle.wit_graph_theory.specs.facts.Covered.{EntryComes, InterfaceComes, IsCovered, IsNoType, IsOwnMade, ItemComes, TypeComes, WorldComes}
-use Rattle.wit_remap_spec.specs.Kept.{KeptIds, cut_interface, cut_world, everything}
+use Rattle.wit_remap_spec.specs.Kept.{KeptIds, cut_interface, cut_world}
+use Rattle.wit_remap_spec.specs.steps.Kept.{everything}
 use Rattle.wit_graph_theory.specs.facts.GraphSource.{graph_stands, items_are_good}
 use Rattle.wit_remap_spec.specs.Image.{entry_image}
 use Rattle.wit_graph_theory.specs.facts.ImagesCome.{entry_image_comes, interface_image_comes}

@@ -17,7 +17,8 @@ use Rattle.wit_elaboration.specs.Valid.{IsValid}
 use Rattle.wit_graph_data.specs.declared.graph.Graph.{Graph}
 use Rattle.wit_graph_theory.specs.facts.Covered.{EntryComes, IsCovered, IsNoType, WorldComes}
 use Rattle.wit_graph_theory.specs.Cut.{StaysIn}
-use Rattle.wit_remap_spec.specs.Kept.{cut_interface, cut_world, everything}
+use Rattle.wit_remap_spec.specs.Kept.{cut_interface, cut_world}
+use Rattle.wit_remap_spec.specs.steps.Kept.{everything}
 use Rattle.wit_graph_theory.specs.facts.CutIsGood.{distinct_kept}
 use Rattle.wit_graph_theory.specs.facts.GraphSource.{graph_stands}
 use Rattle.wit_remap_spec.specs.Image.{entry_image, item_image, key_image, world_image}

@@ -14,7 +14,8 @@ use Rattle.wit_graph_data.specs.declared.cause.Cause.TheVariants as cause
 use Rattle.wit_graph_data.specs.declared.graph.Graph.{Graph}
 use Rattle.wit_graph_data.specs.declared.error_kind.ResolveErrorKind.{ResolveErrorKind}
 use Rattle.wit_graph_data.specs.declared.error_kind.ResolveErrorKind.TheVariants.{Semantic}
-use Rattle.wit_elaboration.specs.Elaboration.{IsRefusedWorld, elaborated_world, graph_uses}
+use Rattle.wit_elaboration.specs.Elaboration.{elaborated_world, graph_uses}
+use Rattle.wit_elaboration.specs.steps.Elaboration.{IsRefusedWorld}
 use Rattle.wit_elaboration.specs.Imported.{HasTransitiveConflict}
 use Rattle.wit_elaboration.specs.Sound.{HasSoundEntries}
 use Rattle.wit_remap_spec.specs.Image.{interface_image}

@@ -8,7 +8,8 @@ use Rattle.wit_digraph.specs.Relation.{IsAcyclic}
 use Rattle.wit_data.specs.declared.world.World.{World}
 use Rattle.wit_elaboration.specs.AllElaborated.{DependsOnItself, HasWorldInConflict, RefersToItself, UsesItself}
 use Rattle.wit_elaboration.specs.Elaborated.{with_elaborated_lists}
-use Rattle.wit_elaboration.specs.Elaboration.{IsRefusedWorld, elaborated_world, graph_uses}
+use Rattle.wit_elaboration.specs.Elaboration.{elaborated_world, graph_uses}
+use Rattle.wit_elaboration.specs.steps.Elaboration.{IsRefusedWorld}
 use Rattle.wit_elaboration.specs.Imported.{HasTransitiveConflict}
 use Rattle.wit_elaboration.specs.Valid.{IsValid}
 use Rattle.wit_graph_data.specs.declared.error_kind.ResolveErrorKind.{ResolveErrorKind}

@@ -23,7 +23,7 @@ use Rattle.wit_graph_data.specs.declared.graph.Graph.{Graph}
 use Rattle.wit_elaboration.specs.AllElaborated.{elaborated_world}
 use Rattle.wit_graph_theory.specs.facts.Covered.{IsCovered, WorldComes}
 use Rattle.wit_graph_theory.specs.facts.ElaboratedCome.{elaborated_comes}
-use Rattle.wit_remap_spec.specs.Kept.{everything}
+use Rattle.wit_remap_spec.specs.steps.Kept.{everything}
 use Rattle.wit_graph_theory.specs.facts.LawsOfElaboration.{LawsOfElaboration}
 use Rattle.wit_graph_theory.specs.facts.ListFacts.{Contains-map, at_map, contained_at, found_at, from_map, place_of, some_at}
 use Rattle.wit_graph_theory.specs.facts.NamedUses.{IsUsed_named}

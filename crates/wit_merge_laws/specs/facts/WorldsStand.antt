@@ -29,7 +29,7 @@ use Rattle.wit_graph_theory.specs.Cut.{StaysIn, mapped_source}
 use Rattle.wit_graph_theory.specs.facts.GoodIsValid.{good_things}
 use Rattle.wit_graph_theory.specs.facts.GraphSource.{graph_stands, mapped_is_good}
 use Rattle.wit_remap_spec.specs.Image.{entry_image, world_image}
-use Rattle.wit_remap_spec.specs.Kept.{everything}
+use Rattle.wit_remap_spec.specs.steps.Kept.{everything}
 use Rattle.wit_graph_theory.specs.facts.ListFacts.{Contains-map, found_at, some_at}
 use Rattle.wit_graph_theory.specs.Operations.{merge_sources}
 use Rattle.wit_graph_theory.specs.facts.OptionFacts.{some_by, some_parts, some_same}

@@ -2,7 +2,8 @@
 use Rattle.std.specs.Prelude.{◌≡◌, ◌↔◌, ℕ, Bool, true, false, List, [], ◌∷◌, map, length, codes, slice_get, Option, option_and_then, unwrap_or}
 use Rattle.wit_data.specs.declared.types.TypeDefKind.{TypeDefKind}
 use Rattle.wit_data.specs.declared.kind.Variant.{Variant}
-use Rattle.wit_data.specs.Kind.{KindPart, kind_parts, part_name}
+use Rattle.wit_data.specs.Kind.{KindPart, kind_parts}
+use Rattle.wit_data.specs.steps.Kind.{part_name}
 use Rattle.wit_merge_spec.specs.Structure.{Content, FirstDifference, difference_text, head_features, here}
 use Rattle.wit_merge_match.specs.declared.heads.Ending.{Ending}
 use Rattle.wit_merge_match.specs.declared.heads.Ending.TheVariants.{Kinds, Lengths, Names, Types}

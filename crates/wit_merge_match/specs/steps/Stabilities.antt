@@ -13,7 +13,7 @@ use Rattle.wit_data.specs.declared.world.WorldKey.TheVariants as key
 use Rattle.wit_elaboration.specs.Entries.{same_key}
 use Rattle.wit_remap_spec.specs.Joined.{Disagree, HasStability}
 use Rattle.wit_merge_spec.specs.Matches.{GraphMerge, counterpart_interface, counterpart_type, counterpart_world}
-use Rattle.wit_merge_match.specs.Differing.{DifferAt}
+use Rattle.wit_merge_match.specs.steps.Differing.{DifferAt}
 
 -- two stabilities disagree, and these are the two
 pub record AreApart (from into : Stability) (s : Stability × Stability) : Type 0 where

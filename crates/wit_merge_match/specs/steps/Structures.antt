@@ -11,7 +11,7 @@ use Rattle.wit_elaboration.specs.Valid.{IsValid}
 use Rattle.wit_graph_data.specs.declared.graph.Package.{Package}
 use Rattle.wit_merge_spec.specs.Matches.{FirstDiffers, GraphMerge, TypePair, entry_pairs, interface_pairs, paired, world_pairs}
 use Rattle.wit_merge_spec.specs.MismatchText.{part_links}
-use Rattle.wit_merge_match.specs.Differing.{AreKnown}
+use Rattle.wit_merge_match.specs.steps.Differing.{AreKnown}
 use Rattle.wit_merge_match.specs.declared.matched_graphs.MatchedGraphs.{MatchedGraphs}
 use Rattle.wit_merge_match.specs.steps.ComparisonSteps.{IsSound}
 use Rattle.wit_merge_match.specs.declared.comparison.Comparison.{Comparison}

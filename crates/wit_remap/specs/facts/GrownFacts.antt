@@ -6,7 +6,8 @@ use Rattle.wit_names.specs.declared.package_name.PackageName.{PackageName}
 use Rattle.wit_data.specs.declared.types.TypeDef.{TypeDef}
 use Rattle.wit_graph_data.specs.declared.graph.Graph.{Graph}
 use Rattle.wit_graph_data.specs.declared.graph.Package.{Package}
-use Rattle.wit_remap.specs.Grown.{Begins, Grown, cut_at, mark_of}
+use Rattle.wit_remap.specs.Grown.{Begins, Grown}
+use Rattle.wit_remap.specs.steps.Grown.{cut_at, mark_of}
 
 module _ {X : Type 0} where
   pub Begins-more : (old more : List X) → Begins old (old ++ more)

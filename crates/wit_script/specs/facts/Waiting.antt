@@ -12,7 +12,8 @@ use Rattle.wit_resolve_graph.specs.declared.command.Reply.{Reply}
 use Rattle.wit_script.specs.facts.Scripts.{and_then_both}
 use Rattle.wit_script.specs.facts.Stepped.{Makes, adds, said-makes, stays}
 use Rattle.wit_script.specs.Answer.{Acts, Answers, AnswersByRun, AnswersMerge, AnswersOther, Chooses, Runs, action_of, open_after, with_working_state_of}
-use Rattle.wit_script.specs.Ready.{CanAllBeAsked, CanBeAsked, waits_after, waits_after_all}
+use Rattle.wit_script.specs.Ready.{CanAllBeAsked, waits_after, waits_after_all}
+use Rattle.wit_script.specs.steps.Ready.{CanBeAsked}
 use Rattle.wit_script.specs.Script.{IsUnderstood, after_line, after_lines, new_reading}
 use Rattle.wit_script.specs.declared.answer.Action.{Action}
 use Rattle.wit_script.specs.declared.answer.Action.TheVariants as does

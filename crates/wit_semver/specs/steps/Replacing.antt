@@ -8,7 +8,8 @@ use Rattle.wit_data.specs.declared.types.TypeDef.{TypeDef}
 use Rattle.wit_data.specs.declared.world.World.{World}
 use Rattle.wit_elaboration.specs.Entries.{Entry}
 use Rattle.wit_graph_data.specs.declared.graph.Graph.{Graph}
-use Rattle.wit_semver_spec.specs.SemverMerged.{Agrees, IsComplete, LacksType, SemverMerge, Versioned, both, is_replaced, kept_imports, newest, newest_type, rewritable_types, semver_merge, versioned}
+use Rattle.wit_semver_spec.specs.SemverMerged.{IsComplete, LacksType, SemverMerge, Versioned, both, is_replaced, kept_imports, newest, newest_type, rewritable_types, semver_merge, versioned}
+use Rattle.wit_semver_spec.specs.steps.SemverMerged.{Agrees}
 use Rattle.wit_semver.specs.contracts.tracks.TrackKeyPartialEq.TheImpl.{eq-value}
 use Rattle.wit_semver.specs.declared.tracks.TrackKey.{TrackKey}
 use Rattle.wit_semver.specs.declared.tracks.VersionedInterface.{VersionedInterface}

@@ -15,7 +15,8 @@ use Rattle.wit_elaboration.specs.Entries.{keyed_interfaces}
 use Rattle.wit_elaboration.specs.laws.KeptByElaboration.{labelled}
 use Rattle.wit_elaboration.specs.Valid.{IsValid}
 use Rattle.wit_graph_data.specs.declared.graph.Graph.{Graph}
-use Rattle.wit_semver_spec.specs.SemverMerged.{Agrees, IsComplete, rewritable_types, semver_merged, semver_merge, with_new_entries, SemverMerge, Versioned, are_on_one_track, imported, is_replaced, newest, versioned, SemverMergeIsAccepted, target_name}
+use Rattle.wit_semver_spec.specs.SemverMerged.{IsComplete, rewritable_types, semver_merged, semver_merge, with_new_entries, SemverMerge, Versioned, are_on_one_track, imported, is_replaced, newest, versioned, SemverMergeIsAccepted, target_name}
+use Rattle.wit_semver_spec.specs.steps.SemverMerged.{Agrees}
 use Rattle.wit_semver_spec.specs.laws.Unchanged.{SameButLists, SameButTarget}
 use Rattle.wit_semver_spec.specs.steps.Parts.{listed_world, interface_type, new_target}
 

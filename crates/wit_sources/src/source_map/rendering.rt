@@ -2,7 +2,8 @@
 ghost use Rattle.std.specs.Prelude.{◌≡◌, Some, IfOk, IfSome, replicate, string_bytes};
 ghost use Rattle.std.specs.Option.{option_copied, option_map};
 ghost use Rattle.wit_sources.specs.Lines.{column, line_number};
-ghost use Rattle.wit_sources.specs.Locations.{IsIn, file_at, has_position, highlight_text, highlight_text_in, in_four, location_of, location_text, offset_in};
+ghost use Rattle.wit_sources.specs.Locations.{file_at, has_position, highlight_text, highlight_text_in, in_four, location_of, location_text, offset_in};
+ghost use Rattle.wit_sources.specs.steps.Locations.{IsIn};
 ghost use Rattle.wit_sources.specs.Span.{start_of};
 
 use super::{SourceFile, SourceMap};

@@ -19,7 +19,8 @@ use Rattle.wit_transform.specs.facts.Distinct.{head_apart, joined_distinct, key_
 use Rattle.wit_graph_data.specs.declared.cause.Cause.TheVariants.{TypeExported}
 use Rattle.wit_graph_data.specs.declared.error_kind.ResolveErrorKind.{ResolveErrorKind}
 use Rattle.wit_graph_data.specs.declared.error_kind.ResolveErrorKind.TheVariants.{Semantic}
-use Rattle.wit_transform.specs.Transformed.{type_refusal, AreUnderLabels, WorldLists, entries_by_answer, exportized, importized, is_type, type_entries}
+use Rattle.wit_transform.specs.Transformed.{type_refusal, WorldLists, entries_by_answer, exportized, importized, is_type, type_entries}
+use Rattle.wit_transform.specs.steps.Transformed.{AreUnderLabels}
 use Rattle.wit_transform.specs.steps.Parts.{type_exported_text, HasClash}
 
 -- the new lists are made of the entries of the old ones: no key comes twice in one, none of the types is

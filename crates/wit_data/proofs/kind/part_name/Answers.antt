@@ -1,5 +1,6 @@
 use Rattle.std.proofs.Common.{◌≡◌, None, Some, ap, refl, rules, slice_get}
-use Rattle.wit_data.specs.Kind.{kind_parts, named_part, part_name}
+use Rattle.wit_data.specs.Kind.{kind_parts, named_part}
+use Rattle.wit_data.specs.steps.Kind.{part_name}
 use Rattle.wit_data.specs.facts.KindFacts.{plain_read}
 use Rattle.wit_data.specs.declared.types.Case.{Case}
 use Rattle.wit_data.specs.declared.types.EnumCase.{EnumCase}

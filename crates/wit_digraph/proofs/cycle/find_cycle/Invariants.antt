@@ -1,5 +1,5 @@
 use Rattle.std.proofs.Common.{◌≡◌, ℕ, ◌<◌, length}
-use Rattle.wit_digraph.specs.Cycles.{IsFinished, mark_of}
+use Rattle.wit_digraph.specs.steps.Cycles.{IsFinished, mark_of}
 use Rattle.wit_digraph.specs.declared.cycle.Mark.TheVariants.{Done}
 use Rattle.wit_digraph.proofs.cycle.find_cycle.Given as goal
 

@@ -1,5 +1,5 @@
 use Rattle.std.proofs.Common.{ap, arith}
-use Rattle.wit_digraph.specs.PostOrder.{Listed}
+use Rattle.wit_digraph.specs.steps.PostOrder.{Listed}
 use Rattle.wit_digraph.proofs.Stack.{first-root}
 use Rattle.wit_digraph.proofs.post_order.post_order_of_roots.Goals as goal
 

@@ -1,6 +1,7 @@
 use Rattle.std.proofs.Common.{◌≡◌, [], length, take}
 use Rattle.std.specs.List.{flat_map}
-use Rattle.wit_digraph.specs.PostOrder.{UsesFirst, first_of_each, post_order}
+use Rattle.wit_digraph.specs.PostOrder.{first_of_each, post_order}
+use Rattle.wit_digraph.specs.steps.PostOrder.{UsesFirst}
 use Rattle.wit_digraph.proofs.post_order.post_order_of_roots.Given as goal
 
 abbrev pub invariant-loop-root : goal.invariant-loop-root

@@ -4,7 +4,7 @@ use Rattle.wit_data.specs.declared.world.World.{World}
 use Rattle.wit_graph_data.specs.facts.ResultFacts.{residual_error}
 use Rattle.wit_graph_data.specs.declared.error_kind.ResolveErrorKind.{ResolveErrorKind}
 use Rattle.wit_graph_data.specs.declared.error_kind.ResolveErrorKind.TheVariants.{OutOfMemory}
-use Rattle.wit_elaboration.specs.Elaboration.{AreListsOf, IsRefusedWorld}
+use Rattle.wit_elaboration.specs.steps.Elaboration.{AreListsOf, IsRefusedWorld}
 use Rattle.wit_elaboration.proofs.AllWorlds.{below-all, below-next, made-next, refused_world}
 use Rattle.wit_elaboration.proofs.all_worlds.all_lists.Goals as goal
 

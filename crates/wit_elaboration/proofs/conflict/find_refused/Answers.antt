@@ -1,5 +1,5 @@
 use Rattle.std.proofs.Common.{List, ℕ, ap, sym, subst}
-use Rattle.wit_digraph.specs.PostOrder.{Listed}
+use Rattle.wit_digraph.specs.steps.PostOrder.{Listed}
 use Rattle.wit_elaboration.specs.steps.Elaborating.{IsExportedList}
 use Rattle.wit_elaboration.proofs.ConflictIs.{tells_keys, conflict_from}
 use Rattle.wit_elaboration.proofs.Refusing.{always_ok}

@@ -2,7 +2,7 @@ use Rattle.std.proofs.Common.{◌<◌, length, ap, ◌∙◌}
 use Rattle.std.proofs.lemmas.List.Elements.{All-contains}
 use Rattle.std.proofs.lemmas.Map.Iter.{iter_turn, rest_more}
 use Rattle.std.specs.Map.Iter.{deref_pair}
-use Rattle.wit_digraph.specs.PostOrder.{Listed}
+use Rattle.wit_digraph.specs.steps.PostOrder.{Listed}
 use Rattle.wit_elaboration.specs.Entries.{Entry, item_interface}
 use Rattle.wit_elaboration.proofs.ExportSteps.{given_at, needs_more}
 use Rattle.wit_elaboration.proofs.conflict.list_exports_by.Goals as goal

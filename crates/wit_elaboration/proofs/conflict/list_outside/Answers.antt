@@ -1,5 +1,5 @@
 use Rattle.std.proofs.Common.{ap, ◌∙◌, arith}
-use Rattle.wit_digraph.specs.PostOrder.{Listed}
+use Rattle.wit_digraph.specs.steps.PostOrder.{Listed}
 use Rattle.wit_elaboration.proofs.Marking.{outside_more, outside_same}
 use Rattle.wit_elaboration.proofs.conflict.list_outside.Goals.{then-is_outside+in_ok-add_node, else-is_outside}
 use Rattle.wit_elaboration.proofs.conflict.list_outside.Goals as goal

@@ -1,5 +1,5 @@
 use Rattle.std.proofs.Common.{ap, ◌∙◌, arith}
-use Rattle.wit_digraph.specs.PostOrder.{Listed}
+use Rattle.wit_digraph.specs.steps.PostOrder.{Listed}
 use Rattle.wit_elaboration.proofs.Marking.{marked_more, marked_same}
 use Rattle.wit_elaboration.proofs.conflict.mark_reaching.Goals.{then-is_reaching+in_ok-add_node, else-is_reaching}
 use Rattle.wit_elaboration.proofs.conflict.mark_reaching.Goals as goal

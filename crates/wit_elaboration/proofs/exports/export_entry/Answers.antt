@@ -1,6 +1,7 @@
 use Rattle.std.proofs.Common.{◌≡◌, ◌++◌, ◌<◌, List, ℕ, All, drop, length, ap, subst, sym, ◌∙◌}
 use Rattle.std.proofs.lemmas.Result.{on_ok_weaker}
-use Rattle.wit_digraph.specs.PostOrder.{Listed, fresh}
+use Rattle.wit_digraph.specs.PostOrder.{fresh}
+use Rattle.wit_digraph.specs.steps.PostOrder.{Listed}
 use Rattle.wit_elaboration.specs.Elaborated.{dependencies_before, inherited_by_export}
 use Rattle.wit_elaboration.specs.steps.Elaborating.{is_listed}
 use Rattle.wit_elaboration.specs.Entries.{Entry, Instance}

@@ -1,6 +1,7 @@
 use Rattle.std.proofs.Common.{◌≡◌, ◌++◌, List, ℕ, length, drop, ap, ◌∙◌}
 use Rattle.std.proofs.lemmas.Result.{on_ok_weaker}
-use Rattle.wit_digraph.specs.PostOrder.{Listed, fresh}
+use Rattle.wit_digraph.specs.PostOrder.{fresh}
+use Rattle.wit_digraph.specs.steps.PostOrder.{Listed}
 use Rattle.wit_elaboration.specs.Elaborated.{dependencies_before}
 use Rattle.wit_elaboration.specs.Entries.{Entry, Role, role_of}
 use Rattle.wit_elaboration.proofs.Importing.{grown, entry_imported, importing_entry}

@@ -1,6 +1,7 @@
 use Rattle.std.proofs.Common.{◌∙◌, ◌≡◌, ◌++◌, ◌<◌, length, List, ℕ, get_or, ap, arith}
 use Rattle.wit_digraph.specs.Relation.{direct}
-use Rattle.wit_digraph.specs.PostOrder.{Listed, fresh, post_order}
+use Rattle.wit_digraph.specs.PostOrder.{fresh, post_order}
+use Rattle.wit_digraph.specs.steps.PostOrder.{Listed}
 use Rattle.wit_elaboration.proofs.Importing.{post_orders-next}
 use Rattle.wit_elaboration.proofs.imports.list_uses.Goals as goal
 

@@ -3,8 +3,9 @@ use Rattle.std.specs.Map.{keys_of}
 use Rattle.wit_graph_data.specs.declared.cause.Cause.TheVariants as cause
 use Rattle.wit_graph_data.specs.declared.error_kind.ResolveErrorKind.TheVariants.{Semantic}
 use Rattle.wit_link_spec.specs.CauseText.{clash_text}
-use Rattle.wit_labels.specs.Setters.{HaveGetters}
-use Rattle.wit_labels.specs.Strong.{AreStronglyUnique, Clashes}
+use Rattle.wit_labels.specs.steps.Setters.{HaveGetters}
+use Rattle.wit_labels.specs.Strong.{Clashes}
+use Rattle.wit_labels.specs.steps.Strong.{AreStronglyUnique}
 use Rattle.wit_link_include.proofs.Causes.{clash_error, list_accepted}
 use Rattle.wit_link_include.proofs.labels.check_list.Goals as goal
 

@@ -1,6 +1,7 @@
 use Rattle.std.proofs.Common.{◌≡◌, ◌∙◌, ◌⊎◌, ◌++◌, inl, inr, List, map, ap, subst, sym}
 use Rattle.wit_data.specs.declared.types.TypeDef.{TypeDef}
-use Rattle.wit_elaboration.specs.Elaboration.{IsRefusedWorld, elaborated_world}
+use Rattle.wit_elaboration.specs.Elaboration.{elaborated_world}
+use Rattle.wit_elaboration.specs.steps.Elaboration.{IsRefusedWorld}
 use Rattle.wit_graph_data.specs.facts.ResultFacts.{residual_error}
 use Rattle.wit_graph_data.specs.declared.graph.Graph.{Graph}
 use Rattle.wit_graph_data.specs.declared.error_kind.ResolveErrorKind.{ResolveErrorKind}

@@ -5,7 +5,8 @@ use Rattle.std.specs.Vec.Iter.{into_iter_items}
 use Rattle.wit_digraph.specs.facts.MemberFacts.{Contains-here, Contains-nil}
 use Rattle.wit_data.specs.facts.EachFacts.{nil_from_length}
 use Rattle.wit_data.specs.declared.world.World.{World}
-use Rattle.wit_elaboration.specs.Elaboration.{IsRefusedWorld, elaborated_world}
+use Rattle.wit_elaboration.specs.Elaboration.{elaborated_world}
+use Rattle.wit_elaboration.specs.steps.Elaboration.{IsRefusedWorld}
 use Rattle.wit_graph_data.specs.facts.ResultFacts.{residual_error}
 use Rattle.wit_graph_data.specs.declared.error_kind.ResolveErrorKind.{ResolveErrorKind}
 use Rattle.wit_graph_data.specs.declared.error_kind.ResolveErrorKind.TheVariants.{OutOfMemory}

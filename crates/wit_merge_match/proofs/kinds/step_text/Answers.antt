@@ -1,7 +1,8 @@
 use Rattle.std.proofs.Common.{◌≡◌, ◌∙◌, None, ap, rules, sym}
 use Rattle.std.proofs.lemmas.Result.{IfOk-weaker}
 use Rattle.wit_merge_match.specs.steps.Kinds.{name_at, step_at}
-use Rattle.wit_data.specs.Kind.{plain_step, variant_of}
+use Rattle.wit_data.specs.Kind.{variant_of}
+use Rattle.wit_data.specs.steps.Kind.{plain_step}
 use Rattle.wit_data.specs.declared.kind.Variant.{Variant}
 use Rattle.wit_data.specs.declared.kind.Variant.TheVariants.{Tuple}
 use Rattle.wit_merge_match.proofs.KindParts.{no_name, step_plain}

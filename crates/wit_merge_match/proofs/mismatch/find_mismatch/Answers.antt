@@ -2,7 +2,7 @@ use Rattle.std.proofs.Common.{arith, string_bytes}
 use Rattle.std.proofs.lemmas.Option.{IfSome_then}
 use Rattle.std.proofs.lemmas.Result.{IfOk-weaker}
 use Rattle.wit_merge_spec.specs.Matches.{counterpart_interface, counterpart_world}
-use Rattle.wit_merge_match.specs.Differing.{InterfaceDiffersAt, InterfacesDiffer, WorldDiffersAt, WorldsDiffer}
+use Rattle.wit_merge_match.specs.steps.Differing.{InterfaceDiffersAt, InterfacesDiffer, WorldDiffersAt, WorldsDiffer}
 use Rattle.wit_merge_match.specs.steps.Matched.{merge_of_graphs}
 use Rattle.wit_merge_match.proofs.Steps.{are_one, if_none, interface_differs, none_anywhere, none_next, types_differ, world_differs}
 use Rattle.wit_merge_match.proofs.mismatch.find_mismatch.Goals as goal

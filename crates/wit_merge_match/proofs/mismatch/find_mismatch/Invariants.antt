@@ -1,4 +1,4 @@
-use Rattle.wit_merge_match.specs.Differing.{InterfaceDiffersAt, WorldDiffersAt, merging_of}
+use Rattle.wit_merge_match.specs.steps.Differing.{InterfaceDiffersAt, WorldDiffersAt, merging_of}
 use Rattle.wit_merge_match.proofs.Steps.{NoneBelow}
 use Rattle.wit_merge_match.proofs.mismatch.find_mismatch.Given as goal
 

@@ -1,5 +1,5 @@
 use Rattle.std.proofs.Common.{◌∙◌, ◌<◌, List, [], ℕ, All, length, sym, subst}
-use Rattle.wit_digraph.specs.PostOrder.{UsesFirst}
+use Rattle.wit_digraph.specs.steps.PostOrder.{UsesFirst}
 use Rattle.wit_queries.proofs.Unfolds.{order_below, order_uses_first}
 use Rattle.wit_queries.proofs.futures.futures_below.Goals as goal
 

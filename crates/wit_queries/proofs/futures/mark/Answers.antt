@@ -1,5 +1,5 @@
 use Rattle.std.proofs.Common.{◌∙◌, ◌<◌, All, List, ℕ, ap, length, sym, subst, Contains}
-use Rattle.wit_digraph.specs.PostOrder.{Listed}
+use Rattle.wit_digraph.specs.steps.PostOrder.{Listed}
 use Rattle.wit_queries.specs.steps.Unfolding.{KeepsOthers}
 use Rattle.wit_queries.proofs.Unfolds.{KeepsOthers-marked, KeepsOthers-none, KeepsOthers-was}
 use Rattle.wit_queries.proofs.futures.mark.Goals as goal

@@ -1,5 +1,5 @@
 use Rattle.std.proofs.Common.{◌≡◌, length}
-use Rattle.wit_queries.specs.ValidBits.{AreRightBelow, AreRightOff, on_count}
+use Rattle.wit_queries.specs.steps.ValidBits.{AreRightBelow, AreRightOff, on_count}
 use Rattle.wit_queries.proofs.valid_bits.add_valid_bits.Given as goal
 
 -- flags that are off are right, and so are all of the types that had one

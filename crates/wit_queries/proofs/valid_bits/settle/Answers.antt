@@ -1,6 +1,6 @@
 use Rattle.std.proofs.Common.{rules, ◌≡◌, ◌∙◌, true, false, Some, length, refl, ap, slice_get}
 use Rattle.std.proofs.lemmas.Option.{slice_get_read}
-use Rattle.wit_queries.specs.ValidBits.{has_valid_parts}
+use Rattle.wit_queries.specs.steps.ValidBits.{has_valid_parts}
 use Rattle.wit_queries.proofs.ValidBits.{settled_all, settling_agrees, settling_off, settling_taken}
 use Rattle.wit_queries.proofs.valid_bits.settle.Goals.{then-at+then-not-has_valid_parts, else-at, else-at-via-then-at+else-not-has_valid_parts, else-at-via-else-at}
 use Rattle.wit_queries.proofs.valid_bits.settle.Goals as goal

@@ -7,7 +7,7 @@ use Rattle.std.proofs.lemmas.Grind.{common_steps}
 use Rattle.wit_values.specs.facts.Lists.{kept-cases, slice_get-set, take-next_at}
 use Rattle.wit_digraph.specs.facts.MemberFacts.{Contains-nil, Contains-cons_cases}
 use Rattle.wit_digraph.specs.facts.PostOrderFacts.{UsesFirst-at}
-use Rattle.wit_digraph.specs.PostOrder.{Listed, UsesFirst}
+use Rattle.wit_digraph.specs.steps.PostOrder.{Listed, UsesFirst}
 use Rattle.wit_data.specs.Each.{SomeAt}
 use Rattle.wit_data.specs.facts.EachFacts.{SomeAt-is, SomeAt-of}
 use Rattle.wit_data.specs.Ownership.{NamesThroughUnnamed}

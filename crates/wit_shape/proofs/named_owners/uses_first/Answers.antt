@@ -1,6 +1,6 @@
 use Rattle.std.proofs.Common.{◌≡◌, ◌∙◌, ℕ, ◌<◌, [], List, length, subst, ap}
 use Rattle.std.specs.Prelude.{Contains, IfOk}
-use Rattle.wit_digraph.specs.PostOrder.{Listed, UsesFirst}
+use Rattle.wit_digraph.specs.steps.PostOrder.{Listed, UsesFirst}
 use Rattle.wit_data.specs.Kind.{type_references}
 use Rattle.wit_data.specs.facts.ReferenceFacts.{length-references}
 use Rattle.wit_shape.proofs.named_owners.uses_first.Goals as goal

@@ -4,7 +4,7 @@ use Rattle.std.specs.List.{IsDistinct}
 use Rattle.std.proofs.lemmas.Bool.Decides.{Decides-eqb}
 use Rattle.std.proofs.lemmas.List.{take_all, take_more}
 use Rattle.std.proofs.lemmas.Option.{slice_get-get_or}
-use Rattle.wit_digraph.specs.PostOrder.{Listed}
+use Rattle.wit_digraph.specs.steps.PostOrder.{Listed}
 use Rattle.wit_data.specs.facts.EachFacts.{all_of, one_more}
 use Rattle.wit_shape.proofs.Distinct.{apart_push}
 use Rattle.wit_shape_faults.proofs.FirstIds.{are_first}

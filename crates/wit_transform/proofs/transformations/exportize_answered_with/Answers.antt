@@ -11,7 +11,8 @@ use Rattle.wit_graph_data.specs.declared.error_kind.ResolveErrorKind.{ResolveErr
 use Rattle.wit_graph_data.specs.declared.error_kind.ResolveErrorKind.TheVariants.{OutOfMemory}
 use Rattle.wit_graph_theory.specs.facts.ListFacts.{same_at}
 use Rattle.wit_transform.proofs.TransformSteps.{exportize_clear, exportize_conflict, exportized_in_order, has_home, transformed_same}
-use Rattle.wit_transform.specs.Transformed.{IsExportizeCause, NameIsFreeAt, exportized_name_taken, not_exported, WorldLists, entries_by_answer, exportized, transformed}
+use Rattle.wit_transform.specs.Transformed.{IsExportizeCause, exportized_name_taken, not_exported, WorldLists, entries_by_answer, exportized, transformed}
+use Rattle.wit_transform.specs.steps.Transformed.{NameIsFreeAt}
 use Rattle.wit_transform.proofs.transformations.exportize_answered_with.Goals as goal
 
 pub free_name-requires : goal.free_name-requires

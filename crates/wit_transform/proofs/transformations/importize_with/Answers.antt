@@ -10,7 +10,8 @@ use Rattle.wit_graph_data.specs.declared.error_kind.ResolveErrorKind.TheVariants
 use Rattle.wit_graph_theory.specs.facts.ListFacts.{same_at}
 use Rattle.wit_transform.proofs.Accepted.{under_labels}
 use Rattle.wit_transform.proofs.TransformSteps.{has_home, importize_clear, importized_in_order, transformed_same}
-use Rattle.wit_transform.specs.Transformed.{IsImportizeCause, NameIsFreeAt, importized_name_taken, label_clash, WorldLists, importized, transformed}
+use Rattle.wit_transform.specs.Transformed.{IsImportizeCause, importized_name_taken, label_clash, WorldLists, importized, transformed}
+use Rattle.wit_transform.specs.steps.Transformed.{NameIsFreeAt}
 use Rattle.wit_transform.proofs.transformations.importize_with.Goals as goal
 
 pub free_name-requires : goal.free_name-requires

@@ -8,7 +8,8 @@ use Rattle.wit_graph_data.specs.declared.error_kind.ResolveErrorKind.{ResolveErr
 use Rattle.wit_graph_data.specs.declared.error_kind.ResolveErrorKind.TheVariants.{OutOfMemory}
 use Rattle.wit_graph_theory.specs.facts.ListFacts.{some_at}
 use Rattle.wit_transform.proofs.TransformSteps.{conflict_told}
-use Rattle.wit_transform.specs.Transformed.{ExportsAreInConflict, NameIsFreeAt, WorldLists, transformed_at}
+use Rattle.wit_transform.specs.Transformed.{WorldLists, transformed_at}
+use Rattle.wit_transform.specs.steps.Transformed.{ExportsAreInConflict, NameIsFreeAt}
 use Rattle.wit_transform.proofs.transformations.transform.Goals as goal
 use Rattle.wit_transform.specs.steps.Parts.{with_world}
 

@@ -1,7 +1,7 @@
 use Rattle.std.proofs.Common.{◌≡◌, List, ℕ, ap, subst}
 use Rattle.std.specs.Prelude.{Contains}
 use Rattle.wit_digraph.specs.steps.Rows.{HasBit}
-use Rattle.wit_digraph.specs.PostOrder.{Listed}
+use Rattle.wit_digraph.specs.steps.PostOrder.{Listed}
 use Rattle.wit_digraph.proofs.post_order.Listing.has.Goals as goal
 
 pub returns : goal.returns

@@ -1,6 +1,6 @@
 use Rattle.std.proofs.Common.{◌<◌, ◌≤◌, ℕ, List, length, get_or, ap, arith}
 use Rattle.wit_digraph.specs.Relation.{direct}
-use Rattle.wit_digraph.specs.PostOrder.{Listed}
+use Rattle.wit_digraph.specs.steps.PostOrder.{Listed}
 use Rattle.wit_digraph.proofs.Stack.{IsWalking-uses_first, walk_is_listed, start_walk, step_enter, step_skip, step_list, step_drop, turns_enter, turns_skip, turns_pop}
 use Rattle.wit_digraph.proofs.post_order.Listing.list_post_order.Goals as goal
 

@@ -3,7 +3,8 @@ use Rattle.std.specs.Prelude.{Contains}
 use Rattle.std.proofs.lemmas.List.Elements.{Contains-append_left}
 use Rattle.wit_digraph.specs.facts.FreshFacts.{fresh_all}
 use Rattle.wit_digraph.specs.facts.PostOrderFacts.{Contains-post_order_end}
-use Rattle.wit_digraph.specs.PostOrder.{Listed, fresh, post_order}
+use Rattle.wit_digraph.specs.PostOrder.{fresh, post_order}
+use Rattle.wit_digraph.specs.steps.PostOrder.{Listed}
 use Rattle.wit_digraph.proofs.post_order.Listing.of_all.Goals as goal
 
 below_or_last : (i n : ℕ) → i < n + 1 → (i < n) ⊎ (n ≡ i)

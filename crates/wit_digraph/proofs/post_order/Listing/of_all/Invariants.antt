@@ -1,6 +1,6 @@
 use Rattle.std.proofs.Common.{◌≡◌, ℕ, ◌<◌, [], length}
 use Rattle.std.specs.Prelude.{Contains}
-use Rattle.wit_digraph.specs.PostOrder.{UsesFirst}
+use Rattle.wit_digraph.specs.steps.PostOrder.{UsesFirst}
 use Rattle.wit_digraph.proofs.post_order.Listing.of_all.Given as goal
 
 -- the first nodes are listed

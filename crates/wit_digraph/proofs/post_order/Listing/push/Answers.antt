@@ -1,7 +1,7 @@
 use Rattle.std.proofs.Common.{◌≡◌, ◌≢◌, ◌∙◌, List, ℕ, ap, arith, drop, length}
 use Rattle.std.proofs.lemmas.List.{take_at}
 use Rattle.wit_digraph.specs.steps.Rows.{bit_of}
-use Rattle.wit_digraph.specs.PostOrder.{Listed}
+use Rattle.wit_digraph.specs.steps.PostOrder.{Listed}
 use Rattle.wit_digraph.proofs.Marks.{AreMarksOf-listed}
 use Rattle.wit_digraph.proofs.post_order.Listing.push.Goals as goal
 

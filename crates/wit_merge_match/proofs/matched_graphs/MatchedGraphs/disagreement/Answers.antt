@@ -1,5 +1,5 @@
 use Rattle.std.proofs.lemmas.Option.{IfSome_then}
-use Rattle.wit_merge_match.specs.Differing.{merging_of}
+use Rattle.wit_merge_match.specs.steps.Differing.{merging_of}
 use Rattle.wit_merge_match.proofs.Apart.{interfaces_mismatch, none_mismatch, types_mismatch, worlds_mismatch}
 use Rattle.wit_merge_match.proofs.Steps.{if_none}
 use Rattle.wit_merge_match.proofs.matched_graphs.MatchedGraphs.disagreement.Goals as goal

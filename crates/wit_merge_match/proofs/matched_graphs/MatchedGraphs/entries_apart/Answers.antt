@@ -2,7 +2,7 @@ use Rattle.std.proofs.Common.{arith, ◌∙◌, length}
 use Rattle.std.specs.Map.Iter.{deref_pair}
 use Rattle.std.proofs.lemmas.Map.Iter.{iter_end, iter_turn}
 use Rattle.std.proofs.lemmas.List.{length_push}
-use Rattle.wit_merge_match.specs.Differing.{merging_of}
+use Rattle.wit_merge_match.specs.steps.Differing.{merging_of}
 use Rattle.wit_merge_match.proofs.Apart.{EntryApartAt, entries_apart, entries_fit, entry_fits}
 use Rattle.wit_merge_match.proofs.Steps.{none_next}
 use Rattle.wit_merge_match.proofs.matched_graphs.MatchedGraphs.entries_apart.Goals as goal

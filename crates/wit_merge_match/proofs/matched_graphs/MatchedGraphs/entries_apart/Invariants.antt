@@ -1,5 +1,5 @@
 use Rattle.std.proofs.Common.{length}
-use Rattle.wit_merge_match.specs.Differing.{merging_of}
+use Rattle.wit_merge_match.specs.steps.Differing.{merging_of}
 use Rattle.wit_merge_match.proofs.Apart.{EntryApartAt}
 use Rattle.wit_merge_match.proofs.Steps.{NoneBelow}
 use Rattle.wit_merge_match.proofs.matched_graphs.MatchedGraphs.entries_apart.Given as goal

@@ -2,7 +2,7 @@ use Rattle.std.proofs.Common.{[], arith, ◌∙◌, length}
 use Rattle.std.specs.Map.Iter.{deref_pair}
 use Rattle.std.proofs.lemmas.Map.Iter.{iter_end, iter_turn}
 use Rattle.std.proofs.lemmas.List.{length_push}
-use Rattle.wit_merge_match.specs.Differing.{merging_of}
+use Rattle.wit_merge_match.specs.steps.Differing.{merging_of}
 use Rattle.wit_graph_theory.specs.facts.ListFacts.{contained_at}
 use Rattle.wit_merge_spec.specs.Matches.{entry_pairs}
 use Rattle.wit_merge_match.proofs.PairSteps.{first_next, none_all, none_next, none_of_none}

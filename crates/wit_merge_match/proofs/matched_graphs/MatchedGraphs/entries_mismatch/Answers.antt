@@ -2,7 +2,7 @@ use Rattle.std.proofs.Common.{◌≡◌, ◌≢◌, length, arith, ◌∙◌}
 use Rattle.std.specs.Map.Iter.{deref_pair}
 use Rattle.std.proofs.lemmas.Map.Iter.{iter_end, iter_turn}
 use Rattle.std.proofs.lemmas.List.{length_push}
-use Rattle.wit_merge_match.specs.Differing.{merging_of}
+use Rattle.wit_merge_match.specs.steps.Differing.{merging_of}
 use Rattle.wit_merge_match.proofs.Steps.{EntryDiffersAt, counts_differ, entries_alike, entry_at_alike, entry_differs, none_next}
 use Rattle.wit_merge_match.proofs.matched_graphs.MatchedGraphs.entries_mismatch.Goals as goal
 

@@ -1,6 +1,6 @@
 use Rattle.std.proofs.Common.{◌≡◌, ◌<◌, ℕ, Some, length, slice_get}
 use Rattle.wit_data.specs.Entries.{Entry}
-use Rattle.wit_merge_match.specs.Differing.{merging_of}
+use Rattle.wit_merge_match.specs.steps.Differing.{merging_of}
 use Rattle.wit_merge_match.specs.steps.Leaving.{EntryLeaves}
 use Rattle.wit_merge_match.proofs.matched_graphs.MatchedGraphs.entries_stay.Given as goal
 

@@ -1,4 +1,4 @@
-use Rattle.wit_merge_match.specs.Differing.{merging_of}
+use Rattle.wit_merge_match.specs.steps.Differing.{merging_of}
 use Rattle.wit_merge_match.proofs.Apart.{entry_agrees}
 use Rattle.wit_merge_match.proofs.Steps.{if_none}
 use Rattle.wit_merge_match.proofs.matched_graphs.MatchedGraphs.entry_apart.Goals as goal

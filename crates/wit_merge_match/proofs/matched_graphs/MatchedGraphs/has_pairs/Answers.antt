@@ -1,5 +1,5 @@
 use Rattle.std.proofs.Common.{◌∙◌, sym}
-use Rattle.wit_merge_match.specs.Differing.{merging_of}
+use Rattle.wit_merge_match.specs.steps.Differing.{merging_of}
 use Rattle.wit_merge_match.proofs.NoPairs.{no_pairs}
 use Rattle.wit_merge_match.proofs.matched_graphs.MatchedGraphs.has_pairs.Goals as goal
 

@@ -2,7 +2,7 @@ use Rattle.std.proofs.Common.{◌≡◌, ◌∙◌, ℕ, List, None, Some, arith
 use Rattle.wit_values.specs.Names.{deref_named}
 use Rattle.std.proofs.lemmas.Map.Iter.{iter_end, iter_turn}
 use Rattle.std.proofs.lemmas.List.{length_push}
-use Rattle.wit_merge_match.specs.Differing.{merging_of}
+use Rattle.wit_merge_match.specs.steps.Differing.{merging_of}
 use Rattle.wit_graph_theory.specs.facts.ListFacts.{contained_at}
 use Rattle.wit_merge_spec.specs.Matches.{matched_interface}
 use Rattle.std.specs.List.{flat_map}

@@ -1,6 +1,6 @@
 use Rattle.std.proofs.Common.{take, length}
 use Rattle.std.specs.List.{flat_map}
-use Rattle.wit_merge_match.specs.Differing.{merging_of}
+use Rattle.wit_merge_match.specs.steps.Differing.{merging_of}
 use Rattle.wit_merge_match.specs.steps.Structures.{IsOf, NoneDiffer, common_pair}
 use Rattle.wit_merge_match.proofs.matched_graphs.MatchedGraphs.interface_differs.Given as goal
 

@@ -4,7 +4,7 @@ use Rattle.std.proofs.lemmas.Result.{IfOk-weaker}
 use Rattle.std.specs.Prelude.{string_bytes}
 use Rattle.wit_data.specs.Entries.{item_interface}
 use Rattle.wit_merge_spec.specs.Cause.{same_sort}
-use Rattle.wit_merge_match.specs.Differing.{merging_of}
+use Rattle.wit_merge_match.specs.steps.Differing.{merging_of}
 use Rattle.wit_merge_match.proofs.Steps.{if_none, interfaces_alike, interfaces_differ, sorts_differ}
 use Rattle.wit_merge_match.proofs.matched_graphs.MatchedGraphs.item_mismatch.Goals as goal
 

@@ -1,6 +1,6 @@
 use Rattle.std.proofs.Common.{true, false}
 use Rattle.std.proofs.lemmas.Option.{IfSome_then}
-use Rattle.wit_merge_match.specs.Differing.{merging_of}
+use Rattle.wit_merge_match.specs.steps.Differing.{merging_of}
 use Rattle.wit_merge_match.specs.steps.Stabilities as stabilities
 use Rattle.wit_merge_match.proofs.Apart.{worlds_fit}
 use Rattle.wit_merge_match.proofs.Steps.{if_none}

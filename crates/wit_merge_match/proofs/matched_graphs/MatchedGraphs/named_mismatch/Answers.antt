@@ -1,7 +1,7 @@
 use Rattle.std.proofs.Common.{codes}
 use Rattle.wit_remap_spec.specs.FunctionMismatch.{HaveFunctionMismatch}
 use Rattle.wit_merge_spec.specs.Matches.{counterpart_interface}
-use Rattle.wit_merge_match.specs.Differing.{InterfacesDiffer, merging_of}
+use Rattle.wit_merge_match.specs.steps.Differing.{InterfacesDiffer, merging_of}
 use Rattle.wit_merge_match.proofs.Steps.{alike, part_alike}
 use Rattle.wit_merge_match.proofs.matched_graphs.MatchedGraphs.named_mismatch.Goals as goal
 

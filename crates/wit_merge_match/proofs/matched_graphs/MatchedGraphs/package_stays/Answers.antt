@@ -1,7 +1,7 @@
 use Rattle.std.proofs.Common.{◌≡◌, ◌∙◌, subst}
 use Rattle.wit_graph_data.specs.declared.graph.Package.{Package}
 use Rattle.wit_graph_theory.specs.facts.OptionFacts.{some_same}
-use Rattle.wit_merge_match.specs.Differing.{merging_of}
+use Rattle.wit_merge_match.specs.steps.Differing.{merging_of}
 use Rattle.wit_merge_match.specs.steps.Leaving.{PackageLeaves}
 use Rattle.wit_merge_match.proofs.matched_graphs.MatchedGraphs.package_stays.Goals as goal
 

@@ -2,7 +2,7 @@ use Rattle.std.proofs.Common.{◌≡◌, [], None, Some, arith, codes, rules, sl
 use Rattle.wit_values.specs.Names.{deref_named}
 use Rattle.std.proofs.lemmas.Map.Iter.{iter_end, iter_turn}
 use Rattle.std.proofs.lemmas.List.{length_push}
-use Rattle.wit_merge_match.specs.Differing.{merging_of}
+use Rattle.wit_merge_match.specs.steps.Differing.{merging_of}
 use Rattle.wit_merge_spec.specs.MismatchText.{part_links}
 use Rattle.wit_merge_spec.specs.Matches.{world_pairs}
 use Rattle.wit_merge_match.specs.steps.Structures.{world_part}

@@ -1,6 +1,6 @@
 use Rattle.std.proofs.Common.{◌≡◌, ◌≤◌, ap, arith, length, string_bytes}
 use Rattle.std.specs.List.{flat_map}
-use Rattle.wit_merge_match.specs.Differing.{merging_of}
+use Rattle.wit_merge_match.specs.steps.Differing.{merging_of}
 use Rattle.wit_merge_match.specs.steps.Structures.{package_interface_pairs, package_world_pairs}
 use Rattle.wit_merge_match.proofs.Mapped.{stands}
 use Rattle.wit_merge_match.proofs.PairSteps.{first_back, first_front, first_next, none_all, none_append, none_next, none_of_none}

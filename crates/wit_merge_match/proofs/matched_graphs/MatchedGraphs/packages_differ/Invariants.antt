@@ -1,6 +1,6 @@
 use Rattle.std.proofs.Common.{take}
 use Rattle.std.specs.List.{flat_map}
-use Rattle.wit_merge_match.specs.Differing.{merging_of}
+use Rattle.wit_merge_match.specs.steps.Differing.{merging_of}
 use Rattle.wit_merge_match.specs.steps.Structures.{IsOf, NoneDiffer, package_interface_pairs, package_world_pairs}
 use Rattle.wit_merge_match.proofs.matched_graphs.MatchedGraphs.packages_differ.Given as goal
 

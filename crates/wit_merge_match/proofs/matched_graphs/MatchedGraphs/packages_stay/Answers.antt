@@ -1,5 +1,5 @@
 use Rattle.std.proofs.Common.{arith}
-use Rattle.wit_merge_match.specs.Differing.{merging_of}
+use Rattle.wit_merge_match.specs.steps.Differing.{merging_of}
 use Rattle.wit_merge_match.specs.steps.Leaving.{PackageLeaves}
 use Rattle.wit_merge_match.proofs.NothingChanges.{leave_all, leave_next}
 use Rattle.wit_merge_spec.specs.Matches.{counterpart_package}

@@ -1,4 +1,4 @@
-use Rattle.wit_merge_match.specs.Differing.{merging_of}
+use Rattle.wit_merge_match.specs.steps.Differing.{merging_of}
 use Rattle.wit_merge_match.specs.steps.Leaving.{PackageLeaves}
 use Rattle.wit_merge_match.proofs.NothingChanges.{LeaveBelow}
 use Rattle.wit_merge_spec.specs.Matches.{counterpart_package}

@@ -3,7 +3,7 @@ use Rattle.std.proofs.lemmas.Option.{IfSome_then}
 use Rattle.std.proofs.lemmas.Result.{IfOk-weaker}
 use Rattle.wit_digraph.specs.facts.MemberFacts.{Contains-nil}
 use Rattle.wit_merge_spec.specs.Matches.{TypePair}
-use Rattle.wit_merge_match.specs.Differing.{merging_of}
+use Rattle.wit_merge_match.specs.steps.Differing.{merging_of}
 use Rattle.wit_merge_match.proofs.PairSteps.{first_is, none_same, pairs_by_package}
 use Rattle.wit_merge_match.proofs.Steps.{if_none}
 use Rattle.wit_merge_match.proofs.matched_graphs.MatchedGraphs.structures_mismatch.Goals as goal

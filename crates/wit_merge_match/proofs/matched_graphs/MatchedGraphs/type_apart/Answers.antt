@@ -1,5 +1,5 @@
 use Rattle.wit_data.specs.declared.types.TypeDef.{TypeDef}
-use Rattle.wit_merge_match.specs.Differing.{merging_of}
+use Rattle.wit_merge_match.specs.steps.Differing.{merging_of}
 use Rattle.wit_merge_match.specs.steps.Stabilities.{AreApart}
 use Rattle.wit_merge_match.proofs.Steps.{alike, if_none}
 use Rattle.wit_merge_spec.specs.Matches.{counterpart_type}

@@ -1,7 +1,7 @@
 use Rattle.std.proofs.Common.{arith}
 use Rattle.wit_data.specs.declared.types.TypeDef.{TypeDef}
 use Rattle.wit_merge_spec.specs.Matches.{counterpart_type}
-use Rattle.wit_merge_match.specs.Differing.{merging_of}
+use Rattle.wit_merge_match.specs.steps.Differing.{merging_of}
 use Rattle.wit_merge_match.specs.steps.Stabilities.{AreApart, TypesApartAt}
 use Rattle.wit_merge_match.proofs.Steps.{none_anywhere, none_next}
 use Rattle.wit_merge_match.proofs.matched_graphs.MatchedGraphs.types_apart.Goals as goal

@@ -1,4 +1,4 @@
-use Rattle.wit_merge_match.specs.Differing.{merging_of}
+use Rattle.wit_merge_match.specs.steps.Differing.{merging_of}
 use Rattle.wit_merge_match.specs.steps.Stabilities.{WorldsApart}
 use Rattle.wit_merge_match.proofs.Steps.{alike, if_none}
 use Rattle.wit_merge_spec.specs.Matches.{counterpart_world}

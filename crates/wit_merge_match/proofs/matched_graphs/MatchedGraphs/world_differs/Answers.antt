@@ -1,7 +1,7 @@
 use Rattle.std.proofs.Common.{◌≡◌, None, Some, codes, rules, slice_get, string_bytes, sym}
 use Rattle.std.proofs.lemmas.Option.{IfSome_then}
 use Rattle.std.proofs.lemmas.Result.{IfOk-weaker}
-use Rattle.wit_merge_match.specs.Differing.{merging_of}
+use Rattle.wit_merge_match.specs.steps.Differing.{merging_of}
 use Rattle.wit_merge_spec.specs.Matches.{matched_world}
 use Rattle.wit_merge_match.specs.steps.Structures.{side_pairs}
 use Rattle.wit_merge_match.proofs.PairSteps.{first_back, first_front, first_is, none_append, none_is, none_same, world_absent, world_alone, world_is}

@@ -1,6 +1,6 @@
 use Rattle.std.proofs.Common.{Some, codes}
 use Rattle.wit_merge_spec.specs.Matches.{counterpart_world}
-use Rattle.wit_merge_match.specs.Differing.{SidesDiffer, WorldsDiffer, merging_of}
+use Rattle.wit_merge_match.specs.steps.Differing.{SidesDiffer, WorldsDiffer, merging_of}
 use Rattle.wit_merge_match.proofs.Steps.{alike, part_alike}
 use Rattle.wit_merge_match.proofs.matched_graphs.MatchedGraphs.world_mismatch.Goals as goal
 

@@ -1,6 +1,6 @@
 use Rattle.std.proofs.Common.{arith}
 use Rattle.wit_merge_spec.specs.Matches.{counterpart_world}
-use Rattle.wit_merge_match.specs.Differing.{merging_of}
+use Rattle.wit_merge_match.specs.steps.Differing.{merging_of}
 use Rattle.wit_merge_match.specs.steps.Stabilities.{WorldsApart, WorldsApartAt}
 use Rattle.wit_merge_match.proofs.Steps.{none_anywhere, none_next}
 use Rattle.wit_merge_match.proofs.matched_graphs.MatchedGraphs.worlds_apart.Goals as goal

@@ -1,4 +1,4 @@
-use Rattle.wit_merge_match.specs.Differing.{merging_of}
+use Rattle.wit_merge_match.specs.steps.Differing.{merging_of}
 use Rattle.wit_merge_match.specs.steps.Stabilities.{WorldsApartAt}
 use Rattle.wit_merge_match.proofs.Steps.{NoneBelow}
 use Rattle.wit_merge_match.proofs.matched_graphs.MatchedGraphs.worlds_apart.Given as goal
