@@ -1,8 +1,21 @@
+mod Accepted
 mod Apart
+mod AtWorlds
+mod Brought
 mod Chained
+mod Computed
 mod FirstFaults
+mod GateCauses
+mod HasImage
+mod LaterWorlds
+mod Matching
+mod Names
+mod Orders
 mod ShapeMisses
 mod Shaped
 mod TakenNames
 mod Transformed
+mod WorkedGraphs
+mod WorldCauses
+mod WorldTests
 pub mod OneFilePlaces

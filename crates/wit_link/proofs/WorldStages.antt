@@ -19,7 +19,7 @@ use Rattle.wit_link_spec.specs.Added.{added, with_parts, with_world, with_worlds
 use Rattle.wit_link_spec.specs.Reasons.{IsResolved}
 use Rattle.wit_link_spec.specs.WorldReasons.{IsWorldCause}
 use Rattle.wit_link_spec.specs.facts.WorldCauseFacts.{cause_world}
-use Rattle.wit_link_laws.specs.laws.StageFacts.{IncludedAreThere, IncludesCanBe, WorldsCanBe}
+use Rattle.wit_link_spec.specs.laws.StageFacts.{IncludedAreThere, IncludesCanBe, WorldsCanBe}
 use Rattle.wit_link_include.specs.facts.AdditionFacts.{next_stage, reached_accepted, world_cause}
 use Rattle.wit_link_include.specs.steps.Included as local
 use Rattle.wit_link_include.specs.facts.ReadyFacts.{can_be_added}

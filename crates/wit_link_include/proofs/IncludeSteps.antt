@@ -35,7 +35,7 @@ use Rattle.wit_link_spec.specs.Gates.{OptionalSpan}
 use Rattle.wit_link_spec.specs.Include.{PartiallyLinked, belongs_to, copy_maps, is_other_package, is_owned_within, joined_entries, lists_of, with_copies, with_entry_lists, with_world_included}
 use Rattle.wit_remap_spec.specs.Joined.{include_stability, Disagree, HasStability}
 use Rattle.wit_link_spec.specs.WorldReasons.{IsCauseOfInclude, IsIncludeCause, IsJoinCause, IsShadowed, mismatch_8, of_exports, of_imports, rename_unmatched_16, renamed_key, shadowing_7}
-use Rattle.wit_link_laws.specs.laws.StageFacts.{CanInclude}
+use Rattle.wit_link_spec.specs.laws.StageFacts.{CanInclude}
 use Rattle.wit_link_include.specs.steps.Included.{StayApart, AreRenamed, ComeOnce, HaveOwnKeys, IsFirstUnmatched, IsJoinError, JoinIsAccepted, StandsWith, item_shadowing_7, stability_mismatch_8}
 use Rattle.wit_link_spec.specs.steps.Parts.{before_includes, interface_copy, rename_text, with_one}
 

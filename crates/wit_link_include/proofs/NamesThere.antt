@@ -19,7 +19,7 @@ use Rattle.wit_data.specs.declared.world.WorldKey.TheVariants as key
 use Rattle.wit_graph_data.specs.declared.graph.Graph.{Graph}
 use Rattle.wit_graph_theory.specs.facts.ListFacts.{Contains-map_cases, found_at, place_of}
 use Rattle.wit_link_spec.specs.Include.{belongs_to, entry_mentions}
-use Rattle.wit_link_laws.specs.laws.StageFacts.{CanInclude}
+use Rattle.wit_link_spec.specs.laws.StageFacts.{CanInclude}
 use Rattle.wit_link_include.specs.steps.Included.{NamesThere}
 use Rattle.wit_link_spec.specs.steps.Parts.{interface_mentions}
 

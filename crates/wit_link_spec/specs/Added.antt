@@ -67,6 +67,6 @@ with_worlds a count = fold (with_world a) (with_parts a) (take count (own_worlds
 --                    worlds      0   | 1 v, imports 0 and 2, since i uses a
 --                    packages    0   | 1 foo:main { i -> 2 } { v -> 1 }
 --
--- (`whole` of `ExamplesOfPushes` in examples_link; with an include `once` of `ExamplesOfIncludedWorlds`)
+-- (`whole` of `ExamplesOfPushes` in examples_graph; with an include `once` of `ExamplesOfIncludedWorlds`)
 abbrev pub added : Addition → Graph
 added a = fold (with_world a) (with_parts a) (own_worlds a)

@@ -51,7 +51,7 @@ with_entry_lists world lists = record world { imports = lists.imports; exports =
 --     interfaces  0 no name   (x)            copied
 --
 -- An interface with a name, and its types, are never copied.
--- (`once` of `ExamplesOfIncludedWorlds` in examples_link proves the whole graph)
+-- (`once` of `ExamplesOfIncludedWorlds` in examples_graph proves the whole graph)
 
 -- does interface i belong to the world? It has no name and stands in it
 abbrev pub belongs_to : Graph → World → ℕ → Bool

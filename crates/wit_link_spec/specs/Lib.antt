@@ -1,11 +1,12 @@
+pub mod Added
 pub mod Addition
 pub mod Cause
 pub mod CauseText
 pub mod Gates
 pub mod Include
 pub mod Lookup
-pub mod Added
 pub mod Reasons
 pub mod WorldReasons
 pub mod facts
+pub mod laws
 pub mod steps

@@ -1,9 +1,11 @@
-//! What adding a package makes of a graph, and why it is refused: definitions and laws. Of code there is what
-//! the steps of an addition hand on to each other, which notes let their items be active, and what goes to new ids.
+//! What adding a package makes of a graph, and why it is refused: definitions, and laws: a valid graph to which a package
+//! is added stays valid, and a partially linked graph into which a world is included stays partially linked. Of code there
+//! is what the steps of an addition hand on to each other, which notes let their items be active, and what goes to new ids.
 #![tactic(auto)]
 
 mod addition;
 mod gates;
+pub mod laws;
 mod messages;
 mod new_things;
 

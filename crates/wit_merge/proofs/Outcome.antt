@@ -10,7 +10,7 @@ use Rattle.wit_elaboration.specs.AllElaborated.{all_elaborated}
 use Rattle.wit_merge_spec.specs.Cause.{HasNoMismatch, IsMergeCause, MergeIsAccepted, MergeReturnsBorrow, borrow_in_result_15}
 use Rattle.wit_merge_spec.specs.Matches.{GraphMerge}
 use Rattle.wit_merge_spec.specs.Merged.{joined_graph, merged}
-use Rattle.wit_unite_common.specs.steps.Reasons.{CanBeElaborated, ElaborationCause}
+use Rattle.wit_transform.specs.steps.Reasons.{CanBeElaborated, ElaborationCause}
 use Rattle.wit_merge.specs.steps.UnionSteps.{DoAgree, IsBorrowError}
 use Rattle.wit_merge.proofs.Elaborates.{can_merge, can_settle, cause_from}
 use Rattle.wit_merge_spec.specs.steps.Parts.{graph_spans, MergeOverflows}

@@ -33,7 +33,7 @@ use wit_merge_laws::laws::{
 };
 use wit_merge_match::{Matches, MergeIds, find_ids, find_matches};
 use wit_remap::Remap;
-use wit_unite_common::check_and_elaborate;
+use wit_transform::check_and_elaborate;
 
 /// A graph that another one was merged into, and where the things of that one are now.
 #[derive(Drop)]

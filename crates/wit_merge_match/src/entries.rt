@@ -10,7 +10,7 @@ use crate::messages::{absent, in_entry, key_text, other_count};
 use std::alloc::{AllocError, Global};
 use wit_data::{Table, World, WorldItem, WorldKey};
 use wit_elaboration::item_interface;
-use wit_unite_common::interface_mismatch;
+use wit_transform::interface_mismatch;
 
 impl<'a> MatchedGraphs<'a> {
     /// What differs in the imports of matched worlds, or else in their exports. None where nothing does.

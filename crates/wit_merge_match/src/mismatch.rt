@@ -11,7 +11,7 @@ use crate::matches::Matches;
 use crate::messages::in_part;
 use std::alloc::{AllocError, Global};
 use wit_graph_data::Graph;
-use wit_unite_common::interface_mismatch;
+use wit_transform::interface_mismatch;
 
 /// What differs of the other graph and what it is matched with in the graph, told with where it is: an interface of a
 /// name that disagrees in a function, a world whose entries differ, or types that differ in structure. Of several any

@@ -27,8 +27,8 @@ use Rattle.wit_semver_spec.specs.steps.SemverMerged.{Agrees}
 use Rattle.wit_semver_spec.specs.facts.Accepting.{id_of_named, in_order, new_aliases, relisted_worlds, rewritten_is}
 use Rattle.wit_semver_spec.specs.facts.TypesAfter.{type_after}
 use Rattle.wit_semver_spec.specs.facts.TypesGood.{refers_in_range, unnamed_plain}
-use Rattle.wit_unite_common.specs.steps.Reasons.{CanBeElaborated, ElaborationCause, IsSomeNamed}
-use Rattle.wit_unite_common.specs.steps.Reasons as settles
+use Rattle.wit_transform.specs.steps.Reasons.{CanBeElaborated, ElaborationCause, IsSomeNamed}
+use Rattle.wit_transform.specs.steps.Reasons as settles
 use Rattle.wit_elaboration.specs.steps.Parts.{graph_package_uses}
 use Rattle.wit_semver_spec.specs.steps.Parts.{retargeted, new_target}
 

@@ -13,7 +13,7 @@ use Rattle.wit_graph_data.specs.declared.error_kind.ResolveErrorKind.{ResolveErr
 use Rattle.wit_graph_data.specs.declared.error_kind.ResolveErrorKind.TheVariants.{OutOfMemory}
 use Rattle.wit_semver_spec.specs.SemverMerged.{IsSemverMergeCause, SemverMergeIsAccepted, SemverMerge, semver_merged, with_new_entries_at, semver_merge}
 use Rattle.wit_semver_spec.specs.laws.TrackLaws.{RetargetsNone, RewrittenStayValid, SameTypesKeepWorlds}
-use Rattle.wit_unite_common.specs.steps.Reasons.{CanBeElaborated, ElaborationCause}
+use Rattle.wit_transform.specs.steps.Reasons.{CanBeElaborated, ElaborationCause}
 use Rattle.wit_semver.specs.steps.Replacing.{AreNewEntries, with_imports, with_lists}
 use Rattle.wit_semver.proofs.Elaborates.{accepted_from, can_settle, cause_from, rewritten_from}
 use Rattle.wit_semver.proofs.NewEntries.{relisted_is, target_is}

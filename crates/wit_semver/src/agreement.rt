@@ -11,7 +11,7 @@ use crate::semver_merge_plan::{SemverMergePlan, replacement_of};
 use std::alloc::Global;
 use wit_data::InterfaceId;
 use wit_graph_data::ResolveResult;
-use wit_unite_common::interface_mismatch;
+use wit_transform::interface_mismatch;
 
 impl<'a> SemverMergePlan<'a> {
     /// Refused where an interface that is replaced disagrees with the one that replaces it in a function

@@ -15,7 +15,7 @@ use std::alloc::Global;
 use wit_data::{Items, Table, TrackRule, TypeId, WorldId, WorldItem, WorldKey};
 use wit_graph_data::{Graph, ResolveResult};
 use wit_semver_spec::laws::{rewritten_stay_valid, same_types_keep_worlds};
-use wit_unite_common::check_and_elaborate;
+use wit_transform::check_and_elaborate;
 
 /// What a world lists after its imports are merged, and what each type of the graph names then, None where that stays.
 #[derive(Drop)]

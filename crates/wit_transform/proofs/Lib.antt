@@ -1,7 +1,11 @@
 pub mod Accepted
 pub mod Answering
+pub mod ElaborationSteps
 pub mod NamedInterfaces
+pub mod OnCycles
 pub mod Refusals
+pub mod Searching
+pub mod Steps
 pub mod TableSteps
 pub mod TransformExamples
 pub mod TransformSteps

@@ -21,8 +21,8 @@ use Rattle.wit_link_spec.specs.Include.{with_several}
 use Rattle.wit_link_spec.specs.Added.{with_parts, with_worlds}
 use Rattle.wit_link_spec.specs.Reasons.{IsResolved}
 use Rattle.wit_link_spec.specs.WorldReasons.{IsAcceptedAt}
-use Rattle.wit_link_laws.specs.facts.ListedWorlds.{listed_worlds}
-use Rattle.wit_link_laws.specs.laws.StageFacts.{CanBeLinked, IncludedAreThere, IncludesCanBe, IsPartiallyLinked, WorldsCanBe}
+use Rattle.wit_link_spec.specs.facts.ListedWorlds.{listed_worlds}
+use Rattle.wit_link_spec.specs.laws.StageFacts.{CanBeLinked, IncludedAreThere, IncludesCanBe, IsPartiallyLinked, WorldsCanBe}
 use Rattle.wit_link_include.specs.steps.Included as local
 use Rattle.wit_link_include.specs.facts.AdditionFacts.{include_reached}
 use Rattle.wit_link_include.specs.facts.SeveralFacts.{several_worlds}

@@ -19,8 +19,8 @@ use Rattle.wit_graph_data.specs.declared.graph.Graph.{Graph}
 use Rattle.wit_graph_theory.specs.facts.GoodTypes.{alias_referred}
 use Rattle.wit_graph_theory.specs.facts.ListFacts.{found_at, get_at, in_row}
 use Rattle.wit_remap.specs.Grown.{Grown}
-use Rattle.wit_link_laws.specs.facts.CanonicalStays.{dep_of, filter_map_agrees, map_agrees, named_dep}
-use Rattle.wit_link_laws.specs.laws.StageFacts.{IsPartiallyLinked}
+use Rattle.wit_link_spec.specs.facts.CanonicalStays.{dep_of, filter_map_agrees, map_agrees, named_dep}
+use Rattle.wit_link_spec.specs.laws.StageFacts.{IsPartiallyLinked}
 
 module _ (g : Graph) (references : IsAcyclic (type_references g.types)) (own : EachAt (ListsOwn g.types) g.interfaces) (more : List TypeDef) where
   -- what an alias names is there

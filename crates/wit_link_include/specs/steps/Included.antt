@@ -29,7 +29,7 @@ use Rattle.wit_link_spec.specs.Gates.{OptionalSpan}
 use Rattle.wit_link_spec.specs.Include.{EntryLists, PartiallyLinked, joined_entries, lists_of, belongs_to, entry_mentions, is_owned_within, is_unnamed_type, named_types, owner_belongs_to, with_several}
 use Rattle.wit_remap_spec.specs.Joined.{include_stability, Disagree}
 use Rattle.wit_link_spec.specs.WorldReasons.{IsAcceptedAt, IsCauseOfInclude, IsListCause, IsRenamed, IsShadowed}
-use Rattle.wit_link_laws.specs.laws.StageFacts.{CanBeLinked, CanInclude, IsPartiallyLinked}
+use Rattle.wit_link_spec.specs.laws.StageFacts.{CanBeLinked, CanInclude, IsPartiallyLinked}
 use Rattle.wit_link_include.specs.declared.copies.Copies.{Copies}
 use Rattle.wit_data.specs.Kind.{referred, type_references}
 use Rattle.wit_data.specs.declared.types.TypeDef.{TypeDef}

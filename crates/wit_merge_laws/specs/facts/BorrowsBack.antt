@@ -42,7 +42,7 @@ use Rattle.wit_merge_laws.specs.facts.FunctionsThere.{moved_refers}
 use Rattle.wit_merge_laws.specs.facts.MatchFacts.{goes_to, type_is}
 use Rattle.wit_merge_laws.specs.facts.MatchedTypes.{no_difference}
 use Rattle.wit_merge_laws.specs.facts.StructuresRead.{kinds_alike, refers_within, same_structure, type_alike}
-use Rattle.wit_link_laws.specs.facts.ValueRemapFacts.{value_plain}
+use Rattle.wit_link_spec.specs.facts.ValueRemapFacts.{value_plain}
 use Rattle.wit_merge_laws.specs.facts.TypesStand.{joined_keeps, matched_some, new_type_at, old_type_at, own_at}
 use Rattle.wit_graph_data.specs.steps.Parts.{content_types}
 use Rattle.wit_remap_spec.specs.steps.Parts.{value_image, kind_image, value_id, IsBorrow}

@@ -37,7 +37,7 @@ use Rattle.wit_graph_theory.specs.facts.PackageCycleFacts.{other_from, other_int
 use Rattle.wit_graph_theory.specs.facts.PackagesAcyclic.{is_there, length-numbered, there_is}
 use Rattle.wit_graph_theory.specs.facts.RowFacts.{IsAcyclic-grown, post_order_shorter}
 use Rattle.wit_remap_spec.specs.Image.{entry_image, interface_image, item_image, world_image}
-use Rattle.wit_link_laws.specs.facts.CanonicalStays.{filter_map_agrees, interface_stays, type_stays}
+use Rattle.wit_link_spec.specs.facts.CanonicalStays.{filter_map_agrees, interface_stays, type_stays}
 use Rattle.wit_remap_spec.specs.Selected.{rank, selected}
 use Rattle.wit_link_spec.specs.facts.RankFacts.{rank-injective}
 use Rattle.wit_merge_spec.specs.Cause.{HasNoMismatch}

@@ -21,7 +21,7 @@ use Rattle.wit_graph_theory.specs.facts.ListFacts.{at_below, from_row, in_row}
 use Rattle.wit_graph_theory.specs.facts.NamedUses.{used_is_named}
 use Rattle.wit_graph_theory.specs.facts.RowFacts.{IsAcyclic-grown, post_order_shorter}
 use Rattle.wit_remap_spec.specs.Image.{interface_image}
-use Rattle.wit_link_laws.specs.facts.CanonicalStays.{interface_stays, old_uses}
+use Rattle.wit_link_spec.specs.facts.CanonicalStays.{interface_stays, old_uses}
 use Rattle.wit_remap_spec.specs.Selected.{selected}
 use Rattle.wit_remap_spec.specs.ValueRemap.{types_behind}
 use Rattle.wit_merge_spec.specs.Cause.{HasNoMismatch}

@@ -36,7 +36,7 @@ use Rattle.wit_link_spec.specs.facts.ForeignFound.{find-passes, find-some}
 use Rattle.wit_graph_data.specs.Named.{interface_type}
 use Rattle.wit_link_spec.specs.facts.RankFacts.{selected-at, selected_with_index-from}
 use Rattle.wit_remap_spec.specs.Selected.{rank, selected_with_index}
-use Rattle.wit_link_laws.specs.facts.KeysApart.{joined_apart}
+use Rattle.wit_link_spec.specs.facts.KeysApart.{joined_apart}
 use Rattle.wit_merge_spec.specs.Merged.{joined_graph, with_interface, brought_functions, merge_maps, merged_interface, merged_type}
 use Rattle.wit_merge_spec.specs.Matches.{GraphMerge, counterpart_interface, counterpart_of, counterpart_type, counterpart_type_by}
 use Rattle.wit_merge_laws.specs.facts.MatchFacts.{goes_to, interface_is}

@@ -30,7 +30,7 @@ use Rattle.wit_graph_theory.specs.steps.Sources.{Source}
 use Rattle.wit_remap_spec.specs.Joined.{joined_entry, joined_item}
 use Rattle.wit_link_spec.specs.facts.RankFacts.{rank-injective, selected_with_index-at, selected_with_index-from}
 use Rattle.wit_remap_spec.specs.Selected.{rank}
-use Rattle.wit_link_laws.specs.facts.Remains.{key_stays}
+use Rattle.wit_link_spec.specs.facts.Remains.{key_stays}
 use Rattle.wit_merge_spec.specs.Merged.{joined_graph, with_world, merge_maps, merged_interface, merged_world, moved_worlds}
 use Rattle.wit_merge_spec.specs.Matches.{GraphMerge, counterpart_interface, counterpart_of, counterpart_world}
 use Rattle.wit_merge_laws.specs.facts.InterfacesStand.{moved_interface_remapped}

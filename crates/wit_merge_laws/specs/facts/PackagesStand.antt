@@ -31,7 +31,7 @@ use Rattle.wit_graph_theory.specs.facts.PackagesAcyclic.{length-numbered, number
 use Rattle.wit_graph_theory.specs.laws.Theory.{HasGoodTables}
 use Rattle.wit_link_spec.specs.facts.RankFacts.{selected-at, selected_with_index-from}
 use Rattle.wit_remap_spec.specs.Selected.{rank, selected, selected_with_index}
-use Rattle.wit_link_laws.specs.facts.KeysApart.{joined_apart}
+use Rattle.wit_link_spec.specs.facts.KeysApart.{joined_apart}
 use Rattle.wit_merge_spec.specs.Merged.{joined_graph, package_image, merged, with_package, with_world, merge_maps, merged_interface, merged_package, merged_world}
 use Rattle.wit_merge_spec.specs.Matches.{GraphMerge, counterpart_interface, counterpart_interface_by, counterpart_of, counterpart_package, counterpart_world, named_in_counterpart}
 use Rattle.wit_merge_laws.specs.facts.InterfacesStand as interfaces

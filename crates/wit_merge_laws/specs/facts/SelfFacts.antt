@@ -44,7 +44,7 @@ use Rattle.wit_graph_theory.specs.facts.ListFacts.{Contains-map_cases, contained
 use Rattle.wit_graph_theory.specs.facts.OptionFacts.{some_parts, some_same, some_whole}
 use Rattle.wit_graph_theory.specs.facts.PackagesAcyclic.{numbered_from}
 use Rattle.wit_remap_spec.specs.Image.{entry_image, function_image, interface_image, item_image, key_image, world_image}
-use Rattle.wit_link_laws.specs.facts.CanonicalStays.{canonical_longer}
+use Rattle.wit_link_spec.specs.facts.CanonicalStays.{canonical_longer}
 use Rattle.wit_remap_spec.specs.Joined.{joined_entry, joined_item, joined_stability}
 use Rattle.wit_graph_data.specs.Named.{interface_type}
 use Rattle.wit_remap_spec.specs.ValueRemap.{types_behind}

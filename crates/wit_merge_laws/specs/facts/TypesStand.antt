@@ -30,7 +30,7 @@ use Rattle.wit_link_spec.specs.facts.RankFacts.{selected-at, selected_with_index
 use Rattle.wit_remap_spec.specs.Selected.{rank, selected_with_index}
 use Rattle.wit_remap_spec.specs.Resources.{leads_to_resource, own_of}
 use Rattle.wit_remap_spec.specs.ValueRemap.{needs_own}
-use Rattle.wit_link_laws.specs.facts.ValueRemapFacts.{behind_from, leads_named, new_stands, own_stands, value_stands}
+use Rattle.wit_link_spec.specs.facts.ValueRemapFacts.{behind_from, leads_named, new_stands, own_stands, value_stands}
 use Rattle.wit_merge_spec.specs.Merged.{joined_graph, merge_maps, merge_maps_without_owns, merged_type, remap_of_merge}
 use Rattle.wit_merge_spec.specs.Matches.{GraphMerge, counterpart_of, counterpart_type}
 use Rattle.wit_merge_laws.specs.facts.MatchFacts.{goes_to, type_is}

@@ -34,7 +34,7 @@ use Rattle.wit_graph_theory.specs.facts.ListFacts.{Contains-map, found_at, some_
 use Rattle.wit_graph_theory.specs.Operations.{merge_sources}
 use Rattle.wit_graph_theory.specs.facts.OptionFacts.{some_by, some_parts, some_same}
 use Rattle.wit_graph_theory.specs.steps.Sources.{Carries, IsGoodSource, WorldStands}
-use Rattle.wit_link_laws.specs.facts.ListedTypes.{lists_type}
+use Rattle.wit_link_spec.specs.facts.ListedTypes.{lists_type}
 use Rattle.wit_remap_spec.specs.Joined.{joined_entry, joined_item}
 use Rattle.wit_merge_spec.specs.Cause.{same_sort, HasNoMismatch}
 use Rattle.wit_merge_spec.specs.Cause as differ

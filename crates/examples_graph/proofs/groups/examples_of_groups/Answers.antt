@@ -1,0 +1,5 @@
+use Rattle.examples_graph.proofs.Orders.{groups}
+use Rattle.examples_graph.proofs.groups.examples_of_groups.Goals as goal
+
+pub returns : goal.returns
+returns c = groups

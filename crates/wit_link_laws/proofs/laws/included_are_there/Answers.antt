@@ -1,5 +1,0 @@
-use Rattle.wit_link_laws.specs.facts.IncludedThere.{included_are_there}
-use Rattle.wit_link_laws.proofs.laws.included_are_there.Goals as goal
-
-pub returns : goal.returns
-returns c = included_are_there

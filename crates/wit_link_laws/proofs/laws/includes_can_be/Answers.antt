@@ -1,5 +1,0 @@
-use Rattle.wit_link_laws.specs.laws.StageLaws.{includes_can_be}
-use Rattle.wit_link_laws.proofs.laws.includes_can_be.Goals as goal
-
-pub returns : goal.returns
-returns c = includes_can_be c.laws_of_elaboration.ensures

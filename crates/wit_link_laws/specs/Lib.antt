@@ -1,2 +1,0 @@
-pub mod facts
-pub mod laws

@@ -1,4 +1,0 @@
-pub mod ElaborationSteps
-pub mod OnCycles
-pub mod Searching
-pub mod Steps
