@@ -11,7 +11,7 @@ use Rattle.wit_data.specs.declared.world.World.{World}
 use Rattle.wit_data.specs.declared.types.TypeOwner.TheVariants as owner
 use Rattle.wit_graph_data.specs.declared.graph.Graph.{Graph}
 use Rattle.wit_remap.specs.declared.remap.Remap.{Remap}
-use Rattle.examples_merge.specs.Unions.{ExamplesOfMatches, ExamplesOfUnions}
+use Rattle.examples_merge.specs.MergedGraphs.{ExamplesOfMatches, ExamplesOfMergedGraphs}
 
 -- where type t goes
 abbrev type_remapped : ℕ → Remap → ℕ
@@ -66,9 +66,9 @@ owner_world owner.None = 99
 owner_at : List TypeDef → ℕ
 owner_at types = option_map_or (λ (def : TypeDef). owner_world def.owner) (slice_get types 1) 99
 
-pub unions : ExamplesOfUnions
+pub merged_graphs : ExamplesOfMergedGraphs
 unfolding post_order post_order_within owner_world owner_at
-unions = record {
+merged_graphs = record {
   nothing_comes = refl;
   into_nothing = refl;
   itself = refl;

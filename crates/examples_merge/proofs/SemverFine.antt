@@ -16,7 +16,7 @@ use Rattle.wit_graph_data.specs.declared.error_kind.ResolveErrorKind.{ResolveErr
 use Rattle.wit_graph_theory.specs.facts.ListFacts.{contained_at}
 use Rattle.wit_graph_theory.specs.facts.OptionFacts.{some_same}
 use Rattle.wit_graph_theory.specs.examples.TestFacts.{all_are, all_uses, falls, is_empty, no_cycle, nothing_in}
-use Rattle.wit_semver_spec.specs.SemverMerged.{IsComplete, IsSemverMergeCause, SemverMerge, SemverMergeCause, conflict_4, functions_disagree_25, interface_cycle_22, newest, package_cycle_6, replaced_use, rewritable_types, target_name, type_cycle_23, type_missing_25, semver_merge, with_new_entries_at}
+use Rattle.wit_semver_spec.specs.SemverMerged.{IsComplete, IsSemverMergeCause, SemverMerge, SemverMergeCause, conflict_4, functions_disagree_25, interface_cycle_22, newest, package_cycle_6, replaced_use, types_of_new_entries, target_name, type_cycle_23, type_missing_25, semver_merge, with_new_entries_at}
 use Rattle.wit_semver_spec.specs.steps.SemverMerged.{Agrees}
 use Rattle.wit_elaboration.specs.steps.Parts.{exported_keys, exported_interfaces, graph_package_uses}
 use Rattle.wit_semver_spec.specs.steps.Parts.{interface_type}
@@ -33,9 +33,9 @@ module _ (u : SemverMerge) where
   abbrev pub has_target : ℕ → Bool
   has_target t = option_map_or (has_target_in t) (replaced_use u t) true
 
-  pub complete : list_all has_target (rewritable_types u) ≡ true → IsComplete u
+  pub complete : list_all has_target (types_of_new_entries u) ≡ true → IsComplete u
   complete all t message follows lacks =
-      let one : option_map_or (has_target_in t) (Some lacks.f) true ≡ true = ap (λ (o : Option ℕ). option_map_or (has_target_in t) o true) (sym lacks.uses) ∙ all_are has_target (rewritable_types u) all t follows in
+      let one : option_map_or (has_target_in t) (Some lacks.f) true ≡ true = ap (λ (o : Option ℕ). option_map_or (has_target_in t) o true) (sym lacks.uses) ∙ all_are has_target (types_of_new_entries u) all t follows in
       let two : option_map_or (has_name lacks.f) (Some lacks.name) true ≡ true = ap (λ (o : Option (List ℕ)). option_map_or (has_name lacks.f) o true) (sym lacks.named) ∙ one in
       let three : false ≡ true = ap (λ (o : Option ℕ). is_some o) (sym lacks.absent) ∙ two in
       false≢true three
@@ -97,7 +97,7 @@ no_conflict uses world all (x, d, shown, used, (outside, j, (path, leads), expor
 
 pub record Passes (u : SemverMerge) : Type 0 where
   pub there : slice_get u.graph.worlds 0 ≡ Some u.world
-  pub targets : list_all (has_target u) (rewritable_types u) ≡ true
+  pub targets : list_all (has_target u) (types_of_new_entries u) ≡ true
   pub functions : list_all no_function u.graph.interfaces ≡ true
   pub packages : all_uses (falls (λ p. p)) (graph_package_uses (with_new_entries_at u 0)) ≡ true
   pub interfaces : all_uses (falls (λ i. i)) (graph_uses (with_new_entries_at u 0)) ≡ true

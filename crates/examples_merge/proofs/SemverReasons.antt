@@ -31,13 +31,13 @@ use Rattle.wit_elaboration.specs.AllElaborated.{DependsOnItself, RefersToItself}
 use Rattle.wit_remap_spec.specs.FunctionMismatch.{FunctionMismatch, parameter_names_differ}
 use Rattle.wit_graph_theory.specs.facts.OptionFacts.{some_same}
 use Rattle.wit_graph_theory.specs.examples.TestFacts.{all_are, all_uses, falls, is_empty, no_cycle, not_on_cycle, only_one}
-use Rattle.wit_semver_spec.specs.SemverMerged.{IsComplete, IsSemverMergeCause, LacksType, SemverMerge, SemverMergeCause, conflict_4, functions_disagree_25, interface_cycle_22, is_replaced, newest, package_cycle_6, rewritable_types, type_cycle_23, type_missing_25, semver_merge, with_new_entries_at}
+use Rattle.wit_semver_spec.specs.SemverMerged.{IsComplete, IsSemverMergeCause, LacksType, SemverMerge, SemverMergeCause, conflict_4, functions_disagree_25, interface_cycle_22, is_replaced, newest, package_cycle_6, types_of_new_entries, type_cycle_23, type_missing_25, semver_merge, with_new_entries_at}
 use Rattle.wit_semver_spec.specs.steps.SemverMerged.{Agrees}
 use Rattle.examples_merge.proofs.SemverFine.{Clear, complete, has_target, is_fine, no_functions}
 use Rattle.examples_merge.proofs.SemverMismatches.{x_is_not_y, x_of, y_of}
 use Rattle.examples_merge.specs.CauseExamples.{ExamplesOfCauses, IsCauseOf, IsFine, around_main, around_z, exporting, f_of, failed, foo_app, newer_x, older_x, with_functions, with_newer, without_type, without_type_but_cycle}
 use Rattle.examples_merge.specs.Releases.{alias_in, called, foo_main, foo_x, keyed, number_in, package_of, release, with_function, world_in}
-use Rattle.examples_merge.specs.RewrittenExamples.{first_release, of_three, published}
+use Rattle.examples_merge.specs.SemverMergeExamples.{first_release, of_three, published}
 use Rattle.wit_elaboration.specs.steps.Parts.{exported_keys, exported_interfaces, graph_package_uses}
 use Rattle.wit_semver_spec.specs.steps.Parts.{listed_world}
 
@@ -58,7 +58,7 @@ no_exports : (g : Graph) → list_all no_export g.worlds ≡ true → (world : W
 no_exports g all world there conflict = nothing_exported (graph_uses g) world.exports (all_are no_export g.worlds all world there) conflict
 
 -- a graph is clear whose things fall by ranks
-clear_by : (u : SemverMerge) (w : ℕ) (packages interfaces types : List ℕ) → list_all (has_target u) (rewritable_types u) ≡ true → Agrees u
+clear_by : (u : SemverMerge) (w : ℕ) (packages interfaces types : List ℕ) → list_all (has_target u) (types_of_new_entries u) ≡ true → Agrees u
     → all_uses (falls (rank_of packages)) (graph_package_uses (with_new_entries_at u w)) ≡ true → all_uses (falls (rank_of interfaces)) (graph_uses (with_new_entries_at u w)) ≡ true
     → all_uses (falls (rank_of types)) (type_references (with_new_entries_at u w).types) ≡ true
     → ((world : World) → Contains (with_new_entries_at u w).worlds world → HasTransitiveConflict (graph_uses (with_new_entries_at u w)) world.exports → ⊥) → Clear u w
@@ -322,7 +322,7 @@ lacks_u : LacksType (u_missing (w_of_main (0 ∷ 2 ∷ 1 ∷ []))) 3 u_text
 unfolding strip_zeros digits
 lacks_u = record { f = 0; name = codes "u"; uses = refl; named = refl; absent = refl; message_is = refl }
 
-u_follows : Contains (rewritable_types (u_missing (w_of_main (0 ∷ 2 ∷ 1 ∷ [])))) 3
+u_follows : Contains (types_of_new_entries (u_missing (w_of_main (0 ∷ 2 ∷ 1 ∷ [])))) 3
 unfolding strip_zeros digits
 u_follows = Contains-here 3 (2 ∷ [])
 

@@ -9,7 +9,7 @@ use Rattle.wit_data.specs.declared.world.World.{World}
 use Rattle.wit_data.specs.Uses.{alias_target}
 use Rattle.wit_elaboration.specs.Entries.{Entry, item_interface}
 use Rattle.wit_graph_data.specs.declared.graph.Graph.{Graph}
-use Rattle.examples_merge.specs.RewrittenExamples.{ExamplesOfRewriting, ExamplesOfRules}
+use Rattle.examples_merge.specs.SemverMergeExamples.{ExamplesOfSemverMerges, ExamplesOfRules}
 use Rattle.examples_merge.specs.TrackExamples.{ExamplesOfTracks}
 
 -- ---- what tells graphs apart
@@ -31,9 +31,9 @@ export_count g = option_map_or (λ (world : World). length world.exports) (slice
 target : ℕ → Graph → ℕ
 target t g = option_map_or (λ (def : TypeDef). unwrap_or (alias_target def.kind) 99) (slice_get g.types t) 99
 
-pub examples_of_rewriting : ExamplesOfRewriting
+pub examples_of_semver_merges : ExamplesOfSemverMerges
 unfolding post_order post_order_within strip_zeros imports_at import_at import_count export_count target
-examples_of_rewriting = record {
+examples_of_semver_merges = record {
   of_alias = refl;
   of_own_alias = refl;
   merged = refl;
@@ -100,5 +100,5 @@ examples_of_tracks = record {
   nameless_use = refl;
   nameless_not_left = λ same. let apart : 1 ≡ 0 = ap (target 2) same in absurd (omega (arith, apart));
   of_another_world = refl;
-  not_rewritable = λ same. let apart : 0 ≡ 1 = ap (target 2) same in absurd (omega (arith, apart));
+  not_of_new_entries = λ same. let apart : 0 ≡ 1 = ap (target 2) same in absurd (omega (arith, apart));
 }

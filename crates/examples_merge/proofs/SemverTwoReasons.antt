@@ -17,7 +17,7 @@ use Rattle.wit_graph_data.specs.declared.cause.Cause.TheVariants.{InterfaceCycle
 use Rattle.wit_graph_data.specs.declared.error_kind.ResolveErrorKind.TheVariants.{InvalidTransitiveDependency, PackageCycle, Semantic}
 use Rattle.wit_elaboration.specs.AllElaborated.{DependsOnItself, HasWorldInConflict, RefersToItself, UsesItself}
 use Rattle.wit_graph_theory.specs.examples.TestFacts.{no_cycle, none_in, one_of_two, only_one}
-use Rattle.wit_semver_spec.specs.SemverMerged.{IsComplete, LacksType, SemverMerge, SemverMergeCause, conflict_4, interface_cycle_22, package_cycle_6, rewritable_types, type_cycle_23, type_missing_25, semver_merge, with_new_entries_at}
+use Rattle.wit_semver_spec.specs.SemverMerged.{IsComplete, LacksType, SemverMerge, SemverMergeCause, conflict_4, interface_cycle_22, package_cycle_6, types_of_new_entries, type_cycle_23, type_missing_25, semver_merge, with_new_entries_at}
 use Rattle.examples_merge.proofs.SemverFine.{complete, of_world}
 use Rattle.examples_merge.proofs.SemverReasons.{t_refers_to_itself}
 use Rattle.examples_merge.specs.Releases.{foo_main, keyed, world_in}
@@ -72,7 +72,7 @@ lacks_u : LacksType lacks 4 u_text
 unfolding strip_zeros digits
 lacks_u = record { f = 0; name = codes "u"; uses = refl; named = refl; absent = refl; message_is = refl }
 
-u_follows : Contains (rewritable_types lacks) 4
+u_follows : Contains (types_of_new_entries lacks) 4
 unfolding strip_zeros digits
 u_follows = (1, lit< tt, refl)
 
@@ -117,7 +117,7 @@ lacks_too : LacksType lacking 5 u_text
 unfolding strip_zeros digits
 lacks_too = record { f = 0; name = codes "u"; uses = refl; named = refl; absent = refl; message_is = refl }
 
-follows_too : Contains (rewritable_types lacking) 5
+follows_too : Contains (types_of_new_entries lacking) 5
 unfolding strip_zeros digits
 follows_too = (1, lit< tt, refl)
 

@@ -6,9 +6,9 @@ pub mod NamesHeld
 pub mod Pairs
 pub mod Refusals
 pub mod Releases
-pub mod RewrittenExamples
+pub mod SemverMergeExamples
 pub mod SemverTwoReasons
 pub mod Stabilities
 pub mod TrackExamples
 pub mod TwoReasons
-pub mod Unions
+pub mod MergedGraphs

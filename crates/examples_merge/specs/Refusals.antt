@@ -21,7 +21,7 @@ use Rattle.wit_link_spec.specs.Gates.{OptionalSpan}
 use Rattle.wit_merge_spec.specs.Cause.{IsMergeCause, MergeIsAccepted}
 use Rattle.wit_merge_spec.specs.Matches.{GraphMerge}
 use Rattle.examples_merge.specs.Graphs.{a_beside_b, a_uses_b, alias_in, b_uses_a, field_a, foo_bar_alone, foo_named, gate_f, gate_g, i_uses_j, inner, merge_of_graphs, more, number_in, one_number, only_c, record_x, resource_record, resource_t, taking, three, two_numbers, with_functions, world_of_i}
-use Rattle.examples_merge.specs.Unions.{gated, named_x, v_alone, world_function}
+use Rattle.examples_merge.specs.MergedGraphs.{gated, named_x, v_alone, world_function}
 
 -- ---- graphs
 

@@ -12,7 +12,7 @@ use Rattle.wit_graph_data.specs.examples.Samples.{labelled_entry, type_of}
 use Rattle.wit_graph_data.specs.declared.graph.Graph.{Graph}
 use Rattle.wit_semver_spec.specs.SemverMerged.{semver_merged}
 use Rattle.examples_merge.specs.Releases.{alias_in, called, foo_main, foo_x, graph_of, interface_in, keyed, number_in, package_of, release, two, world_in}
-use Rattle.examples_merge.specs.RewrittenExamples.{with_versions, with_worlds}
+use Rattle.examples_merge.specs.SemverMergeExamples.{with_versions, with_worlds}
 
 -- ---- names
 
@@ -86,4 +86,4 @@ pub record ExamplesOfTracks : Type 0 where
   pub nameless_not_left : semver_merged Published (nameless_at_l 0 (0 ∷ 1 ∷ [])) 0 ≡ nameless_at_l 0 (1 ∷ []) → ⊥
   -- y, which another world alone imports, doesn't
   pub of_another_world : semver_merged Published (with_worlds 0 (keyed (0 ∷ 1 ∷ [])) [] (keyed (0 ∷ 2 ∷ []))) 0 ≡ with_worlds 0 (keyed (1 ∷ [])) [] (keyed (0 ∷ 2 ∷ []))
-  pub not_rewritable : semver_merged Published (with_worlds 0 (keyed (0 ∷ 1 ∷ [])) [] (keyed (0 ∷ 2 ∷ []))) 0 ≡ with_worlds 1 (keyed (1 ∷ [])) [] (keyed (0 ∷ 1 ∷ 2 ∷ [])) → ⊥
+  pub not_of_new_entries : semver_merged Published (with_worlds 0 (keyed (0 ∷ 1 ∷ [])) [] (keyed (0 ∷ 2 ∷ []))) 0 ≡ with_worlds 1 (keyed (1 ∷ [])) [] (keyed (0 ∷ 1 ∷ 2 ∷ [])) → ⊥

@@ -2,8 +2,8 @@
 //! proved. They stand beside the crates, so that none waits for them.
 #![tactic(auto)]
 
+pub mod merged_graphs;
 pub mod names;
 pub mod refusals;
-pub mod rewriting;
 pub mod semver_causes;
-pub mod unions;
+pub mod semver_merges;

@@ -18,7 +18,7 @@ use Rattle.wit_resolve_graph.specs.declared.command.Command.TheVariants.{SetTrac
 use Rattle.wit_semver_spec.specs.SemverMerged.{semver_merged, IsSemverMergeCause}
 use Rattle.examples_merge.specs.CauseExamples.{ExamplesOfCauses, failed, without_type}
 use Rattle.examples_merge.specs.Releases.{foo_main}
-use Rattle.examples_merge.specs.RewrittenExamples.{ExamplesOfRewriting, ExamplesOfRules, first_release, of_three, three}
+use Rattle.examples_merge.specs.SemverMergeExamples.{ExamplesOfSemverMerges, ExamplesOfRules, first_release, of_three, three}
 use Rattle.wit_script.specs.Answer.{line_unless_done}
 use Rattle.wit_script.specs.declared.answer.Stage.{Stage}
 use Rattle.examples_script.specs.StepExamples.{ExamplesOfAnswers, ExamplesOfSteps, by_prereleases, published}
@@ -61,12 +61,12 @@ is_other_rule s = is_with_prereleases s.track_rule
 graph_of_step : (mid new : State) (f : ℕ → Graph) (w : ℕ) → 0 ≡ w → mid.graph ≡ f w → new ≡ mid → f 0 ≡ new.graph
 graph_of_step mid new f w zero is same = ap f zero ∙ sym is ∙ sym (ap (λ (s : State). s.graph) same)
 
-module _ (rewriting : ExamplesOfRewriting) (rules : ExamplesOfRules) (causes : ExamplesOfCauses) where
+module _ (semver_merges : ExamplesOfSemverMerges) (rules : ExamplesOfRules) (causes : ExamplesOfCauses) where
   pub steps : ExamplesOfSteps
   steps = record {
-    merged = (published (three 1 (1 ∷ 3 ∷ 2 ∷ [])), record { w = 0; there = w_of_three; accepted = causes.not_missing; is_changed = ap published (sym rewriting.merged) }, refl);
+    merged = (published (three 1 (1 ∷ 3 ∷ 2 ∷ [])), record { w = 0; there = w_of_three; accepted = causes.not_missing; is_changed = ap published (sym semver_merges.merged) }, refl);
     not_kept = λ run.
-        rewriting.not_kept
+        semver_merges.not_kept
         (graph_of_step run.0 (published of_three) (semver_merged Published of_three) run.1.w (only _ run.1.w w_of_three run.1.there) (ap (λ (s : State). s.graph) run.1.is_changed) run.2);
     rule_kept = λ run. false≢true (sym (ap is_other_rule (run.2 ∙ run.1.is_changed)));
     not_absent = λ new run. none-some 0 (sym run.1.0 ∙ w_of_three);

@@ -14,7 +14,7 @@ use Rattle.wit_resolve_graph.specs.declared.command.Reply.{Reply}
 use Rattle.wit_resolve_graph.specs.declared.command.Reply.TheVariants.{Done, NoWorld, Refused}
 use Rattle.examples_merge.specs.CauseExamples.{failed, without_type}
 use Rattle.examples_merge.specs.Releases.{foo_main}
-use Rattle.examples_merge.specs.RewrittenExamples.{first_release, of_three, three}
+use Rattle.examples_merge.specs.SemverMergeExamples.{first_release, of_three, three}
 use Rattle.wit_script.specs.Answer.{Answers, IsChoice, only_first}
 use Rattle.wit_script.specs.declared.answer.Stage.{Stage}
 use Rattle.wit_script.specs.declared.ready.ScriptCommand.{ScriptCommand}

@@ -7,8 +7,8 @@ ghost use Rattle.examples_script.specs.ScriptExamples.{ExamplesOfScripts};
 ghost use Rattle.examples_script.specs.SourceExamples.{ExamplesOfNoSources, ExamplesOfParsed, ExamplesOfPushedSources, ExamplesOfRefusedSources};
 ghost use Rattle.examples_script.specs.StepExamples.{ExamplesOfAnswers, ExamplesOfSteps};
 
-use examples_merge::rewriting::{examples_of_rewriting, examples_of_rules};
 use examples_merge::semver_causes::examples_of_causes;
+use examples_merge::semver_merges::{examples_of_rules, examples_of_semver_merges};
 
 /// What lines say by their tokens alone.
 pub fn examples_of_lines()
@@ -29,7 +29,7 @@ pub fn examples_of_scripts()
 pub fn examples_of_steps()
     ensures { ExamplesOfSteps }
 {
-    examples_of_rewriting();
+    examples_of_semver_merges();
     examples_of_rules();
     examples_of_causes();
 }
@@ -38,7 +38,7 @@ pub fn examples_of_steps()
 pub fn examples_of_answers()
     ensures { ExamplesOfAnswers }
 {
-    examples_of_rewriting();
+    examples_of_semver_merges();
     examples_of_rules();
     examples_of_causes();
 }

@@ -4,7 +4,7 @@ use wit_items::laws as of_items;
 use wit_link::laws as of_links;
 use wit_resolve_graph::{Resolve, laws as of_runs};
 use wit_script::laws as of_scripts;
-use wit_unite::laws as of_unions;
+use wit_unite::laws as of_merges;
 
 #[test]
 fn laws_of_post_orders_can_be_named(_rt: HostRuntime) {
@@ -46,45 +46,45 @@ fn laws_of_adding_can_be_named(_rt: HostRuntime) {
 
 #[test]
 fn laws_of_merging_can_be_named(_rt: HostRuntime) {
-    of_unions::accepted_copies_change_nothing();
-    of_unions::agreement_is_symmetric();
-    of_unions::copies_go_to_themselves();
-    of_unions::either_order_elaborates();
-    of_unions::empty_becomes_alike();
-    of_unions::empty_keeps_ids();
-    of_unions::examples_of_structure();
-    of_unions::merges_are_alike();
-    of_unions::merges_make_no_borrow();
-    of_unions::merging_is_order_free();
-    of_unions::nothing_comes();
-    of_unions::nothing_new_is_cyclic();
-    of_unions::old_worlds_stay();
-    of_unions::resources_stay();
-    of_unions::shared_worlds_keep_imports();
-    of_unions::unions_grow();
-    of_unions::unions_have_both_names();
-    of_unions::unions_stay_valid();
+    of_merges::accepted_copies_change_nothing();
+    of_merges::agreement_is_symmetric();
+    of_merges::copies_go_to_themselves();
+    of_merges::either_order_elaborates();
+    of_merges::empty_becomes_alike();
+    of_merges::empty_keeps_ids();
+    of_merges::examples_of_structure();
+    of_merges::merges_are_alike();
+    of_merges::merges_make_no_borrow();
+    of_merges::merging_is_order_free();
+    of_merges::nothing_comes();
+    of_merges::nothing_new_is_cyclic();
+    of_merges::old_worlds_stay();
+    of_merges::resources_stay();
+    of_merges::shared_worlds_keep_imports();
+    of_merges::merges_grow();
+    of_merges::merges_have_both_names();
+    of_merges::merges_stay_valid();
 }
 
 #[test]
 fn laws_of_changed_worlds_can_be_named(_rt: HostRuntime) {
-    of_unions::aliases_keep_names();
-    of_unions::aliases_name_newest();
-    of_unions::exports_are_kept();
-    of_unions::exportized_imports_nothing();
-    of_unions::exportized_stay_valid();
-    of_unions::importized_exports_nothing();
-    of_unions::importized_stay_valid();
-    of_unions::importized_then_exportized();
-    of_unions::keys_are_exact();
-    of_unions::labels_are_kept();
-    of_unions::newest_is_greatest();
-    of_unions::one_on_each_track();
-    of_unions::rewritten_keep();
-    of_unions::rewritten_stay_valid();
-    of_unions::same_types_keep_worlds();
-    of_unions::semver_merges_once();
-    of_unions::worlds_are_elaborated();
+    of_merges::aliases_keep_names();
+    of_merges::aliases_name_newest();
+    of_merges::exports_are_kept();
+    of_merges::exportized_imports_nothing();
+    of_merges::exportized_stay_valid();
+    of_merges::importized_exports_nothing();
+    of_merges::importized_stay_valid();
+    of_merges::importized_then_exportized();
+    of_merges::keys_are_exact();
+    of_merges::labels_are_kept();
+    of_merges::newest_is_greatest();
+    of_merges::one_on_each_track();
+    of_merges::semver_merges_keep();
+    of_merges::semver_merges_stay_valid();
+    of_merges::same_types_keep_worlds();
+    of_merges::semver_merges_once();
+    of_merges::worlds_are_elaborated();
 }
 
 #[test]

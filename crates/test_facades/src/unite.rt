@@ -5,7 +5,7 @@ use std::fmt::Write;
 use std::process::Abort;
 use wit_graph::{Graph, is_valid};
 use wit_items::{TrackRule, WorldId, WorldItem, WorldKey};
-use wit_unite::{exportize, importize, merge_by_track, unite};
+use wit_unite::{exportize, importize, merge, merge_by_track};
 
 /// How many packages, interfaces and worlds a graph has.
 fn counts(graph: &Graph) -> [usize; 3] {
@@ -17,7 +17,7 @@ fn counts(graph: &Graph) -> [usize; 3] {
 }
 
 /// One graph of two: what it has, and where the interfaces of the one that goes in are.
-fn united(rt: &impl Abort, alloc: Global) -> String {
+fn merged(rt: &impl Abort, alloc: Global) -> String {
     let first = graph(rt, alloc, "package foo:a\ninterface i\ntype t u32\npush\n");
     let other = graph(
         rt,
@@ -26,7 +26,7 @@ fn united(rt: &impl Abort, alloc: Global) -> String {
     );
     assert!(rt; is_valid(alloc, &first).expect(rt, "memory"));
     assert!(rt; is_valid(alloc, &other).expect(rt, "memory"));
-    let (whole, remap) = unite(alloc, &first, other, 0).expect(rt, "a graph");
+    let (whole, remap) = merge(alloc, &first, other, 0).expect(rt, "a graph");
     assert!(rt; is_valid(alloc, &whole).expect(rt, "memory"));
     let [packages, interfaces, worlds] = counts(&whole);
     let mut out = format!(in alloc; "{packages} {interfaces} {worlds}:").expect(rt, "memory");
@@ -42,8 +42,8 @@ fn united(rt: &impl Abort, alloc: Global) -> String {
 }
 
 #[test]
-fn graphs_are_united(rt: HostRuntime) {
-    assert_text(&rt, united(&rt, rt.alloc()), "2 2 0: 1 0 1 0");
+fn graphs_are_merged(rt: HostRuntime) {
+    assert_text(&rt, merged(&rt, rt.alloc()), "2 2 0: 1 0 1 0");
 }
 
 const SCRIPT: &str = "package foo:bar\n\

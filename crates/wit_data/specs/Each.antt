@@ -19,4 +19,4 @@ pub record First {X : Type 0} (P : X → Type 0) (xs : List X) (x : X) : Type 0 
   pub after : List X
   pub are : xs ≡ before ++ x ∷ after
   pub earlier : (y : X) → Contains before y → P y → ⊥
-  pub holds : P x
+  pub is : P x

@@ -107,9 +107,11 @@ module _ (uses : List (List ℕ)) (acyclic : IsAcyclic uses) (exports : List Ent
   refused_key e has conflict =
       let first = first_of conflicts exports e has (is_conflicts e conflict) in
       let refused : First (IsEntryInConflict uses exports) exports first.found = record {
-        before = first.before; after = first.after; are = first.parts;
+        before = first.before;
+        after = first.after;
+        are = first.parts;
         earlier = λ f among at. false≢true (sym (first.none f among) ∙ is_conflicts f at);
-        holds = conflicts_is first.found first.pass;
+        is = conflicts_is first.found first.pass;
       } in (
         first.found.0,
         (first.found, refused, refl),
@@ -122,5 +124,5 @@ conflicts_are_refused types uses imports exports acyclic listed =
       λ refused.
           let e = refused.1.0 in
           let first = refused.1.1 in
-          conflict_from uses exports (own_keys types uses acyclic imports exports order) e (subst (λ (es : List Entry). Contains es e) (sym first.are) (Contains-append_right first.before (e ∷ first.after) e (Contains-here e first.after))) first.holds,
+          conflict_from uses exports (own_keys types uses acyclic imports exports order) e (subst (λ (es : List Entry). Contains es e) (sym first.are) (Contains-append_right first.before (e ∷ first.after) e (Contains-here e first.after))) first.is,
     )

@@ -57,7 +57,11 @@ module _ (g : Graph) (uses : List (List ℕ)) (w : World) (acyclic : IsAcyclic u
       let same : found.0 ≡ error.0 = one_at w.exports at found.0 error.0 found.1 error.1 in
       let conflict = conflict_from uses w.exports own found.0 (contains_at w.exports at found.0 found.1) found.2 in
       let first : First (IsEntryInConflict uses w.exports) w.exports found.0 = record {
-        before = take at w.exports; after = drop (suc at) w.exports; are = split_at w.exports at found.0 found.1; earlier = found.3; holds = found.2;
+        before = take at w.exports;
+        after = drop (suc at) w.exports;
+        are = split_at w.exports at found.0 found.1;
+        earlier = found.3;
+        is = found.2;
       } in
       let refused : IsRefusedKey uses w.exports error.0.0 = (found.0, first, ap (λ (f : Entry). f.0) (sym same)) in
       let named : IsRefusedName g.packages g.interfaces uses w.exports (key_text g.packages g.interfaces error.0.0) = (error.0.0, refused, refl) in (

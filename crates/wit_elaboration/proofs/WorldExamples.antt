@@ -127,22 +127,22 @@ pub worked_conflicts : WorkedConflicts
 worked_conflicts = record {
   c_refused = (
     c,
-    record { before = a ∷ []; after = []; are = refl; earlier = only_a (a ∷ c ∷ []); holds = (2, Contains-here 2 [], c_leads (a ∷ c ∷ []) (lacks 1 (0 ∷ 2 ∷ []) refl) (Contains-here 0 (2 ∷ []))) },
+    record { before = a ∷ []; after = []; are = refl; earlier = only_a (a ∷ c ∷ []); is = (2, Contains-here 2 [], c_leads (a ∷ c ∷ []) (lacks 1 (0 ∷ 2 ∷ []) refl) (Contains-here 0 (2 ∷ []))) },
     refl,
   );
   d_refused = (
     d,
-    record { before = []; after = a ∷ []; are = refl; earlier = λ f has conflict. Contains-nil has; holds = (3, Contains-here 3 [], d_leads (d ∷ a ∷ []) (lacks 1 (3 ∷ 0 ∷ []) refl) (Contains-there 3 0 (0 ∷ []) (Contains-here 0 []))) },
+    record { before = []; after = a ∷ []; are = refl; earlier = λ f has conflict. Contains-nil has; is = (3, Contains-here 3 [], d_leads (d ∷ a ∷ []) (lacks 1 (3 ∷ 0 ∷ []) refl) (Contains-there 3 0 (0 ∷ []) (Contains-here 0 []))) },
     refl,
   );
   d_refused_last = (
     d,
-    record { before = a ∷ []; after = []; are = refl; earlier = only_a (a ∷ d ∷ []); holds = (3, Contains-here 3 [], d_leads (a ∷ d ∷ []) (lacks 1 (0 ∷ 3 ∷ []) refl) (Contains-here 0 (3 ∷ []))) },
+    record { before = a ∷ []; after = []; are = refl; earlier = only_a (a ∷ d ∷ []); is = (3, Contains-here 3 [], d_leads (a ∷ d ∷ []) (lacks 1 (0 ∷ 3 ∷ []) refl) (Contains-here 0 (3 ∷ []))) },
     refl,
   );
   label_passed = (
     c,
-    record { before = labelled 1 ∷ a ∷ []; after = []; are = refl; earlier = b_and_a (labelled 1 ∷ a ∷ c ∷ []) (Contains-here 0 (2 ∷ [])); holds = (2, Contains-here 2 [], c_leads (labelled 1 ∷ a ∷ c ∷ []) (lacks 1 (0 ∷ 2 ∷ []) refl) (Contains-here 0 (2 ∷ []))) },
+    record { before = labelled 1 ∷ a ∷ []; after = []; are = refl; earlier = b_and_a (labelled 1 ∷ a ∷ c ∷ []) (Contains-here 0 (2 ∷ [])); is = (2, Contains-here 2 [], c_leads (labelled 1 ∷ a ∷ c ∷ []) (lacks 1 (0 ∷ 2 ∷ []) refl) (Contains-here 0 (2 ∷ []))) },
     refl,
   );
   c_in_conflict = (

@@ -23,8 +23,8 @@ use wit_data::{Items, PackageId, Span, UnresolvedPackage};
 use wit_elaboration::Elaborator;
 use wit_graph_data::{Features, Graph, ResolveError, ResolveErrorKind, ResolveResult};
 use wit_link_include::add_world;
-use wit_link_spec::laws::{included_are_there, includes_can_be, pushes_stay_valid, worlds_can_be};
 use wit_link_spec::AdditionRef;
+use wit_link_spec::laws::{included_are_there, includes_can_be, pushes_stay_valid, worlds_can_be};
 use wit_remap::{Mark, Part, UpdatedWorld, add_parts};
 
 /// Adds an `is_shaped` package to a valid graph under features, its spans moved by so many positions, and answers its

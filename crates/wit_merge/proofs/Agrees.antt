@@ -14,8 +14,8 @@ use Rattle.wit_link_spec.specs.facts.RangeFacts.{range-at}
 use Rattle.wit_remap.specs.steps.Movers.{goes, id_or, maps_of}
 use Rattle.wit_remap.specs.declared.mover.Mover.{Mover}
 use Rattle.wit_merge_spec.specs.Matches.{GraphMerge}
-use Rattle.wit_merge_spec.specs.Merged.{merge_maps, merged_interface, merged_package, merged_type, merged_world, remap_of_merge}
-use Rattle.wit_merge.specs.steps.UnionSteps.{EntryWithin, FunctionMoves, InterfaceMoves, TypeMoves, CanUnite, merging_of}
+use Rattle.wit_merge_spec.specs.Merged.{merge_maps, merged_interface, merged_package, merged_type, merged_world, value_remap}
+use Rattle.wit_merge.specs.steps.MergeSteps.{EntryWithin, FunctionMoves, InterfaceMoves, TypeMoves, CanMerge, merging_of}
 use Rattle.wit_merge.specs.declared.merge_plan.MergePlan.{MergePlan}
 use Rattle.wit_merge.proofs.NamesStay.{name_stays}
 use Rattle.wit_merge.proofs.SameImages.{Agree, each_same, entries_same, function_same, interface_same, type_same}
@@ -25,7 +25,7 @@ use Rattle.wit_remap_spec.specs.steps.Parts.{value_id}
 goes_there : (new_ids : List (Option ℕ)) (f : ℕ → ℕ) (n x : ℕ) → new_ids ≡ map (λ (t : ℕ). Some (f t)) (range_with_len 0 n) → x < n → goes new_ids x ≡ f x
 goes_there new_ids f n x are below = ap (λ (l : List (Option ℕ)). id_or x (slice_get l x)) are ∙ ap (id_or x) (range-at (λ (t : ℕ). Some (f t)) n x below)
 
-module _ (u : MergePlan) (ready : CanUnite u) where
+module _ (u : MergePlan) (ready : CanMerge u) where
   abbrev m : GraphMerge
   m = merging_of u
 
@@ -38,8 +38,8 @@ module _ (u : MergePlan) (ready : CanUnite u) where
   pub worlds_go : (x : ℕ) → x < length u.other.now.worlds → goes u.merge_ids.now.new_ids.worlds x ≡ merged_world m x
   worlds_go x below = goes_there u.merge_ids.now.new_ids.worlds (merged_world m) (length u.other.now.worlds) x (λ j. (ready.merge_ids j).new_ids.worlds) below
 
-  values_go : (x : ℕ) → x < length u.other.now.types → unwrap_or (slice_get u.values.now x) x ≡ value_id (remap_of_merge m) x
-  values_go x below = ap (λ (l : List ℕ). unwrap_or (slice_get l x) x) ready.values ∙ ap (λ (o : Option ℕ). unwrap_or o x) (range-at (value_id (remap_of_merge m)) (length u.other.now.types) x below)
+  values_go : (x : ℕ) → x < length u.other.now.types → unwrap_or (slice_get u.values.now x) x ≡ value_id (value_remap m) x
+  values_go x below = ap (λ (l : List ℕ). unwrap_or (slice_get l x) x) ready.values ∙ ap (λ (o : Option ℕ). unwrap_or o x) (range-at (value_id (value_remap m)) (length u.other.now.types) x below)
 
   module _ (mv : Mover) (new_ids : mv.new_ids.now ≡ u.merge_ids.now.new_ids) (values : mv.values.now ≡ u.values.now) (offset : mv.offset ≡ u.offset) where
     agrees : Agree (maps_of mv) (merge_maps m) (length u.other.now.types) (length u.other.now.interfaces) (length u.other.now.worlds)

@@ -10,7 +10,7 @@ use Rattle.wit_link_spec.specs.facts.RangeFacts.{range-same, range-set}
 use Rattle.wit_merge_spec.specs.Matches.{counterpart_of}
 use Rattle.wit_merge_laws.specs.facts.InterfacesStand.{option_so}
 use Rattle.wit_graph_theory.specs.facts.ListFacts.{get_at}
-use Rattle.wit_merge.specs.steps.UnionSteps.{first_from, firsts_from, placed_at}
+use Rattle.wit_merge.specs.steps.MergeSteps.{first_from, firsts_from, placed_at}
 use Rattle.wit_link_spec.specs.facts.DropFacts.{drop_at}
 
 none_from : (f : ℕ → Option ℕ) → ((t : ℕ) → f t ≡ None) → (a n : ℕ) → replicate n None ≡ map f (range_with_len a n)

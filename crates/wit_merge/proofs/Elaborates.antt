@@ -21,7 +21,7 @@ use Rattle.wit_merge_laws.specs.facts.NoCycles.{joined_types_acyclic}
 use Rattle.wit_merge_laws.specs.facts.PackagesStand.{interfaces_in_tables}
 use Rattle.wit_transform.specs.steps.Reasons.{CanBeElaborated, ElaborationCause}
 use Rattle.wit_transform.specs.steps.Reasons as settles
-use Rattle.wit_merge.specs.steps.UnionSteps.{DoAgree}
+use Rattle.wit_merge.specs.steps.MergeSteps.{DoAgree}
 use Rattle.wit_merge.proofs.IdTexts.{id_of_named}
 use Rattle.wit_elaboration.specs.steps.Parts.{graph_package_uses}
 

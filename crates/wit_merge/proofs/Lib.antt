@@ -3,7 +3,7 @@ mod BroughtNames
 mod Chosen
 mod CounterpartSteps
 mod Elaborates
-mod GrownUnions
+mod GrownMerges
 mod IdTexts
 mod Left
 mod MatchedThings
@@ -17,5 +17,5 @@ mod Positions
 mod Returned
 mod Returning
 mod SameImages
-mod UnitedIs
+mod MergedIs
 mod WorldsBehind

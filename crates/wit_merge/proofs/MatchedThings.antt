@@ -19,7 +19,7 @@ use Rattle.wit_merge_laws.specs.facts.InterfacesStand.{moved_interface_remapped}
 use Rattle.wit_merge_laws.specs.facts.ListedStand.{interfaces_apart}
 use Rattle.wit_merge_laws.specs.facts.MatchFacts.{goes_to}
 use Rattle.wit_merge_laws.specs.facts.TypesStand.{matched_some}
-use Rattle.wit_merge.specs.steps.UnionSteps.{KeyWithin, KnowsCounterparts, entry_joined, stability_joined, stability_of, stability_under, CanUnite, first_from, merging_of}
+use Rattle.wit_merge.specs.steps.MergeSteps.{KeyWithin, KnowsCounterparts, entry_joined, stability_joined, stability_of, stability_under, CanMerge, first_from, merging_of}
 use Rattle.wit_merge.specs.declared.merge_plan.MergePlan.{MergePlan}
 use Rattle.wit_merge.proofs.CounterpartSteps.{is_matched, none_matched}
 use Rattle.wit_merge_spec.specs.steps.Parts.{moves_interface}
@@ -89,7 +89,7 @@ module _ (m : GraphMerge) (valid : IsValid m.graph) (valid_other : IsValid m.oth
   label_under label ((key.Name other, held) ∷ from) = label_under label from
   label_under label ((key.Interface j, held) ∷ from) = label_under label from
 
-module _ (u : MergePlan) (ready : CanUnite u) (counterparts : List (Option ℕ)) (known : KnowsCounterparts u counterparts) (w : ℕ) (from : List Entry) where
+module _ (u : MergePlan) (ready : CanMerge u) (counterparts : List (Option ℕ)) (known : KnowsCounterparts u counterparts) (w : ℕ) (from : List Entry) where
   abbrev m : GraphMerge
   m = merging_of u
 

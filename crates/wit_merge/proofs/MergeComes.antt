@@ -13,7 +13,7 @@ use Rattle.wit_link_spec.specs.facts.RankFacts.{rank-agree, selected-agree}
 use Rattle.wit_remap_spec.specs.Selected.{rank, selected}
 use Rattle.wit_link_spec.specs.steps.NewThings.{is_from, is_new}
 use Rattle.wit_merge_spec.specs.Matches.{GraphMerge, counterpart_type}
-use Rattle.wit_merge_spec.specs.Merged.{merged_type, moved_functions, remap_of_merge}
+use Rattle.wit_merge_spec.specs.Merged.{merged_type, moved_functions, value_remap}
 use Rattle.wit_merge_laws.specs.facts.MatchFacts.{type_is}
 use Rattle.wit_merge_match.specs.steps.Matched.{merge_ids_of}
 use Rattle.wit_link_resources.specs.steps.IncomingTypes.{CanCome, IsRemapOf, IsRemapped}
@@ -79,7 +79,7 @@ module _ (m : GraphMerge) (valid : IsValid m.graph) (valid_other : IsValid m.oth
     aliases = λ t u def new at target. remapped u (target_there types valid_other.no_cycles.types t u def at target);
   }
 
-  all_remapped : IsRemapOf m.graph.types types all_ids (moved_functions m) (remap_of_merge m)
+  all_remapped : IsRemapOf m.graph.types types all_ids (moved_functions m) (value_remap m)
   all_remapped = record {
     graph_types = refl;
     new_types = sym (selected-agree (is_new first all_ids) (moves_type m) types new_moves);
@@ -93,12 +93,12 @@ module _ (m : GraphMerge) (valid : IsValid m.graph) (valid_other : IsValid m.oth
     pub comes : CanCome m.graph.types types new_ids
     comes = subst (CanCome m.graph.types types) (sym ids_are) all_come
 
-    pub is_remap : IsRemapOf m.graph.types types new_ids functions (remap_of_merge m)
+    pub is_remap : IsRemapOf m.graph.types types new_ids functions (value_remap m)
     is_remap =
-        subst (λ (ids : List (Option ℕ)). IsRemapOf m.graph.types types ids functions (remap_of_merge m)) (sym ids_are)
-        (subst (λ (fs : List Function). IsRemapOf m.graph.types types all_ids fs (remap_of_merge m)) (sym functions_are) all_remapped)
+        subst (λ (ids : List (Option ℕ)). IsRemapOf m.graph.types types ids functions (value_remap m)) (sym ids_are)
+        (subst (λ (fs : List Function). IsRemapOf m.graph.types types all_ids fs (value_remap m)) (sym functions_are) all_remapped)
 
     pub positions_remapped : (t : ℕ) → Contains (flat_map (λ (def : TypeDef). value_positions def.kind) (selected (is_new first new_ids) types) ++ flat_map signature_types functions) t → IsRemapped new_ids t
     positions_remapped t has =
         subst (λ (ids : List (Option ℕ)). IsRemapped ids t) (sym ids_are)
-        (remapped t (position_there m valid_other t (subst (λ (l : List ℕ). Contains l t) (positions_same m.graph.types types new_ids functions (remap_of_merge m) is_remap) has)))
+        (remapped t (position_there m valid_other t (subst (λ (l : List ℕ). Contains l t) (positions_same m.graph.types types new_ids functions (value_remap m) is_remap) has)))

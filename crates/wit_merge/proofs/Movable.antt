@@ -35,7 +35,7 @@ use Rattle.wit_merge_laws.specs.facts.JoinedGood.{joined_good}
 use Rattle.wit_merge_laws.specs.facts.ListedStand.{moved_comes}
 use Rattle.wit_merge_laws.specs.facts.MatchedOnce.{package_once}
 use Rattle.wit_merge_laws.specs.facts.PackagesStand.{old_package_at, packages_good}
-use Rattle.wit_merge.specs.steps.UnionSteps.{EntryWithin, FunctionsMove, InterfaceJoins, InterfaceMoves, OwnerWithin, PackageJoins, PackageMoves, TypeMoves, Within, WorldJoins, WorldMoves, CanUnite, merging_of}
+use Rattle.wit_merge.specs.steps.MergeSteps.{EntryWithin, FunctionsMove, InterfaceJoins, InterfaceMoves, OwnerWithin, PackageJoins, PackageMoves, TypeMoves, Within, WorldJoins, WorldMoves, CanMerge, merging_of}
 use Rattle.wit_merge.specs.declared.merge_plan.MergePlan.{MergePlan}
 use Rattle.wit_merge.proofs.Agrees.{of_any}
 use Rattle.wit_remap_spec.specs.steps.Parts.{identity}
@@ -46,7 +46,7 @@ home_there : {X : Type 0} (packages : List X) (home : Option ℕ) (P : ℕ → X
 home_there packages None P is = absurd is
 home_there packages (Some p) P is = let there = found_at (P p) packages p is in (p, refl, slice_get_within packages p there.0 there.1)
 
-module _ (u : MergePlan) (ready : CanUnite u) where
+module _ (u : MergePlan) (ready : CanMerge u) where
   abbrev m : GraphMerge
   m = merging_of u
 

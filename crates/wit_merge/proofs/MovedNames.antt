@@ -6,11 +6,11 @@ use Rattle.wit_merge_match.specs.steps.Matched.{moves}
 use Rattle.wit_remap.specs.steps.Movers.{goes}
 use Rattle.wit_merge_spec.specs.Matches.{GraphMerge, counterpart_interface, counterpart_type, counterpart_world}
 use Rattle.wit_merge_spec.specs.Merged.{merged_interface, merged_type, merged_world}
-use Rattle.wit_merge.specs.steps.UnionSteps.{moved_names, CanUnite, merging_of}
+use Rattle.wit_merge.specs.steps.MergeSteps.{moved_names, CanMerge, merging_of}
 use Rattle.wit_merge.specs.declared.merge_plan.MergePlan.{MergePlan}
 use Rattle.wit_merge.proofs.Agrees.{interfaces_go, types_go, worlds_go}
 use Rattle.wit_merge.proofs.SameImages.{each_same}
-use Rattle.wit_merge.proofs.UnitedIs.{moves_is}
+use Rattle.wit_merge.proofs.MergedIs.{moves_is}
 use Rattle.wit_merge_spec.specs.steps.Parts.{moves_type, moves_interface, moves_world}
 
 abbrev pub Table : Type 0
@@ -30,7 +30,7 @@ all_move kept (e ∷ from) all =
     ap (λ (b : Bool). cond b (e ∷ filter (λ (d : List ℕ × ℕ). kept d.1) from) (filter (λ (d : List ℕ × ℕ). kept d.1) from)) (all e (Contains-here e from))
     ∙ ap (λ (l : Table). e ∷ l) (all_move kept from (λ d has. all d (Contains-there e d from has)))
 
-module _ (u : MergePlan) (ready : CanUnite u) where
+module _ (u : MergePlan) (ready : CanMerge u) where
   abbrev m : GraphMerge
   m = merging_of u
 

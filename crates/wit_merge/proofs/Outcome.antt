@@ -11,7 +11,7 @@ use Rattle.wit_merge_spec.specs.Cause.{HasNoMismatch, IsMergeCause, MergeIsAccep
 use Rattle.wit_merge_spec.specs.Matches.{GraphMerge}
 use Rattle.wit_merge_spec.specs.Merged.{joined_graph, merged}
 use Rattle.wit_transform.specs.steps.Reasons.{CanBeElaborated, ElaborationCause}
-use Rattle.wit_merge.specs.steps.UnionSteps.{DoAgree, IsBorrowError}
+use Rattle.wit_merge.specs.steps.MergeSteps.{DoAgree, IsBorrowError}
 use Rattle.wit_merge.proofs.Elaborates.{can_merge, can_settle, cause_from}
 use Rattle.wit_merge_spec.specs.steps.Parts.{graph_spans, MergeOverflows}
 
@@ -45,5 +45,5 @@ module _ (m : GraphMerge) where
     nothing_speaks agree none settled = can_merge m agree none (λ e cause. settled e (subst (λ (g : Graph). ElaborationCause g e) (sym is) cause))
 
   -- it is the graph with the other one
-  pub is_united : (joined made : Graph) → joined ≡ joined_graph m → made ≡ all_elaborated joined → made ≡ merged m
-  is_united joined made is settled = settled ∙ ap all_elaborated is
+  pub is_merged : (joined made : Graph) → joined ≡ joined_graph m → made ≡ all_elaborated joined → made ≡ merged m
+  is_merged joined made is settled = settled ∙ ap all_elaborated is

@@ -18,7 +18,7 @@ use Rattle.wit_remap_spec.specs.Selected.{selected_with_index}
 use Rattle.wit_remap_spec.specs.Resources.{is_value}
 use Rattle.wit_remap_spec.specs.ValueRemap.{positions}
 use Rattle.wit_merge_spec.specs.Matches.{GraphMerge}
-use Rattle.wit_merge_spec.specs.Merged.{moved_functions, remap_of_merge}
+use Rattle.wit_merge_spec.specs.Merged.{moved_functions, value_remap}
 use Rattle.wit_merge_laws.specs.facts.FunctionsThere.{moved_refers}
 use Rattle.wit_remap_spec.specs.steps.Parts.{value_positions}
 use Rattle.wit_merge_spec.specs.steps.Parts.{moved_types, moves_type}
@@ -53,7 +53,7 @@ module _ (m : GraphMerge) (valid : IsValid m.other) where
       moved_refers m valid from.0 from.1.0 t (signature_referred from.0 t from.1.1)
 
   -- what stands at a value position is there
-  pub position_there : (t : ℕ) → Contains (positions (remap_of_merge m)) t → t < length m.other.types
+  pub position_there : (t : ℕ) → Contains (positions (value_remap m)) t → t < length m.other.types
   position_there t has =
       elim (Contains-append_cases (flat_map (λ (def : TypeDef). value_positions def.kind) (moved_types m)) (flat_map signature_types (moved_functions m)) t has) [
         | inl of_type ↦ type_there t of_type

@@ -26,7 +26,7 @@ use Rattle.wit_data.specs.declared.world.WorldItem.TheVariants as item
 use Rattle.wit_data.specs.declared.world.WorldKey.TheVariants as key
 use Rattle.wit_sources.specs.Span.{moved_by}
 use Rattle.wit_graph_theory.specs.facts.ListFacts.{contained_at}
-use Rattle.wit_merge.specs.steps.UnionSteps.{EntryWithin, ItemWithin, KeyWithin, OwnerWithin, Within}
+use Rattle.wit_merge.specs.steps.MergeSteps.{EntryWithin, ItemWithin, KeyWithin, OwnerWithin, Within}
 use Rattle.wit_remap_spec.specs.Image.{Maps, entry_image, function_image, interface_image, item_image, key_image, name_image, owner_image, role_remap, type_image}
 use Rattle.wit_remap_spec.specs.steps.Parts.{value_image, kind_image, param_image, function_kind_image}
 

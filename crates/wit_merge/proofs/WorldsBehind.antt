@@ -31,4 +31,3 @@ refused_one g worlds world e there (inr cause) = inr (record {
   name_is = cause.3;
   error_is = cause.1;
 })
-

@@ -5,7 +5,7 @@ ghost use Rattle.wit_graph_data.specs.declared.error_kind.ResolveErrorKind.TheVa
 ghost use Rattle.wit_merge_match.specs.Differing.{merge_of_graphs_by};
 ghost use Rattle.wit_merge_match.specs.steps.Matched.{AreMatches};
 ghost use Rattle.wit_merge_spec.specs.Cause.{IsMergeCause};
-ghost use Rattle.wit_merge.specs.steps.UnionSteps.{DoAgree};
+ghost use Rattle.wit_merge.specs.steps.MergeSteps.{DoAgree};
 
 use std::alloc::Global;
 use wit_data::{Span, Text};

@@ -1,8 +1,8 @@
 //! What comes of another graph behind what a graph has.
 ghost use Rattle.std.specs.Prelude.{◌≡◌, IfOk};
-ghost use Rattle.wit_merge_spec.specs.Merged.{remap_of_merge};
+ghost use Rattle.wit_merge_spec.specs.Merged.{value_remap};
 ghost use Rattle.wit_merge.specs.steps.Behind.{IsComing};
-ghost use Rattle.wit_merge.specs.steps.UnionSteps.{CanUnite, merging_of};
+ghost use Rattle.wit_merge.specs.steps.MergeSteps.{CanMerge, merging_of};
 ghost use Rattle.wit_remap_spec.specs.steps.Parts.{owns as owns_of};
 
 use crate::interfaces::moved_interfaces;
@@ -31,8 +31,8 @@ pub(crate) fn moved_things(
     plan: &MergePlan<'_>,
     owns: Items<TypeDef>,
 ) -> Result<Coming, AllocError>
-    requires ready { CanUnite plan.now }
-    requires owns { owns ≡ owns_of (remap_of_merge (merging_of plan.now)) }
+    requires ready { CanMerge plan.now }
+    requires owns { owns ≡ owns_of (value_remap (merging_of plan.now)) }
     ensures { IfOk result (IsComing (merging_of plan.now)) }
 {
     let types = moved_types(alloc, plan, owns)?;

@@ -1,6 +1,6 @@
 //! With what each thing of a graph is matched.
 ghost use Rattle.std.specs.Prelude.{◌≡◌, IfOk};
-ghost use Rattle.wit_merge.specs.steps.UnionSteps.{firsts_from};
+ghost use Rattle.wit_merge.specs.steps.MergeSteps.{firsts_from};
 
 use std::alloc::{AllocError, Global};
 use wit_data::{Id, Items, TryClone};

@@ -2,7 +2,7 @@
 ghost use Rattle.std.specs.Prelude.{◌≡◌, ◌++◌, IfOk, OnOk, map};
 ghost use Rattle.wit_remap_spec.specs.Image.{function_image, interface_image};
 ghost use Rattle.wit_merge_spec.specs.Merged.{merge_maps, joined_graph};
-ghost use Rattle.wit_merge.specs.steps.UnionSteps.{FunctionMoves, FunctionsMove, brought_matched, functions_image, CanUnite, KnowsCounterparts, merging_of};
+ghost use Rattle.wit_merge.specs.steps.MergeSteps.{FunctionMoves, FunctionsMove, brought_matched, functions_image, CanMerge, KnowsCounterparts, merging_of};
 ghost use Rattle.wit_values.specs.Table.{HasDistinctKeys};
 ghost use Rattle.wit_merge_spec.specs.steps.Parts.{moved_interfaces};
 
@@ -18,7 +18,7 @@ use wit_remap::Update;
 /// the other is joined to its own.
 impl Part for Interface {
     ghost use Rattle.wit_merge_spec.specs.Merged.{with_interface};
-    ghost use Rattle.wit_merge.specs.steps.UnionSteps.{InterfaceJoins, InterfaceMoves};
+    ghost use Rattle.wit_merge.specs.steps.MergeSteps.{InterfaceJoins, InterfaceMoves};
 
     ghost can_move = { InterfaceMoves };
 
@@ -26,7 +26,7 @@ impl Part for Interface {
 
     ghost can_join = { InterfaceJoins };
 
-    ghost union = { λ m p into. with_interface m p.1 into };
+    ghost with_matched = { λ m p into. with_interface m p.1 into };
 
     fn moved(&self, plan: &MergePlan<'_>) -> Result<Interface, AllocError> {
         let mut moved = self.try_clone()?;
@@ -66,7 +66,7 @@ fn push_functions(
     known: &Names<Function>,
     from: &Names<Function>,
 ) -> Result<(), AllocError>
-    requires ready { CanUnite plan.now }
+    requires ready { CanMerge plan.now }
     requires functions { FunctionsMove (merging_of plan.now) from.now }
     requires apart { HasDistinctKeys (into.old ++ functions_image (merging_of plan.now) (brought_matched known.now from.now)) }
     ensures { OnOk result (into.new ≡ into.old ++ functions_image (merging_of plan.now) (brought_matched known.now from.now)) }
@@ -83,7 +83,7 @@ fn push_functions(
 
 /// A function with new ids and spans.
 fn moved_function(plan: &MergePlan<'_>, function: &Function) -> Result<Function, AllocError>
-    requires ready { CanUnite plan.now }
+    requires ready { CanMerge plan.now }
     requires moves { FunctionMoves (merging_of plan.now) function.now }
     ensures { IfOk result (λ moved. moved ≡ function_image (merge_maps (merging_of plan.now)) function.now) }
 {
@@ -98,7 +98,7 @@ pub(crate) fn joined_interfaces(
     plan: &MergePlan<'_>,
     counterparts: &Items<Option<usize>>,
 ) -> Result<Items<Interface>, AllocError>
-    requires ready { CanUnite plan.now }
+    requires ready { CanMerge plan.now }
     requires counterparts { KnowsCounterparts plan.now counterparts.now }
     ensures { IfOk result (λ interfaces. interfaces ≡ (joined_graph (merging_of plan.now)).interfaces) }
 {
@@ -113,7 +113,7 @@ pub(crate) fn moved_interfaces(
     alloc: Global,
     plan: &MergePlan<'_>,
 ) -> Result<Items<Interface>, AllocError>
-    requires { CanUnite plan.now }
+    requires { CanMerge plan.now }
     ensures { IfOk result (λ interfaces. interfaces ≡ map (interface_image (merge_maps (merging_of plan.now))) (moved_interfaces (merging_of plan.now))) }
 {
     move_all(

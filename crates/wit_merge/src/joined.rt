@@ -1,7 +1,7 @@
 //! The two graphs as one, as they are listed.
 ghost use Rattle.std.specs.Prelude.{◌≡◌, IfOk};
-ghost use Rattle.wit_merge_spec.specs.Merged.{joined_graph, remap_of_merge};
-ghost use Rattle.wit_merge.specs.steps.UnionSteps.{CanUnite, merging_of};
+ghost use Rattle.wit_merge_spec.specs.Merged.{joined_graph, value_remap};
+ghost use Rattle.wit_merge.specs.steps.MergeSteps.{CanMerge, merging_of};
 ghost use Rattle.wit_remap_spec.specs.steps.Parts.{owns as owns_of};
 
 use crate::counterparts::counterparts;
@@ -20,8 +20,8 @@ pub(crate) fn joined_graph(
     plan: &MergePlan<'_>,
     owns: Items<TypeDef>,
 ) -> Result<Graph, AllocError>
-    requires ready { CanUnite plan.now }
-    requires owns { owns ≡ owns_of (remap_of_merge (merging_of plan.now)) }
+    requires ready { CanMerge plan.now }
+    requires owns { owns ≡ owns_of (value_remap (merging_of plan.now)) }
     ensures { IfOk result (λ joined. joined ≡ joined_graph (merging_of plan.now)) }
 {
     let found = &plan.matches.interfaces;

@@ -19,4 +19,4 @@ mod types;
 mod whole;
 mod worlds;
 
-pub use crate::whole::{United, agreed_matches, append_union, union_of, unite, united_by};
+pub use crate::whole::{MergedGraph, agreed_matches, append_merge, merge, merged_by, merged_copy};

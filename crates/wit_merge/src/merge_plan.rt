@@ -1,7 +1,7 @@
 //! Two graphs that become one.
 ghost use Rattle.std.specs.Prelude.{◌≡◌, ◌<◌, Some, length, ℕ};
 ghost use Rattle.wit_merge_spec.specs.Merged.{merged_package};
-ghost use Rattle.wit_merge.specs.steps.UnionSteps.{CanUnite, merging_of};
+ghost use Rattle.wit_merge.specs.steps.MergeSteps.{CanMerge, merging_of};
 
 use wit_data::{Items, PackageId, TypeId};
 use wit_graph_data::Graph;
@@ -24,7 +24,7 @@ impl<'a> MergePlan<'a> {
     /// How what stands in a package of the other graph moves. Types and functions name no package, so for them `home` is
     /// None, and where the package goes isn't asked.
     pub(crate) fn mover(&self, home: Option<PackageId>) -> Mover<'a>
-        requires { CanUnite self.now }
+        requires { CanMerge self.now }
         ensures new_ids { result.new_ids.now ≡ self.now.merge_ids.now.new_ids }
         ensures values { result.values.now ≡ self.now.values.now }
         ensures home { (p : ℕ) → home ≡ Some p → p < length self.now.other.now.packages → result.«package» ≡ merged_package (merging_of self.now) p }
@@ -44,7 +44,7 @@ impl<'a> MergePlan<'a> {
 
     /// Where a package of the other graph goes. One that isn't there stays.
     pub(crate) fn merged_package(&self, id: PackageId) -> PackageId
-        requires { CanUnite self.now }
+        requires { CanMerge self.now }
         ensures { id < length self.now.other.now.packages → result ≡ merged_package (merging_of self.now) id }
     {
         match self.merge_ids.packages.get(id.index()) {

@@ -3,7 +3,7 @@ ghost use Rattle.std.specs.Prelude.{◌≡◌, ◌++◌, IfOk, OnOk};
 ghost use Rattle.wit_values.specs.Table.{HasDistinctKeys};
 ghost use Rattle.wit_merge_match.specs.steps.Matched.{moves};
 ghost use Rattle.wit_remap.specs.steps.Movers.{goes};
-ghost use Rattle.wit_merge.specs.steps.UnionSteps.{moved_names};
+ghost use Rattle.wit_merge.specs.steps.MergeSteps.{moved_names};
 
 use std::alloc::AllocError;
 use wit_data::{Id, Items, Names, TryClone};

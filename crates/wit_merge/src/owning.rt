@@ -2,11 +2,11 @@
 ghost use Rattle.std.specs.Prelude.{◌≡◌, ℕ, IfOk};
 ghost use Rattle.wit_elaboration.specs.Valid.{IsValid};
 ghost use Rattle.wit_link_resources.specs.steps.Leading.{AreRight};
-ghost use Rattle.wit_merge_spec.specs.Merged.{remap_of_merge};
+ghost use Rattle.wit_merge_spec.specs.Merged.{value_remap};
 ghost use Rattle.wit_remap.specs.Grown.{Begins};
 ghost use Rattle.wit_merge_match.specs.Differing.{merge_of_graphs_by};
 ghost use Rattle.wit_merge_match.specs.steps.Matched.{AreMatches, merge_of_graphs, merge_ids_of};
-ghost use Rattle.wit_merge.specs.steps.UnionSteps.{value_ids};
+ghost use Rattle.wit_merge.specs.steps.MergeSteps.{value_ids};
 ghost use Rattle.wit_remap_spec.specs.steps.Parts.{owns};
 
 use crate::functions::moved_functions;
@@ -35,7 +35,7 @@ pub(crate) fn values(
     requires matches { AreMatches graph.now other.now matches.now }
     requires merge_ids { merge_ids.now ≡ merge_ids_of (merge_of_graphs graph.now other.now) }
     requires met { AreRight graph.now.types met.old }
-    ensures values { IfOk result (λ values. (offset : ℕ) → (values.new_ids ≡ value_ids (merge_of_graphs_by graph.now other.now offset)) × (values.owns ≡ owns (remap_of_merge (merge_of_graphs_by graph.now other.now offset)))) }
+    ensures values { IfOk result (λ values. (offset : ℕ) → (values.new_ids ≡ value_ids (merge_of_graphs_by graph.now other.now offset)) × (values.owns ≡ owns (value_remap (merge_of_graphs_by graph.now other.now offset)))) }
     ensures met { AreRight graph.now.types met.new }
     ensures met_before { Begins met.old met.new }
 {

@@ -4,7 +4,7 @@ ghost use Rattle.wit_values.specs.Table.{HasDistinctKeys};
 ghost use Rattle.wit_remap_spec.specs.Selected.{selected};
 ghost use Rattle.wit_merge_spec.specs.Merged.{joined_graph, package_image};
 ghost use Rattle.wit_merge.specs.steps.Behind.{new_names};
-ghost use Rattle.wit_merge.specs.steps.UnionSteps.{moved_names, CanUnite, KnowsCounterparts, merging_of};
+ghost use Rattle.wit_merge.specs.steps.MergeSteps.{moved_names, CanMerge, KnowsCounterparts, merging_of};
 ghost use Rattle.wit_merge_spec.specs.steps.Parts.{moves_package};
 
 use crate::merge_plan::MergePlan;
@@ -17,7 +17,7 @@ use wit_graph_data::Package;
 /// Behind the interfaces and worlds of one that stays come those of the other that move.
 impl Part for Package {
     ghost use Rattle.wit_merge_spec.specs.Merged.{package_image, with_package};
-    ghost use Rattle.wit_merge.specs.steps.UnionSteps.{PackageJoins, PackageMoves};
+    ghost use Rattle.wit_merge.specs.steps.MergeSteps.{PackageJoins, PackageMoves};
 
     ghost can_move = { PackageMoves };
 
@@ -25,7 +25,7 @@ impl Part for Package {
 
     ghost can_join = { PackageJoins };
 
-    ghost union = { λ m p into. with_package m p.1 into };
+    ghost with_matched = { λ m p into. with_package m p.1 into };
 
     fn moved(&self, plan: &MergePlan<'_>) -> Result<Package, AllocError> {
         let alloc = self.interfaces.allocator();
@@ -81,7 +81,7 @@ pub(crate) fn joined_packages(
     plan: &MergePlan<'_>,
     counterparts: &Items<Option<usize>>,
 ) -> Result<Items<Package>, AllocError>
-    requires ready { CanUnite plan.now }
+    requires ready { CanMerge plan.now }
     requires counterparts { KnowsCounterparts plan.now counterparts.now }
     ensures { IfOk result (λ packages. packages ≡ (joined_graph (merging_of plan.now)).packages) }
 {
@@ -95,7 +95,7 @@ pub(crate) fn joined_packages(
 pub(crate) fn joined_names(
     plan: &MergePlan<'_>,
 ) -> Result<Table<PackageName, PackageId>, AllocError>
-    requires { CanUnite plan.now }
+    requires { CanMerge plan.now }
     ensures { IfOk result (λ names. names ≡ (joined_graph (merging_of plan.now)).package_names) }
 {
     let mut names = plan.graph.package_names.try_clone()?;
@@ -112,7 +112,7 @@ pub(crate) fn moved_packages(
     alloc: Global,
     plan: &MergePlan<'_>,
 ) -> Result<Items<Package>, AllocError>
-    requires { CanUnite plan.now }
+    requires { CanMerge plan.now }
     ensures { IfOk result (λ packages. packages ≡ map (package_image (merging_of plan.now)) (selected (moves_package (merging_of plan.now)) plan.now.other.now.packages)) }
 {
     move_all(alloc, plan, &plan.matches.packages, &plan.other.packages)
@@ -123,7 +123,7 @@ pub(crate) fn moved_names(
     alloc: Global,
     plan: &MergePlan<'_>,
 ) -> Result<Items<(PackageName, PackageId)>, AllocError>
-    requires { CanUnite plan.now }
+    requires { CanMerge plan.now }
     ensures { IfOk result (λ names. names ≡ new_names (merging_of plan.now)) }
 {
     let mut names = Items::new(alloc);

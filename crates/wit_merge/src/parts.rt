@@ -5,7 +5,7 @@ ghost use Rattle.std.specs.Option.{option_map_or};
 ghost use Rattle.wit_remap_spec.specs.Selected.{selected_with_index};
 ghost use Rattle.wit_merge_match.specs.steps.Matched.{moves};
 ghost use Rattle.wit_merge_spec.specs.Matches.{GraphMerge, counterpart_of};
-ghost use Rattle.wit_merge.specs.steps.UnionSteps.{CanUnite, KnowsCounterparts, merging_of, placed_at};
+ghost use Rattle.wit_merge.specs.steps.MergeSteps.{CanMerge, KnowsCounterparts, merging_of, placed_at};
 
 use crate::counterparts::counterparts;
 use crate::merge_plan::MergePlan;
@@ -25,11 +25,11 @@ pub(crate) trait Part: TryClone + Drop {
     ghost can_join: { GraphMerge → Self → Self → Type 0 };
 
     /// What is made of two, of which the first comes with its index.
-    ghost union: { GraphMerge → ℕ × Self → Self → Self };
+    ghost with_matched: { GraphMerge → ℕ × Self → Self → Self };
 
     /// A copy as it comes to be where it goes, at whatever index of the other graph it stands.
     fn moved(&self, plan: &MergePlan<'_>) -> Result<Self, AllocError>
-        requires ready { CanUnite plan.now }
+        requires ready { CanMerge plan.now }
         requires can { can_move (merging_of plan.now) self.now }
         ensures { IfOk result (λ made. (index : ℕ) → made ≡ image (merging_of plan.now) (index, self.now)) };
 
@@ -41,10 +41,10 @@ pub(crate) trait Part: TryClone + Drop {
         counterparts: &Items<Option<usize>>,
         from: &Self,
     ) -> Result<Self, AllocError>
-        requires ready { CanUnite plan.now }
+        requires ready { CanMerge plan.now }
         requires counterparts { KnowsCounterparts plan.now counterparts.now }
         requires can { can_join (merging_of plan.now) from.now self.now }
-        ensures { IfOk result (λ made. (index : ℕ) → made ≡ union (merging_of plan.now) (index, from.now) self.now) };
+        ensures { IfOk result (λ made. (index : ℕ) → made ≡ with_matched (merging_of plan.now) (index, from.now) self.now) };
 }
 
 /// Copies of the things of a graph, each with the one joined to it that is matched with it, if one is; and behind them
@@ -57,12 +57,12 @@ pub(crate) fn joined_list<S, T: Part>(
     others: &Items<T>,
     ours: &Items<T>,
 ) -> Result<Items<T>, AllocError>
-    requires ready { CanUnite plan.now }
+    requires ready { CanMerge plan.now }
     requires interfaces { KnowsCounterparts plan.now interfaces.now }
     requires long { length found.now ≡ length others.now }
     requires joining { (x x' : ℕ) (from into : T) → slice_get others.now x ≡ Some from → get_or found.now x None ≡ Some x' → slice_get ours.now x' ≡ Some into → T.can_join (merging_of plan.now) from into }
     requires moving { (x : ℕ) (from : T) → slice_get others.now x ≡ Some from → moves found.now x ≡ true → T.can_move (merging_of plan.now) from }
-    ensures { IfOk result (λ made. made ≡ map (λ (e : ℕ × T). option_map_or (λ (p : ℕ × T). T.union (merging_of plan.now) p e.1) (counterpart_of (λ x. get_or found.now x None) others.now e.0) e.1) (enumerate_from 0 ours.now) ++ map (T.image (merging_of plan.now)) (selected_with_index (moves found.now) others.now)) }
+    ensures { IfOk result (λ made. made ≡ map (λ (e : ℕ × T). option_map_or (λ (p : ℕ × T). T.with_matched (merging_of plan.now) p e.1) (counterpart_of (λ x. get_or found.now x None) others.now e.0) e.1) (enumerate_from 0 ours.now) ++ map (T.image (merging_of plan.now)) (selected_with_index (moves found.now) others.now)) }
 {
     let mut made = join_all(alloc, plan, interfaces, found, others, ours)?;
     made.append(move_all(alloc, plan, found, others)?)?;
@@ -78,11 +78,11 @@ fn join_all<S, T: Part>(
     others: &Items<T>,
     ours: &Items<T>,
 ) -> Result<Items<T>, AllocError>
-    requires ready { CanUnite plan.now }
+    requires ready { CanMerge plan.now }
     requires interfaces { KnowsCounterparts plan.now interfaces.now }
     requires long { length found.now ≡ length others.now }
     requires can { (x x' : ℕ) (from into : T) → slice_get others.now x ≡ Some from → get_or found.now x None ≡ Some x' → slice_get ours.now x' ≡ Some into → T.can_join (merging_of plan.now) from into }
-    ensures { IfOk result (λ made. made ≡ map (λ (e : ℕ × T). option_map_or (λ (p : ℕ × T). T.union (merging_of plan.now) p e.1) (counterpart_of (λ x. get_or found.now x None) others.now e.0) e.1) (enumerate_from 0 ours.now)) }
+    ensures { IfOk result (λ made. made ≡ map (λ (e : ℕ × T). option_map_or (λ (p : ℕ × T). T.with_matched (merging_of plan.now) p e.1) (counterpart_of (λ x. get_or found.now x None) others.now e.0) e.1) (enumerate_from 0 ours.now)) }
 {
     let counterparts = counterparts(alloc, found, ours.len())?;
     let mut made = Items::new(alloc);
@@ -102,10 +102,10 @@ fn join_one<T: Part>(
     index: Option<usize>,
     into: &T,
 ) -> Result<T, AllocError>
-    requires ready { CanUnite plan.now }
+    requires ready { CanMerge plan.now }
     requires interfaces { KnowsCounterparts plan.now interfaces.now }
     requires can { (x : ℕ) (from : T) → index ≡ Some x → slice_get others.now x ≡ Some from → T.can_join (merging_of plan.now) from into.now }
-    ensures { IfOk result (λ made. made ≡ option_map_or (λ (p : ℕ × T). T.union (merging_of plan.now) p into.now) (placed_at others.now index) into.now) }
+    ensures { IfOk result (λ made. made ≡ option_map_or (λ (p : ℕ × T). T.with_matched (merging_of plan.now) p into.now) (placed_at others.now index) into.now) }
 {
     match index {
         Some(index) => match others.get(index) {
@@ -123,7 +123,7 @@ pub(crate) fn move_all<S, T: Part>(
     found: &Items<Option<Id<S>>>,
     others: &Items<T>,
 ) -> Result<Items<T>, AllocError>
-    requires ready { CanUnite plan.now }
+    requires ready { CanMerge plan.now }
     requires can { (x : ℕ) (from : T) → slice_get others.now x ≡ Some from → moves found.now x ≡ true → T.can_move (merging_of plan.now) from }
     ensures { IfOk result (λ made. made ≡ map (T.image (merging_of plan.now)) (selected_with_index (moves found.now) others.now)) }
 {

@@ -9,7 +9,7 @@ ghost use Rattle.wit_merge_spec.specs.Merged.{moved_functions, joined_graph};
 ghost use Rattle.wit_merge_spec.specs.Cause.{MergeReturnsBorrow};
 ghost use Rattle.wit_link_resources.specs.steps.Borrows.{AreFreeTypes};
 ghost use Rattle.wit_merge.specs.steps.Behind.{AreReturned, ReturnNoBorrow, ReturnsBorrow, functions_of as listed_functions};
-ghost use Rattle.wit_merge.specs.steps.UnionSteps.{CanUnite, IsBorrowError, ReturnsFree, merging_of};
+ghost use Rattle.wit_merge.specs.steps.MergeSteps.{CanMerge, IsBorrowError, ReturnsFree, merging_of};
 
 use crate::functions::{functions_of, moved_functions};
 use crate::merge_plan::MergePlan;
@@ -27,7 +27,7 @@ pub(crate) fn check_results(
     plan: &MergePlan<'_>,
     types: &[TypeDef],
 ) -> ResolveResult<()>
-    requires ready { CanUnite plan.now }
+    requires ready { CanMerge plan.now }
     requires types { types.now ≡ (joined_graph (merging_of plan.now)).types }
     ensures none { OnOk result ((message : List ℕ) → MergeReturnsBorrow (merging_of plan.now) message → ⊥) }
     ensures cause { IfErr result (λ kind. (kind ≡ OutOfMemory) ⊎ IsBorrowError (merging_of plan.now) kind) }
@@ -48,7 +48,7 @@ fn check_result(
     free: &mut IndexSet<usize>,
     function: &Function,
 ) -> ResolveResult<()>
-    requires ready { CanUnite plan.now }
+    requires ready { CanMerge plan.now }
     requires types { types.now ≡ (joined_graph (merging_of plan.now)).types }
     requires moved { Contains (moved_functions (merging_of plan.now)) function.now }
     requires free { AreFreeTypes types.now free.old.keys }

@@ -1,7 +1,7 @@
 //! The types of two graphs as one.
 ghost use Rattle.std.specs.Prelude.{◌≡◌, IfOk};
-ghost use Rattle.wit_merge_spec.specs.Merged.{joined_graph, remap_of_merge};
-ghost use Rattle.wit_merge.specs.steps.UnionSteps.{CanUnite, KnowsCounterparts, merging_of};
+ghost use Rattle.wit_merge_spec.specs.Merged.{joined_graph, value_remap};
+ghost use Rattle.wit_merge.specs.steps.MergeSteps.{CanMerge, KnowsCounterparts, merging_of};
 ghost use Rattle.wit_remap_spec.specs.ValueRemap.{types_behind};
 ghost use Rattle.wit_remap_spec.specs.steps.Parts.{owns as owns_of};
 
@@ -16,7 +16,7 @@ use wit_remap::Update;
 impl Part for TypeDef {
     ghost use Rattle.wit_remap_spec.specs.Image.{type_image};
     ghost use Rattle.wit_merge_spec.specs.Merged.{merge_maps};
-    ghost use Rattle.wit_merge.specs.steps.UnionSteps.{TypeMoves};
+    ghost use Rattle.wit_merge.specs.steps.MergeSteps.{TypeMoves};
     ghost use Rattle.wit_merge_spec.specs.steps.Parts.{with_type};
 
     ghost can_move = { TypeMoves };
@@ -25,7 +25,7 @@ impl Part for TypeDef {
 
     ghost can_join = { λ m from into. Unit {0} };
 
-    ghost union = { λ m p into. with_type p.1 into };
+    ghost with_matched = { λ m p into. with_type p.1 into };
 
     fn moved(&self, plan: &MergePlan<'_>) -> Result<TypeDef, AllocError> {
         let mut moved = self.try_clone()?;
@@ -53,9 +53,9 @@ pub(crate) fn joined_types(
     counterparts: &Items<Option<usize>>,
     owns: Items<TypeDef>,
 ) -> Result<Items<TypeDef>, AllocError>
-    requires ready { CanUnite plan.now }
+    requires ready { CanMerge plan.now }
     requires counterparts { KnowsCounterparts plan.now counterparts.now }
-    requires owns { owns ≡ owns_of (remap_of_merge (merging_of plan.now)) }
+    requires owns { owns ≡ owns_of (value_remap (merging_of plan.now)) }
     ensures { IfOk result (λ types. types ≡ (joined_graph (merging_of plan.now)).types) }
 {
     let found = &plan.matches.types;
@@ -72,9 +72,9 @@ pub(crate) fn moved_types(
     plan: &MergePlan<'_>,
     owns: Items<TypeDef>,
 ) -> Result<Items<TypeDef>, AllocError>
-    requires ready { CanUnite plan.now }
-    requires owns { owns ≡ owns_of (remap_of_merge (merging_of plan.now)) }
-    ensures { IfOk result (λ types. types ≡ types_behind (remap_of_merge (merging_of plan.now))) }
+    requires ready { CanMerge plan.now }
+    requires owns { owns ≡ owns_of (value_remap (merging_of plan.now)) }
+    ensures { IfOk result (λ types. types ≡ types_behind (value_remap (merging_of plan.now))) }
 {
     let mut types = move_all(alloc, plan, &plan.matches.types, &plan.other.types)?;
     types.append(owns)?;

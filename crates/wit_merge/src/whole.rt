@@ -13,7 +13,7 @@ ghost use Rattle.wit_merge_spec.specs.steps.Leaving.{LeavesGraph};
 ghost use Rattle.wit_remap.specs.Grown.{Begins, Grown};
 ghost use Rattle.wit_link_resources.specs.steps.Leading.{AreRight};
 ghost use Rattle.wit_merge.specs.steps.Behind.{IsComing};
-ghost use Rattle.wit_merge.specs.steps.UnionSteps.{DoAgree};
+ghost use Rattle.wit_merge.specs.steps.MergeSteps.{DoAgree};
 
 use crate::agreement::check_agreement;
 use crate::appending::append;
@@ -28,8 +28,8 @@ use wit_elaboration::Elaborator;
 use wit_graph_data::{Graph, ResolveResult};
 use wit_link_spec::{NewIds, Values};
 use wit_merge_laws::laws::{
-    accepted_growth, functions_come, joined_is_grown, new_worlds_are_sound, nothing_new_is_cyclic,
-    unions_grow, unions_stay_valid, uses_grow,
+    accepted_growth, functions_come, joined_is_grown, merges_grow, merges_stay_valid,
+    new_worlds_are_sound, nothing_new_is_cyclic, uses_grow,
 };
 use wit_merge_match::{Matches, MergeIds, find_ids, find_matches};
 use wit_remap::Remap;
@@ -37,16 +37,16 @@ use wit_transform::check_and_elaborate;
 
 /// A graph that another one was merged into, and where the things of that one are now.
 #[derive(Drop)]
-pub struct United {
+pub struct MergedGraph {
     pub graph: Graph,
     pub remap: Remap,
 }
 
-/// A valid graph with another valid one, which is consumed: see `union_of`, which leaves both as they are. On a refusal
+/// A valid graph with another valid one, which is consumed: see `merged_copy`, which leaves both as they are. On a refusal
 /// the graph is as before, and the other is gone.
 ///
 /// Source: `merge` of wit-parser 0.263.0.
-pub fn unite(
+pub fn merge(
     alloc: Global,
     graph: &Graph,
     other: Graph,
@@ -60,11 +60,11 @@ pub fn unite(
     ensures cause { IfErr result (λ e. (e ≡ OutOfMemory) ⊎ IsMergeCause (merge_of_graphs_by graph.now other offset) e) }
     ensures refuses { (e : ResolveErrorKind) → IsMergeCause (merge_of_graphs_by graph.now other offset) e → OnOk result ⊥ }
 {
-    let United {
-        graph: union_graph,
+    let MergedGraph {
+        graph: merged_graph,
         remap,
-    } = union_of(alloc, graph, &other, offset)?;
-    Ok((union_graph, remap))
+    } = merged_copy(alloc, graph, &other, offset)?;
+    Ok((merged_graph, remap))
 }
 
 /// A copy of a valid graph with another valid one: what is matched is made one, all else comes behind what is there,
@@ -76,7 +76,12 @@ pub fn unite(
 /// 4294967295 (27), and for memory (28).
 ///
 /// Source: `merge` of wit-parser 0.263.0.
-pub fn union_of(alloc: Global, graph: &Graph, other: &Graph, offset: u32) -> ResolveResult<United>
+pub fn merged_copy(
+    alloc: Global,
+    graph: &Graph,
+    other: &Graph,
+    offset: u32,
+) -> ResolveResult<MergedGraph>
     requires valid { IsValid graph.now }
     requires other { IsValid other.now }
     ensures graph { IfOk result (λ made. made.graph ≡ merged (merge_of_graphs_by graph.now other.now offset)) }
@@ -86,7 +91,7 @@ pub fn union_of(alloc: Global, graph: &Graph, other: &Graph, offset: u32) -> Res
     ensures refuses { (e : ResolveErrorKind) → IsMergeCause (merge_of_graphs_by graph.now other.now offset) e → OnOk result ⊥ }
 {
     let matches = agreed_matches(alloc, graph, other, offset)?;
-    united_by(alloc, graph, other, &matches, offset)
+    merged_by(alloc, graph, other, &matches, offset)
 }
 
 /// What is matched of two valid graphs that agree: refused where what matches disagrees (24), where two stabilities that
@@ -109,14 +114,14 @@ pub fn agreed_matches(
     Ok(matches)
 }
 
-/// `union_of` of two graphs that agree, by what is matched of them.
-pub fn united_by(
+/// `merged_copy` of two graphs that agree, by what is matched of them.
+pub fn merged_by(
     alloc: Global,
     graph: &Graph,
     other: &Graph,
     matches: &Matches,
     offset: u32,
-) -> ResolveResult<United>
+) -> ResolveResult<MergedGraph>
     requires valid { IsValid graph.now }
     requires other { IsValid other.now }
     requires agree { DoAgree (merge_of_graphs_by graph.now other.now offset) }
@@ -127,11 +132,11 @@ pub fn united_by(
     ensures cause { IfErr result (λ e. (e ≡ OutOfMemory) ⊎ IsMergeCause (merge_of_graphs_by graph.now other.now offset) e) }
     ensures refuses { (e : ResolveErrorKind) → IsMergeCause (merge_of_graphs_by graph.now other.now offset) e → OnOk result ⊥ }
 {
-    unions_stay_valid();
+    merges_stay_valid();
     let merge_ids = find_ids(alloc, graph, other, matches)?;
     let mut joined = as_listed(alloc, graph, other, matches, &merge_ids, offset)?;
     check_and_elaborate(alloc, &mut joined)?;
-    Ok(United {
+    Ok(MergedGraph {
         graph: joined,
         remap: into_remap(merge_ids),
     })
@@ -143,7 +148,7 @@ pub fn united_by(
 /// comes. After a refusal (4, 15, 28) graph and elaborator are as before.
 ///
 /// Source: `merge` of wit-parser 0.263.0.
-pub fn append_union(
+pub fn append_merge(
     alloc: Global,
     graph: &mut Graph,
     elaborator: &mut Elaborator,
@@ -176,9 +181,9 @@ pub fn append_union(
     nothing_new_is_cyclic();
     new_worlds_are_sound();
     functions_come();
-    unions_grow();
+    merges_grow();
     accepted_growth();
-    unions_stay_valid();
+    merges_stay_valid();
     let merge_ids = find_ids(alloc, graph, other, matches)?;
     let coming = what_comes(alloc, graph, other, matches, &merge_ids, met, offset)?;
     append(alloc, graph, elaborator, coming)?;

@@ -4,7 +4,7 @@ ghost use Rattle.std.specs.Option.{option_copied};
 ghost use Rattle.wit_values.specs.Table.{HasDistinctKeys};
 ghost use Rattle.wit_merge_spec.specs.Merged.{joined_graph};
 ghost use Rattle.wit_merge_spec.specs.steps.Leaving.{new_worlds};
-ghost use Rattle.wit_merge.specs.steps.UnionSteps.{entry_joined, stability_joined, stability_of, stability_under, CanUnite, KnowsCounterparts, merging_of};
+ghost use Rattle.wit_merge.specs.steps.MergeSteps.{entry_joined, stability_joined, stability_of, stability_under, CanMerge, KnowsCounterparts, merging_of};
 
 use crate::merge_plan::MergePlan;
 use crate::parts::{Part, joined_list, move_all};
@@ -19,7 +19,7 @@ use wit_remap::{Moves, updated_entries};
 impl Part for World {
     ghost use Rattle.wit_remap_spec.specs.Image.{world_image};
     ghost use Rattle.wit_merge_spec.specs.Merged.{with_world, merge_maps};
-    ghost use Rattle.wit_merge.specs.steps.UnionSteps.{WorldJoins, WorldMoves};
+    ghost use Rattle.wit_merge.specs.steps.MergeSteps.{WorldJoins, WorldMoves};
 
     ghost can_move = { WorldMoves };
 
@@ -27,7 +27,7 @@ impl Part for World {
 
     ghost can_join = { λ m from into. WorldJoins m into };
 
-    ghost union = { with_world };
+    ghost with_matched = { with_world };
 
     fn moved(&self, plan: &MergePlan<'_>) -> Result<World, AllocError> {
         let mover = plan.mover(self.package);
@@ -136,7 +136,7 @@ pub(crate) fn joined_worlds(
     plan: &MergePlan<'_>,
     counterparts: &Items<Option<usize>>,
 ) -> Result<Items<World>, AllocError>
-    requires ready { CanUnite plan.now }
+    requires ready { CanMerge plan.now }
     requires counterparts { KnowsCounterparts plan.now counterparts.now }
     ensures { IfOk result (λ worlds. worlds ≡ (joined_graph (merging_of plan.now)).worlds) }
 {
@@ -148,7 +148,7 @@ pub(crate) fn joined_worlds(
 
 /// The worlds that move.
 pub(crate) fn moved_worlds(alloc: Global, plan: &MergePlan<'_>) -> Result<Items<World>, AllocError>
-    requires { CanUnite plan.now }
+    requires { CanMerge plan.now }
     ensures { IfOk result (λ worlds. worlds ≡ new_worlds (merging_of plan.now)) }
 {
     move_all(alloc, plan, &plan.matches.worlds, &plan.other.worlds)

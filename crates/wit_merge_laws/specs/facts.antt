@@ -42,10 +42,10 @@ pub mod StructureBack
 pub mod StructureHeads
 pub mod StructuresRead
 pub mod TypesStand
-pub mod UnitedWorlds
+pub mod MergedWorlds
 pub mod UsesFrom
 pub mod UsesInto
 pub mod UsesListed
-pub mod ValidUnions
+pub mod ValidMerges
 pub mod WholeFacts
 pub mod WorldsStand

@@ -1,8 +1,8 @@
 //! Laws of merging: the contract of each function is what is proved.
 ghost use Rattle.wit_merge_laws.specs.laws.BorrowLaws.{MergesMakeNoBorrow};
 ghost use Rattle.wit_merge_laws.specs.laws.CopyLaws.{AcceptedCopiesChangeNothing, CopiesGoToThemselves, EmptyBecomesAlike, EmptyKeepsIds};
-ghost use Rattle.wit_merge_laws.specs.laws.GrowingLaws.{BorrowsCome, FunctionsCome, GrowthIsAccepted, JoinedIsGrown, LeftByMatches, NewWorldsAreSound, NothingNewIsCyclic, OldWorldsStay, UnionsGrow, UsesGrow};
-ghost use Rattle.wit_merge_laws.specs.laws.MergingLaws.{NothingComes, SharedWorldsKeepImports, UnionsHaveBothNames, UnionsStayValid};
+ghost use Rattle.wit_merge_laws.specs.laws.GrowingLaws.{BorrowsCome, FunctionsCome, GrowthIsAccepted, JoinedIsGrown, LeftByMatches, NewWorldsAreSound, NothingNewIsCyclic, OldWorldsStay, MergesGrow, UsesGrow};
+ghost use Rattle.wit_merge_laws.specs.laws.MergingLaws.{NothingComes, SharedWorldsKeepImports, MergesHaveBothNames, MergesStayValid};
 ghost use Rattle.wit_merge_laws.specs.laws.OrderLaws.{AgreementIsSymmetric, EitherOrderElaborates, MergesAreAlike, MergingIsOrderFree, ResourcesStay};
 
 use wit_elaboration::laws::examples_of_validity;
@@ -13,16 +13,16 @@ pub fn nothing_comes()
     ensures { NothingComes }
 {}
 
-/// What is united of two valid graphs is valid, where no cause holds against the merge.
-pub fn unions_stay_valid()
-    ensures { UnionsStayValid }
+/// What merging makes of two valid graphs is valid, where no cause holds against the merge.
+pub fn merges_stay_valid()
+    ensures { MergesStayValid }
 {
     laws_of_elaboration();
 }
 
-/// Where no cause holds against the merge, what is united of two valid graphs has the names of both, and no others.
-pub fn unions_have_both_names()
-    ensures { UnionsHaveBothNames }
+/// Where no cause holds against the merge, what merging makes of two valid graphs has the names of both, and no others.
+pub fn merges_have_both_names()
+    ensures { MergesHaveBothNames }
 {
     laws_of_elaboration();
 }
@@ -48,20 +48,20 @@ pub fn merges_are_alike()
     laws_of_elaboration();
 }
 
-/// So they do where two valid graphs agree, and in their union no interface would use itself and no world is in conflict.
+/// So they do where two valid graphs agree, and in their merged graph no interface would use itself and no world is in conflict.
 pub fn merging_is_order_free()
     ensures { MergingIsOrderFree }
 {
     laws_of_elaboration();
 }
 
-/// Where two valid graphs agree, their union in the one order has no interface that uses itself and no world in conflict
+/// Where two valid graphs agree, their merged graph in the one order has no interface that uses itself and no world in conflict
 /// if that in the other order has none.
 pub fn either_order_elaborates()
     ensures { EitherOrderElaborates }
 {}
 
-/// A type that leads to a resource in one of two valid graphs that agree leads to one in what is united of them.
+/// A type that leads to a resource in one of two valid graphs that agree leads to one in what merging makes of them.
 pub fn resources_stay()
     ensures { ResourcesStay }
 {}
@@ -142,8 +142,8 @@ pub fn borrows_come()
 {}
 
 /// Then only the worlds that come are elaborated, and only they can be in conflict.
-pub fn unions_grow()
-    ensures { UnionsGrow }
+pub fn merges_grow()
+    ensures { MergesGrow }
 {
     laws_of_elaboration();
 }

@@ -57,7 +57,7 @@ option_is : (o : Option ℕ) (x : ℕ) → option_eq nat_eq o (Some x) ≡ true 
 option_is None x same = absurd (false≢true same)
 option_is (Some y) x same = ap (λ (z : ℕ). Some z) (eqb-true y x same)
 
-module _ {X : Type 0} (found : ℕ → Option ℕ) (others ours : List X) (union : ℕ × X → X → X) where
+module _ {X : Type 0} (found : ℕ → Option ℕ) (others ours : List X) (with_matched : ℕ × X → X → X) where
   -- what is matched with a thing goes to it
   counterpart_from : (x' : ℕ) (p : ℕ × X) → counterpart_of found others x' ≡ Some p → (slice_get others p.0 ≡ Some p.1) × (found p.0 ≡ Some x')
   counterpart_from x' p is =
@@ -69,13 +69,13 @@ module _ {X : Type 0} (found : ℕ → Option ℕ) (others ours : List X) (union
       (subst (λ (k : ℕ). slice_get others k ≡ Some p.1) (omega (arith, n)) numbered.1, option_is (found p.0) x' passes.1)
 
   abbrev joined : ℕ × X → X
-  joined e = option_map_or (λ (p : ℕ × X). union p e.1) (counterpart_of found others e.0) e.1
+  joined e = option_map_or (λ (p : ℕ × X). with_matched p e.1) (counterpart_of found others e.0) e.1
 
-  module _ (leave : (i : ℕ) → LeavesAt found others ours (λ (from into : X). (j : ℕ) → union (j, from) into ≡ into) i) where
+  module _ (leave : (i : ℕ) → LeavesAt found others ours (λ (from into : X). (j : ℕ) → with_matched (j, from) into ≡ into) i) where
     one_stays : (x' : ℕ) (into : X) → slice_get ours x' ≡ Some into → joined (x', into) ≡ into
     one_stays x' into at = by (counterpart_of found others x') refl
       where
-        by : (o : Option (ℕ × X)) → counterpart_of found others x' ≡ o → option_map_or (λ (p : ℕ × X). union p into) o into ≡ into
+        by : (o : Option (ℕ × X)) → counterpart_of found others x' ≡ o → option_map_or (λ (p : ℕ × X). with_matched p into) o into ≡ into
         by None is = refl
         by (Some p) is = let from = counterpart_from x' p is in leave p.0 p.1 into from.0 (ap (option_and_then (slice_get ours)) from.1 ∙ at) p.0
 

@@ -17,7 +17,7 @@ use Rattle.wit_merge_spec.specs.Cause as agreement
 use Rattle.wit_merge_spec.specs.Cause.{EntriesDiffer, GraphsDiffer, ItemsDiffer, same_sort, HasNoMismatch}
 use Rattle.wit_merge_spec.specs.Matches.{GraphMerge, Pair, TypePair, counterpart_interface, counterpart_world, type_pairs}
 use Rattle.wit_merge_spec.specs.MismatchText.{entry_link, linked, part_links}
-use Rattle.wit_merge_match.specs.Differing as differing
+use Rattle.wit_merge_match.specs.steps.Differing as differing
 use Rattle.wit_merge_match.specs.steps.Differing.{DifferAt, EntryDiffers, HeldDiffer, InterfaceDiffersAt, InterfacesDiffer, PartDiffers, WorldDiffersAt, WorldsDiffer}
 use Rattle.wit_merge_match.specs.steps.Structures.{FirstMismatch, NoneDiffer}
 use Rattle.wit_merge_spec.specs.steps.Parts.{type_link, entry_count_text, other_interface_text, other_sort_text}

@@ -83,7 +83,7 @@ pub data GraphsDiffer (m : GraphMerge) : List ℕ → Type 0 where
       → GraphsDiffer m (linked (part_links there.name (codes "world") p.from.name) text)
   types : (message : List ℕ) → FirstDiffers (DifferInStructure m.other.types m.graph.types (counterpart_type m)) (type_pairs m) message → GraphsDiffer m message
 
--- nothing differs that has to agree, so no mismatch (24) is told, and there is a union
+-- nothing differs that has to agree, so no mismatch (24) is told, and there is a merged graph
 abbrev pub HasNoMismatch : GraphMerge → Type 0
 HasNoMismatch m = (message : List ℕ) → GraphsDiffer m message → ⊥
 

@@ -1,5 +1,4 @@
 pub mod Cause
-pub mod First
 pub mod Matches
 pub mod MismatchText
 pub mod Structure

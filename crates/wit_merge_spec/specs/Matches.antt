@@ -25,7 +25,7 @@ use Rattle.wit_graph_data.specs.Queries.{topological_packages}
 use Rattle.wit_graph_data.specs.declared.graph.Graph.{Graph}
 use Rattle.wit_graph_data.specs.declared.graph.Package.{Package}
 use Rattle.wit_graph_data.specs.Named.{interface_type}
-use Rattle.wit_merge_spec.specs.First.{First}
+use Rattle.wit_data.specs.Each.{First}
 use Rattle.wit_merge_spec.specs.MismatchText.{entry_link, linked, part_links}
 
 -- a graph, another one that goes into it, and an offset by which the spans of that move

@@ -80,12 +80,12 @@ moved_functions m =
 -- ---- where values become an `own`
 
 -- what comes into the graph, as values ask for `own`s. A matched type is what it is in the graph
-abbrev pub remap_of_merge : GraphMerge → ValueRemap
-remap_of_merge m = record { graph_types = m.graph.types; new_types = selected (moves (counterpart_type m)) m.other.types; new_functions = moved_functions m; count = length m.other.types; ids = merge_maps_without_owns m }
+abbrev pub value_remap : GraphMerge → ValueRemap
+value_remap m = record { graph_types = m.graph.types; new_types = selected (moves (counterpart_type m)) m.other.types; new_functions = moved_functions m; count = length m.other.types; ids = merge_maps_without_owns m }
 
 -- what ids are remapped to, with values at their `own`s
 abbrev pub merge_maps : GraphMerge → Maps
-merge_maps m = maps_with_owns (remap_of_merge m)
+merge_maps m = maps_with_owns (value_remap m)
 
 -- ---- what is joined
 
@@ -144,7 +144,7 @@ package_image m home = record home {
 -- to its own
 abbrev pub joined_graph : GraphMerge → Graph
 joined_graph m = record {
-  types = joined_each (counterpart_type m) m.other.types (λ p into. record into { stability = joined_stability p.1.stability into.stability }) m.graph.types ++ types_behind (remap_of_merge m);
+  types = joined_each (counterpart_type m) m.other.types (λ p into. record into { stability = joined_stability p.1.stability into.stability }) m.graph.types ++ types_behind (value_remap m);
   interfaces = joined_each (counterpart_interface m) m.other.interfaces (λ p into. with_interface m p.1 into) m.graph.interfaces ++ map (interface_image (merge_maps m)) (selected (moves (counterpart_interface m)) m.other.interfaces);
   worlds = joined_each (counterpart_world m) m.other.worlds (with_world m) m.graph.worlds ++ map (λ (e : ℕ × World). world_image (merge_maps m) e.0 e.1) (moved_worlds m);
   packages = joined_each (counterpart_package m) m.other.packages (λ p into. with_package m p.1 into) m.graph.packages ++ map (package_image m) (selected (moves (counterpart_package m)) m.other.packages);

@@ -27,7 +27,7 @@ use Rattle.wit_merge_spec.specs.Merged.{merged}
 use Rattle.wit_merge_laws.specs.facts.KeptFacts.{interfaces_stay, names_stay, packages_stay, types_stay, worlds_stay}
 use Rattle.wit_semver_spec.specs.SemverMerged.{semver_merged}
 use Rattle.wit_semver_spec.specs.laws.Unchanged.{IsAlias, SameButLists, SameButTarget, SameKind}
-use Rattle.wit_semver_spec.specs.laws.TrackLaws.{KeepsThings, RewrittenKeep}
+use Rattle.wit_semver_spec.specs.laws.TrackLaws.{KeepsThings, SemverMergedKeep}
 use Rattle.wit_resolve_graph.specs.Merging.{merge_of}
 use Rattle.wit_resolve_graph.specs.laws.RunLaws.{Keeps, KeepsType, RunsKeep}
 use Rattle.wit_resolve_graph.specs.State.{State}
@@ -225,8 +225,8 @@ but_target old new same =
     record { rest = same.0 ∙ ap (λ (s : Stability). record old { kind = new.kind; stability = s }) (sym stabilities); kind = same.1 }
 
 -- a merge keeps it
-pub keeps_united : (m : GraphMerge) → Keeps m.graph (merged m)
-keeps_united m = record {
+pub keeps_merged : (m : GraphMerge) → Keeps m.graph (merged m)
+keeps_merged m = record {
   types = λ t def at.
       let there = found_at (SameType def) (merged m).types t (types_stay m t def at) in
       some_at (KeepsType def) (merged m).types t there.0 there.1 (but_stability def there.0 there.2);
@@ -257,12 +257,12 @@ unchanged : (old new : State) → new ≡ old → Keeps old.graph new.graph
 unchanged old new same = same_graph old new (ap (λ (s : State). s.graph) same)
 
 -- the last two lines are those of each command that sets something, and leaves the graph as it is
-keeps_step : RewrittenKeep → (old : State) (command : Command) (answer : Reply) (new : State) → Step old command answer new → Keeps old.graph new.graph
+keeps_step : SemverMergedKeep → (old : State) (command : Command) (answer : Reply) (new : State) → Step old command answer new → Keeps old.graph new.graph
 keeps_step kept old (AddFeature name) (reply.Refused error) new step = unchanged old new step.1
 keeps_step kept old (PushGroups main deps) (reply.Pushed id) new step = keeps_pushes old.features old.graph step.sorted new.graph step.ids step.are_pushed
 keeps_step kept old (PushGroups main deps) (reply.Refused error) new step = same_graph old new step.graph
 keeps_step kept old (PushGroups main deps) _ new step = absurd step
-keeps_step kept old (Merge other) (reply.Merged remap) new step = subst (Keeps old.graph) (sym step.graph) (keeps_united (merge_of old other))
+keeps_step kept old (Merge other) (reply.Merged remap) new step = subst (Keeps old.graph) (sym step.graph) (keeps_merged (merge_of old other))
 keeps_step kept old (Merge other) (reply.Refused error) new step = same_graph old new step.graph
 keeps_step kept old (Merge other) _ new step = absurd step
 keeps_step kept old (Importize home world out) reply.Done new step =
@@ -283,7 +283,7 @@ keeps_step kept old (Semver home world) _ new step = absurd step
 keeps_step kept old _ reply.Done new step = same_graph old new (ap (λ (s : State). s.graph) step)
 keeps_step kept old _ _ new step = absurd step
 
-pub runs_keep : RewrittenKeep → RunsKeep
+pub runs_keep : SemverMergedKeep → RunsKeep
 runs_keep kept old new [] [] run = unchanged old new run
 runs_keep kept old new (command ∷ commands) (answer ∷ answers) run =
     keeps_on old.graph run.0.graph new.graph (keeps_step kept old command answer run.0 run.1) (runs_keep kept run.0 new commands answers run.2)

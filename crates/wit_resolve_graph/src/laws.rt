@@ -7,13 +7,13 @@ ghost use Rattle.wit_resolve_graph.specs.laws.RunLaws.{AdditionsKeep, GroupsKeep
 ghost use Rattle.wit_resolve_graph.specs.laws.SemverLaws.{CallIsExact, CommandIsExact};
 
 use crate::resolve::Resolve;
-use wit_semver_spec::laws::{keys_are_exact, rewritten_keep};
+use wit_semver_spec::laws::{keys_are_exact, semver_merges_keep};
 
 /// What was there before a run is there after it, with the same ids.
 pub fn runs_keep()
     ensures { RunsKeep }
 {
-    rewritten_keep();
+    semver_merges_keep();
 }
 
 /// What was there before a call that changes the graph is there after it, with the same ids: a package, groups of
@@ -27,7 +27,7 @@ pub fn calls_keep()
     ensures merges { MergesKeep }
     ensures semver_merges { SemverMergesKeep }
 {
-    rewritten_keep();
+    semver_merges_keep();
 }
 
 /// After semver merging, by the rule of tracks that is in force, a world imports exactly the former interfaces less
@@ -39,7 +39,7 @@ pub fn semver_is_exact(resolve: &Resolve)
 {
     resolve.graph();
     keys_are_exact();
-    rewritten_keep();
+    semver_merges_keep();
 }
 
 /// Worlds that are chosen, and what is said where none is.

@@ -24,6 +24,7 @@ mod kept;
 pub mod laws;
 mod lookup;
 mod merged_imports;
+mod merging;
 mod package_sources;
 mod push_source;
 mod queries;
@@ -31,7 +32,6 @@ mod resolve;
 mod source_names;
 mod sources;
 mod transformations;
-mod uniting;
 
 pub use crate::command::{Command, Reply, run};
 pub use crate::package_sources::{PackageSourceNames, PackageSources};

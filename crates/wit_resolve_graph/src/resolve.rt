@@ -22,7 +22,7 @@ ghost use Rattle.wit_transform.specs.Transformed.{AreAnswers, Exportizes, IsExpo
 use crate::groups::{add_packages, place_groups};
 use crate::kept::{Kept, append_kept};
 use crate::merged_imports::merge_kept_by_track;
-use crate::uniting::unite_kept;
+use crate::merging::merge_kept;
 use std::alloc::{AllocError, Global};
 use std::marker::Model;
 use std::{fmt, mem};
@@ -361,7 +361,7 @@ impl Resolve {
         let end = self.source_map.end();
         let files = mem::replace(&mut other.source_map, SourceMap::new(alloc));
         let offset = self.source_map.append(alloc, files)?;
-        let merged = unite_kept(alloc, &mut self.graph, &mut self.kept, &other.graph, offset);
+        let merged = merge_kept(alloc, &mut self.graph, &mut self.kept, &other.graph, offset);
         if is_offset_overflow(&merged) {
             self.source_map.truncate(len, end);
         }

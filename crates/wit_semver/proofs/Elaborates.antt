@@ -22,9 +22,9 @@ use Rattle.wit_graph_theory.specs.facts.ListFacts.{from_row, in_row}
 use Rattle.wit_graph_theory.specs.facts.NamedUses.{used_is_named}
 use Rattle.wit_graph_theory.specs.facts.OptionFacts.{option_cases}
 use Rattle.wit_graph_theory.specs.facts.PackageCycleFacts.{used_package}
-use Rattle.wit_semver_spec.specs.SemverMerged.{semver_merged, rewritten_types, with_new_entries_at, SemverMerge, IsComplete, SemverMergeIsAccepted, SemverMergeCause, conflict_4, functions_disagree_25, interface_cycle_22, package_cycle_6, type_cycle_23, type_missing_25, semver_merge}
+use Rattle.wit_semver_spec.specs.SemverMerged.{semver_merged, types_with_new_targets, with_new_entries_at, SemverMerge, IsComplete, SemverMergeIsAccepted, SemverMergeCause, conflict_4, functions_disagree_25, interface_cycle_22, package_cycle_6, type_cycle_23, type_missing_25, semver_merge}
 use Rattle.wit_semver_spec.specs.steps.SemverMerged.{Agrees}
-use Rattle.wit_semver_spec.specs.facts.Accepting.{id_of_named, in_order, new_aliases, relisted_worlds, rewritten_is}
+use Rattle.wit_semver_spec.specs.facts.Accepting.{id_of_named, in_order, new_aliases, relisted_worlds, semver_merged_is}
 use Rattle.wit_semver_spec.specs.facts.TypesAfter.{type_after}
 use Rattle.wit_semver_spec.specs.facts.TypesGood.{refers_in_range, unnamed_plain}
 use Rattle.wit_transform.specs.steps.Reasons.{CanBeElaborated, ElaborationCause, IsSomeNamed}
@@ -37,7 +37,7 @@ module _ (u : SemverMerge) (valid : IsValid u.graph) (w : ℕ) (there : slice_ge
   types = u.graph.types
 
   abbrev changed : List TypeDef
-  changed = rewritten_types u
+  changed = types_with_new_targets u
 
   abbrev made : Graph
   made = with_new_entries_at u w
@@ -111,5 +111,5 @@ accepted_from rule g w world there complete agree none e told =
     let one : told.0 ≡ world = same_world told.0 world (sym told.1 ∙ there) in
     cause_into (semver_merge rule g world) w complete agree none e (subst (λ (x : World). SemverMergeCause (semver_merge rule g x) w e) one told.2)
 
-pub rewritten_from : (rule : TrackRule) (g : Graph) (w : ℕ) (world : World) → slice_get g.worlds w ≡ Some world → (made : Graph) → made ≡ with_new_entries_at (semver_merge rule g world) w → all_elaborated made ≡ semver_merged rule g w
-rewritten_from rule g w world there made is = ap all_elaborated is ∙ sym (rewritten_is rule g w world there)
+pub semver_merged_from : (rule : TrackRule) (g : Graph) (w : ℕ) (world : World) → slice_get g.worlds w ≡ Some world → (made : Graph) → made ≡ with_new_entries_at (semver_merge rule g world) w → all_elaborated made ≡ semver_merged rule g w
+semver_merged_from rule g w world there made is = ap all_elaborated is ∙ sym (semver_merged_is rule g w world there)

@@ -12,10 +12,10 @@ use Rattle.wit_graph_data.specs.declared.graph.Graph.{Graph}
 use Rattle.wit_graph_data.specs.declared.error_kind.ResolveErrorKind.{ResolveErrorKind}
 use Rattle.wit_graph_data.specs.declared.error_kind.ResolveErrorKind.TheVariants.{OutOfMemory}
 use Rattle.wit_semver_spec.specs.SemverMerged.{IsSemverMergeCause, SemverMergeIsAccepted, SemverMerge, semver_merged, with_new_entries_at, semver_merge}
-use Rattle.wit_semver_spec.specs.laws.TrackLaws.{RetargetsNone, RewrittenStayValid, SameTypesKeepWorlds}
+use Rattle.wit_semver_spec.specs.laws.TrackLaws.{RetargetsNone, SemverMergesStayValid, SameTypesKeepWorlds}
 use Rattle.wit_transform.specs.steps.Reasons.{CanBeElaborated, ElaborationCause}
 use Rattle.wit_semver.specs.steps.Replacing.{AreNewEntries, with_imports, with_lists}
-use Rattle.wit_semver.proofs.Elaborates.{accepted_from, can_settle, cause_from, rewritten_from}
+use Rattle.wit_semver.proofs.Elaborates.{accepted_from, can_settle, cause_from, semver_merged_from}
 use Rattle.wit_semver.proofs.NewEntries.{relisted_is, target_is}
 
 -- where no place has a value, none is read
@@ -25,7 +25,7 @@ none_read (Some new ∷ targets) t off = cc
 none_read (None ∷ targets) zero off = refl
 none_read (None ∷ targets) (suc t) off = none_read targets t off
 
-module _ (rule : TrackRule) (g : Graph) (w : ℕ) (imports : List Entry) (targets : List (Option ℕ)) (valid : IsValid g) (stay_valid : RewrittenStayValid) (found : AreNewEntries rule g w imports targets) where
+module _ (rule : TrackRule) (g : Graph) (w : ℕ) (imports : List Entry) (targets : List (Option ℕ)) (valid : IsValid g) (stay_valid : SemverMergesStayValid) (found : AreNewEntries rule g w imports targets) where
   abbrev u : SemverMerge
   u = semver_merge rule g found.world
 
@@ -68,7 +68,7 @@ module _ (rule : TrackRule) (g : Graph) (w : ℕ) (imports : List Entry) (target
     accepted none = accepted_from rule g w found.world found.there found.complete found.agree (λ e told. none e (subst (λ (x : Graph). ElaborationCause x e) (sym made_is) told))
 
     pub elaborated_is : all_elaborated made ≡ semver_merged rule g w
-    elaborated_is = rewritten_from rule g w found.world found.there made made_is
+    elaborated_is = semver_merged_from rule g w found.world found.there made made_is
 
     pub elaborated_valid : (new : Graph) → new ≡ all_elaborated made → ((e : ResolveErrorKind) → ElaborationCause made e → ⊥) → IsValid new
     elaborated_valid new is none = valid_by new (is ∙ elaborated_is) (accepted none)

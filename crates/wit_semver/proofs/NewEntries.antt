@@ -22,7 +22,7 @@ use Rattle.wit_elaboration.specs.Valid.{IsValid}
 use Rattle.wit_graph_data.specs.declared.graph.Graph.{Graph}
 use Rattle.wit_graph_theory.specs.facts.EntryFacts.{key_entry}
 use Rattle.wit_graph_theory.specs.facts.ListFacts.{found_at, place_of}
-use Rattle.wit_semver_spec.specs.SemverMerged.{SemverMerge, entry_types, kept_imports, newest_type, rewritable_types, rewritten_types, semver_merge, with_new_entries_at}
+use Rattle.wit_semver_spec.specs.SemverMerged.{SemverMerge, entry_types, kept_imports, newest_type, types_of_new_entries, types_with_new_targets, semver_merge, with_new_entries_at}
 use Rattle.wit_semver.specs.steps.Replacing.{IsFilled, with_lists, with_targets}
 use Rattle.wit_semver_spec.specs.steps.Parts.{types_of, retargeted, new_target}
 
@@ -80,7 +80,7 @@ module _ (g : Graph) (valid : IsValid g) (w : ℕ) (world : World) (there : slic
     abbrev u : SemverMerge
     u = semver_merge rule g world
 
-    pub following_within : (t : ℕ) → Contains (rewritable_types u) t → t < length g.types
+    pub following_within : (t : ℕ) → Contains (types_of_new_entries u) t → t < length g.types
     following_within t has =
         let from = Contains-flat_map_cases (entry_types g.interfaces) (kept_imports u ++ world.exports) t has in
         elim (Contains-append_cases (kept_imports u) world.exports from.0 from.1.0) [
@@ -95,7 +95,7 @@ module _ (g : Graph) (valid : IsValid g) (w : ℕ) (world : World) (there : slic
 
 -- ---- the types that follow
 
-pub following_is : (u : SemverMerge) (ids : List ℕ) → ids ≡ flat_map (entry_types u.graph.interfaces) (kept_imports u) ++ flat_map (entry_types u.graph.interfaces) u.world.exports → ids ≡ rewritable_types u
+pub following_is : (u : SemverMerge) (ids : List ℕ) → ids ≡ flat_map (entry_types u.graph.interfaces) (kept_imports u) ++ flat_map (entry_types u.graph.interfaces) u.world.exports → ids ≡ types_of_new_entries u
 following_is u ids is = is ∙ sym (flat_map-append (entry_types u.graph.interfaces) (kept_imports u) u.world.exports)
 
 -- ---- the graph
@@ -104,15 +104,15 @@ map_same : {X Y : Type 0} (f h : X → Y) (xs : List X) → ((x : X) → f x ≡
 map_same f h [] same = refl
 map_same f h (x ∷ xs) same = ap (λ (y : _). y ∷ map f xs) (same x) ∙ ap (λ (ys : List _). h x ∷ ys) (map_same f h xs same)
 
-module _ (u : SemverMerge) (targets : List (Option ℕ)) (filled : IsFilled (newest_type u) (rewritable_types u) (length u.graph.types) targets) where
+module _ (u : SemverMerge) (targets : List (Option ℕ)) (filled : IsFilled (newest_type u) (types_of_new_entries u) (length u.graph.types) targets) where
   pub target_is : (t : ℕ) → get_or targets t None ≡ new_target u t
   target_is = filled.1
 
-  types_are : with_targets u.graph.types targets ≡ rewritten_types u
+  types_are : with_targets u.graph.types targets ≡ types_with_new_targets u
   types_are =
       map_same (λ (e : ℕ × TypeDef). retargeted e.1 (get_or targets e.0 None)) (λ (e : ℕ × TypeDef). retargeted e.1 (new_target u e.0)) (enumerate_from 0 u.graph.types) (λ e. ap (retargeted e.1) (target_is e.0))
 
   pub relisted_is : (w : ℕ) → slice_get u.graph.worlds w ≡ Some u.world → with_lists u.graph w (kept_imports u) targets ≡ with_new_entries_at u w
   relisted_is w there =
       ap (λ (ts : List TypeDef). record u.graph { types = ts; worlds = option_map_or (λ (world : World). slice_set u.graph.worlds w (record world { imports = kept_imports u })) (slice_get u.graph.worlds w) u.graph.worlds }) types_are
-      ∙ ap (λ (o : Option World). record u.graph { types = rewritten_types u; worlds = option_map_or (λ (world : World). slice_set u.graph.worlds w (record world { imports = kept_imports u })) o u.graph.worlds }) there
+      ∙ ap (λ (o : Option World). record u.graph { types = types_with_new_targets u; worlds = option_map_or (λ (world : World). slice_set u.graph.worlds w (record world { imports = kept_imports u })) o u.graph.worlds }) there

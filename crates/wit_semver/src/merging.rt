@@ -14,7 +14,7 @@ use crate::semver_merge_plan::SemverMergePlan;
 use std::alloc::Global;
 use wit_data::{Items, Table, TrackRule, TypeId, WorldId, WorldItem, WorldKey};
 use wit_graph_data::{Graph, ResolveResult};
-use wit_semver_spec::laws::{rewritten_stay_valid, same_types_keep_worlds};
+use wit_semver_spec::laws::{same_types_keep_worlds, semver_merges_stay_valid};
 use wit_transform::check_and_elaborate;
 
 /// What a world lists after its imports are merged, and what each type of the graph names then, None where that stays.
@@ -50,8 +50,8 @@ fn new_entries(
     let plan = SemverMergePlan::new(alloc, graph, current, rule)?;
     plan.check_functions(alloc)?;
     let imports = plan.kept_imports(alloc)?;
-    let rewritable_types = types_of_entries(alloc, graph, &imports, &current.exports)?;
-    let targets = plan.new_targets(alloc, &rewritable_types)?;
+    let types_of_new_entries = types_of_entries(alloc, graph, &imports, &current.exports)?;
+    let targets = plan.new_targets(alloc, &types_of_new_entries)?;
     Ok(NewEntries { imports, targets })
 }
 
@@ -88,7 +88,7 @@ pub fn find_semver_merge(
     ensures cause { IfErr result (λ e. (e ≡ OutOfMemory) ⊎ IsSemverMergeCause rule graph.now world e) }
     ensures refuses { (e : ResolveErrorKind) → IsSemverMergeCause rule graph.now world e → OnOk result ⊥ }
 {
-    rewritten_stay_valid();
+    semver_merges_stay_valid();
     same_types_keep_worlds();
     let entries = new_entries(alloc, graph, world, rule)?;
     let NewEntries { imports, targets } = entries;

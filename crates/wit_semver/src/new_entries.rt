@@ -1,4 +1,4 @@
-//! The graph whose types name what they name after the rewriting, and whose world lists what stays.
+//! The graph whose types name what they name after semver merging, and whose world lists what stays.
 ghost use Rattle.std.specs.Prelude.{◌≡◌, ◌<◌, IfOk, length};
 ghost use Rattle.wit_semver.specs.steps.Replacing.{with_lists, with_targets};
 ghost use Rattle.wit_semver_spec.specs.steps.Parts.{retargeted};

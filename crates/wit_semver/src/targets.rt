@@ -1,4 +1,4 @@
-//! What types name after the rewriting.
+//! What types name after semver merging.
 ghost use Rattle.std.specs.Prelude.{◌≡◌, ◌⊎◌, ◌<◌, ℕ, List, Contains, IfErr, IfOk, None, OnOk, length};
 ghost use Rattle.std.specs.Option.{option_copied};
 ghost use Rattle.wit_graph_data.specs.declared.cause.Cause.TheVariants as cause;
@@ -16,29 +16,29 @@ use wit_data::{
 use wit_graph_data::ResolveResult;
 
 impl<'a> SemverMergePlan<'a> {
-    /// Of each type what it names after the rewriting, None where it stays as it is: of some types that
-    /// may be rewritten, each that uses a replaced interface names the type of the same name in the one that
+    /// Of each type what it names after semver merging, None where it stays as it is: of some types that
+    /// may name others, each that uses a replaced interface names the type of the same name in the one that
     /// replaces it. Refused where that has none (25).
     pub(crate) fn new_targets(
         &self,
         alloc: Global,
-        rewritable_types: &Items<TypeId>,
+        types_of_new_entries: &Items<TypeId>,
     ) -> ResolveResult<Items<Option<TypeId>>>
         requires ready { IsSemverMergeReady self.now }
-        requires in_range { (t : ℕ) → Contains rewritable_types.now t → t < length self.now.graph.now.types }
-        ensures ok { IfOk result (λ targets. IsFilled (newest_type (semver_merge_of self.now)) rewritable_types.now (length self.now.graph.now.types) targets) }
-        ensures complete { OnOk result ((message : List ℕ) → LackTypes (semver_merge_of self.now) rewritable_types.now message → ⊥) }
-        ensures cause { IfErr result (λ e. (e ≡ OutOfMemory) ⊎ ((message : List ℕ) × LackTypes (semver_merge_of self.now) rewritable_types.now message × (e ≡ Semantic None message cause.UpgradeMismatch))) }
+        requires in_range { (t : ℕ) → Contains types_of_new_entries.now t → t < length self.now.graph.now.types }
+        ensures ok { IfOk result (λ targets. IsFilled (newest_type (semver_merge_of self.now)) types_of_new_entries.now (length self.now.graph.now.types) targets) }
+        ensures complete { OnOk result ((message : List ℕ) → LackTypes (semver_merge_of self.now) types_of_new_entries.now message → ⊥) }
+        ensures cause { IfErr result (λ e. (e ≡ OutOfMemory) ⊎ ((message : List ℕ) × LackTypes (semver_merge_of self.now) types_of_new_entries.now message × (e ≡ Semantic None message cause.UpgradeMismatch))) }
     {
         let mut targets = Items::from_vec(vec![in alloc; None; self.graph.types.len()]?);
-        for id in rewritable_types.as_slice() {
+        for id in types_of_new_entries.as_slice() {
             let target = self.new_target(alloc, *id)?;
             targets.set(id.index(), target);
         }
         Ok(targets)
     }
 
-    /// What a type that may be rewritten names then, None where it stays as it is.
+    /// What a type of a new entry names then, None where it stays as it is.
     fn new_target(&self, alloc: Global, id: TypeId) -> ResolveResult<Option<TypeId>>
         requires ready { IsSemverMergeReady self.now }
         ensures ok { IfOk result (λ target. target ≡ newest_type (semver_merge_of self.now) id) }

@@ -11,7 +11,7 @@ use Rattle.wit_graph_data.specs.declared.graph.Graph.{Graph}
 use Rattle.wit_graph_theory.specs.facts.ListFacts.{at_map}
 use Rattle.wit_elaboration.specs.AllElaborated.{all_elaborated, elaborated_world}
 use Rattle.wit_semver_spec.specs.SemverMerged.{semver_merged, with_new_entries, with_new_entries_at, SemverMerge, SemverMergeIsAccepted}
-use Rattle.wit_semver_spec.specs.facts.Accepting.{elaborates, rewritten_is}
+use Rattle.wit_semver_spec.specs.facts.Accepting.{elaborates, semver_merged_is}
 
 some_same : (x y : World) → Some x ≡ Some y → x ≡ y
 some_same x y same = cc
@@ -20,7 +20,7 @@ pub worlds_are_elaborated : ConflictsAreRefused → (rule : TrackRule) (g : Grap
     → slice_get (with_new_entries rule g w).worlds v ≡ Some listed → slice_get (semver_merged rule g w).worlds v ≡ Some new → Elaborated (semver_merged rule g w).types (graph_uses (semver_merged rule g w)) listed new
 worlds_are_elaborated refused rule g w old v listed new valid there accepted at is =
     let u : SemverMerge = record { rule = rule; graph = g; world = old } in
-    let now = rewritten_is rule g w old there in
+    let now = semver_merged_is rule g w old there in
     let here : slice_get (with_new_entries_at u w).worlds v ≡ Some listed =
     subst (λ (o : Option World). slice_get (option_map_or (λ (world : World). with_new_entries_at (record { rule = rule; graph = g; world = world }) w) o g).worlds v ≡ Some listed) there at in
     let made : slice_get (all_elaborated (with_new_entries_at u w)).worlds v ≡ Some new = subst (λ (x : Graph). slice_get x.worlds v ≡ Some new) now is in

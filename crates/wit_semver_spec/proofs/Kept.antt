@@ -12,9 +12,9 @@ use Rattle.wit_graph_theory.specs.facts.ListFacts.{at_map, found_at, same_at, so
 use Rattle.wit_graph_theory.specs.facts.OptionFacts.{some_by}
 use Rattle.wit_elaboration.specs.AllElaborated.{all_elaborated, elaborated_world}
 use Rattle.wit_values.specs.facts.Lists.{kept-cases, slice_get-set}
-use Rattle.wit_semver_spec.specs.SemverMerged.{rewritten_types, semver_merge, with_new_entries_at, SemverMerge, newest, target_name}
+use Rattle.wit_semver_spec.specs.SemverMerged.{types_with_new_targets, semver_merge, with_new_entries_at, SemverMerge, newest, target_name}
 use Rattle.wit_semver_spec.specs.laws.Unchanged.{SameButLists, SameButTarget}
-use Rattle.wit_semver_spec.specs.laws.TrackLaws.{AliasesKeepNames, KeepsThings, RewrittenKeep}
+use Rattle.wit_semver_spec.specs.laws.TrackLaws.{AliasesKeepNames, KeepsThings, SemverMergedKeep}
 use Rattle.wit_semver_spec.specs.facts.TypesAfter.{after, needs_as_alias, retargeted_from, retargeted_name, retargeted_type, type_after, type_into}
 use Rattle.wit_semver_spec.specs.steps.Parts.{listed_world, name_of, retargeted, new_target}
 
@@ -42,7 +42,7 @@ module _ (u : SemverMerge) (w : ℕ) (there : slice_get u.graph.worlds w ≡ Som
 -- ---- types
 
 module _ (u : SemverMerge) where
-  -- what is rewritten was an alias, and is one
+  -- what gets a new target was an alias, and is one
   same_but : (t : ℕ) (def : TypeDef) (o : Option ℕ) → slice_get u.graph.types t ≡ Some def → new_target u t ≡ o → SameButTarget def (retargeted def o)
   same_but t def None at is = (refl, inl refl)
   same_but t def (Some t') at is =
@@ -50,13 +50,13 @@ module _ (u : SemverMerge) where
       let names = needs_as_alias u t now.f def at now.uses in
       (refl, inr (subst IsSome (sym names.1) refl, refl))
 
-  types_kept : EachAt (λ t (def : TypeDef). SomeAt (rewritten_types u) t (SameButTarget def)) u.graph.types
-  types_kept t def at = some_at (SameButTarget def) (rewritten_types u) t (after u t def) (type_into u t def at) (same_but t def (new_target u t) at refl)
+  types_kept : EachAt (λ t (def : TypeDef). SomeAt (types_with_new_targets u) t (SameButTarget def)) u.graph.types
+  types_kept t def at = some_at (SameButTarget def) (types_with_new_targets u) t (after u t def) (type_into u t def at) (same_but t def (new_target u t) at refl)
 
 -- ---- the graph
 
-pub rewritten_keep : RewrittenKeep
-rewritten_keep rule g w = by (slice_get g.worlds w) refl
+pub semver_merges_keep : SemverMergedKeep
+semver_merges_keep rule g w = by (slice_get g.worlds w) refl
   where
     by : (o : Option World) → slice_get g.worlds w ≡ o → KeepsThings g (all_elaborated (option_map_or (λ (world : World). with_new_entries_at (semver_merge rule g world) w) o g))
     by None none = record {
@@ -78,10 +78,10 @@ rewritten_keep rule g w = by (slice_get g.worlds w) refl
 
 module _ (u : SemverMerge) where
   -- types have their names
-  names_kept : (s : ℕ) → name_of (rewritten_types u) s ≡ name_of u.graph.types s
-  names_kept s = by (slice_get u.graph.types s) refl (slice_get (rewritten_types u) s) refl
+  names_kept : (s : ℕ) → name_of (types_with_new_targets u) s ≡ name_of u.graph.types s
+  names_kept s = by (slice_get u.graph.types s) refl (slice_get (types_with_new_targets u) s) refl
     where
-      by : (o : Option TypeDef) → slice_get u.graph.types s ≡ o → (p : Option TypeDef) → slice_get (rewritten_types u) s ≡ p
+      by : (o : Option TypeDef) → slice_get u.graph.types s ≡ o → (p : Option TypeDef) → slice_get (types_with_new_targets u) s ≡ p
           → option_and_then (λ (def : TypeDef). def.name) p ≡ option_and_then (λ (def : TypeDef). def.name) o
       by None none None absent = refl
       by None none (Some new) found =
@@ -91,10 +91,10 @@ module _ (u : SemverMerge) where
       by (Some def) at p found = ap (λ (q : Option TypeDef). option_and_then (λ (d : TypeDef). d.name) q) (sym found ∙ type_into u s def at) ∙ retargeted_name def (new_target u s)
 
   target_kept : IsValid u.graph → (t : ℕ) (def : TypeDef) (o : Option ℕ) → slice_get u.graph.types t ≡ Some def → new_target u t ≡ o
-      → option_and_then (name_of (rewritten_types u)) (alias_target (retargeted def o).kind) ≡ option_and_then (name_of u.graph.types) (alias_target def.kind)
+      → option_and_then (name_of (types_with_new_targets u)) (alias_target (retargeted def o).kind) ≡ option_and_then (name_of u.graph.types) (alias_target def.kind)
   target_kept valid t def None at is = by (alias_target def.kind)
     where
-      by : (o : Option ℕ) → option_and_then (name_of (rewritten_types u)) o ≡ option_and_then (name_of u.graph.types) o
+      by : (o : Option ℕ) → option_and_then (name_of (types_with_new_targets u)) o ≡ option_and_then (name_of u.graph.types) o
       by None = refl
       by (Some s) = names_kept s
   target_kept valid t def (Some t') at is =
@@ -103,18 +103,18 @@ module _ (u : SemverMerge) where
       names_kept t' ∙ ap (λ (o : Option TypeDef). option_and_then (λ (d : TypeDef). d.name) o) named.1 ∙ named.2.0 ∙ sym now.named
       ∙ some_by (λ (d : TypeDef). option_and_then (name_of u.graph.types) (alias_target d.kind)) (slice_get u.graph.types t) def at
 
-  targets_kept : IsValid u.graph → (t : ℕ) → target_name (rewritten_types u) t ≡ target_name u.graph.types t
-  targets_kept valid t = by (slice_get u.graph.types t) refl (slice_get (rewritten_types u) t) refl
+  targets_kept : IsValid u.graph → (t : ℕ) → target_name (types_with_new_targets u) t ≡ target_name u.graph.types t
+  targets_kept valid t = by (slice_get u.graph.types t) refl (slice_get (types_with_new_targets u) t) refl
     where
-      by : (o : Option TypeDef) → slice_get u.graph.types t ≡ o → (p : Option TypeDef) → slice_get (rewritten_types u) t ≡ p
-          → option_and_then (λ (d : TypeDef). option_and_then (name_of (rewritten_types u)) (alias_target d.kind)) p ≡ option_and_then (λ (d : TypeDef). option_and_then (name_of u.graph.types) (alias_target d.kind)) o
+      by : (o : Option TypeDef) → slice_get u.graph.types t ≡ o → (p : Option TypeDef) → slice_get (types_with_new_targets u) t ≡ p
+          → option_and_then (λ (d : TypeDef). option_and_then (name_of (types_with_new_targets u)) (alias_target d.kind)) p ≡ option_and_then (λ (d : TypeDef). option_and_then (name_of u.graph.types) (alias_target d.kind)) o
       by None none None absent = refl
       by None none (Some new) found =
           let old = type_after u t new found in
           let impossible : None ≡ Some old.0 = sym none ∙ old.1 in
           cc
       by (Some def) at p found =
-          ap (λ (q : Option TypeDef). option_and_then (λ (d : TypeDef). option_and_then (name_of (rewritten_types u)) (alias_target d.kind)) q) (sym found ∙ type_into u t def at)
+          ap (λ (q : Option TypeDef). option_and_then (λ (d : TypeDef). option_and_then (name_of (types_with_new_targets u)) (alias_target d.kind)) q) (sym found ∙ type_into u t def at)
           ∙ target_kept valid t def (new_target u t) at refl
 
 pub aliases_keep_names : AliasesKeepNames

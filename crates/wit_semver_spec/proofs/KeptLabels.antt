@@ -25,7 +25,7 @@ use Rattle.wit_graph_theory.specs.facts.ListFacts.{found_at, place_of, same_at}
 use Rattle.wit_elaboration.specs.AllElaborated.{elaborated_world}
 use Rattle.wit_graph_theory.specs.facts.LawsOfElaboration.{LawsOfElaboration}
 use Rattle.wit_graph_theory.specs.facts.OptionFacts.{option_cases}
-use Rattle.wit_semver_spec.specs.SemverMerged.{kept_imports, rewritten_types, with_new_entries_at, SemverMerge, newest, IsComplete}
+use Rattle.wit_semver_spec.specs.SemverMerged.{kept_imports, types_with_new_targets, with_new_entries_at, SemverMerge, newest, IsComplete}
 use Rattle.wit_semver_spec.specs.facts.Accepting.{complete, elaborates, in_order, listed_there, new_types, new_uses, uses_acyclic}
 use Rattle.wit_semver_spec.specs.facts.Merged.{is_done}
 use Rattle.wit_semver_spec.specs.facts.TypesAfter.{after, needs_after, retargeted_from, retargeted_owner, retargeted_type, type_into}
@@ -85,7 +85,7 @@ module _ (u : SemverMerge) (valid : IsValid u.graph) (complete : IsComplete u) (
       let found = found_at (λ (def : TypeDef). (def.name ≡ Some name) × (def.owner ≡ owner.World w)) types t h in
       ap (λ (d : TypeDef). d.owner) (same_at types t t def found.0 refl at found.1) ∙ found.2.1
 
-  uses_still : (t : ℕ) (name : List ℕ) → SomeAt types t (λ (def : TypeDef). (def.name ≡ Some name) × (def.owner ≡ owner.World w)) → (f : ℕ) → type_interface_dep types t ≡ Some f → (j : ℕ) × (type_interface_dep (rewritten_types u) t ≡ Some j)
+  uses_still : (t : ℕ) (name : List ℕ) → SomeAt types t (λ (def : TypeDef). (def.name ≡ Some name) × (def.owner ≡ owner.World w)) → (f : ℕ) → type_interface_dep types t ≡ Some f → (j : ℕ) × (type_interface_dep (types_with_new_targets u) t ≡ Some j)
   uses_still t name is f dep =
       let needs = needs_from types t f dep in
       let mine = owned t name needs.alias is needs.there in
@@ -93,7 +93,7 @@ module _ (u : SemverMerge) (valid : IsValid u.graph) (complete : IsComplete u) (
         | inl none ↦
             let kept : after u t needs.alias ≡ needs.alias = ap (retargeted needs.alias) none in (
               f,
-              needs_into (rewritten_types u) t f (record {
+              needs_into (types_with_new_targets u) t f (record {
                 alias = after u t needs.alias;
                 there = type_into u t needs.alias needs.there;
                 target = needs.target;
@@ -109,7 +109,7 @@ module _ (u : SemverMerge) (valid : IsValid u.graph) (complete : IsComplete u) (
             let own : (after u t needs.alias).owner ≡ owner.World w = retargeted_owner needs.alias (new_target u t) ∙ mine in
             let of : (after u some.0 found.0).owner ≡ owner.Interface (newest u now.f) = retargeted_owner found.0 (new_target u some.0) ∙ found.2.1 in (
               newest u now.f,
-              needs_into (rewritten_types u) t (newest u now.f) (record {
+              needs_into (types_with_new_targets u) t (newest u now.f) (record {
                 alias = after u t needs.alias;
                 there = type_into u t needs.alias needs.there;
                 target = some.0;
@@ -121,9 +121,9 @@ module _ (u : SemverMerge) (valid : IsValid u.graph) (complete : IsComplete u) (
             )
       ]
 
-  class_still : (k : WorldKey) (held : WorldItem) → is_label k ≡ true → IsImport u.graph.interfaces types w k held → elaboration_class (role_of (rewritten_types u) held) ≡ elaboration_class (role_of types held)
+  class_still : (k : WorldKey) (held : WorldItem) → is_label k ≡ true → IsImport u.graph.interfaces types w k held → elaboration_class (role_of (types_with_new_targets u) held) ≡ elaboration_class (role_of types held)
   class_still (key.Name name) (item.Type_ t span) label is =
-      both_or_none (type_interface_dep (rewritten_types u) t) (type_interface_dep types t) (λ j dep. let needs = needs_after u valid complete t j dep in (needs.f, needs.needed)) (uses_still t name is)
+      both_or_none (type_interface_dep (types_with_new_targets u) t) (type_interface_dep types t) (λ j dep. let needs = needs_after u valid complete t j dep in (needs.f, needs.needed)) (uses_still t name is)
   class_still (key.Name name) (item.Interface i stability docs span external_id) label is = refl
   class_still (key.Name name) (item.Function f) label is = refl
   class_still (key.Interface i) held label is = cc
@@ -139,7 +139,7 @@ module _ (laws : LawsOfElaboration) (rule : TrackRule) (g : Graph) (w : ℕ) (ol
   u = record { rule = rule; graph = g; world = old }
 
   abbrev now : List TypeDef
-  now = rewritten_types u
+  now = types_with_new_targets u
 
   sorted_same : by_class now (labelled old.imports) ≡ by_class g.types (labelled old.imports)
   sorted_same =

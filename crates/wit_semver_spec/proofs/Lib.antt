@@ -6,5 +6,5 @@ pub mod ListedUses
 mod MergedAgain
 pub mod NewestNamed
 mod SameTypes
-pub mod ValidRewriting
+pub mod ValidSemverMerges
 pub mod WorldsGood

@@ -31,7 +31,7 @@ use Rattle.wit_graph_theory.specs.facts.UnnamedOnceFrom.{StandsOnceOnly-from_onc
 use Rattle.wit_graph_theory.specs.laws.PackageCycles.{ListsUses}
 use Rattle.wit_graph_theory.specs.facts.PackagesAcyclic.{there_is}
 use Rattle.wit_transform.specs.facts.UnnamedOnceTransformed.{set_split}
-use Rattle.wit_semver_spec.specs.SemverMerged.{entry_types, kept_imports, rewritable_types, rewritten_types, SemverMerge, IsComplete}
+use Rattle.wit_semver_spec.specs.SemverMerged.{entry_types, kept_imports, types_of_new_entries, types_with_new_targets, SemverMerge, IsComplete}
 use Rattle.wit_semver_spec.specs.facts.Accepting.{new_uses, relisted_worlds}
 use Rattle.wit_semver_spec.specs.facts.KeptKeys.{named_lists_uses}
 use Rattle.wit_semver_spec.specs.facts.TypesAfter.{needs_after}
@@ -85,7 +85,7 @@ module _ (least : ImportsAreLeast) (u : SemverMerge) (valid : IsValid u.graph) (
       cc
 
   -- where an interface stands whose type follows
-  follower : (f t : ℕ) → owned_by (owner.Interface f) t → Contains (rewritable_types u) t → (b : Bool) × (i : ℕ) × Holds u.graph.worlds w b i f
+  follower : (f t : ℕ) → owned_by (owner.Interface f) t → Contains (types_of_new_entries u) t → (b : Bool) × (i : ℕ) × Holds u.graph.worlds w b i f
   follower f t owned follows =
       let e = Contains-flat_map_cases (entry_types interfaces) (kept_imports u ++ u.world.exports) t follows in
       elim (Contains-append_cases (kept_imports u) u.world.exports e.0 e.1.0) [
@@ -105,14 +105,14 @@ module _ (least : ImportsAreLeast) (u : SemverMerge) (valid : IsValid u.graph) (
     -- what an interface without a name uses that stands in it, it used before
     used_before : (b : Bool) (e : Entry) (f j : ℕ) → Contains (entries_of b world) e → Contains (item_interface e.1) f → is_unnamed interfaces f ≡ true → Contains (direct (new_uses u valid w there) f) j → Contains (direct (uses_of types interfaces) f) j
     used_before b e f j has holds_f unnamed edge =
-        let row = from_row (interface_uses (rewritten_types u)) interfaces f j edge in
-        let n = filter_map_from (λ (n : List ℕ × ℕ). type_interface_dep (rewritten_types u) n.1) row.0.types j row.2 in
+        let row = from_row (interface_uses (types_with_new_targets u)) interfaces f j edge in
+        let n = filter_map_from (λ (n : List ℕ × ℕ). type_interface_dep (types_with_new_targets u) n.1) row.0.types j row.2 in
         let needs = needs_after u valid complete n.0.1 j n.2 in
         elim needs.is [
           | inl same ↦ in_row (interface_uses types) interfaces f row.0 j row.1 (filter_map_into (λ (n : List ℕ × ℕ). type_interface_dep types n.1) row.0.types n.0 j n.1 (needs.needed ∙ ap Some (sym same.0)))
           | inr transformed ↦
               let owned = interface_owns f row.0 n.0.0 n.0.1 row.1 n.1 in
-              let there_too = follower f n.0.1 owned (contains_from_any n.0.1 (rewritable_types u) transformed.1) in
+              let there_too = follower f n.0.1 owned (contains_from_any n.0.1 (types_of_new_entries u) transformed.1) in
               let place = place_of (entries_of b world) e has in
               let here : Holds u.graph.worlds v b place.0 f = record { world = world; there = at; entry = e; at = place.1; held = instance_item e.1 f holds_f } in
               absurd (elsewhere (one_place f v w b there_too.0 place.0 there_too.1 unnamed here there_too.2).0)

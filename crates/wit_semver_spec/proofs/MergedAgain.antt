@@ -15,13 +15,13 @@ use Rattle.wit_graph_data.specs.declared.graph.Graph.{Graph}
 use Rattle.wit_graph_theory.specs.facts.LawsOfElaboration.{LawsOfElaboration}
 use Rattle.wit_graph_theory.specs.facts.ListFacts.{at_map}
 use Rattle.wit_values.specs.facts.Lists.{slice_get-set}
-use Rattle.wit_semver_spec.specs.SemverMerged.{imported, is_replaced, kept_imports, newest, newest_type, replaced_use, rewritable_types, semver_merged, target_name, with_new_entries_at, SemverMerge, SemverMergeIsAccepted}
-use Rattle.wit_semver_spec.specs.facts.Accepting.{rewritten_is}
+use Rattle.wit_semver_spec.specs.SemverMerged.{imported, is_replaced, kept_imports, newest, newest_type, replaced_use, types_of_new_entries, semver_merged, target_name, with_new_entries_at, SemverMerge, SemverMergeIsAccepted}
+use Rattle.wit_semver_spec.specs.facts.Accepting.{semver_merged_is}
 use Rattle.wit_semver_spec.specs.facts.Greatest.{newest_stays}
 use Rattle.wit_semver_spec.specs.facts.Merged.{one_on_each}
 use Rattle.wit_semver_spec.specs.facts.TypesAfter.{replaced_use_from}
 use Rattle.wit_semver_spec.proofs.SameTypes.{same_types_keep_worlds}
-use Rattle.wit_semver_spec.proofs.ValidRewriting.{rewritten_is_valid}
+use Rattle.wit_semver_spec.proofs.ValidSemverMerges.{semver_merged_is_valid}
 use Rattle.wit_semver_spec.specs.steps.Parts.{is_replaced_entry, listed_world, interface_type, new_target}
 
 -- ---- lists that stay
@@ -58,7 +58,7 @@ module _ (u : SemverMerge) (stay : (i : ℕ) → is_replaced u i ≡ false) (w :
 
   no_target : (t : ℕ) → new_target u t ≡ None
   no_target t =
-      either_none (list_any (nat_eq t) (rewritable_types u)) (newest_type u t)
+      either_none (list_any (nat_eq t) (types_of_new_entries u)) (newest_type u t)
       (ap (option_and_then (λ (f : ℕ). option_and_then (interface_type u.graph.interfaces (newest u f)) (target_name u.graph.types t))) (none_used t))
 
   worlds_stay : slice_set u.graph.worlds w (listed_world u) ≡ u.graph.worlds
@@ -98,11 +98,11 @@ module _ (laws : LawsOfElaboration) (rule : TrackRule) (g : Graph) (w : ℕ) (ol
 
   there_after : slice_get merged.worlds w ≡ Some done
   there_after =
-      subst (λ (x : Graph). slice_get x.worlds w ≡ Some done) (sym (rewritten_is rule g w old there))
+      subst (λ (x : Graph). slice_get x.worlds w ≡ Some done) (sym (semver_merged_is rule g w old there))
       (at_map (elaborated_world (with_new_entries_at first w)) (slice_set g.worlds w (listed_world first)) w (listed_world first) (slice_get-set g.worlds w old (listed_world first) there))
 
   valid_after : IsValid merged
-  valid_after = rewritten_is_valid laws rule g w old valid there accepted
+  valid_after = semver_merged_is_valid laws rule g w old valid there accepted
 
   pub semver_merges_once : ImportsKeepOrder → SemverMergeIsAccepted rule merged w × (semver_merged rule merged w ≡ merged)
   semver_merges_once order = changes_nothing (again done) (stay done there_after) w there_after laws order valid_after

@@ -48,9 +48,9 @@ use Rattle.wit_graph_theory.specs.facts.ListFacts.{Contains-map, place_of}
 use Rattle.wit_graph_theory.specs.facts.PackageCycleFacts.{row_from, row_into}
 use Rattle.wit_graph_theory.specs.facts.PackagesAcyclic.{is_there, there_is}
 use Rattle.wit_transform.specs.facts.UnnamedOnceTransformed.{set_split}
-use Rattle.wit_semver_spec.specs.SemverMerged.{IsComplete, SemverMerge, SemverMergeCause, conflict_4, functions_disagree_25, interface_cycle_22, is_replaced, kept_imports, package_cycle_6, rewritten_types, type_cycle_23, type_missing_25, with_new_entries_at}
+use Rattle.wit_semver_spec.specs.SemverMerged.{IsComplete, SemverMerge, SemverMergeCause, conflict_4, functions_disagree_25, interface_cycle_22, is_replaced, kept_imports, package_cycle_6, types_with_new_targets, type_cycle_23, type_missing_25, with_new_entries_at}
 use Rattle.wit_semver_spec.specs.steps.SemverMerged.{Agrees}
-use Rattle.wit_semver_spec.specs.facts.Accepting.{in_order, listed_there, relisted_from, rewritten_is}
+use Rattle.wit_semver_spec.specs.facts.Accepting.{in_order, listed_there, relisted_from, semver_merged_is}
 use Rattle.wit_semver_spec.specs.facts.Greatest.{any_of}
 use Rattle.wit_semver_spec.specs.facts.KeptKeys.{kept_holds, kept_into, kept_test, passed}
 use Rattle.wit_semver_spec.specs.laws.TrackLaws.{RetargetsNone, SameTypesKeepWorlds}
@@ -159,7 +159,7 @@ module _ (laws : LawsOfElaboration) (order : ImportsKeepOrder) (u : SemverMerge)
   abbrev relisted : List World
   relisted = slice_set u.graph.worlds w (listed_world u)
 
-  types_stay : rewritten_types u ≡ types
+  types_stay : types_with_new_targets u ≡ types
   types_stay = numbered_same (λ (e : ℕ × TypeDef). retargeted e.1 (new_target u e.0)) 0 types (λ e has. ap (retargeted e.1) (stay e.0))
 
   -- ---- the named world, which is canonical
@@ -330,5 +330,5 @@ same_types_keep_worlds laws order u w valid there stay complete agree = (
   λ error cause.
       let one : cause.0 ≡ u.world = some_world cause.0 u.world (sym cause.1 ∙ there) in
       no_cause laws order u valid w there stay complete agree error (subst (λ (x : World). SemverMergeCause (record u { world = x }) w error) one cause.2),
-  rewritten_is u.rule u.graph w u.world there ∙ merged_is laws order u valid w there stay complete,
+  semver_merged_is u.rule u.graph w u.world there ∙ merged_is laws order u valid w there stay complete,
 )

@@ -1,4 +1,4 @@
--- The worlds of a rewritten graph are good and canonical.
+-- The worlds of a semver-merged graph are good and canonical.
 use Rattle.std.proofs.Common.{◌≡◌, ◌∙◌, ◌⊎◌, inl, inr, ℕ, Bool, true, false, not, List, [], ◌∷◌, Option, Some, length, slice_get, refl, sym, ap, subst, Contains}
 use Rattle.std.specs.List.{list_any}
 use Rattle.wit_values.specs.Table.{HasDistinctKeys}

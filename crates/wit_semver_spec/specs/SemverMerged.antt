@@ -111,10 +111,10 @@ kept_imports u = filter (λ (e : Entry). not (list_any (is_replaced u) (key_inte
 --     the world imports 0, 3, 1, 2: interface 1 is the newest on the track of 0, which is replaced
 --     y stays and uses 0 by type 3, which names t there: it comes to name t of 1, so type 3 = type 1
 --
--- (`merged` and `of_alias` of `ExamplesOfRewriting` in examples_merge)
+-- (`merged` and `of_alias` of `ExamplesOfSemverMerges` in examples_merge)
 --
 -- An alias that went on naming a type of a replaced interface would have elaboration import that one again. Those in the
--- interfaces that the world lists are rewritten, and no others: a valid world lists all that it reaches, so these are all
+-- interfaces that the world lists get new targets, and no others: a valid world lists all that it reaches, so these are all
 -- that lead it there, and what else the graph has other worlds use, which keep their versions.
 
 -- the types of an entry: those of its interface, or the type that it is
@@ -123,9 +123,9 @@ entry_types interfaces (k, item.Interface i stability docs span external_id) = o
 entry_types interfaces (k, item.Function f) = []
 entry_types interfaces (k, item.Type_ t span) = t ∷ []
 
--- the types that may be rewritten: those of the imports that stay and of the exports
-abbrev pub rewritable_types : SemverMerge → List ℕ
-rewritable_types u = flat_map (entry_types u.graph.interfaces) (kept_imports u ++ u.world.exports)
+-- the types that may come to name others: those of the imports that stay and of the exports
+abbrev pub types_of_new_entries : SemverMerge → List ℕ
+types_of_new_entries u = flat_map (entry_types u.graph.interfaces) (kept_imports u ++ u.world.exports)
 
 -- the replaced interface that type t uses: of which it is an alias of a type, and not its own owner
 abbrev pub replaced_use : SemverMerge → ℕ → Option ℕ
@@ -141,24 +141,24 @@ target_name types t =
 abbrev pub newest_type : SemverMerge → ℕ → Option ℕ
 newest_type u t = option_and_then (λ f. option_and_then (λ name. interface_type u.graph name (newest u f)) (target_name u.graph.types t)) (replaced_use u t)
 
--- the types: one that may be rewritten as an alias of the newest's type, where there is one; each other as it was
-abbrev pub rewritten_types : SemverMerge → List TypeDef
-rewritten_types u =
+-- the types: one of these as an alias of the newest's type, where there is one; each other as it was
+abbrev pub types_with_new_targets : SemverMerge → List TypeDef
+types_with_new_targets u =
     map (λ (e : ℕ × TypeDef). option_map_or (λ t. record e.1 { kind = kind.Type_ (type.Id t) })
-    (if list_any (nat_eq e.0) (rewritable_types u) then newest_type u e.0 else None) e.1) (enumerate_from 0 u.graph.types)
+    (if list_any (nat_eq e.0) (types_of_new_entries u) then newest_type u e.0 else None) e.1) (enumerate_from 0 u.graph.types)
 
 -- ---- the graph
 
 -- the graph with the world at its place listing the imports that stay, and its uses following. Its exports stay, of
 -- whatever version: whoever calls them asks for that version
 abbrev pub with_new_entries_at : SemverMerge → ℕ → Graph
-with_new_entries_at u w = record u.graph { types = rewritten_types u; worlds = slice_set u.graph.worlds w (record u.world { imports = kept_imports u }) }
+with_new_entries_at u w = record u.graph { types = types_with_new_targets u; worlds = slice_set u.graph.worlds w (record u.world { imports = kept_imports u }) }
 
--- the graph with its new entries in world w, and the aliases rewritten; as it was where there is no such world
+-- the graph with its new entries in world w, and the aliases at their new targets; as it was where there is no such world
 abbrev pub with_new_entries : TrackRule → Graph → ℕ → Graph
 with_new_entries rule g w = option_map_or (λ (world : World). with_new_entries_at (semver_merge rule g world) w) (slice_get g.worlds w) g
 
--- the graph after semver merging of world w. Every world is elaborated, since an interface that is rewritten may stand in
+-- the graph after semver merging of world w. Every world is elaborated, since an interface with new targets may stand in
 -- others, too, which import then what it uses now
 abbrev pub semver_merged : TrackRule → Graph → ℕ → Graph
 semver_merged rule g w = all_elaborated (with_new_entries rule g w)
@@ -205,7 +205,7 @@ pub record Disagrees (u : SemverMerge) (f : ℕ) (message : List ℕ) : Type 0 w
 
 -- no type is missing: there is a graph with new entries
 abbrev pub IsComplete : SemverMerge → Type 0
-IsComplete u = (t : ℕ) (message : List ℕ) → Contains (rewritable_types u) t → LacksType u t message → ⊥
+IsComplete u = (t : ℕ) (message : List ℕ) → Contains (types_of_new_entries u) t → LacksType u t message → ⊥
 
 -- why the imports of the world at place w can't be merged by tracks, by number
 pub data SemverMergeCause (u : SemverMerge) (w : ℕ) : ResolveErrorKind → Type 0 where
@@ -213,7 +213,7 @@ pub data SemverMergeCause (u : SemverMerge) (w : ℕ) : ResolveErrorKind → Typ
   package_cycle_6 : (home : PackageName) → IsComplete u → DependsOnItself (with_new_entries_at u w) home → SemverMergeCause u w (PackageCycle None home)
   interface_cycle_22 : (message : List ℕ) → IsComplete u → UsesItself (with_new_entries_at u w) message → SemverMergeCause u w (Semantic None message cause.InterfaceCycle)
   type_cycle_23 : (message : List ℕ) → IsComplete u → RefersToItself (with_new_entries_at u w) message → SemverMergeCause u w (Semantic None message cause.TypeCycle)
-  type_missing_25 : (t : ℕ) (message : List ℕ) → Contains (rewritable_types u) t → LacksType u t message → SemverMergeCause u w (Semantic None message cause.UpgradeMismatch)
+  type_missing_25 : (t : ℕ) (message : List ℕ) → Contains (types_of_new_entries u) t → LacksType u t message → SemverMergeCause u w (Semantic None message cause.UpgradeMismatch)
   functions_disagree_25 : (f : ℕ) (message : List ℕ) → Disagrees u f message → SemverMergeCause u w (Semantic None message cause.UpgradeMismatch)
 
 -- a cause of the semver merging of world w

@@ -1,5 +1,5 @@
 //! Laws of semver merging: the contract of each function is what is proved.
-ghost use Rattle.wit_semver_spec.specs.laws.TrackLaws.{AliasesKeepNames, AliasesNameNewest, ExportsAreKept, KeysAreExact, LabelsAreKept, NewestIsGreatest, OneOnEachTrack, RewrittenKeep, RewrittenStayValid, SameTypesKeepWorlds, SemverMergesOnce, WorldsAreElaborated};
+ghost use Rattle.wit_semver_spec.specs.laws.TrackLaws.{AliasesKeepNames, AliasesNameNewest, ExportsAreKept, KeysAreExact, LabelsAreKept, NewestIsGreatest, OneOnEachTrack, SemverMergedKeep, SemverMergesStayValid, SameTypesKeepWorlds, SemverMergesOnce, WorldsAreElaborated};
 
 use wit_elaboration::laws::imports_keep_order;
 use wit_graph_theory::laws::laws_of_elaboration;
@@ -39,8 +39,8 @@ pub fn exports_are_kept()
 }
 
 /// A valid graph whose imports are merged by tracks is valid, where no cause holds against it.
-pub fn rewritten_stay_valid()
-    ensures { RewrittenStayValid }
+pub fn semver_merges_stay_valid()
+    ensures { SemverMergesStayValid }
 {
     laws_of_elaboration();
 }
@@ -72,8 +72,8 @@ pub fn semver_merges_once()
 }
 
 /// Everything of a graph is there after semver merging at its id; of types only what aliases name may have changed.
-pub fn rewritten_keep()
-    ensures { RewrittenKeep }
+pub fn semver_merges_keep()
+    ensures { SemverMergedKeep }
 {}
 
 /// What an alias of a valid graph comes to name has the name of what it named.

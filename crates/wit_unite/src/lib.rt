@@ -1,6 +1,6 @@
 //! What makes one graph of two and one world of another: merging graphs, transforming worlds, semver merging.
 //!
-//! - [`unite`] merges a graph into another: what both have under one name is made one, all else moves.
+//! - [`merge`] merges a graph into another: what both have under one name is made one, all else moves.
 //! - [`importize`] makes the exports of a world its imports, [`exportize`] its imports exports, of which a filter may
 //!   choose some.
 //! - [`merge_by_track`] leaves of the imports of a world the newest version on each track, as SemVer groups them.
@@ -11,6 +11,6 @@
 
 pub mod laws;
 
-pub use wit_merge::unite;
+pub use wit_merge::merge;
 pub use wit_semver::merge_by_track;
 pub use wit_transform::{exportize, importize};

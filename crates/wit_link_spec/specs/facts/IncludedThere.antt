@@ -58,8 +58,7 @@ included_are_there a k j valid shaped reached at include is =
     let from = from_map (updated_include a) (active_includes a at.world) j include is in
     let within = included_within a valid shaped reached.has_image k e from.0 at.is (contained_at (active_includes a at.world) j from.0 from.1) in
     let there = get_at (with_worlds a k).worlds (remapped_world a from.0.id) (omega (arith, within, long, many, length-append a.graph.worlds are.done)) in
-    let more = begun_more (length a.graph.packages) (with_worlds a k) (image_at a at.id at.world) (take j (updated_includes a at.world)) in
-    (
+    let more = begun_more (length a.graph.packages) (with_worlds a k) (image_at a at.id at.world) (take j (updated_includes a at.world)) in (
       there.0,
       subst (λ (x : WorldInclude). slice_get (begun a k j at).graph.worlds x.id ≡ Some there.0) from.2 (ap (λ (worlds : List World). slice_get worlds (remapped_world a from.0.id)) more.worlds_are ∙ there.1),
     )

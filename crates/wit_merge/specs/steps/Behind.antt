@@ -23,7 +23,7 @@ use Rattle.wit_remap_spec.specs.Borrows.{borrow_text, HoldsBorrow}
 use Rattle.wit_remap_spec.specs.Selected.{selected}
 use Rattle.wit_remap_spec.specs.ValueRemap.{types_behind, world_functions}
 use Rattle.wit_merge_spec.specs.Matches.{GraphMerge}
-use Rattle.wit_merge_spec.specs.Merged.{merge_maps, merged_package, package_image, remap_of_merge}
+use Rattle.wit_merge_spec.specs.Merged.{merge_maps, merged_package, package_image, value_remap}
 use Rattle.wit_merge_spec.specs.steps.Leaving.{new_worlds}
 use Rattle.wit_merge.specs.declared.coming.Coming.{Coming}
 use Rattle.wit_merge_spec.specs.steps.Parts.{moved_interfaces, moves_package}
@@ -34,7 +34,7 @@ new_names m = map (λ (e : PackageName × ℕ). (e.0, merged_package m e.1)) (fi
 
 -- all that moves, where it goes
 pub record IsComing (m : GraphMerge) (coming : Coming) : Type 0 where
-  pub types : coming.types ≡ types_behind (remap_of_merge m)
+  pub types : coming.types ≡ types_behind (value_remap m)
   pub interfaces : coming.interfaces ≡ map (interface_image (merge_maps m)) (moved_interfaces m)
   pub worlds : coming.worlds ≡ new_worlds m
   pub packages : coming.packages ≡ map (package_image m) (selected (moves_package m) m.other.packages)

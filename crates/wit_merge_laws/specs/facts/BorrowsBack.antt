@@ -34,7 +34,7 @@ use Rattle.wit_remap_spec.specs.Resources.{own_of}
 use Rattle.wit_remap_spec.specs.ValueRemap.{needs_own}
 use Rattle.wit_merge_spec.specs.Structure.{held_features, structure}
 use Rattle.wit_merge_spec.specs.facts.StructureFacts.{part_refers}
-use Rattle.wit_merge_spec.specs.Merged.{joined_graph, merge_maps, merged_type, remap_of_merge}
+use Rattle.wit_merge_spec.specs.Merged.{joined_graph, merge_maps, merged_type, value_remap}
 use Rattle.wit_merge_spec.specs.Matches.{GraphMerge, counterpart_type}
 use Rattle.wit_merge_spec.specs.Cause.{HasNoMismatch}
 use Rattle.wit_merge_laws.specs.laws.BorrowLaws.{MergesMakeNoBorrow}
@@ -176,28 +176,28 @@ module _ (m : GraphMerge) (valid : IsValid m.graph) (valid_other : IsValid m.oth
       ((in_row content_row ours t' at.0 u' at.1 has, rest.0), rest.1)
 
   -- an `own` holds none
-  own_holds : (t : ℕ) (def : TypeDef) (path : List ℕ) (b : ℕ) → slice_get others t ≡ Some def → needs_own (remap_of_merge m) t ≡ true → IsPath (type_contents joined) (value_id (remap_of_merge m) t) path b → IsBorrow joined b → ⊥
+  own_holds : (t : ℕ) (def : TypeDef) (path : List ℕ) (b : ℕ) → slice_get others t ≡ Some def → needs_own (value_remap m) t ≡ true → IsPath (type_contents joined) (value_id (value_remap m) t) path b → IsBorrow joined b → ⊥
   own_holds t def [] b at needs same is =
-      let there = found_at (λ (d : TypeDef). (x : ℕ) × (d.kind ≡ kind.Handle (handle.Borrow x))) joined (value_id (remap_of_merge m) t) (subst (IsBorrow joined) (sym same) is) in
-      let own : own_of (merged_type m t) ≡ there.0 = same_at joined (value_id (remap_of_merge m) t) (value_id (remap_of_merge m) t) (own_of (merged_type m t)) there.0 refl (own_at m t def at needs) there.1 in
+      let there = found_at (λ (d : TypeDef). (x : ℕ) × (d.kind ≡ kind.Handle (handle.Borrow x))) joined (value_id (value_remap m) t) (subst (IsBorrow joined) (sym same) is) in
+      let own : own_of (merged_type m t) ≡ there.0 = same_at joined (value_id (value_remap m) t) (value_id (value_remap m) t) (own_of (merged_type m t)) there.0 refl (own_at m t def at needs) there.1 in
       let borrow = ap (λ (d : TypeDef). d.kind) own ∙ there.2.1 in
       apart borrow
     where
       apart : {r r' : ℕ} → kind.Handle (handle.Own r) ≡ kind.Handle (handle.Borrow r') → ⊥
       apart same = cc
   own_holds t def (u' ∷ path) b at needs leads is =
-      let there = from_row content_row joined (value_id (remap_of_merge m) t) u' leads.0 in
-      let own : own_of (merged_type m t) ≡ there.0 = same_at joined (value_id (remap_of_merge m) t) (value_id (remap_of_merge m) t) (own_of (merged_type m t)) there.0 refl (own_at m t def at needs) there.1 in
+      let there = from_row content_row joined (value_id (value_remap m) t) u' leads.0 in
+      let own : own_of (merged_type m t) ≡ there.0 = same_at joined (value_id (value_remap m) t) (value_id (value_remap m) t) (own_of (merged_type m t)) there.0 refl (own_at m t def at needs) there.1 in
       Contains-nil (subst (λ (d : TypeDef). Contains (content_types d.kind) u') (sym own) there.2)
 
-  value_goes : (t : ℕ) → needs_own (remap_of_merge m) t ≡ false → value_id (remap_of_merge m) t ≡ merged_type m t
-  value_goes t plain = value_plain (remap_of_merge m) t plain
+  value_goes : (t : ℕ) → needs_own (value_remap m) t ≡ false → value_id (value_remap m) t ≡ merged_type m t
+  value_goes t plain = value_plain (value_remap m) t plain
 
   -- what a type is remapped to is its place, or an `own` of it
-  place_or_own : (t t' : ℕ) → RemapsTo (merge_maps m) t t' → (t' ≡ merged_type m t) ⊎ ((needs_own (remap_of_merge m) t ≡ true) × (t' ≡ value_id (remap_of_merge m) t))
+  place_or_own : (t t' : ℕ) → RemapsTo (merge_maps m) t t' → (t' ≡ merged_type m t) ⊎ ((needs_own (value_remap m) t ≡ true) × (t' ≡ value_id (value_remap m) t))
   place_or_own t t' (inl place) = inl place
   place_or_own t t' (inr value) =
-      elim (cases_Bool (needs_own (remap_of_merge m) t)) [
+      elim (cases_Bool (needs_own (value_remap m) t)) [
         | inl needs ↦ inr (needs, value)
         | inr plain ↦ inl (value ∙ value_goes t plain)
       ]

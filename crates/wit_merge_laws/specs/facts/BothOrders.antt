@@ -1,5 +1,5 @@
--- Two graphs, each of which goes into the other: which interface of the one union is which of the other, and that what
--- one uses in the one, its like uses in the other. An interface of a graph stays in the one union and is at its place
+-- Two graphs, each of which goes into the other: which interface of the one merged graph is which of the other, and that what
+-- one uses in the one, its like uses in the other. An interface of a graph stays in the one merged graph and is at its place
 -- in the other.
 use Rattle.std.proofs.Common.{◌≡◌, ◌∙◌, inl, inr, ℕ, ◌<◌, List, [], ◌∷◌, length, Some, refl, sym, ap, subst, arith, Contains}
 use Rattle.std.proofs.lemmas.Bool.{cases_Bool}
@@ -104,7 +104,7 @@ module _ (g h : Graph) (offset back : ℕ) (both : InBothOrders g h offset back)
   abbrev here : List (List ℕ)
   here = graph_uses (joined_graph (merge_of_graphs h g back))
 
-  -- what an interface uses in the one union, in the other
+  -- what an interface uses in the one merged graph, in the other
   pub record UsesLike (j x : ℕ) : Type 0 where
     pub y : ℕ
     pub like : Corresponds g h offset back x y

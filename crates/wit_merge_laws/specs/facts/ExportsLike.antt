@@ -1,5 +1,5 @@
 -- Of two graphs that agree each order can be elaborated where the other can: what corresponds uses what corresponds, and
--- each world of the one union exports what corresponds to the exports of one of the other.
+-- each world of the one merged graph exports what corresponds to the exports of one of the other.
 use Rattle.std.proofs.Common.{◌≡◌, ◌∙◌, inl, inr, ℕ, true, List, [], ◌∷◌, get_or, slice_get, Some, refl, sym, subst, arith, Contains}
 use Rattle.std.proofs.lemmas.Bool.{cases_Bool}
 use Rattle.std.proofs.lemmas.List.{length-map}
@@ -26,7 +26,7 @@ use Rattle.wit_remap_spec.specs.Image.{world_image}
 use Rattle.wit_merge_spec.specs.Matches.{GraphMerge, counterpart_world}
 use Rattle.wit_merge_spec.specs.Merged.{joined_graph, merge_maps, merged_interface, merged_world}
 use Rattle.wit_merge_laws.specs.facts.BothOrders.{Corresponds, InBothOrders, flip, of_graph, of_other, one_like, other_way, reaches_like, user_there, uses_like}
-use Rattle.wit_merge_laws.specs.facts.JoinedGood.{UnionCanElaborate, aliases}
+use Rattle.wit_merge_laws.specs.facts.JoinedGood.{MergeCanElaborate, aliases}
 use Rattle.wit_merge_laws.specs.facts.ListedStand.{WorldFrom, new_world_at, old_world_at, world_at_from}
 use Rattle.wit_merge_laws.specs.facts.ListedStand as worlds
 use Rattle.wit_merge_laws.specs.facts.LoneWorlds.{held_from, held_goes, held_within, key_from}
@@ -34,7 +34,7 @@ use Rattle.wit_merge_laws.specs.facts.LoneWorlds as lone
 use Rattle.wit_merge_laws.specs.facts.MatchFacts.{world_is}
 use Rattle.wit_merge_laws.specs.facts.NamesParts.{item_matched}
 use Rattle.wit_merge_laws.specs.facts.TypesStand.{matched_some}
-use Rattle.wit_merge_laws.specs.facts.UnitedWorlds.{named_key}
+use Rattle.wit_merge_laws.specs.facts.MergedWorlds.{named_key}
 use Rattle.wit_merge_laws.specs.facts.UsesFrom.{use_from}
 use Rattle.wit_merge_laws.specs.facts.UsesListed.{KeepsEntries, held_one, key_in, key_remapped, one_held, world_keeps_entries}
 use Rattle.wit_merge_laws.specs.facts.WorldsStand.{entry, entry_there}
@@ -105,7 +105,7 @@ module _ (g h : Graph) (offset back : ℕ) (valid : IsValid g) (w : ℕ) (old : 
       let e = Contains-flat_map_cases (λ (e : Entry). key_interface e.0) old.exports i has in
       of_graph (named_within g.interfaces i (named_key g.interfaces e.0.0 e.0.1 i e.1.1 (export_is e.0 e.1.0))) refl
 
-  -- a world that stays in the one union and moves in the other
+  -- a world that stays in the one merged graph and moves in the other
   moved_alike : (x : World) → KeepsEntries old x → ExportAlike g h offset back x (world_image (merge_maps comes) w old)
   moved_alike x keeps = record {
     there = record {
@@ -143,7 +143,7 @@ module _ (g h : Graph) (offset back : ℕ) (valid : IsValid g) (w : ℕ) (old : 
           (merged_interface comes i, key_like i before, key_after into y keeps_too (merged_interface comes i) (key_in into.exports (merged_interface comes i) under.here keyed));
     }
 
--- ---- the two unions
+-- ---- the two merged graphs
 
 module _ (g h : Graph) (offset back : ℕ) (both : InBothOrders g h offset back) where
   abbrev m : GraphMerge
@@ -161,7 +161,7 @@ module _ (g h : Graph) (offset back : ℕ) (both : InBothOrders g h offset back)
   abbrev back_so : InBothOrders h g back offset
   back_so = other_way g h offset back both
 
-  -- a world of the one union that exports what another does
+  -- a world of the one merged graph that exports what another does
   record Like (y : World) : Type 0 where
     x : World
     listed : Contains there.worlds x
@@ -240,7 +240,7 @@ module _ (g h : Graph) (offset back : ℕ) (both : InBothOrders g h offset back)
           let same : goes.0 ≡ b = one_like g h offset back both d goes.0 b goes.1 (flip h g back offset b d is) in
           apart (subst (Contains (exported_keys y.exports)) same goes.2)
 
-  pub elaborates_back : UnionCanElaborate m → UnionCanElaborate n
+  pub elaborates_back : MergeCanElaborate m → MergeCanElaborate n
   elaborates_back elaborates = record {
     acyclic = acyclic_back elaborates.acyclic;
     clear = λ y listed conflict.

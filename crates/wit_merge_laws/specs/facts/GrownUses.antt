@@ -26,7 +26,7 @@ use Rattle.wit_remap_spec.specs.Selected.{selected}
 use Rattle.wit_remap_spec.specs.ValueRemap.{types_behind}
 use Rattle.wit_merge_spec.specs.Cause.{HasNoMismatch}
 use Rattle.wit_merge_spec.specs.Matches.{GraphMerge}
-use Rattle.wit_merge_spec.specs.Merged.{joined_graph, merge_maps, merged_interface, package_image, remap_of_merge}
+use Rattle.wit_merge_spec.specs.Merged.{joined_graph, merge_maps, merged_interface, package_image, value_remap}
 use Rattle.wit_merge_spec.specs.steps.Leaving.{LeavesGraph, grown_graph, new_worlds}
 use Rattle.wit_merge_laws.specs.facts.JoinedGood.{aliases}
 use Rattle.wit_merge_laws.specs.facts.ListedStand.{interfaces_apart}
@@ -38,7 +38,7 @@ use Rattle.wit_merge_spec.specs.steps.Parts.{moved_interfaces, moves_package}
 
 module _ (m : GraphMerge) where
   abbrev pub more_types : List TypeDef
-  more_types = types_behind (remap_of_merge m)
+  more_types = types_behind (value_remap m)
 
   abbrev pub more_interfaces : List Interface
   more_interfaces = map (interface_image (merge_maps m)) (moved_interfaces m)

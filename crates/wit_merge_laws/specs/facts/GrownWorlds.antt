@@ -26,7 +26,7 @@ use Rattle.wit_merge_laws.specs.facts.GrownPackages.{grown_packages_acyclic}
 use Rattle.wit_merge_laws.specs.facts.GrownUses.{grown_uses_acyclic, is_grown, more_interfaces, more_types, types_are, uses_are, valid_items}
 use Rattle.wit_merge_laws.specs.facts.NoCycles.{joined_types_acyclic}
 use Rattle.wit_merge_laws.specs.facts.NothingFacts.{map_same}
-use Rattle.wit_merge_laws.specs.laws.GrowingLaws.{GrowsAlone, GrowthIsAccepted, NothingNewIsCyclic, OldWorldsStay, UnionsGrow, WorldStays}
+use Rattle.wit_merge_laws.specs.laws.GrowingLaws.{GrowsAlone, GrowthIsAccepted, NothingNewIsCyclic, OldWorldsStay, MergesGrow, WorldStays}
 use Rattle.wit_elaboration.specs.steps.Parts.{graph_package_uses}
 
 pub no_new_cycles : NothingNewIsCyclic
@@ -61,8 +61,8 @@ module _ (laws : LawsOfElaboration) (m : GraphMerge) (valid : IsValid m.graph) (
   worlds_are : joined.worlds ≡ m.graph.worlds ++ new_worlds m
   worlds_are = ap (λ (l : List World). l ++ new_worlds m) leaves.worlds
 
-  united_is : merged m ≡ record (grown_graph m) { worlds = m.graph.worlds ++ map (elaborated_world joined) (new_worlds m) }
-  united_is = λ k. record (is_grown m leaves k) { worlds = elaborated k }
+  merged_is : merged m ≡ record (grown_graph m) { worlds = m.graph.worlds ++ map (elaborated_world joined) (new_worlds m) }
+  merged_is = λ k. record (is_grown m leaves k) { worlds = elaborated k }
     where
       elaborated : map (elaborated_world joined) joined.worlds ≡ m.graph.worlds ++ map (elaborated_world joined) (new_worlds m)
       elaborated =
@@ -104,13 +104,13 @@ module _ (laws : LawsOfElaboration) (m : GraphMerge) (valid : IsValid m.graph) (
   }))
 
   grows_alone : GrowsAlone m
-  grows_alone = record { united_is = united_is; no_use = no_use; no_dependency = no_dependency; conflict = conflict; refused = refused }
+  grows_alone = record { merged_is = merged_is; no_use = no_use; no_dependency = no_dependency; conflict = conflict; refused = refused }
 
 pub old_worlds : LawsOfElaboration → OldWorldsStay
 old_worlds laws m world valid valid_other one leaves has = let place = place_of m.graph.worlds world has in stays laws m valid valid_other one leaves place.0 world place.1
 
-pub unions_grow : LawsOfElaboration → UnionsGrow
-unions_grow laws m valid valid_other one leaves = grows_alone laws m valid valid_other one leaves
+pub merges_grow : LawsOfElaboration → MergesGrow
+merges_grow laws m valid valid_other one leaves = grows_alone laws m valid valid_other one leaves
 
 -- ---- no cause holds
 

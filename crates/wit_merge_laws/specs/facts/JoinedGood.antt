@@ -22,7 +22,7 @@ use Rattle.wit_merge_spec.specs.Cause.{HasNoMismatch}
 use Rattle.wit_merge_laws.specs.facts.WorldsStand.{joined_covered, joined_stands, sources_good}
 
 -- in two graphs as one no interface uses itself, and no world is in conflict
-pub record UnionCanElaborate (m : GraphMerge) : Type 0 where
+pub record MergeCanElaborate (m : GraphMerge) : Type 0 where
   pub acyclic : IsAcyclic (graph_uses (joined_graph m))
   pub clear : (world : World) → Contains (joined_graph m).worlds world → HasTransitiveConflict (graph_uses (joined_graph m)) world.exports → ⊥
 

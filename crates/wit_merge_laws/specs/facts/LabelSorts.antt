@@ -1,4 +1,4 @@
--- What stands under a label of a united world is of the sort of what stood there in one of the two graphs: a function, an
+-- What stands under a label of a merged world is of the sort of what stood there in one of the two graphs: a function, an
 -- interface or a type.
 use Rattle.std.proofs.Common.{◌≡◌, ◌∙◌, inl, inr, ℕ, Bool, true, false, List, map, filter, Option, None, Some, slice_get, refl, sym, ap, subst, Contains}
 use Rattle.std.specs.Map.{lookup}
@@ -25,14 +25,14 @@ use Rattle.wit_remap_spec.specs.Joined.{joined_entry, joined_item}
 use Rattle.wit_merge_spec.specs.Cause.{same_sort, HasNoMismatch}
 use Rattle.wit_merge_spec.specs.Merged.{is_under_id, joined_graph, merged, with_world, merge_maps, merged_world}
 use Rattle.wit_merge_spec.specs.Matches.{GraphMerge, counterpart_of, counterpart_world}
-use Rattle.wit_merge_laws.specs.facts.JoinedGood.{UnionCanElaborate}
+use Rattle.wit_merge_laws.specs.facts.JoinedGood.{MergeCanElaborate}
 use Rattle.wit_merge_laws.specs.facts.LabelsStay.{no_label}
 use Rattle.wit_merge_laws.specs.facts.ListedStand.{world_at_from}
 use Rattle.wit_merge_laws.specs.facts.ListedStand as worlds
 use Rattle.wit_merge_laws.specs.facts.MatchedOnce.{lists_distinct, one_under}
 use Rattle.wit_merge_laws.specs.laws.Names.{HasLabel}
 use Rattle.wit_merge_laws.specs.facts.NamesCome.{label_key}
-use Rattle.wit_merge_laws.specs.facts.UnitedWorlds.{entries_from}
+use Rattle.wit_merge_laws.specs.facts.MergedWorlds.{entries_from}
 use Rattle.wit_merge_laws.specs.facts.UsesListed.{image_entry}
 use Rattle.wit_merge_laws.specs.facts.WorldsStand.{entry, entry_there}
 use Rattle.wit_merge_spec.specs.steps.Parts.{joined_world, moves_world}
@@ -123,7 +123,7 @@ world_from m e exported k held = by (counterpart_of (counterpart_world m) m.othe
     by None has = record { there = held; has = has; sort = refl }
     by (Some p) has = with_from p exported has
 
-module _ (laws : LawsOfElaboration) (m : GraphMerge) (valid : IsValid m.graph) (valid_other : IsValid m.other) (one : HasNoMismatch m) (can : UnionCanElaborate m) where
+module _ (laws : LawsOfElaboration) (m : GraphMerge) (valid : IsValid m.graph) (valid_other : IsValid m.other) (one : HasNoMismatch m) (can : MergeCanElaborate m) where
   abbrev g : Graph
   g = joined_graph m
 

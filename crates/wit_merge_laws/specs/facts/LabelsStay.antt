@@ -1,4 +1,4 @@
--- The worlds of a united graph have the labels that they were listed with, and export the interfaces that they were
+-- The worlds of a merged graph have the labels that they were listed with, and export the interfaces that they were
 -- listed with.
 use Rattle.std.proofs.Common.{◌≡◌, ◌∙◌, inl, inr, ℕ, Bool, true, false, List, Some, slice_get, refl, sym, ap, subst, Contains}
 use Rattle.std.specs.Map.{keys_of}
@@ -22,10 +22,10 @@ use Rattle.wit_graph_theory.specs.facts.ListFacts.{Contains-map, Contains-map_ca
 use Rattle.wit_merge_spec.specs.Matches.{GraphMerge}
 use Rattle.wit_merge_spec.specs.Cause.{HasNoMismatch}
 use Rattle.wit_merge_spec.specs.Merged.{joined_graph}
-use Rattle.wit_merge_laws.specs.facts.JoinedGood.{UnionCanElaborate, in_order}
+use Rattle.wit_merge_laws.specs.facts.JoinedGood.{MergeCanElaborate, in_order}
 use Rattle.wit_merge_laws.specs.facts.ListedStand.{worlds_come}
 use Rattle.wit_merge_laws.specs.facts.MatchedOnce.{one_under}
-use Rattle.wit_merge_laws.specs.facts.UnitedWorlds.{entries_from, is_elaborated}
+use Rattle.wit_merge_laws.specs.facts.MergedWorlds.{entries_from, is_elaborated}
 use Rattle.wit_merge_laws.specs.facts.WorldsStand.{entry}
 
 -- what elaboration adds stands under no label
@@ -47,7 +47,7 @@ key_held es k has =
 held_key : (es : List Entry) (k : WorldKey) (held : WorldItem) → Contains es (entry k held) → Contains (keys_of es) k
 held_key es k held has = Contains-map (λ (e : Entry). e.0) es (entry k held) has
 
-module _ (laws : LawsOfElaboration) (m : GraphMerge) (valid : IsValid m.graph) (valid_other : IsValid m.other) (one : HasNoMismatch m) (can : UnionCanElaborate m) where
+module _ (laws : LawsOfElaboration) (m : GraphMerge) (valid : IsValid m.graph) (valid_other : IsValid m.other) (one : HasNoMismatch m) (can : MergeCanElaborate m) where
   abbrev g : Graph
   g = joined_graph m
 

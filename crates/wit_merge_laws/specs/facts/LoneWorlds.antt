@@ -1,4 +1,4 @@
--- A world that one of two graphs alone has imports the same in both orders of their merge: it stays in the one union and
+-- A world that one of two graphs alone has imports the same in both orders of their merge: it stays in the one merged graph and
 -- moves in the other, its imports begin at what corresponds, and what corresponds uses what corresponds.
 use Rattle.std.specs.Prelude.{◌↔◌, bytes_eq}
 use Rattle.std.proofs.Common.{◌≡◌, ◌∙◌, inl, inr, ℕ, ◌<◌, true, List, [], ◌∷◌, map, length, not, is_some, Option, None, Some, option_and_then, slice_get, refl, sym, ap, subst, Contains}
@@ -33,10 +33,10 @@ use Rattle.wit_merge_spec.specs.Merged.{joined_graph, with_world, merge_maps, me
 use Rattle.wit_merge_spec.specs.Matches.{GraphMerge, counterpart_of, counterpart_type, counterpart_type_by, counterpart_world, matched_world}
 use Rattle.wit_merge_laws.specs.facts.BothOrders.{Corresponds, InBothOrders, flip, of_graph, one_like, one_like_back, other_way, reaches_like, uses_like}
 use Rattle.wit_merge_laws.specs.facts.InterfacesStand.{counterpart_from}
-use Rattle.wit_merge_laws.specs.facts.JoinedGood.{UnionCanElaborate, in_order}
+use Rattle.wit_merge_laws.specs.facts.JoinedGood.{MergeCanElaborate, in_order}
 use Rattle.wit_merge_laws.specs.facts.ListedStand.{new_world_at, old_world_at}
 use Rattle.wit_merge_laws.specs.laws.MergingLaws.{merge_of_graphs}
-use Rattle.wit_merge_laws.specs.facts.UnitedWorlds.{is_elaborated, named_key}
+use Rattle.wit_merge_laws.specs.facts.MergedWorlds.{is_elaborated, named_key}
 use Rattle.wit_merge_laws.specs.facts.UsesFrom.{old_needs}
 use Rattle.wit_merge_laws.specs.facts.UsesInto.{needs_back, needs_goes, needs_stay}
 use Rattle.wit_merge_laws.specs.facts.WorldsStand.{entry}
@@ -110,7 +110,7 @@ pub unmatched_moves : (o : Option ℕ) (x : ℕ) → not (is_some o) ≡ true �
 unmatched_moves None x moves is = cc
 unmatched_moves (Some y) x moves is = cc
 
-module _ (laws : LawsOfElaboration) (g h : Graph) (offset back : ℕ) (both : InBothOrders g h offset back) (elaborates : UnionCanElaborate (merge_of_graphs g h offset)) (elaborates_back : UnionCanElaborate (merge_of_graphs h g back))
+module _ (laws : LawsOfElaboration) (g h : Graph) (offset back : ℕ) (both : InBothOrders g h offset back) (elaborates : MergeCanElaborate (merge_of_graphs g h offset)) (elaborates_back : MergeCanElaborate (merge_of_graphs h g back))
     (w : ℕ) (old : World) (at : slice_get g.worlds w ≡ Some old) (moves : moves_world (merge_of_graphs h g back) w ≡ true) where
   abbrev m : GraphMerge
   m = merge_of_graphs g h offset

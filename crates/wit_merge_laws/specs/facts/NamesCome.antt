@@ -1,4 +1,4 @@
--- What a united graph has under names, one of the two graphs has under them.
+-- What a merged graph has under names, one of the two graphs has under them.
 use Rattle.std.proofs.Common.{◌≡◌, ◌∙◌, ◌⊎◌, inl, inr, ℕ, zero, suc, Bool, true, List, [], ◌∷◌, IsSome, Some, slice_get, refl, sym, ap, subst, arith, Contains}
 use Rattle.std.proofs.lemmas.Bool.{cases_Bool, eqb-true}
 use Rattle.std.proofs.lemmas.Map.Views.{Contains-from_lookup}
@@ -28,7 +28,7 @@ use Rattle.wit_merge_spec.specs.Merged.{merge_maps, merged_interface, merged_wor
 use Rattle.wit_merge_spec.specs.Cause.{HasNoMismatch}
 use Rattle.wit_merge_laws.specs.facts.InterfacesStand.{interface_at_from, interfaces_come, moved_interface_remapped}
 use Rattle.wit_merge_laws.specs.facts.InterfacesStand as interfaces
-use Rattle.wit_merge_laws.specs.facts.JoinedGood.{UnionCanElaborate}
+use Rattle.wit_merge_laws.specs.facts.JoinedGood.{MergeCanElaborate}
 use Rattle.wit_merge_laws.specs.facts.LabelsStay.{export_from, label_from}
 use Rattle.wit_merge_laws.specs.facts.ListedStand.{interfaces_apart, world_at_from}
 use Rattle.wit_merge_laws.specs.facts.ListedStand as worlds
@@ -40,7 +40,7 @@ use Rattle.wit_merge_laws.specs.facts.OnceStand.{image_held, spot_of, world_labe
 use Rattle.wit_merge_laws.specs.facts.PackagesStand.{package_at_from}
 use Rattle.wit_merge_laws.specs.facts.PackagesStand as packages
 use Rattle.wit_merge_laws.specs.facts.TypesStand.{matched_some}
-use Rattle.wit_merge_laws.specs.facts.UnitedWorlds.{named_key}
+use Rattle.wit_merge_laws.specs.facts.MergedWorlds.{named_key}
 use Rattle.wit_merge_laws.specs.facts.UsesListed.{image_entry, unmatched, world_keeps_entries}
 use Rattle.wit_merge_laws.specs.facts.WorldsStand.{entry}
 use Rattle.wit_merge_laws.specs.facts.WholeFacts.{interface_from}
@@ -77,7 +77,7 @@ module _ (h : Graph) (valid : IsValid h) where
       let found = found_at (λ (interface : Interface). IsSome interface.name) h.interfaces i named in
       (found.0, found.1)
 
-module _ (laws : LawsOfElaboration) (m : GraphMerge) (valid : IsValid m.graph) (valid_other : IsValid m.other) (one : HasNoMismatch m) (can : UnionCanElaborate m) where
+module _ (laws : LawsOfElaboration) (m : GraphMerge) (valid : IsValid m.graph) (valid_other : IsValid m.other) (one : HasNoMismatch m) (can : MergeCanElaborate m) where
   abbrev g : Graph
   g = joined_graph m
 
@@ -87,7 +87,7 @@ module _ (laws : LawsOfElaboration) (m : GraphMerge) (valid : IsValid m.graph) (
   abbrev theirs : MapsInto m.other (merged m) (going_to m)
   theirs = other_part laws m valid valid_other one can
 
-  -- ---- what stands under a label of a united world
+  -- ---- what stands under a label of a merged world
 
   data LabelFrom (w' : ℕ) (exported : Bool) (label : List ℕ) (held : WorldItem) : Type 0 where
     under_graph : (old : World) (d : WorldItem) → slice_get m.graph.worlds w' ≡ Some old → Contains (entries_of exported old) (entry (key.Name label) d) → item_interface held ≡ item_interface d → LabelFrom w' exported label held
@@ -290,7 +290,7 @@ module _ (laws : LawsOfElaboration) (m : GraphMerge) (valid : IsValid m.graph) (
         some_at (λ (x : World). Contains x.exports (entry (key.Interface at_key.0) from.0.1)) m.other.worlds w old at has,
       )
 
-  -- what the united graph has under a name, one of the two has
+  -- what the merged graph has under a name, one of the two has
   pub names_come : (name : Name) → HasName (merged m) name → HasName m.graph name ⊎ HasName m.other name
   names_come (of_package home) (p', is) = package_comes home p' is
   names_come (of_interface name) (i', is) = interface_comes name i' is

@@ -1,5 +1,5 @@
--- What a united graph has of each of the two graphs under the same names, and under which names these have what is theirs
--- in it: said of a part, a graph whose things go to places of the united one.
+-- What a merged graph has of each of the two graphs under the same names, and under which names these have what is theirs
+-- in it: said of a part, a graph whose things go to places of the merged one.
 use Rattle.std.proofs.Common.{◌≡◌, ◌∙◌, ℕ, Bool, true, List, [], ◌∷◌, Option, None, Some, IfSome, IsSomeAnd, slice_get, refl, sym, ap, subst, Contains}
 use Rattle.wit_data.specs.Each.{SomeAt}
 use Rattle.wit_data.specs.Entries.{is_unnamed, item_interface, entries_of}

@@ -1,4 +1,4 @@
--- The two graphs are parts of a united graph.
+-- The two graphs are parts of a merged graph.
 use Rattle.std.proofs.Common.{◌≡◌, ◌∙◌, ℕ, Bool, true, false, not, List, [], ◌∷◌, ◌++◌, inl, inr, map, is_some, nat_eq, Option, None, Some, option_map, slice_get, refl, sym, ap, subst, Contains}
 use Rattle.std.specs.Map.{lookup}
 use Rattle.std.specs.Option.{option_eq, option_map_or}
@@ -35,7 +35,7 @@ use Rattle.wit_merge_spec.specs.Merged.{joined_graph, merged, with_interface, br
 use Rattle.wit_merge_spec.specs.Matches.{GraphMerge, counterpart_interface, counterpart_of, counterpart_world}
 use Rattle.wit_merge_laws.specs.facts.InterfacesStand as interfaces
 use Rattle.wit_merge_laws.specs.facts.InterfacesStand.{option_is, option_so}
-use Rattle.wit_merge_laws.specs.facts.JoinedGood.{UnionCanElaborate}
+use Rattle.wit_merge_laws.specs.facts.JoinedGood.{MergeCanElaborate}
 use Rattle.wit_merge_laws.specs.facts.LabelsStay.{export_into, label_into}
 use Rattle.wit_merge_laws.specs.facts.ListedStand.{new_world_at, old_world_at}
 use Rattle.wit_merge_laws.specs.facts.MatchFacts.{goes_to, interface_is, world_is}
@@ -139,7 +139,7 @@ item_matched m (item.Function f) here sort agrees i is = cc
 item_matched m (item.Type_ t span) here sort agrees i is = cc
 
 -- what goes to a listed world goes to the elaborated one
-module _ (laws : LawsOfElaboration) (m : GraphMerge) (valid : IsValid m.graph) (valid_other : IsValid m.other) (one : HasNoMismatch m) (can : UnionCanElaborate m) where
+module _ (laws : LawsOfElaboration) (m : GraphMerge) (valid : IsValid m.graph) (valid_other : IsValid m.other) (one : HasNoMismatch m) (can : MergeCanElaborate m) where
   abbrev g : Graph
   g = joined_graph m
 

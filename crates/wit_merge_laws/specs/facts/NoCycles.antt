@@ -37,9 +37,9 @@ use Rattle.wit_graph_theory.specs.facts.RowFacts.{post_order_shorter}
 use Rattle.wit_graph_theory.specs.steps.Sources.{Source}
 use Rattle.wit_graph_theory.specs.facts.TypesAcyclic.{types_acyclic}
 use Rattle.wit_merge_spec.specs.Cause.{HasNoMismatch, MergeIsAccepted, conflict_4, interface_cycle_22, merge_mismatch_24}
-use Rattle.wit_merge_spec.specs.Merged.{joined_graph, merge_maps, merged_type, remap_of_merge}
+use Rattle.wit_merge_spec.specs.Merged.{joined_graph, merge_maps, merged_type, value_remap}
 use Rattle.wit_merge_spec.specs.Matches.{GraphMerge, counterpart_type}
-use Rattle.wit_merge_laws.specs.facts.JoinedGood.{UnionCanElaborate, aliases, in_order}
+use Rattle.wit_merge_laws.specs.facts.JoinedGood.{MergeCanElaborate, aliases, in_order}
 use Rattle.wit_merge_laws.specs.facts.MatchFacts.{goes_to, type_is}
 use Rattle.wit_merge_laws.specs.facts.PackagesStand.{interfaces_in_tables}
 use Rattle.wit_merge_laws.specs.facts.TypesStand.{images, joined_keeps, long_old, matched_some, new_type_at, old_types}
@@ -103,8 +103,8 @@ module _ (m : GraphMerge) (valid : IsValid m.graph) (valid_other : IsValid m.oth
 
   types_grow : TypesGrow at rank (old_types m) g
   types_grow = record {
-    longer = omega (arith, length-append (old_types m) (images m ++ owns (remap_of_merge m)));
-    kept = λ i def before there. at_below (old_types m) (images m ++ owns (remap_of_merge m)) i def before there;
+    longer = omega (arith, length-append (old_types m) (images m ++ owns (value_remap m)));
+    kept = λ i def before there. at_below (old_types m) (images m ++ owns (value_remap m)) i def before there;
     carried = carried;
     falls = falls;
   }
@@ -182,5 +182,5 @@ module _ (m : GraphMerge) (valid : IsValid m.graph) (valid_other : IsValid m.oth
       (conflict_4 world.span name one (record { interfaces = no_interface_cycle; types = no_type_cycle; world = world; there = there; conflict = conflict; name_is = (k.0, k.1, refl); span_is = refl }))
 
   -- so all of it can be elaborated
-  pub can_elaborate : ConflictsAreRefused → UnionCanElaborate m
+  pub can_elaborate : ConflictsAreRefused → MergeCanElaborate m
   can_elaborate refused = record { acyclic = joined_uses_acyclic; clear = joined_clear refused }

@@ -1,4 +1,4 @@
--- An interface without a name stands in one place of a united graph, as it did in the two graphs.
+-- An interface without a name stands in one place of a merged graph, as it did in the two graphs.
 use Rattle.std.proofs.Common.{◌≡◌, ◌∙◌, ◌⊎◌, inl, inr, ℕ, ◌<◌, zero, suc, Bool, true, false, List, [], ◌∷◌, map, filter, length, Option, None, Some, slice_get, refl, sym, ap, subst, arith, Contains}
 use Rattle.std.specs.Map.{lookup}
 use Rattle.std.specs.Option.{option_map_or}
@@ -36,12 +36,12 @@ use Rattle.wit_merge_spec.specs.Merged.{is_under_id, joined_graph, merged, with_
 use Rattle.wit_merge_spec.specs.Matches.{GraphMerge, counterpart_interface, counterpart_interface_by, counterpart_of, counterpart_world, world_labels}
 use Rattle.wit_merge_spec.specs.Cause.{HasNoMismatch}
 use Rattle.wit_merge_laws.specs.facts.InterfacesStand.{interface_stands, joined_keeps, moved_interface_remapped, old_interface_at}
-use Rattle.wit_merge_laws.specs.facts.JoinedGood.{UnionCanElaborate}
+use Rattle.wit_merge_laws.specs.facts.JoinedGood.{MergeCanElaborate}
 use Rattle.wit_merge_laws.specs.facts.ListedStand.{WorldFrom, interfaces_apart, of_graph, of_other, world_at_from}
 use Rattle.wit_merge_laws.specs.facts.MatchFacts.{LabelMatch, goes_to, label_home, label_match, no_name, stands_at}
 use Rattle.wit_merge_laws.specs.facts.MatchedOnce.{lists_distinct, one_place}
 use Rattle.wit_merge_laws.specs.facts.TypesStand.{matched_some}
-use Rattle.wit_merge_laws.specs.facts.UnitedWorlds.{entries_from, exported_is_named, united_covered, united_stands, used_is_named}
+use Rattle.wit_merge_laws.specs.facts.MergedWorlds.{entries_from, exported_is_named, merged_covered, merged_stands, used_is_named}
 use Rattle.wit_merge_laws.specs.facts.WholeFacts.{world_from}
 use Rattle.wit_merge_laws.specs.facts.WorldsStand.{sources_good}
 use Rattle.wit_remap_spec.specs.steps.Parts.{identity}
@@ -221,7 +221,7 @@ module _ (m : GraphMerge) (valid : IsValid m.graph) (valid_other : IsValid m.oth
           joined_side w' old is (counterpart_of (counterpart_world m) m.other.worlds w') d e (subst (λ (x : World). Contains x.imports d) (sym same) has) held (subst (λ (x : World). Contains x.exports e) (sym same) other) held_so
       by (of_other w old is moves place same) = image_side w old is d e (subst (λ (x : World). Contains x.imports d) (sym same) has) held (subst (λ (x : World). Contains x.exports e) (sym same) other) held_so
 
-module _ (laws : LawsOfElaboration) (m : GraphMerge) (valid : IsValid m.graph) (valid_other : IsValid m.other) (one : HasNoMismatch m) (can : UnionCanElaborate m) where
+module _ (laws : LawsOfElaboration) (m : GraphMerge) (valid : IsValid m.graph) (valid_other : IsValid m.other) (one : HasNoMismatch m) (can : MergeCanElaborate m) where
   added_named : (j f' : ℕ) → j ∷ [] ≡ f' ∷ [] → IsNamed (merged m).interfaces j → is_unnamed (merged m).interfaces f' ≡ true → ⊥
   added_named j f' same named unnamed = named_not (merged m).interfaces j named (ap (is_unnamed (merged m).interfaces) (same_one j f' same) ∙ unnamed)
 
@@ -255,5 +255,5 @@ module _ (laws : LawsOfElaboration) (m : GraphMerge) (valid : IsValid m.graph) (
   pub stand_once : StandOnce (merged m).interfaces (merged m).worlds
   stand_once =
       StandOnce-from_entries (merged m).interfaces (merged m).worlds
-      (StandsOnceOnly-of_covered (at m valid valid_other) (merged m) (sources_good m valid valid_other one) (united_stands laws m valid valid_other one can) (united_covered laws m valid valid_other one can)
+      (StandsOnceOnly-of_covered (at m valid valid_other) (merged m) (sources_good m valid valid_other one) (merged_stands laws m valid valid_other one can) (merged_covered laws m valid valid_other one can)
       (record { injective = λ k f e takes other same unnamed. injective m valid valid_other k f e same; meet = meet m valid valid_other (merged m); one_side = one_side }) (one_in m valid valid_other))

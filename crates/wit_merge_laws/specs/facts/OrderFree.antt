@@ -26,7 +26,7 @@ use Rattle.wit_merge_laws.specs.facts.BothNames.{names_of_both}
 use Rattle.wit_merge_laws.specs.facts.BothOrders.{Corresponds, InBothOrders, flip, of_graph, of_other, other_way}
 use Rattle.wit_merge_laws.specs.facts.ExportsLike.{elaborates_back}
 use Rattle.wit_merge_laws.specs.facts.FoundBack.{interface_back as interface_back_to, world_back as world_back_to}
-use Rattle.wit_merge_laws.specs.facts.JoinedGood.{UnionCanElaborate}
+use Rattle.wit_merge_laws.specs.facts.JoinedGood.{MergeCanElaborate}
 use Rattle.wit_merge_laws.specs.facts.LabelSorts.{SortFrom, is_same_sort, matched_sort, sort_from, sort_of, sort_of_graph, sort_of_other}
 use Rattle.wit_merge_laws.specs.facts.ListedStand.{WorldFrom, world_at_from}
 use Rattle.wit_merge_laws.specs.facts.ListedStand as worlds
@@ -50,7 +50,7 @@ other_first : {A B : Type 0} → A ⊎ B → B ⊎ A
 other_first (inl a) = inr a
 other_first (inr b) = inl b
 
-module _ (laws : LawsOfElaboration) (g h : Graph) (offset back : ℕ) (both : InBothOrders g h offset back) (elaborates : UnionCanElaborate (merge_of_graphs g h offset)) (elaborates_back : UnionCanElaborate (merge_of_graphs h g back)) where
+module _ (laws : LawsOfElaboration) (g h : Graph) (offset back : ℕ) (both : InBothOrders g h offset back) (elaborates : MergeCanElaborate (merge_of_graphs g h offset)) (elaborates_back : MergeCanElaborate (merge_of_graphs h g back)) where
   abbrev m : GraphMerge
   m = merge_of_graphs g h offset
 
@@ -198,9 +198,9 @@ module _ (laws : LawsOfElaboration) (g h : Graph) (offset back : ℕ) (both : In
       is_same_sort held held' (one_sort l held held' first.w second.w first.of second.of (sort_from laws m both.valid both.valid_other both.one elaborates first.w l.exported l.label held first.stands)
       (sort_from laws n both.valid_other both.valid both.one_back elaborates_back second.w l.exported l.label held' second.stands))
 
--- ---- the two unions are alike
+-- ---- the two merged graphs are alike
 
-alike : LawsOfElaboration → (g h : Graph) (offset back : ℕ) → InBothOrders g h offset back → UnionCanElaborate (merge_of_graphs g h offset) → UnionCanElaborate (merge_of_graphs h g back) → AreAlike (merged (merge_of_graphs g h offset)) (merged (merge_of_graphs h g back))
+alike : LawsOfElaboration → (g h : Graph) (offset back : ℕ) → InBothOrders g h offset back → MergeCanElaborate (merge_of_graphs g h offset) → MergeCanElaborate (merge_of_graphs h g back) → AreAlike (merged (merge_of_graphs g h offset)) (merged (merge_of_graphs h g back))
 alike laws g h offset back both elaborates elaborates_back =
     let other_way_so = other_way g h offset back both in
     record {

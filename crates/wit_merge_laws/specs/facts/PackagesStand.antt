@@ -1,4 +1,4 @@
--- The packages of a united graph: their tables hold its interfaces and worlds under their names and nothing else, and
+-- The packages of a merged graph: their tables hold its interfaces and worlds under their names and nothing else, and
 -- they are listed under their names.
 use Rattle.std.proofs.Common.{◌≡◌, ◌∙◌, ℕ, ◌+◌, Bool, true, false, not, List, [], ◌∷◌, ◌++◌, inl, inr, cond, map, filter, length, is_some, Option, None, Some, option_and_then, option_map, slice_get, refl, sym, ap, subst, arith, Contains}
 use Rattle.std.specs.Cmp.Lexicographic.{nat_list_eq_equiv}

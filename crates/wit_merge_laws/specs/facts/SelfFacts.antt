@@ -51,7 +51,7 @@ use Rattle.wit_remap_spec.specs.ValueRemap.{types_behind}
 use Rattle.wit_remap_spec.specs.Selected.{selected, selected_with_index}
 use Rattle.wit_merge_spec.specs.Cause.{MergeIsAccepted}
 use Rattle.wit_merge_spec.specs.Matches.{GraphMerge, counterpart_at_label, counterpart_interface, counterpart_interface_by, counterpart_of, counterpart_package, counterpart_type, counterpart_type_by, counterpart_world, matched_world, named_in_counterpart, unnamed_item, world_labels}
-use Rattle.wit_merge_spec.specs.Merged.{brought_functions, is_under_id, joined_graph, merge_maps, merged_interface, merged_package, merged_type, merged_world, moved_worlds, package_image, remap_of_merge, merged, with_entries, with_interface, with_package, with_world}
+use Rattle.wit_merge_spec.specs.Merged.{brought_functions, is_under_id, joined_graph, merge_maps, merged_interface, merged_package, merged_type, merged_world, moved_worlds, package_image, value_remap, merged, with_entries, with_interface, with_package, with_world}
 use Rattle.wit_merge_laws.specs.facts.BothNames.{both_names}
 use Rattle.wit_merge_laws.specs.facts.FoundBack.{label_found, lookup_finds_entry, lookup_finds_name, lookup_finds_package, lookup_finds_world_type, unnamed_held, unnamed_so}
 use Rattle.wit_merge_laws.specs.facts.InterfacesStand.{counterpart_from, old_interface_at}
@@ -61,7 +61,7 @@ use Rattle.wit_merge_laws.specs.facts.NamesGo.{home_is}
 use Rattle.wit_merge_laws.specs.facts.NoCycles.{can_elaborate}
 use Rattle.wit_merge_laws.specs.facts.NothingFacts.{map_same}
 use Rattle.wit_merge_laws.specs.facts.TypesStand.{old_type_at}
-use Rattle.wit_merge_laws.specs.facts.UnitedWorlds.{named_key}
+use Rattle.wit_merge_laws.specs.facts.MergedWorlds.{named_key}
 use Rattle.wit_merge_laws.specs.facts.WorldsStand.{entry}
 use Rattle.wit_merge_laws.specs.laws.CopyLaws.{AcceptedCopiesChangeNothing, IsPlacedType, StaysItself}
 use Rattle.wit_merge_laws.specs.laws.MergingLaws.{merge_of_graphs}
@@ -402,8 +402,8 @@ module _ (laws : LawsOfElaboration) (g : Graph) (offset : ℕ) (valid : IsValid 
   abbrev joined : Graph
   joined = joined_graph copied
 
-  same_types : joined.types ≡ g.types ++ types_behind (remap_of_merge copied)
-  same_types = ap (λ (l : List TypeDef). l ++ types_behind (remap_of_merge copied)) (all_same (joined_type copied) g.types (same_type g offset valid))
+  same_types : joined.types ≡ g.types ++ types_behind (value_remap copied)
+  same_types = ap (λ (l : List TypeDef). l ++ types_behind (value_remap copied)) (all_same (joined_type copied) g.types (same_type g offset valid))
 
   same_interfaces : joined.interfaces ≡ g.interfaces ++ map (interface_image (merge_maps copied)) (moved_interfaces copied)
   same_interfaces = ap (λ (l : List Interface). l ++ map (interface_image (merge_maps copied)) (moved_interfaces copied)) (all_same (joined_interface copied) g.interfaces (same_interface g offset valid))
@@ -411,7 +411,7 @@ module _ (laws : LawsOfElaboration) (g : Graph) (offset : ℕ) (valid : IsValid 
   same_elaborated : (w : ℕ) (world : World) → slice_get g.worlds w ≡ Some world → elaborated_world joined world ≡ world
   same_elaborated w world at =
       let acyclic = (can_elaborate copied valid valid can laws.refused).acyclic in
-      let longer = canonical_longer g (good_items g (good_things g valid)) (types_behind (remap_of_merge copied)) (map (interface_image (merge_maps copied)) (moved_interfaces copied)) laws.local valid.no_cycles.uses
+      let longer = canonical_longer g (good_items g (good_things g valid)) (types_behind (value_remap copied)) (map (interface_image (merge_maps copied)) (moved_interfaces copied)) laws.local valid.no_cycles.uses
       (subst IsAcyclic (λ k. uses_of (same_types k) (same_interfaces k)) acyclic) w world at (valid.canonical w world at) in
       (λ k. with_elaborated_lists (same_types k) (uses_of (same_types k) (same_interfaces k)) world) ∙ sym longer.world_is
 

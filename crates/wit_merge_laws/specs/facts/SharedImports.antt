@@ -33,7 +33,7 @@ use Rattle.wit_graph_theory.specs.facts.OptionFacts.{some_same}
 use Rattle.wit_merge_spec.specs.Merged.{joined_graph, merged, merged_interface, merged_world}
 use Rattle.wit_merge_spec.specs.Matches.{GraphMerge, counterpart_world}
 use Rattle.wit_merge_spec.specs.Cause.{HasNoMismatch}
-use Rattle.wit_merge_laws.specs.facts.JoinedGood.{UnionCanElaborate, in_order, listed_imports}
+use Rattle.wit_merge_laws.specs.facts.JoinedGood.{MergeCanElaborate, in_order, listed_imports}
 use Rattle.wit_merge_laws.specs.facts.ListedStand.{moved_world_remapped, old_world_at}
 use Rattle.wit_merge_laws.specs.facts.MatchFacts.{goes_to}
 use Rattle.wit_merge_laws.specs.facts.MatchedOnce.{has_some, one_under}
@@ -45,7 +45,7 @@ use Rattle.wit_merge_laws.specs.facts.NoCycles.{are_one, can_elaborate}
 use Rattle.wit_merge_laws.specs.facts.PackagesStand.{good_names, good_tables}
 use Rattle.wit_merge_laws.specs.facts.SharedWorlds.{holds_test, import_from, import_into, keyed_import}
 use Rattle.wit_merge_laws.specs.facts.TypesStand.{matched_some}
-use Rattle.wit_merge_laws.specs.facts.UnitedWorlds.{is_elaborated, named_key}
+use Rattle.wit_merge_laws.specs.facts.MergedWorlds.{is_elaborated, named_key}
 use Rattle.wit_merge_laws.specs.facts.UsesListed.{key_in, world_keeps_entries}
 use Rattle.wit_merge_laws.specs.facts.WorldsStand.{entry}
 use Rattle.wit_merge_spec.specs.steps.Parts.{joined_world, moves_world}
@@ -125,7 +125,7 @@ imported_by g w world i held there has =
     let same = same_at g.worlds w w found.0 world refl found.1 there in
     key_in world.imports i held (subst (λ (x : World). Contains x.imports (entry (key.Interface i) held)) same found.2)
 
-module _ (laws : LawsOfElaboration) (m : GraphMerge) (valid : IsValid m.graph) (valid_other : IsValid m.other) (one : HasNoMismatch m) (elaborates : UnionCanElaborate m) where
+module _ (laws : LawsOfElaboration) (m : GraphMerge) (valid : IsValid m.graph) (valid_other : IsValid m.other) (one : HasNoMismatch m) (elaborates : MergeCanElaborate m) where
   abbrev g : Graph
   g = joined_graph m
 
@@ -135,8 +135,8 @@ module _ (laws : LawsOfElaboration) (m : GraphMerge) (valid : IsValid m.graph) (
   abbrev theirs : MapsInto m.other (merged m) (going_to m)
   theirs = other_part laws m valid valid_other one elaborates
 
-  united_apart : TellApart (merged m)
-  united_apart =
+  merged_apart : TellApart (merged m)
+  merged_apart =
       let tables = good_tables m valid valid_other in
       record { names = good_names m valid valid_other; listed = tables.worlds; distinct = λ p there at. (tables.packages p there at).distinct_worlds }
 
@@ -146,7 +146,7 @@ module _ (laws : LawsOfElaboration) (m : GraphMerge) (valid : IsValid m.graph) (
     matched into into_there =
         let here = world_remapped m.graph (merged m) staying mine home world w' is_mine in
         let there = world_remapped m.other (merged m) (going_to m) theirs home world w is_theirs in
-        let same = worlds_unique (merged m) united_apart home world (merged_world m w) w' there here in
+        let same = worlds_unique (merged m) merged_apart home world (merged_world m w) w' there here in
         elim (cases_Bool (moves_world m w)) [
           | inl goes ↦
               let next = moved_world_remapped m w goes in
@@ -194,17 +194,17 @@ module _ (laws : LawsOfElaboration) (m : GraphMerge) (valid : IsValid m.graph) (
           let placed = subst (IsInterface (merged m) of name) from.1 (interface_remapped m.graph (merged m) staying mine of name i is_interface) in
           (w, from.0, by.held, is_theirs, interface_back m.other (merged m) (going_to m) theirs valid_other of name from.0 at.0 at.1 placed, by.has)
 
-      from_united : HasImport (merged m) home world of name → HasImport m.graph home world of name
-      from_united (v, i, held, is_world, is_interface, has) =
-          let same = worlds_unique (merged m) united_apart home world v w' is_world (world_remapped m.graph (merged m) staying mine home world w' is_mine) in
+      from_merged : HasImport (merged m) home world of name → HasImport m.graph home world of name
+      from_merged (v, i, held, is_world, is_interface, has) =
+          let same = worlds_unique (merged m) merged_apart home world v w' is_world (world_remapped m.graph (merged m) staying mine home world w' is_mine) in
           let imported = imported_by (merged m) w' done i held done_at (subst (λ (x : ℕ). SomeAt (merged m).worlds x (λ (y : World). Contains y.imports (entry (key.Interface i) held))) same has) in
           let all = (laws.least g.types (graph_uses g) listed done elaborates.acyclic (in_order m valid valid_other one w' listed listed_at) (is_elaborated laws m valid valid_other one elaborates w' listed listed_at)).1
           (λ j. list_any (nat_eq j) (keyed_interfaces into.imports)) (holds_test laws.least m valid valid_other one w w' old into there found into_there) in
           let kept = All-contains (λ j. list_any (nat_eq j) (keyed_interfaces into.imports) ≡ true) (keyed_interfaces done.imports) i all imported in
           in_graph i (contains_from_any i (keyed_interfaces into.imports) kept) is_interface
 
-      into_united : HasImport m.graph home world of name → HasImport (merged m) home world of name
-      into_united (v, i, held, is_world, is_interface, has) =
+      into_merged : HasImport m.graph home world of name → HasImport (merged m) home world of name
+      into_merged (v, i, held, is_world, is_interface, has) =
           let same = world_unique m.graph valid home world v w' is_world is_mine in
           let imported = imported_by m.graph w' into i held into_there (subst (λ (x : ℕ). SomeAt m.graph.worlds x (λ (y : World). Contains y.imports (entry (key.Interface i) held))) same has) in
           let e = key_entry into.imports i imported in
@@ -221,13 +221,13 @@ abbrev pub KeepSharedImports : GraphMerge → Type 0
 KeepSharedImports m = (home of : PackageName) (world name : List ℕ) → HasName m.graph (of_world home world) → HasName m.other (of_world home world)
     → (HasImport (merged m) home world of name ↔ HasImport m.graph home world of name) × (HasImport m.other home world of name ↔ HasImport m.graph home world of name)
 
-pub imports_of_both : LawsOfElaboration → (m : GraphMerge) → IsValid m.graph → IsValid m.other → HasNoMismatch m → UnionCanElaborate m → KeepSharedImports m
+pub imports_of_both : LawsOfElaboration → (m : GraphMerge) → IsValid m.graph → IsValid m.other → HasNoMismatch m → MergeCanElaborate m → KeepSharedImports m
 imports_of_both laws m valid valid_other one can home of world name (w', is_mine) (w, is_theirs) =
     let into = found_at (λ (x : World). (x.name ≡ world) × (x.package ≡ Some is_mine.p)) m.graph.worlds w' is_mine.is in
     let old = found_at (λ (x : World). (x.name ≡ world) × (x.package ≡ Some is_theirs.p)) m.other.worlds w is_theirs.is in (
       (
-        from_united laws m valid valid_other one can home of world name w w' is_mine is_theirs into.0 old.0 into.1 old.1,
-        into_united laws m valid valid_other one can home of world name w w' is_mine is_theirs into.0 old.0 into.1 old.1,
+        from_merged laws m valid valid_other one can home of world name w w' is_mine is_theirs into.0 old.0 into.1 old.1,
+        into_merged laws m valid valid_other one can home of world name w w' is_mine is_theirs into.0 old.0 into.1 old.1,
       ),
       (
         from_other laws m valid valid_other one can home of world name w w' is_mine is_theirs into.0 old.0 into.1 old.1,

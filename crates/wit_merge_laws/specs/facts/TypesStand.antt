@@ -31,7 +31,7 @@ use Rattle.wit_remap_spec.specs.Selected.{rank, selected_with_index}
 use Rattle.wit_remap_spec.specs.Resources.{leads_to_resource, own_of}
 use Rattle.wit_remap_spec.specs.ValueRemap.{needs_own}
 use Rattle.wit_link_spec.specs.facts.ValueRemapFacts.{behind_from, leads_named, new_stands, own_stands, value_stands}
-use Rattle.wit_merge_spec.specs.Merged.{joined_graph, merge_maps, merge_maps_without_owns, merged_type, remap_of_merge}
+use Rattle.wit_merge_spec.specs.Merged.{joined_graph, merge_maps, merge_maps_without_owns, merged_type, value_remap}
 use Rattle.wit_merge_spec.specs.Matches.{GraphMerge, counterpart_of, counterpart_type}
 use Rattle.wit_merge_laws.specs.facts.MatchFacts.{goes_to, type_is}
 use Rattle.wit_data.specs.steps.Parts.{parts}
@@ -92,7 +92,7 @@ module _ (m : GraphMerge) where
   pub old_type_at : (t : ℕ) (def : TypeDef) → slice_get m.graph.types t ≡ Some def → slice_get (joined_graph m).types t ≡ Some (joined_type m (t, def))
   old_type_at t def at =
       let place : 0 + t ≡ t = omega arith in
-      slice_get-append old_types (images ++ owns (remap_of_merge m)) t (joined_type m (t, def))
+      slice_get-append old_types (images ++ owns (value_remap m)) t (joined_type m (t, def))
       (at_map (joined_type m) (enumerate_from 0 m.graph.types) t (t, def) (numbered_into 0 m.graph.types t def at ∙ ap (λ (n : ℕ). Some (n, def)) place))
 
   pub moved_type_remapped : (t : ℕ) → moves_type m t ≡ true → merged_type m t ≡ length m.graph.types + rank (moves_type m) t
@@ -101,11 +101,11 @@ module _ (m : GraphMerge) where
   -- one that moves stands at the next place, as its image
   pub new_type_at : (t : ℕ) (def : TypeDef) → slice_get m.other.types t ≡ Some def → moves_type m t ≡ true → slice_get (joined_graph m).types (merged_type m t) ≡ Some (type_image (merge_maps m) def)
   new_type_at t def at moves =
-      new_stands (remap_of_merge m) old_types long_old (rank (moves_type m) t) (merged_type m t) def (selected-at (moves_type m) m.other.types t def at moves) (moved_type_remapped t moves)
+      new_stands (value_remap m) old_types long_old (rank (moves_type m) t) (merged_type m t) def (selected-at (moves_type m) m.other.types t def at moves) (moved_type_remapped t moves)
 
   -- the `own` of a type that needs one stands behind those
-  pub own_at : (t : ℕ) (def : TypeDef) → slice_get m.other.types t ≡ Some def → needs_own (remap_of_merge m) t ≡ true → slice_get (joined_graph m).types (value_id (remap_of_merge m) t) ≡ Some (own_of (merged_type m t))
-  own_at t def at needs = own_stands (remap_of_merge m) old_types long_old t (slice_get_within m.other.types t def at) needs
+  pub own_at : (t : ℕ) (def : TypeDef) → slice_get m.other.types t ≡ Some def → needs_own (value_remap m) t ≡ true → slice_get (joined_graph m).types (value_id (value_remap m) t) ≡ Some (own_of (merged_type m t))
+  own_at t def at needs = own_stands (value_remap m) old_types long_old t (slice_get_within m.other.types t def at) needs
 
   -- what stands there is one of these
   pub data TypeFrom (t' : ℕ) (new : TypeDef) : Type 0 where
@@ -115,7 +115,7 @@ module _ (m : GraphMerge) where
 
   pub type_at_from : (t' : ℕ) (new : TypeDef) → slice_get (joined_graph m).types t' ≡ Some new → TypeFrom t' new
   type_at_from t' new at =
-      elim (behind_from (remap_of_merge m) old_types long_old t' new at) [
+      elim (behind_from (value_remap m) old_types long_old t' new at) [
         | inl old ↦
             let from = from_map (joined_type m) (enumerate_from 0 m.graph.types) t' new old in
             let is = numbered_from 0 m.graph.types t' from.0 from.1 in
@@ -162,7 +162,7 @@ module _ (m : GraphMerge) (valid : IsValid m.graph) (valid_other : IsValid m.oth
           })
 
   -- a type that leads to a resource has a name
-  type_named : (t : ℕ) (def : TypeDef) → slice_get m.other.types t ≡ Some def → leads_to_resource (types_without_owns (remap_of_merge m)) (merged_type m t) ≡ true → IsSome def.name
+  type_named : (t : ℕ) (def : TypeDef) → slice_get m.other.types t ≡ Some def → leads_to_resource (types_without_owns (value_remap m)) (merged_type m t) ≡ true → IsSome def.name
   type_named t def at leads = elim (cases_Bool (moves_type m t)) [
     | inr stays ↦
         let found = matched_some (counterpart_type m t) stays in
@@ -170,7 +170,7 @@ module _ (m : GraphMerge) (valid : IsValid m.graph) (valid_other : IsValid m.oth
         let same : is.from ≡ def = let first = is.from_is in cc in
         subst (λ (o : Option (List ℕ)). IsSome o) (sym (sym (ap (λ (d : TypeDef). d.name) same) ∙ is.called)) refl
     | inl moves ↦
-        leads_named (remap_of_merge m) t def (λ none. (
+        leads_named (value_remap m) t def (λ none. (
           valid_other.well_formed.references.unnamed t def at none,
           at_new m.graph.types (map (type_image (merge_maps_without_owns m)) (moved_types m)) (rank (moves_type m) t) (merged_type m t) (type_image (merge_maps_without_owns m) def) (moved_type_remapped m t moves)
               (at_map (type_image (merge_maps_without_owns m)) (moved_types m) (rank (moves_type m) t) def (selected-at (moves_type m) m.other.types t def at moves)),
@@ -178,8 +178,8 @@ module _ (m : GraphMerge) (valid : IsValid m.graph) (valid_other : IsValid m.oth
   ]
 
   -- and where a value of it goes is that place or, of a named type, an `own` of it
-  pub values_stand : (t : ℕ) (def : TypeDef) → slice_get m.other.types t ≡ Some def → (value_id (remap_of_merge m) t ≡ merged_type m t) ⊎ (IsSome def.name × IsOwnOf (joined_graph m).types (value_id (remap_of_merge m) t) (merged_type m t))
-  values_stand t def at = value_stands (remap_of_merge m) (joined_graph m).types t def (own_at m t def at) (type_named t def at)
+  pub values_stand : (t : ℕ) (def : TypeDef) → slice_get m.other.types t ≡ Some def → (value_id (value_remap m) t ≡ merged_type m t) ⊎ (IsSome def.name × IsOwnOf (joined_graph m).types (value_id (value_remap m) t) (merged_type m t))
+  values_stand t def at = value_stands (value_remap m) (joined_graph m).types t def (own_at m t def at) (type_named t def at)
 
   -- each type of the two graphs as one comes of a type of one of them, or is an `own`
   pub types_come : (g : Graph) (t' : ℕ) (new : TypeDef) → slice_get (joined_graph m).types t' ≡ Some new

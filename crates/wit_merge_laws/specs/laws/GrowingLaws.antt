@@ -100,14 +100,14 @@ BorrowsCome = (m : GraphMerge) (message : List ℕ) → IsValid m.graph → IsVa
 -- only the worlds that come are elaborated; of the causes that read the two graphs as one none is a cycle, and a conflict is
 -- one of these worlds
 pub record GrowsAlone (m : GraphMerge) : Type 0 where
-  pub united_is : merged m ≡ record (grown_graph m) { worlds = m.graph.worlds ++ map (elaborated_world (joined_graph m)) (new_worlds m) }
+  pub merged_is : merged m ≡ record (grown_graph m) { worlds = m.graph.worlds ++ map (elaborated_world (joined_graph m)) (new_worlds m) }
   pub no_use : (message : List ℕ) → UsesItself (joined_graph m) message → ⊥
   pub no_dependency : (home : PackageName) → DependsOnItself (joined_graph m) home → ⊥
   pub conflict : (span : _) (name : List ℕ) → HasWorldInConflict (joined_graph m) span name → IsRefusedWorld (with_new_worlds m) (InvalidTransitiveDependency span name)
   pub refused : (error : ResolveErrorKind) → IsRefusedWorld (with_new_worlds m) error → IsMergeCause m error
 
-abbrev pub UnionsGrow : Type 0
-UnionsGrow = (m : GraphMerge) → IsValid m.graph → IsValid m.other → HasNoMismatch m → LeavesGraph m → GrowsAlone m
+abbrev pub MergesGrow : Type 0
+MergesGrow = (m : GraphMerge) → IsValid m.graph → IsValid m.other → HasNoMismatch m → LeavesGraph m → GrowsAlone m
 
 -- of what is asked beside that nothing differs, all holds of what comes: stabilities can be joined, spans can be moved, no
 -- result holds a borrow, and no world that comes is in conflict

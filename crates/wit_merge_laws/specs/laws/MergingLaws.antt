@@ -17,13 +17,13 @@ merge_of_graphs g other offset = record { graph = g; other = other; offset = off
 abbrev pub NothingComes : Type 0
 NothingComes = (g : Graph) (offset : ℕ) → IsValid g → MergeIsAccepted (merge_of_graphs g empty_graph offset) × (merged (merge_of_graphs g empty_graph offset) ≡ g)
 
--- what is united of two valid graphs is valid, where no cause holds against the merge
-abbrev pub UnionsStayValid : Type 0
-UnionsStayValid = (m : GraphMerge) → IsValid m.graph → IsValid m.other → MergeIsAccepted m → IsValid (merged m)
+-- what merging makes of two valid graphs is valid, where no cause holds against the merge
+abbrev pub MergesStayValid : Type 0
+MergesStayValid = (m : GraphMerge) → IsValid m.graph → IsValid m.other → MergeIsAccepted m → IsValid (merged m)
 
 -- it has the names of both graphs, and no others
-abbrev pub UnionsHaveBothNames : Type 0
-UnionsHaveBothNames = (m : GraphMerge) (name : Name) → IsValid m.graph → IsValid m.other → MergeIsAccepted m → HasName (merged m) name ↔ (HasName m.graph name ⊎ HasName m.other name)
+abbrev pub MergesHaveBothNames : Type 0
+MergesHaveBothNames = (m : GraphMerge) (name : Name) → IsValid m.graph → IsValid m.other → MergeIsAccepted m → HasName (merged m) name ↔ (HasName m.graph name ⊎ HasName m.other name)
 
 -- and a world that both graphs have imports the same interfaces under their own keys in both, and in what is made of them
 abbrev pub SharedWorldsKeepImports : Type 0

@@ -14,7 +14,7 @@ use Rattle.wit_remap_spec.specs.Resources.{leads_to_resource}
 use Rattle.wit_merge_spec.specs.Cause.{same_sort, HasNoMismatch, MergeIsAccepted}
 use Rattle.wit_merge_spec.specs.Matches.{GraphMerge}
 use Rattle.wit_merge_spec.specs.Merged.{merged_type, merged}
-use Rattle.wit_merge_laws.specs.facts.JoinedGood.{UnionCanElaborate}
+use Rattle.wit_merge_laws.specs.facts.JoinedGood.{MergeCanElaborate}
 use Rattle.wit_merge_laws.specs.laws.MergingLaws.{merge_of_graphs}
 use Rattle.wit_merge_laws.specs.laws.Names.{HasLabel, HaveSameNames, IsInterface, IsWorld, Label}
 
@@ -61,19 +61,19 @@ abbrev pub MergesAreAlike : Type 0
 MergesAreAlike = (g h : Graph) (offset back : ℕ) → IsValid g → IsValid h → MergeIsAccepted (merge_of_graphs g h offset) → MergeIsAccepted (merge_of_graphs h g back)
     → AreAlike (merged (merge_of_graphs g h offset)) (merged (merge_of_graphs h g back))
 
--- so they do where two graphs agree, and in their union no interface would use itself and no world is in conflict:
+-- so they do where two graphs agree, and in their merged graph no interface would use itself and no world is in conflict:
 -- whatever else refuses either order
 abbrev pub MergingIsOrderFree : Type 0
-MergingIsOrderFree = (g h : Graph) (offset back : ℕ) → IsValid g → IsValid h → HasNoMismatch (merge_of_graphs g h offset) → UnionCanElaborate (merge_of_graphs g h offset)
+MergingIsOrderFree = (g h : Graph) (offset back : ℕ) → IsValid g → IsValid h → HasNoMismatch (merge_of_graphs g h offset) → MergeCanElaborate (merge_of_graphs g h offset)
     → AreAlike (merged (merge_of_graphs g h offset)) (merged (merge_of_graphs h g back))
 
--- since then the union of the other order has neither
+-- since then the merged graph of the other order has neither
 abbrev pub EitherOrderElaborates : Type 0
-EitherOrderElaborates = (g h : Graph) (offset back : ℕ) → IsValid g → IsValid h → HasNoMismatch (merge_of_graphs g h offset) → UnionCanElaborate (merge_of_graphs g h offset) → UnionCanElaborate (merge_of_graphs h g back)
+EitherOrderElaborates = (g h : Graph) (offset back : ℕ) → IsValid g → IsValid h → HasNoMismatch (merge_of_graphs g h offset) → MergeCanElaborate (merge_of_graphs g h offset) → MergeCanElaborate (merge_of_graphs h g back)
 
 -- ---- resources
 
--- a type of either graph that is a resource, or leads to one by aliases, still does where it is in the united graph; so
+-- a type of either graph that is a resource, or leads to one by aliases, still does where it is in the merged graph; so
 -- does each that is the argument of an `own` or a `borrow`
 abbrev pub ResourcesStay : Type 0
 ResourcesStay = (m : GraphMerge) (t : ℕ) → IsValid m.graph → IsValid m.other → HasNoMismatch m

@@ -10,7 +10,7 @@ use Rattle.wit_remap_spec.specs.Image.{interface_image, world_image}
 use Rattle.wit_remap_spec.specs.Selected.{selected}
 use Rattle.wit_remap_spec.specs.ValueRemap.{types_behind, world_functions}
 use Rattle.wit_merge_spec.specs.Matches.{GraphMerge}
-use Rattle.wit_merge_spec.specs.Merged.{joined_graph, merge_maps, merged_package, moved_worlds, package_image, remap_of_merge}
+use Rattle.wit_merge_spec.specs.Merged.{joined_graph, merge_maps, merged_package, moved_worlds, package_image, value_remap}
 use Rattle.wit_merge_spec.specs.steps.Parts.{moved_interfaces, joined_type, joined_interface, joined_world, joined_package, moves_package}
 
 -- each thing of the graph is what it was: what is matched with it brings nothing, and has no stability that it lacks
@@ -32,7 +32,7 @@ new_functions m =
 -- the graph with what comes behind it, with the lists of worlds as they were listed
 abbrev pub grown_graph : GraphMerge → Graph
 grown_graph m = record {
-  types = m.graph.types ++ types_behind (remap_of_merge m);
+  types = m.graph.types ++ types_behind (value_remap m);
   interfaces = m.graph.interfaces ++ map (interface_image (merge_maps m)) (moved_interfaces m);
   worlds = m.graph.worlds ++ new_worlds m;
   packages = m.graph.packages ++ map (package_image m) (selected (moves_package m) m.other.packages);

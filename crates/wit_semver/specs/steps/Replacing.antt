@@ -8,7 +8,7 @@ use Rattle.wit_data.specs.declared.types.TypeDef.{TypeDef}
 use Rattle.wit_data.specs.declared.world.World.{World}
 use Rattle.wit_elaboration.specs.Entries.{Entry}
 use Rattle.wit_graph_data.specs.declared.graph.Graph.{Graph}
-use Rattle.wit_semver_spec.specs.SemverMerged.{IsComplete, LacksType, SemverMerge, Versioned, both, is_replaced, kept_imports, newest, newest_type, rewritable_types, semver_merge, versioned}
+use Rattle.wit_semver_spec.specs.SemverMerged.{IsComplete, LacksType, SemverMerge, Versioned, both, is_replaced, kept_imports, newest, newest_type, types_of_new_entries, semver_merge, versioned}
 use Rattle.wit_semver_spec.specs.steps.SemverMerged.{Agrees}
 use Rattle.wit_semver.specs.contracts.tracks.TrackKeyPartialEq.TheImpl.{eq-value}
 use Rattle.wit_semver.specs.declared.tracks.TrackKey.{TrackKey}
@@ -99,4 +99,4 @@ pub record AreNewEntries (rule : TrackRule) (g : Graph) (w : ℕ) (imports : Lis
   pub complete : IsComplete (semver_merge rule g world)
   pub agree : Agrees (semver_merge rule g world)
   pub imports_are : imports ≡ kept_imports (semver_merge rule g world)
-  pub targets_are : IsFilled (newest_type (semver_merge rule g world)) (rewritable_types (semver_merge rule g world)) (length g.types) targets
+  pub targets_are : IsFilled (newest_type (semver_merge rule g world)) (types_of_new_entries (semver_merge rule g world)) (length g.types) targets

@@ -38,7 +38,7 @@ use Rattle.wit_graph_theory.specs.facts.NamedUses.{used_is_named}
 use Rattle.wit_transform.specs.facts.UnnamedOnceTransformed.{set_split}
 use Rattle.wit_elaboration.specs.AllElaborated.{DependsOnItself, RefersToItself, UsesItself, all_elaborated, elaborated_world}
 use Rattle.wit_graph_theory.specs.facts.OptionFacts.{some_same, some_there}
-use Rattle.wit_semver_spec.specs.SemverMerged.{semver_merged, rewritten_types, with_new_entries_at, SemverMerge, is_replaced, newest, IsComplete, SemverMergeIsAccepted, conflict_4, interface_cycle_22, package_cycle_6, type_cycle_23, type_missing_25}
+use Rattle.wit_semver_spec.specs.SemverMerged.{semver_merged, types_with_new_targets, with_new_entries_at, SemverMerge, is_replaced, newest, IsComplete, SemverMergeIsAccepted, conflict_4, interface_cycle_22, package_cycle_6, type_cycle_23, type_missing_25}
 use Rattle.wit_semver_spec.specs.facts.Greatest.{newest_stays}
 use Rattle.wit_semver_spec.specs.facts.TypesAfter.{retargeted_from, retargeted_name, retargeted_owner, retargeted_type, type_after, type_into}
 use Rattle.wit_graph_data.specs.steps.Parts.{interface_id_text}
@@ -67,7 +67,7 @@ module _ (u : SemverMerge) (valid : IsValid u.graph) (w : ℕ) (there : slice_ge
   interfaces = u.graph.interfaces
 
   abbrev pub new_types : List TypeDef
-  new_types = rewritten_types u
+  new_types = types_with_new_targets u
 
   abbrev pub new_uses : List (List ℕ)
   new_uses = uses_of new_types interfaces
@@ -229,16 +229,16 @@ module _ (u : SemverMerge) (valid : IsValid u.graph) (w : ℕ) (there : slice_ge
       pub elaborates : (v : ℕ) (world : World) → slice_get relisted_worlds v ≡ Some world → Elaborated new_types new_uses world (elaborated_world (with_new_entries_at u w) world)
       elaborates v world at = record { no_conflict = no_conflict v world at; world_is = refl }
 
--- ---- the rewritten graph
+-- ---- the semver-merged graph
 
-pub rewritten_is : (rule : TrackRule) (g : Graph) (w : ℕ) (old : World) → slice_get g.worlds w ≡ Some old → semver_merged rule g w ≡ all_elaborated (with_new_entries_at (record { rule = rule; graph = g; world = old }) w)
-rewritten_is rule g w old there = ap (λ (o : Option World). all_elaborated (option_map_or (λ (world : World). with_new_entries_at (record { rule = rule; graph = g; world = world }) w) o g)) there
+pub semver_merged_is : (rule : TrackRule) (g : Graph) (w : ℕ) (old : World) → slice_get g.worlds w ≡ Some old → semver_merged rule g w ≡ all_elaborated (with_new_entries_at (record { rule = rule; graph = g; world = old }) w)
+semver_merged_is rule g w old there = ap (λ (o : Option World). all_elaborated (option_map_or (λ (world : World). with_new_entries_at (record { rule = rule; graph = g; world = world }) w) o g)) there
 
 -- what the named world becomes
 pub merged_is : (rule : TrackRule) (g : Graph) (w : ℕ) (old new : World) → (there : slice_get g.worlds w ≡ Some old) → slice_get (semver_merged rule g w).worlds w ≡ Some new
     → (let u : SemverMerge = record { rule = rule; graph = g; world = old } in new ≡ elaborated_world (with_new_entries_at u w) (listed_world u))
 merged_is rule g w old new there is =
     let u : SemverMerge = record { rule = rule; graph = g; world = old } in
-    let now = subst (λ (x : Graph). slice_get x.worlds w ≡ Some new) (rewritten_is rule g w old there) is in
+    let now = subst (λ (x : Graph). slice_get x.worlds w ≡ Some new) (semver_merged_is rule g w old there) is in
     let at = at_map (elaborated_world (with_new_entries_at u w)) (slice_set g.worlds w (listed_world u)) w (listed_world u) (slice_get-set g.worlds w old (listed_world u) there) in
     some_same new (elaborated_world (with_new_entries_at u w) (listed_world u)) (sym now ∙ at)

@@ -28,7 +28,7 @@ use Rattle.wit_graph_theory.specs.facts.ListFacts.{Contains-map, from_row, in_ro
 use Rattle.wit_graph_theory.specs.facts.OptionFacts.{some_same}
 use Rattle.wit_graph_theory.specs.laws.PackageCycles.{ListsKey, ListsUses}
 use Rattle.wit_graph_theory.specs.facts.PackagesAcyclic.{is_there}
-use Rattle.wit_semver_spec.specs.SemverMerged.{entry_types, kept_imports, rewritable_types, rewritten_types, SemverMerge, imported, is_replaced, newest, IsComplete}
+use Rattle.wit_semver_spec.specs.SemverMerged.{entry_types, kept_imports, types_of_new_entries, types_with_new_targets, SemverMerge, imported, is_replaced, newest, IsComplete}
 use Rattle.wit_semver_spec.specs.facts.Greatest.{both_true, newest_stays}
 use Rattle.wit_semver_spec.specs.facts.TypesAfter.{needs_after}
 use Rattle.wit_elaboration.specs.steps.Parts.{type_role, exported_keys, exported_interfaces}
@@ -91,7 +91,7 @@ module _ (least : ImportsAreLeast) (u : SemverMerge) (valid : IsValid u.graph) (
   rows = uses_of u.graph.types u.graph.interfaces
 
   abbrev pub new_rows : List (List ℕ)
-  new_rows = uses_of (rewritten_types u) u.graph.interfaces
+  new_rows = uses_of (types_with_new_targets u) u.graph.interfaces
 
   -- an import that isn't replaced
   pub record IsKept (j : ℕ) : Type 0 where
@@ -141,19 +141,19 @@ module _ (least : ImportsAreLeast) (u : SemverMerge) (valid : IsValid u.graph) (
   -- ---- what follows needs what is kept
 
   -- the types of the interface that an entry of the lists holds follow
-  follows : (e : Entry) (i : ℕ) (interface : Interface) (t : ℕ) → Contains (kept_imports u ++ old.exports) e → Contains (item_interface e.1) i → slice_get u.graph.interfaces i ≡ Some interface → Contains (types_of interface) t → Contains (rewritable_types u) t
+  follows : (e : Entry) (i : ℕ) (interface : Interface) (t : ℕ) → Contains (kept_imports u ++ old.exports) e → Contains (item_interface e.1) i → slice_get u.graph.interfaces i ≡ Some interface → Contains (types_of interface) t → Contains (types_of_new_entries u) t
   follows e i interface t has holds_i at listed =
       Contains-flat_map (entry_types u.graph.interfaces) (kept_imports u ++ old.exports) e t has (types_in u.graph.interfaces e.0 e.1 i interface t holds_i at listed)
 
   -- what a type that follows needs is kept, where what it needed was imported
-  kept_dep : (t j : ℕ) → Contains (rewritable_types u) t → type_interface_dep (rewritten_types u) t ≡ Some j → ((f : ℕ) → type_interface_dep u.graph.types t ≡ Some f → Contains (imported u) f) → IsKept j
+  kept_dep : (t j : ℕ) → Contains (types_of_new_entries u) t → type_interface_dep (types_with_new_targets u) t ≡ Some j → ((f : ℕ) → type_interface_dep u.graph.types t ≡ Some f → Contains (imported u) f) → IsKept j
   kept_dep t j has dep was =
       let needs = needs_after u valid complete t j dep in
       elim needs.is [
         | inl same ↦
             let imported_f = was needs.f needs.needed in
             let stays : is_replaced u needs.f ≡ false =
-            elim (cases_Bool (is_replaced u needs.f)) [ inl on ↦ absurd (same.1 on (any_from_contains t (rewritable_types u) has)) | inr off ↦ off ] in
+            elim (cases_Bool (is_replaced u needs.f)) [ inl on ↦ absurd (same.1 on (any_from_contains t (types_of_new_entries u) has)) | inr off ↦ off ] in
             record { was = subst (Contains (imported u)) (sym same.0) imported_f; stays = subst (λ (x : ℕ). is_replaced u x ≡ false) (sym same.0) stays }
         | inr transformed ↦ subst IsKept (sym transformed.2) (newest_kept needs.f transformed.0)
       ]
@@ -164,13 +164,13 @@ module _ (least : ImportsAreLeast) (u : SemverMerge) (valid : IsValid u.graph) (
     at : slice_get u.graph.interfaces i ≡ Some interface
     t : ℕ
     listed : Contains (types_of interface) t
-    dep : type_interface_dep (rewritten_types u) t ≡ Some j
+    dep : type_interface_dep (types_with_new_targets u) t ≡ Some j
     before : (f : ℕ) → type_interface_dep u.graph.types t ≡ Some f → Contains (direct rows i) f
 
   edge_of : (i j : ℕ) → Contains (direct new_rows i) j → Edge i j
   edge_of i j edge =
-      let from = from_row (interface_uses (rewritten_types u)) u.graph.interfaces i j edge in
-      let e = filter_map_from (λ (e : List ℕ × ℕ). type_interface_dep (rewritten_types u) e.1) from.0.types j from.2 in
+      let from = from_row (interface_uses (types_with_new_targets u)) u.graph.interfaces i j edge in
+      let e = filter_map_from (λ (e : List ℕ × ℕ). type_interface_dep (types_with_new_targets u) e.1) from.0.types j from.2 in
       record {
         interface = from.0;
         at = from.1;
@@ -194,13 +194,13 @@ module _ (least : ImportsAreLeast) (u : SemverMerge) (valid : IsValid u.graph) (
       import_uses_imported least u.graph.types u.graph.interfaces valid.well_formed.references.aliases valid.no_cycles.uses w old (valid.well_formed.worlds.imports w old there)
       (valid.well_formed.worlds.exports w old there) (valid.canonical w old there) e i f has (instance_interface u.graph.types e.1 i holds_i) edge
 
-  kept_roots : (r : ℕ) → Contains (flat_map (λ (e : Entry). roots_of new_rows e.0 (role_of (rewritten_types u) e.1)) (kept_imports u)) r → IsKept r
+  kept_roots : (r : ℕ) → Contains (flat_map (λ (e : Entry). roots_of new_rows e.0 (role_of (types_with_new_targets u) e.1)) (kept_imports u)) r → IsKept r
   kept_roots r has =
-      let e = Contains-flat_map_cases (λ (e : Entry). roots_of new_rows e.0 (role_of (rewritten_types u) e.1)) (kept_imports u) r has in
+      let e = Contains-flat_map_cases (λ (e : Entry). roots_of new_rows e.0 (role_of (types_with_new_targets u) e.1)) (kept_imports u) r has in
       let before = staying_from e.0 e.1.0 in
-      by e.0 e.1.0 before.0 (begins u.graph.interfaces u.graph.types w new_rows e.0.0 e.0.1 r (rewritten_types u) (import_is e.0 before.0) e.1.1)
+      by e.0 e.1.0 before.0 (begins u.graph.interfaces u.graph.types w new_rows e.0.0 e.0.1 r (types_with_new_targets u) (import_is e.0 before.0) e.1.1)
     where
-      by : (e : Entry) → Contains (kept_imports u) e → Contains old.imports e → Begins (rewritten_types u) new_rows e.0 e.1 r → IsKept r
+      by : (e : Entry) → Contains (kept_imports u) e → Contains old.imports e → Begins (types_with_new_targets u) new_rows e.0 e.1 r → IsKept r
       by e among listed (at_key is) = kept_from r (key_into (kept_imports u) e r among is)
       by e among listed (at_use i holds_i edge) = import_uses e i r among holds_i edge (λ f before. uses_imported e i f listed holds_i before)
       by e among listed (at_type t span is dep) =
@@ -243,7 +243,7 @@ module _ (least : ImportsAreLeast) (u : SemverMerge) (valid : IsValid u.graph) (
       record { was = contains_from_any j (imported u) parts.0; stays = not-true (is_replaced u j) parts.1 }
 
   -- the kept imports hold what the listed world needs
-  pub kept_holds : HoldsImports (rewritten_types u) new_rows (kept_imports u) old.exports (λ i. kept_test i ≡ true)
+  pub kept_holds : HoldsImports (types_with_new_targets u) new_rows (kept_imports u) old.exports (λ i. kept_test i ≡ true)
   kept_holds = record {
     roots = λ r has. passes r (kept_roots r has);
     from_outside = λ x d exported edge apart. passes d (named_kept x d exported edge apart);
@@ -251,12 +251,12 @@ module _ (least : ImportsAreLeast) (u : SemverMerge) (valid : IsValid u.graph) (
   }
 
   -- each of them is where an import begins
-  pub kept_root : (j : ℕ) → IsKept j → Contains (flat_map (λ (e : Entry). roots_of new_rows e.0 (role_of (rewritten_types u) e.1)) (kept_imports u)) j
+  pub kept_root : (j : ℕ) → IsKept j → Contains (flat_map (λ (e : Entry). roots_of new_rows e.0 (role_of (types_with_new_targets u) e.1)) (kept_imports u)) j
   kept_root j kept =
       let entry = kept_into j kept in
       let before = staying_from entry.0 entry.1 in
-      Contains-flat_map (λ (e : Entry). roots_of new_rows e.0 (role_of (rewritten_types u) e.1)) (kept_imports u) entry.0 j entry.1
-      (key_root u.graph.interfaces u.graph.types (rewritten_types u) new_rows w entry.0.0 entry.0.1 j entry.2 (import_is entry.0 before.0))
+      Contains-flat_map (λ (e : Entry). roots_of new_rows e.0 (role_of (types_with_new_targets u) e.1)) (kept_imports u) entry.0 j entry.1
+      (key_root u.graph.interfaces u.graph.types (types_with_new_targets u) new_rows w entry.0.0 entry.0.1 j entry.2 (import_is entry.0 before.0))
 
   -- what the interfaces of the listed world use it lists
   kept_key : (j : ℕ) → IsKept j → Contains (keyed_interfaces (kept_imports u)) j

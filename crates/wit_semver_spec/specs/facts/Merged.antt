@@ -27,7 +27,7 @@ use Rattle.wit_elaboration.specs.AllElaborated.{elaborated_world}
 use Rattle.wit_graph_theory.specs.facts.LawsOfElaboration.{LawsOfElaboration}
 use Rattle.wit_graph_theory.specs.facts.OptionFacts.{some_parts}
 use Rattle.wit_semver_spec.specs.SemverMerged.{semver_merged, with_new_entries_at, SemverMerge, Versioned, are_on_one_track, have_one_track, is_replaced, versioned, versioned_of}
-use Rattle.wit_semver_spec.specs.facts.Accepting.{complete, elaborates, in_order, listed_there, merged_is, new_types, new_uses, rewritten_is, uses_acyclic}
+use Rattle.wit_semver_spec.specs.facts.Accepting.{complete, elaborates, in_order, listed_there, merged_is, new_types, new_uses, semver_merged_is, uses_acyclic}
 use Rattle.wit_semver_spec.specs.facts.Greatest.{both_from, both_into, both_true, stays_from, track_from, track_into}
 use Rattle.wit_semver_spec.specs.facts.KeptKeys.{IsKept, kept_holds, kept_root, kept_test, passed}
 use Rattle.wit_semver_spec.specs.laws.TrackLaws.{IsSemverMerged}
@@ -203,7 +203,7 @@ module _ (laws : LawsOfElaboration) (rule : TrackRule) (g : Graph) (w : ℕ) (ol
   pub one_on_each : (i j : ℕ) → Contains (keyed_interfaces new.imports) i → Contains (keyed_interfaces new.imports) j → are_on_one_track rule (semver_merged rule g w) i j ≡ true → i ≡ j
   one_on_each i j has_i has_j on =
       let here : are_on_one_track rule g i j ≡ true =
-      subst (λ (x : Graph). are_on_one_track rule x i j ≡ true) (rewritten_is rule g w old merged.there) on in
+      subst (λ (x : Graph). are_on_one_track rule x i j ≡ true) (semver_merged_is rule g w old merged.there) on in
       let pair = both_from (have_one_track rule) (versioned g i) (versioned g j) here in
       one_track g merged.valid rule i j pair.0 pair.1 pair.2 pair.3 pair.4 (not_outdone i j pair.0 pair.1 has_i has_j pair.2 pair.3 pair.4)
       (not_outdone j i pair.1 pair.0 has_j has_i pair.3 pair.2 (other_way pair.0 pair.1 pair.4))

@@ -1,4 +1,4 @@
--- What the types of a valid graph are after the rewriting: as they were, but for aliases that name a type of the same
+-- What the types of a valid graph are after semver merging: as they were, but for aliases that name a type of the same
 -- name in the newest interface on a track.
 use Rattle.std.proofs.Common.{◌≡◌, ◌∙◌, ◌⊎◌, inl, inr, ℕ, ◌+◌, Bool, true, false, List, Option, None, Some, IfSome, IsSome, slice_get, option_and_then, refl, sym, ap, subst, arith, nat_eq, if◌then◌else◌}
 use Rattle.std.specs.List.{enumerate_from, list_any}
@@ -21,7 +21,7 @@ use Rattle.wit_graph_theory.specs.facts.GoodIsValid.{good_things}
 use Rattle.wit_graph_theory.specs.facts.ListFacts.{at_map, found_at, from_map, place_of, same_at}
 use Rattle.wit_graph_theory.specs.facts.OptionFacts.{option_cases, some_by, some_parts, some_same, some_there}
 use Rattle.wit_graph_theory.specs.facts.PackagesAcyclic.{numbered_from, numbered_into}
-use Rattle.wit_semver_spec.specs.SemverMerged.{IsComplete, SemverMerge, is_replaced, newest, newest_type, replaced_use, rewritable_types, rewritten_types, target_name, semver_merge_text}
+use Rattle.wit_semver_spec.specs.SemverMerged.{IsComplete, SemverMerge, is_replaced, newest, newest_type, replaced_use, types_of_new_entries, types_with_new_targets, target_name, semver_merge_text}
 use Rattle.wit_semver_spec.specs.steps.Parts.{name_of, interface_type, retargeted, missing_text, new_target}
 
 -- ---- parts of options
@@ -46,19 +46,19 @@ module _ (u : SemverMerge) where
   after t def = retargeted def (new_target u t)
 
   -- a type after it comes of the one at its place, and goes to one
-  pub type_after : (t : ℕ) (new : TypeDef) → slice_get (rewritten_types u) t ≡ Some new → (def : TypeDef) × (slice_get types t ≡ Some def) × (new ≡ after t def)
+  pub type_after : (t : ℕ) (new : TypeDef) → slice_get (types_with_new_targets u) t ≡ Some new → (def : TypeDef) × (slice_get types t ≡ Some def) × (new ≡ after t def)
   type_after t new at =
       let from = from_map (λ (e : ℕ × TypeDef). after e.0 e.1) (enumerate_from 0 types) t new at in
       let numbered = numbered_from 0 types t from.0 from.1 in
       let place : from.0.0 ≡ t = let is = numbered.0 in omega arith in
       (from.0.1, numbered.1, sym from.2 ∙ ap (λ (n : ℕ). after n from.0.1) place)
 
-  pub type_into : (t : ℕ) (def : TypeDef) → slice_get types t ≡ Some def → slice_get (rewritten_types u) t ≡ Some (after t def)
+  pub type_into : (t : ℕ) (def : TypeDef) → slice_get types t ≡ Some def → slice_get (types_with_new_targets u) t ≡ Some (after t def)
   type_into t def at =
       let start : 0 + t ≡ t = omega arith in
       at_map (λ (e : ℕ × TypeDef). after e.0 e.1) (enumerate_from 0 types) t (0 + t, def) (numbered_into 0 types t def at) ∙ ap (λ (n : ℕ). Some (after n def)) start
 
-  -- ---- an alias that is rewritten
+  -- ---- an alias that gets a new target
 
   -- the replaced interface that a type uses is the one that it needs
   pub replaced_use_from : (t f : ℕ) → replaced_use u t ≡ Some f → (type_interface_dep types t ≡ Some f) × (is_replaced u f ≡ true)
@@ -74,10 +74,10 @@ module _ (u : SemverMerge) where
   pub replaced_use_into : (t f : ℕ) → type_interface_dep types t ≡ Some f → is_replaced u f ≡ true → replaced_use u t ≡ Some f
   replaced_use_into t f dep on = some_by (λ (g : ℕ). if is_replaced u g then Some g else None) (type_interface_dep types t) f dep ∙ ap (λ (b : Bool). if b then Some f else None) on
 
-  -- type t may be rewritten, uses the replaced interface f, and comes to name type t' of the newest
+  -- type t is of a new entry, uses the replaced interface f, and comes to name type t' of the newest
   pub record IsRetargeted (t t' : ℕ) : Type 0 where
     pub f : ℕ
-    pub follows : list_any (nat_eq t) (rewritable_types u) ≡ true
+    pub follows : list_any (nat_eq t) (types_of_new_entries u) ≡ true
     pub uses : type_interface_dep types t ≡ Some f
     pub replaced : is_replaced u f ≡ true
     pub name : List ℕ
@@ -88,9 +88,9 @@ module _ (u : SemverMerge) where
   in_newest t f = option_and_then (interface_type u.graph.interfaces (newest u f)) (target_name types t)
 
   pub retargeted_from : (t t' : ℕ) → new_target u t ≡ Some t' → IsRetargeted t t'
-  retargeted_from t t' is = by (list_any (nat_eq t) (rewritable_types u)) refl is
+  retargeted_from t t' is = by (list_any (nat_eq t) (types_of_new_entries u)) refl is
     where
-      by : (b : Bool) → list_any (nat_eq t) (rewritable_types u) ≡ b → (if b then newest_type u t else None) ≡ Some t' → IsRetargeted t t'
+      by : (b : Bool) → list_any (nat_eq t) (types_of_new_entries u) ≡ b → (if b then newest_type u t else None) ≡ Some t' → IsRetargeted t t'
       by true on h =
           let one = some_parts (in_newest t) (replaced_use u t) t' h in
           let two = some_parts (interface_type u.graph.interfaces (newest u one.0)) (target_name types t) t' one.2 in
@@ -124,7 +124,7 @@ module _ (u : SemverMerge) where
         let place = place_of parts.0.types (name, t) has in
         (things.interfaces i parts.0 parts.1).own_types place.0 (name, t) place.1
 
-    -- the type that a rewritten alias comes to name
+    -- the type that an alias comes to name
     pub retargeted_type : (t t' : ℕ) → (is : IsRetargeted t t') → SomeAt types t' (λ (named : TypeDef). (named.name ≡ Some is.name) × (named.owner ≡ owner.Interface (newest u is.f)))
     retargeted_type t t' is = found_type (newest u is.f) is.name t' is.found
 
@@ -139,11 +139,11 @@ module _ (u : SemverMerge) where
 
     -- ---- which interface a type needs after it
 
-    -- what it needed, which isn't replaced for it; or the newest where that is replaced and the type may be rewritten
+    -- what it needed, which isn't replaced for it; or the newest where that is replaced and the type is of a new entry
     pub record NeedsAfter (t j : ℕ) : Type 0 where
       pub f : ℕ
       pub needed : type_interface_dep types t ≡ Some f
-      pub is : ((j ≡ f) × ((is_replaced u f ≡ true) → (list_any (nat_eq t) (rewritable_types u) ≡ true) → ⊥)) ⊎ ((is_replaced u f ≡ true) × (list_any (nat_eq t) (rewritable_types u) ≡ true) × (j ≡ newest u f))
+      pub is : ((j ≡ f) × ((is_replaced u f ≡ true) → (list_any (nat_eq t) (types_of_new_entries u) ≡ true) → ⊥)) ⊎ ((is_replaced u f ≡ true) × (list_any (nat_eq t) (types_of_new_entries u) ≡ true) × (j ≡ newest u f))
 
     -- what an alias that needs an interface names has a name
     target_named : (t f : ℕ) → type_interface_dep types t ≡ Some f → (name : List ℕ) × (target_name types t ≡ Some name)
@@ -162,20 +162,20 @@ module _ (u : SemverMerge) where
         )
 
     module _ (complete : IsComplete u) where
-      -- of what a type that may be rewritten uses of a replaced interface the newest has a type of the name
-      pub newest_has : (t f : ℕ) → list_any (nat_eq t) (rewritable_types u) ≡ true → type_interface_dep types t ≡ Some f → is_replaced u f ≡ true
+      -- of what a type of a new entry uses of a replaced interface the newest has a type of the name
+      pub newest_has : (t f : ℕ) → list_any (nat_eq t) (types_of_new_entries u) ≡ true → type_interface_dep types t ≡ Some f → is_replaced u f ≡ true
           → (name : List ℕ) × (s : ℕ) × (target_name types t ≡ Some name) × (interface_type u.graph.interfaces (newest u f) name ≡ Some s)
       newest_has t f follows uses replaced =
           let named = target_named t f uses in
           elim (option_cases (interface_type u.graph.interfaces (newest u f) named.0)) [
             | inl absent ↦
-                absurd (complete t (semver_merge_text u.graph f (newest u f) (missing_text named.0)) (contains_from_any t (rewritable_types u) follows)
+                absurd (complete t (semver_merge_text u.graph f (newest u f) (missing_text named.0)) (contains_from_any t (types_of_new_entries u) follows)
                 (record { f = f; name = named.0; uses = replaced_use_into t f uses replaced; named = named.1; absent = absent; message_is = refl }))
             | inr found ↦ (named.0, found.0, named.1, found.1)
           ]
 
-      -- so such a type is rewritten
-      rewrites : (t f : ℕ) → type_interface_dep types t ≡ Some f → is_replaced u f ≡ true → list_any (nat_eq t) (rewritable_types u) ≡ true → new_target u t ≡ None → ⊥
+      -- so such a type gets a new target
+      rewrites : (t f : ℕ) → type_interface_dep types t ≡ Some f → is_replaced u f ≡ true → list_any (nat_eq t) (types_of_new_entries u) ≡ true → new_target u t ≡ None → ⊥
       rewrites t f uses replaced follows none =
           let has = newest_has t f follows uses replaced in
           none_some (sym none ∙ retargeted_into t has.1 (record { f = f; follows = follows; uses = uses; replaced = replaced; name = has.0; named = has.2; found = has.3 }))
@@ -183,9 +183,9 @@ module _ (u : SemverMerge) where
           none_some : {X : Type 0} {x : X} → None ≡ Some x → ⊥
           none_some same = cc
 
-      pub needs_after : (t j : ℕ) → type_interface_dep (rewritten_types u) t ≡ Some j → NeedsAfter t j
+      pub needs_after : (t j : ℕ) → type_interface_dep (types_with_new_targets u) t ≡ Some j → NeedsAfter t j
       needs_after t j dep =
-          let needs = needs_from (rewritten_types u) t j dep in
+          let needs = needs_from (types_with_new_targets u) t j dep in
           let from = type_after t needs.alias needs.there in
           let target = type_after needs.target needs.named needs.target_there in
           let by : needs.alias.owner ≡ from.0.owner = ap (λ (d : TypeDef). d.owner) from.2 ∙ retargeted_owner from.0 (new_target u t) in

@@ -1,4 +1,4 @@
--- The types and interfaces of a rewritten graph are good.
+-- The types and interfaces of a semver-merged graph are good.
 use Rattle.std.proofs.Common.{◌≡◌, ◌<◌, ◌≢◌, ◌∙◌, ℕ, List, [], ◌∷◌, Option, None, Some, IsSome, length, slice_get, refl, sym, ap, subst, arith, Contains, ◌⊎◌, inl, inr}
 use Rattle.std.specs.List.{enumerate_from}
 use Rattle.std.proofs.lemmas.List.{length-map}
@@ -26,7 +26,7 @@ use Rattle.wit_graph_theory.specs.facts.ListFacts.{found_at, from_row, in_row, s
 use Rattle.wit_graph_theory.specs.facts.OptionFacts.{option_cases}
 use Rattle.wit_graph_theory.specs.facts.OwnedFacts.{row, row_from, row_into}
 use Rattle.wit_graph_theory.specs.facts.PackagesAcyclic.{length-numbered}
-use Rattle.wit_semver_spec.specs.SemverMerged.{rewritten_types, SemverMerge, newest}
+use Rattle.wit_semver_spec.specs.SemverMerged.{types_with_new_targets, SemverMerge, newest}
 use Rattle.wit_semver_spec.specs.facts.Accepting.{stays_so}
 use Rattle.wit_semver_spec.specs.facts.TypesAfter.{after, needs_as_alias, retargeted_from, retargeted_name, retargeted_owner, retargeted_type, type_after}
 use Rattle.wit_semver_spec.specs.steps.Parts.{retargeted, new_target}
@@ -41,7 +41,7 @@ module _ (u : SemverMerge) (valid : IsValid u.graph) (w : ℕ) (there : slice_ge
   types = u.graph.types
 
   abbrev changed : List TypeDef
-  changed = rewritten_types u
+  changed = types_with_new_targets u
 
   things : HasGoodThings u.graph
   things = good_things u.graph valid

@@ -15,7 +15,7 @@ use Rattle.wit_elaboration.specs.Entries.{keyed_interfaces}
 use Rattle.wit_elaboration.specs.laws.KeptByElaboration.{labelled}
 use Rattle.wit_elaboration.specs.Valid.{IsValid}
 use Rattle.wit_graph_data.specs.declared.graph.Graph.{Graph}
-use Rattle.wit_semver_spec.specs.SemverMerged.{IsComplete, rewritable_types, semver_merged, semver_merge, with_new_entries, SemverMerge, Versioned, are_on_one_track, imported, is_replaced, newest, versioned, SemverMergeIsAccepted, target_name}
+use Rattle.wit_semver_spec.specs.SemverMerged.{IsComplete, types_of_new_entries, semver_merged, semver_merge, with_new_entries, SemverMerge, Versioned, are_on_one_track, imported, is_replaced, newest, versioned, SemverMergeIsAccepted, target_name}
 use Rattle.wit_semver_spec.specs.steps.SemverMerged.{Agrees}
 use Rattle.wit_semver_spec.specs.laws.Unchanged.{SameButLists, SameButTarget}
 use Rattle.wit_semver_spec.specs.steps.Parts.{listed_world, interface_type, new_target}
@@ -65,8 +65,8 @@ WorldsAreElaborated = (rule : TrackRule) (g : Graph) (w : ℕ) (old : World) (v 
     → Elaborated (semver_merged rule g w).types (graph_uses (semver_merged rule g w)) listed new
 
 -- and the graph stays valid
-abbrev pub RewrittenStayValid : Type 0
-RewrittenStayValid = (rule : TrackRule) (g : Graph) (w : ℕ) (old : World) → IsValid g → slice_get g.worlds w ≡ Some old → SemverMergeIsAccepted rule g w → IsValid (semver_merged rule g w)
+abbrev pub SemverMergesStayValid : Type 0
+SemverMergesStayValid = (rule : TrackRule) (g : Graph) (w : ℕ) (old : World) → IsValid g → slice_get g.worlds w ≡ Some old → SemverMergeIsAccepted rule g w → IsValid (semver_merged rule g w)
 
 -- a second semver merge of the same world by the same rule has no cause against it, and changes nothing
 abbrev pub SemverMergesOnce : Type 0
@@ -93,16 +93,16 @@ pub record KeepsThings (old new : Graph) : Type 0 where
   pub names : new.package_names ≡ old.package_names
 
 -- so it is of any graph whatever
-abbrev pub RewrittenKeep : Type 0
-RewrittenKeep = (rule : TrackRule) (g : Graph) (w : ℕ) → KeepsThings g (semver_merged rule g w)
+abbrev pub SemverMergedKeep : Type 0
+SemverMergedKeep = (rule : TrackRule) (g : Graph) (w : ℕ) → KeepsThings g (semver_merged rule g w)
 
 -- and what an alias of a valid graph comes to name has the name of what it named
 abbrev pub AliasesKeepNames : Type 0
 AliasesKeepNames = (rule : TrackRule) (g : Graph) (w : ℕ) → IsValid g → (t : ℕ) → target_name (semver_merged rule g w).types t ≡ target_name g.types t
 
--- each alias that may be rewritten and names a type of a replaced interface f, not its own owner, comes to name the type
+-- each alias of a new entry that names a type of a replaced interface f, not its own owner, comes to name the type
 -- of the newest that has the name of what it named
 abbrev pub AliasesNameNewest : Type 0
 AliasesNameNewest = (u : SemverMerge) (w t f : ℕ) → IsValid u.graph → slice_get u.graph.worlds w ≡ Some u.world → SemverMergeIsAccepted u.rule u.graph w
-    → Contains (rewritable_types u) t → type_interface_dep u.graph.types t ≡ Some f → is_replaced u f ≡ true
+    → Contains (types_of_new_entries u) t → type_interface_dep u.graph.types t ≡ Some f → is_replaced u f ≡ true
     → SomeAt (semver_merged u.rule u.graph w).types t (λ (new : TypeDef). (name : List ℕ) × (s : ℕ) × (target_name u.graph.types t ≡ Some name) × (interface_type u.graph.interfaces (newest u f) name ≡ Some s) × (alias_target new.kind ≡ Some s))

@@ -12,7 +12,7 @@ use Rattle.wit_data.specs.declared.world.World.{World}
 use Rattle.wit_data.specs.declared.types.TypeDefKind.TheVariants as kind
 use Rattle.wit_data.specs.declared.types.Type_.TheVariants as type
 use Rattle.wit_elaboration.specs.Entries.{Entry, key_interface}
-use Rattle.wit_semver_spec.specs.SemverMerged.{is_replaced, Versioned, SemverMerge, kept_imports, versioned, both, have_one_track, newest_type, rewritable_types}
+use Rattle.wit_semver_spec.specs.SemverMerged.{is_replaced, Versioned, SemverMerge, kept_imports, versioned, both, have_one_track, newest_type, types_of_new_entries}
 use Rattle.std.specs.Option.{option_map_or}
 use Rattle.wit_names.specs.Track.{track_by}
 use Rattle.wit_names.specs.declared.track.TrackRule.{TrackRule}
@@ -66,6 +66,6 @@ track_package rule v = record v.home { version = Some (track_by rule v.version) 
 abbrev pub is_older_than : TrackRule → Graph → ℕ → ℕ → Bool
 is_older_than rule g i j = both (λ v w. have_one_track rule v w && is_lt (version_cmp v.version w.version)) (versioned g i) (versioned g j)
 
--- what type t comes to name, where it may be rewritten
+-- what type t comes to name, where it is of a new entry
 abbrev pub new_target : SemverMerge → ℕ → Option ℕ
-new_target u t = if list_any (nat_eq t) (rewritable_types u) then newest_type u t else None
+new_target u t = if list_any (nat_eq t) (types_of_new_entries u) then newest_type u t else None

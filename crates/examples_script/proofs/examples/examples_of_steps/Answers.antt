@@ -2,4 +2,4 @@ use Rattle.examples_script.proofs.Steps.{steps}
 use Rattle.examples_script.proofs.examples.examples_of_steps.Goals as goal
 
 pub returns : goal.returns
-returns c = steps c.examples_of_rewriting.ensures c.examples_of_rules.ensures c.examples_of_causes.ensures
+returns c = steps c.examples_of_semver_merges.ensures c.examples_of_rules.ensures c.examples_of_causes.ensures

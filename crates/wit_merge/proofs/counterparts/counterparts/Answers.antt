@@ -1,6 +1,6 @@
 use Rattle.std.proofs.Common.{rules, ◌≡◌, ◌∙◌, ◌<◌, ◌≤◌, ◌-◌, ℕ, suc, length, None, Some, replicate, ap, sym, subst, arith, drop}
 use Rattle.std.proofs.lemmas.List.FromFn.{length-map-range_with_len}
-use Rattle.wit_merge.specs.steps.UnionSteps.{first_from}
+use Rattle.wit_merge.specs.steps.MergeSteps.{first_from}
 use Rattle.wit_merge.proofs.CounterpartSteps.{none_yet, one_counted, one_past, one_unmatched}
 use Rattle.wit_merge.proofs.counterparts.counterparts.Goals as goal
 

@@ -1,5 +1,5 @@
 use Rattle.std.proofs.Common.{◌≡◌, drop}
-use Rattle.wit_merge.specs.steps.UnionSteps.{firsts_from}
+use Rattle.wit_merge.specs.steps.MergeSteps.{firsts_from}
 use Rattle.wit_merge.proofs.counterparts.counterparts.Given as goal
 
 -- the counterparts among those behind

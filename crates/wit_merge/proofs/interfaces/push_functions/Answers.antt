@@ -6,7 +6,7 @@ use Rattle.wit_digraph.specs.facts.MemberFacts.{Contains-here, Contains-there}
 use Rattle.wit_data.specs.declared.function.Function.{Function}
 use Rattle.wit_remap_spec.specs.Image.{function_image}
 use Rattle.wit_merge_spec.specs.Merged.{merge_maps}
-use Rattle.wit_merge.specs.steps.UnionSteps.{brought_matched, functions_image, merging_of}
+use Rattle.wit_merge.specs.steps.MergeSteps.{brought_matched, functions_image, merging_of}
 use Rattle.wit_merge.proofs.Chosen.{key_is_new, none_left, one_more, passed_over, split}
 use Rattle.wit_merge.proofs.interfaces.push_functions.Goals as goal
 

@@ -1,5 +1,5 @@
 use Rattle.std.proofs.Common.{◌≡◌, ◌++◌}
-use Rattle.wit_merge.specs.steps.UnionSteps.{FunctionsMove, brought_matched, functions_image, merging_of}
+use Rattle.wit_merge.specs.steps.MergeSteps.{FunctionsMove, brought_matched, functions_image, merging_of}
 use Rattle.wit_merge.proofs.interfaces.push_functions.Given as goal
 
 -- what has been added, and what those will add that are left, which can move

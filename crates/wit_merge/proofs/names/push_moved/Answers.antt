@@ -6,7 +6,7 @@ use Rattle.std.specs.Str.{bytes_eq}
 use Rattle.wit_values.specs.Names.{deref_named}
 use Rattle.wit_merge_match.specs.steps.Matched.{moves}
 use Rattle.wit_remap.specs.steps.Movers.{goes}
-use Rattle.wit_merge.specs.steps.UnionSteps.{moved_names}
+use Rattle.wit_merge.specs.steps.MergeSteps.{moved_names}
 use Rattle.wit_merge.proofs.Chosen.{key_is_new, none_left, one_more, passed_over, split}
 use Rattle.wit_merge.proofs.names.push_moved.Goals as goal
 

@@ -1,5 +1,5 @@
 use Rattle.std.proofs.Common.{◌≡◌, ◌++◌}
-use Rattle.wit_merge.specs.steps.UnionSteps.{moved_names}
+use Rattle.wit_merge.specs.steps.MergeSteps.{moved_names}
 use Rattle.wit_merge.proofs.names.push_moved.Given as goal
 
 -- what has been added, and what those will add that are left

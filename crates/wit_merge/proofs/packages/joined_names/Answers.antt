@@ -10,7 +10,7 @@ use Rattle.wit_names.specs.PackageName.{same_package}
 use Rattle.wit_merge_match.specs.steps.Matched.{moves}
 use Rattle.wit_merge_spec.specs.Merged.{merged_package}
 use Rattle.wit_merge_laws.specs.facts.PackagesStand.{good_names}
-use Rattle.wit_merge.specs.steps.UnionSteps.{merging_of}
+use Rattle.wit_merge.specs.steps.MergeSteps.{merging_of}
 use Rattle.wit_merge.proofs.BroughtNames.{brought_names}
 use Rattle.wit_merge.proofs.Chosen.{key_is_new, none_left, one_more, passed_over, split}
 use Rattle.wit_merge.proofs.packages.joined_names.Goals as goal

@@ -1,6 +1,6 @@
 use Rattle.std.proofs.Common.{◌≡◌, ◌++◌, ◌<◌, ℕ, length, Contains}
 use Rattle.wit_names.specs.declared.package_name.PackageName.{PackageName}
-use Rattle.wit_merge.specs.steps.UnionSteps.{merging_of}
+use Rattle.wit_merge.specs.steps.MergeSteps.{merging_of}
 use Rattle.wit_merge.proofs.BroughtNames.{brought_names}
 use Rattle.wit_merge.proofs.packages.joined_names.Given as goal
 

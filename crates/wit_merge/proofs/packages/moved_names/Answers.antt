@@ -6,7 +6,7 @@ use Rattle.wit_graph_theory.specs.facts.ListFacts.{found_at, place_of}
 use Rattle.std.proofs.lemmas.Option.{slice_get_within}
 use Rattle.wit_merge_match.specs.steps.Matched.{moves}
 use Rattle.wit_merge_spec.specs.Merged.{merged_package}
-use Rattle.wit_merge.specs.steps.UnionSteps.{merging_of}
+use Rattle.wit_merge.specs.steps.MergeSteps.{merging_of}
 use Rattle.wit_merge.proofs.BroughtNames.{brought_names}
 use Rattle.wit_merge.proofs.Chosen.{none_left, one_more, passed_over}
 use Rattle.wit_merge.proofs.packages.moved_names.Goals as goal

@@ -4,9 +4,9 @@ use Rattle.wit_graph_data.specs.declared.graph.Package.{Package}
 use Rattle.wit_merge_spec.specs.Merged.{package_image}
 use Rattle.wit_remap_spec.specs.Selected.{selected_with_index}
 use Rattle.wit_merge_spec.specs.Matches.{counterpart_package}
-use Rattle.wit_merge.specs.steps.UnionSteps.{merging_of}
+use Rattle.wit_merge.specs.steps.MergeSteps.{merging_of}
 use Rattle.wit_merge.proofs.Movable.{packages_move}
-use Rattle.wit_merge.proofs.UnitedIs.{moves_is, without_places}
+use Rattle.wit_merge.proofs.MergedIs.{moves_is, without_places}
 use Rattle.wit_merge.proofs.packages.moved_packages.Goals as goal
 use Rattle.wit_merge_spec.specs.steps.Parts.{moves_package}
 

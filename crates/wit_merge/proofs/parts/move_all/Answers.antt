@@ -2,7 +2,7 @@ use Rattle.std.proofs.Common.{◌∙◌, ◌++◌, ◌≤◌, ◌<◌, ◌+◌, 
 use Rattle.std.proofs.lemmas.Option.{slice_get_read}
 use Rattle.wit_remap_spec.specs.Selected.{selected_with_index}
 use Rattle.wit_merge_match.specs.steps.Matched.{moves}
-use Rattle.wit_merge.specs.steps.UnionSteps.{merging_of}
+use Rattle.wit_merge.specs.steps.MergeSteps.{merging_of}
 use Rattle.wit_merge.proofs.Numbered.{all_behind, kept_all, kept_behind, kept_next, left_next}
 use Rattle.wit_merge.proofs.parts.move_all.Goals as goal
 use Rattle.wit_merge.proofs.parts.move_all.Goals.{then-moves+in_ok-moved+in_ok-push, else-moves}

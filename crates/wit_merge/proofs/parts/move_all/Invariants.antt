@@ -1,7 +1,7 @@
 use Rattle.std.proofs.Common.{◌≡◌, ◌++◌, map}
 use Rattle.wit_remap_spec.specs.Selected.{selected_with_index}
 use Rattle.wit_merge_match.specs.steps.Matched.{moves}
-use Rattle.wit_merge.specs.steps.UnionSteps.{merging_of}
+use Rattle.wit_merge.specs.steps.MergeSteps.{merging_of}
 use Rattle.wit_merge.proofs.Numbered.{kept_behind}
 use Rattle.wit_merge.proofs.parts.move_all.Given as goal
 

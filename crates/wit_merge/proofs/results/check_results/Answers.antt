@@ -6,7 +6,7 @@ use Rattle.wit_graph_theory.specs.facts.ListFacts.{Contains-map, Contains-map_ca
 use Rattle.wit_merge_spec.specs.Matches.{GraphMerge}
 use Rattle.wit_merge_spec.specs.Merged.{moved_functions}
 use Rattle.wit_link_resources.specs.steps.Active.{seen}
-use Rattle.wit_merge.specs.steps.UnionSteps.{ReturnsFree, merging_of}
+use Rattle.wit_merge.specs.steps.MergeSteps.{ReturnsFree, merging_of}
 use Rattle.wit_merge.proofs.results.check_results.Goals as goal
 
 pub check_result-requires-clause-moved : goal.check_result-requires-clause-moved

@@ -4,9 +4,9 @@ use Rattle.wit_remap_spec.specs.Image.{type_image}
 use Rattle.wit_remap_spec.specs.Selected.{selected_with_index}
 use Rattle.wit_merge_spec.specs.Merged.{merge_maps}
 use Rattle.wit_merge_spec.specs.Matches.{counterpart_type}
-use Rattle.wit_merge.specs.steps.UnionSteps.{merging_of}
+use Rattle.wit_merge.specs.steps.MergeSteps.{merging_of}
 use Rattle.wit_merge.proofs.Movable.{types_move}
-use Rattle.wit_merge.proofs.UnitedIs.{moves_is, without_places}
+use Rattle.wit_merge.proofs.MergedIs.{moves_is, without_places}
 use Rattle.wit_merge.proofs.types.moved_types.Goals as goal
 use Rattle.wit_merge_spec.specs.steps.Parts.{moves_type}
 

@@ -4,7 +4,7 @@ use Rattle.wit_data.specs.Entries.{Entry}
 use Rattle.wit_data.specs.facts.WorldKeyFacts.{same_key}
 use Rattle.wit_data.specs.declared.world.WorldKey.{WorldKey}
 use Rattle.wit_elaboration.specs.facts.FreshEntries.{same_key-true}
-use Rattle.wit_merge.specs.steps.UnionSteps.{entry_joined, stability_joined, stability_under}
+use Rattle.wit_merge.specs.steps.MergeSteps.{entry_joined, stability_joined, stability_under}
 use Rattle.wit_merge.proofs.Chosen.{apart_keyed, key_is_new, mapped_more, mapped_none, mapped_split}
 use Rattle.wit_merge.proofs.worlds.joined_entries.Goals as goal
 

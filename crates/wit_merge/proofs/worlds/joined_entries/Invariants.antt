@@ -1,5 +1,5 @@
 use Rattle.std.proofs.Common.{◌≡◌, ◌++◌, map}
-use Rattle.wit_merge.specs.steps.UnionSteps.{entry_joined}
+use Rattle.wit_merge.specs.steps.MergeSteps.{entry_joined}
 use Rattle.wit_merge.proofs.worlds.joined_entries.Given as goal
 
 -- those so far, and those to come

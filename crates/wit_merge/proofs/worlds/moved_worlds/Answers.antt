@@ -5,9 +5,9 @@ use Rattle.wit_remap_spec.specs.Image.{world_image}
 use Rattle.wit_remap_spec.specs.Selected.{selected_with_index}
 use Rattle.wit_merge_spec.specs.Merged.{merge_maps}
 use Rattle.wit_merge_spec.specs.Matches.{counterpart_world}
-use Rattle.wit_merge.specs.steps.UnionSteps.{merging_of}
+use Rattle.wit_merge.specs.steps.MergeSteps.{merging_of}
 use Rattle.wit_merge.proofs.Movable.{worlds_move}
-use Rattle.wit_merge.proofs.UnitedIs.{moves_is}
+use Rattle.wit_merge.proofs.MergedIs.{moves_is}
 use Rattle.wit_merge.proofs.worlds.moved_worlds.Goals as goal
 
 pub move_all-requires-clause-can : goal.move_all-requires-clause-can

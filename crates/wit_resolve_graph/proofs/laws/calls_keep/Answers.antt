@@ -1,7 +1,7 @@
 use Rattle.std.proofs.Common.{subst, sym}
 use Rattle.wit_semver_spec.specs.SemverMerged.{semver_merged}
 use Rattle.wit_resolve_graph.specs.laws.RunLaws.{Keeps}
-use Rattle.wit_resolve_graph.proofs.RunsKeep.{keeps_pushed, keeps_pushes, keeps_things, keeps_transformed, keeps_united}
+use Rattle.wit_resolve_graph.proofs.RunsKeep.{keeps_pushed, keeps_pushes, keeps_things, keeps_transformed, keeps_merged}
 use Rattle.wit_resolve_graph.proofs.laws.calls_keep.Goals as goal
 
 pub returns-clause-additions : goal.returns-clause-additions
@@ -17,7 +17,7 @@ pub returns-clause-transformations : goal.returns-clause-transformations
 returns-clause-transformations c = keeps_transformed
 
 pub returns-clause-merges : goal.returns-clause-merges
-returns-clause-merges c = keeps_united
+returns-clause-merges c = keeps_merged
 
 pub returns-clause-semver_merges : goal.returns-clause-semver_merges
-returns-clause-semver_merges c = λ rule g w. keeps_things g (semver_merged rule g w) (c.rewritten_keep.ensures rule g w)
+returns-clause-semver_merges c = λ rule g w. keeps_things g (semver_merged rule g w) (c.semver_merges_keep.ensures rule g w)

@@ -8,22 +8,22 @@ use Rattle.wit_semver.proofs.merging.find_semver_merge.Goals as goal
 
 pub returns-then-not-is_any_retargeted-clause-ok : goal.returns-then-not-is_any_retargeted-clause-ok
 returns-then-not-is_any_retargeted-clause-ok c =
-    kept_is c.args.rule c.args.graph.now c.args.world c.in_ok-entries.entries.imports c.in_ok-entries.entries.targets c.requires.valid c.rewritten_stay_valid.ensures c.in_ok-entries.ensures.ok
+    kept_is c.args.rule c.args.graph.now c.args.world c.in_ok-entries.entries.imports c.in_ok-entries.entries.targets c.requires.valid c.semver_merges_stay_valid.ensures c.in_ok-entries.ensures.ok
     c.same_types_keep_worlds.ensures (sym c.is_any_retargeted.ensures ∙ c.if-not-is_any_retargeted.true)
 
 pub returns-then-not-is_any_retargeted-clause-valid : goal.returns-then-not-is_any_retargeted-clause-valid
 returns-then-not-is_any_retargeted-clause-valid c =
-    kept_valid c.args.rule c.args.graph.now c.args.world c.in_ok-entries.entries.imports c.in_ok-entries.entries.targets c.requires.valid c.rewritten_stay_valid.ensures c.in_ok-entries.ensures.ok
+    kept_valid c.args.rule c.args.graph.now c.args.world c.in_ok-entries.entries.imports c.in_ok-entries.entries.targets c.requires.valid c.semver_merges_stay_valid.ensures c.in_ok-entries.ensures.ok
     c.same_types_keep_worlds.ensures (sym c.is_any_retargeted.ensures ∙ c.if-not-is_any_retargeted.true)
 
 pub returns-then-not-is_any_retargeted-clause-refuses : goal.returns-then-not-is_any_retargeted-clause-refuses
 returns-then-not-is_any_retargeted-clause-refuses c =
-    kept_accepted c.args.rule c.args.graph.now c.args.world c.in_ok-entries.entries.imports c.in_ok-entries.entries.targets c.requires.valid c.rewritten_stay_valid.ensures c.in_ok-entries.ensures.ok
+    kept_accepted c.args.rule c.args.graph.now c.args.world c.in_ok-entries.entries.imports c.in_ok-entries.entries.targets c.requires.valid c.semver_merges_stay_valid.ensures c.in_ok-entries.ensures.ok
     c.same_types_keep_worlds.ensures (sym c.is_any_retargeted.ensures ∙ c.if-not-is_any_retargeted.true)
 
 pub check_and_elaborate-requires : goal.check_and_elaborate-requires
 check_and_elaborate-requires c =
-    can_be_elaborated c.args.rule c.args.graph.now c.args.world c.in_ok-entries.entries.imports c.in_ok-entries.entries.targets c.requires.valid c.rewritten_stay_valid.ensures c.in_ok-entries.ensures.ok
+    can_be_elaborated c.args.rule c.args.graph.now c.args.world c.in_ok-entries.entries.imports c.in_ok-entries.entries.targets c.requires.valid c.semver_merges_stay_valid.ensures c.in_ok-entries.ensures.ok
     c.in_ok-merged.merged c.in_ok-merged.ensures
 
 pub returns-in_err-check_and_elaborate-clause-cause : goal.returns-in_err-check_and_elaborate-clause-cause
@@ -32,21 +32,21 @@ returns-in_err-check_and_elaborate-clause-cause c =
     (λ e is.
     let same : e ≡ c.in_err-check_and_elaborate.field-0.0 = is in
     subst (λ (x : ResolveErrorKind). (x ≡ OutOfMemory) ⊎ IsSemverMergeCause c.args.rule c.args.graph.now c.args.world x) (sym same)
-    (refused c.args.rule c.args.graph.now c.args.world c.in_ok-entries.entries.imports c.in_ok-entries.entries.targets c.requires.valid c.rewritten_stay_valid.ensures c.in_ok-entries.ensures.ok
+    (refused c.args.rule c.args.graph.now c.args.world c.in_ok-entries.entries.imports c.in_ok-entries.entries.targets c.requires.valid c.semver_merges_stay_valid.ensures c.in_ok-entries.ensures.ok
     c.in_ok-merged.merged c.in_ok-merged.ensures c.in_err-check_and_elaborate.field-0.0 c.in_err-check_and_elaborate.ensures.cause))
 
 pub returns-clause-ok : goal.returns-clause-ok
 returns-clause-ok c =
     c.in_ok-check_and_elaborate.ensures.ok
-    ∙ elaborated_is c.args.rule c.args.graph.now c.args.world c.in_ok-entries.entries.imports c.in_ok-entries.entries.targets c.requires.valid c.rewritten_stay_valid.ensures c.in_ok-entries.ensures.ok
+    ∙ elaborated_is c.args.rule c.args.graph.now c.args.world c.in_ok-entries.entries.imports c.in_ok-entries.entries.targets c.requires.valid c.semver_merges_stay_valid.ensures c.in_ok-entries.ensures.ok
     c.in_ok-merged.merged c.in_ok-merged.ensures
 
 pub returns-clause-valid : goal.returns-clause-valid
 returns-clause-valid c =
-    elaborated_valid c.args.rule c.args.graph.now c.args.world c.in_ok-entries.entries.imports c.in_ok-entries.entries.targets c.requires.valid c.rewritten_stay_valid.ensures c.in_ok-entries.ensures.ok
+    elaborated_valid c.args.rule c.args.graph.now c.args.world c.in_ok-entries.entries.imports c.in_ok-entries.entries.targets c.requires.valid c.semver_merges_stay_valid.ensures c.in_ok-entries.ensures.ok
     c.in_ok-merged.merged c.in_ok-merged.ensures _ c.in_ok-check_and_elaborate.ensures.ok c.in_ok-check_and_elaborate.ensures.refuses
 
 pub returns-clause-refuses : goal.returns-clause-refuses
 returns-clause-refuses c =
-    accepted c.args.rule c.args.graph.now c.args.world c.in_ok-entries.entries.imports c.in_ok-entries.entries.targets c.requires.valid c.rewritten_stay_valid.ensures c.in_ok-entries.ensures.ok
+    accepted c.args.rule c.args.graph.now c.args.world c.in_ok-entries.entries.imports c.in_ok-entries.entries.targets c.requires.valid c.semver_merges_stay_valid.ensures c.in_ok-entries.ensures.ok
     c.in_ok-merged.merged c.in_ok-merged.ensures c.in_ok-check_and_elaborate.ensures.refuses

@@ -8,7 +8,7 @@ use Rattle.wit_graph_data.specs.declared.cause.Cause.TheVariants as cause
 use Rattle.wit_graph_data.specs.declared.graph.Graph.{Graph}
 use Rattle.wit_graph_data.specs.declared.error_kind.ResolveErrorKind.{ResolveErrorKind}
 use Rattle.wit_graph_data.specs.declared.error_kind.ResolveErrorKind.TheVariants.{OutOfMemory, Semantic}
-use Rattle.wit_semver_spec.specs.SemverMerged.{entry_types, kept_imports, newest_type, rewritable_types, SemverMerge, Disagrees, IsSemverMergeCause, SemverMergeCause, functions_disagree_25, type_missing_25, semver_merge}
+use Rattle.wit_semver_spec.specs.SemverMerged.{entry_types, kept_imports, newest_type, types_of_new_entries, SemverMerge, Disagrees, IsSemverMergeCause, SemverMergeCause, functions_disagree_25, type_missing_25, semver_merge}
 use Rattle.wit_semver.specs.steps.Replacing.{IsFilled, LackTypes, semver_merge_of}
 use Rattle.wit_semver.proofs.NewEntries.{following_is, following_within, imports_within}
 use Rattle.wit_semver.proofs.merging.new_entries.Goals as goal
@@ -27,21 +27,21 @@ module _ (rule : TrackRule) (g : Graph) (w : ℕ) (world : World) (there : slice
     pub imports_are : imports ≡ kept_imports u
     imports_are = stay ∙ ap kept_imports of
 
-    pub ids_are : ids ≡ rewritable_types u
+    pub ids_are : ids ≡ types_of_new_entries u
     ids_are = following_is u ids (are ∙ ap (λ (es : List Entry). flat_map (entry_types g.interfaces) es ++ flat_map (entry_types g.interfaces) world.exports) imports_are)
 
-    lacking : (message : List ℕ) → LackTypes v ids message → LackTypes u (rewritable_types u) message
-    lacking message lacks = subst (λ (x : SemverMerge). LackTypes x (rewritable_types u) message) of (subst (λ (xs : List ℕ). LackTypes v xs message) ids_are lacks)
+    lacking : (message : List ℕ) → LackTypes v ids message → LackTypes u (types_of_new_entries u) message
+    lacking message lacks = subst (λ (x : SemverMerge). LackTypes x (types_of_new_entries u) message) of (subst (λ (xs : List ℕ). LackTypes v xs message) ids_are lacks)
 
-    back : (message : List ℕ) → LackTypes u (rewritable_types u) message → LackTypes v ids message
-    back message lacks = subst (λ (xs : List ℕ). LackTypes v xs message) (sym ids_are) (subst (λ (x : SemverMerge). LackTypes x (rewritable_types u) message) (sym of) lacks)
+    back : (message : List ℕ) → LackTypes u (types_of_new_entries u) message → LackTypes v ids message
+    back message lacks = subst (λ (xs : List ℕ). LackTypes v xs message) (sym ids_are) (subst (λ (x : SemverMerge). LackTypes x (types_of_new_entries u) message) (sym of) lacks)
 
     missing : (e : ResolveErrorKind) → (e ≡ OutOfMemory) ⊎ ((message : List ℕ) × LackTypes v ids message × (e ≡ Semantic None message cause.UpgradeMismatch)) → (e ≡ OutOfMemory) ⊎ IsSemverMergeCause rule g w e
     missing e (inl memory) = inl memory
     missing e (inr told) = let lacks = lacking told.0 told.1 in inr (world, there, subst (SemverMergeCause u w) (sym told.2) (type_missing_25 lacks.0 told.0 lacks.1 lacks.2))
 
-    filled : (targets : List (Option ℕ)) → IsFilled (newest_type v) ids (length v.graph.types) targets → IsFilled (newest_type u) (rewritable_types u) (length g.types) targets
-    filled targets is = subst (λ (x : SemverMerge). IsFilled (newest_type x) (rewritable_types u) (length x.graph.types) targets) of (subst (λ (xs : List ℕ). IsFilled (newest_type v) xs (length v.graph.types) targets) ids_are is)
+    filled : (targets : List (Option ℕ)) → IsFilled (newest_type v) ids (length v.graph.types) targets → IsFilled (newest_type u) (types_of_new_entries u) (length g.types) targets
+    filled targets is = subst (λ (x : SemverMerge). IsFilled (newest_type x) (types_of_new_entries u) (length x.graph.types) targets) of (subst (λ (xs : List ℕ). IsFilled (newest_type v) xs (length v.graph.types) targets) ids_are is)
 
 pub new-requires-clause-in_range : goal.new-requires-clause-in_range
 new-requires-clause-in_range c =
@@ -62,7 +62,7 @@ new_targets-requires-clause-in_range c t has =
     let g = c.args.graph.now in
     let there = ap (slice_get g.worlds) (sym c.index.ensures) ∙ c.at-current.ensures in
     let v = semver_merge_of c.in_ok-plan.plan in
-    let are = ids_are c.args.rule g c.args.world c.at-current.result.now there v c.in_ok-plan.ensures.of c.in_ok-imports.imports c.in_ok-imports.ensures c.in_ok-rewritable_types.rewritable_types c.in_ok-rewritable_types.ensures in
+    let are = ids_are c.args.rule g c.args.world c.at-current.result.now there v c.in_ok-plan.ensures.of c.in_ok-imports.imports c.in_ok-imports.ensures c.in_ok-types_of_new_entries.types_of_new_entries c.in_ok-types_of_new_entries.ensures in
     let within = following_within g c.requires.valid c.args.world c.at-current.result.now there c.args.rule t (subst (λ (ids : List ℕ). Contains ids t) are has) in
     subst (λ (x : SemverMerge). t < length x.graph.types) (sym c.in_ok-plan.ensures.of) within
 
@@ -75,7 +75,7 @@ returns-in_err-targets-clause-cause c =
     (λ e is.
     let same : e ≡ c.in_err-targets.field-0.0 = is in
     subst (λ (x : ResolveErrorKind). (x ≡ OutOfMemory) ⊎ IsSemverMergeCause c.args.rule g c.args.world x) (sym same)
-    (missing c.args.rule g c.args.world c.at-current.result.now there v c.in_ok-plan.ensures.of c.in_ok-imports.imports c.in_ok-imports.ensures c.in_ok-rewritable_types.rewritable_types c.in_ok-rewritable_types.ensures
+    (missing c.args.rule g c.args.world c.at-current.result.now there v c.in_ok-plan.ensures.of c.in_ok-imports.imports c.in_ok-imports.ensures c.in_ok-types_of_new_entries.types_of_new_entries c.in_ok-types_of_new_entries.ensures
     c.in_err-targets.field-0.0 c.in_err-targets.ensures.cause))
 
 pub returns-clause-ok : goal.returns-clause-ok
@@ -87,8 +87,8 @@ returns-clause-ok c =
     let of = c.in_ok-plan.ensures.of in
     let imports = c.in_ok-imports.imports in
     let stay = c.in_ok-imports.ensures in
-    let ids = c.in_ok-rewritable_types.rewritable_types in
-    let are = c.in_ok-rewritable_types.ensures in
+    let ids = c.in_ok-types_of_new_entries.types_of_new_entries in
+    let are = c.in_ok-types_of_new_entries.ensures in
     let targets = c.in_ok-targets.targets in
     record {
       world = world;

@@ -19,10 +19,10 @@ pub returns-in_err-lists-clause-cause : goal.returns-in_err-lists-clause-cause
 returns-in_err-lists-clause-cause c =
     let there : slice_get c.args.graph.now.worlds c.args.world ≡ Some c.at.result.now = ap (slice_get c.args.graph.now.worlds) (sym c.index.ensures) ∙ c.at.ensures in
     let told : (c.in_err-lists.field-0.0 ≡ OutOfMemory) ⊎ IsElaborationError c.args.graph.now c.args.world c.in_err-lists.field-0.0 =
-        elim c.in_err-lists.ensures.cause [
-          | inl none ↦ inl none
-          | inr conflict ↦ inr (λ world at. subst (λ (w : World). IsConflictError c.args.graph.now w c.in_err-lists.field-0.0) (one_value there at) conflict)
-        ] in
+    elim c.in_err-lists.ensures.cause [
+      | inl none ↦ inl none
+      | inr conflict ↦ inr (λ world at. subst (λ (w : World). IsConflictError c.args.graph.now w c.in_err-lists.field-0.0) (one_value there at) conflict)
+    ] in
     residual_error c.from_residual.result c.from_residual.ensures.1
     (λ e is.
     let same : e ≡ c.in_err-lists.field-0.0 = is in

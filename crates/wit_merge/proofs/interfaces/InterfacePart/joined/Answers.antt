@@ -3,7 +3,7 @@ use Rattle.wit_values.specs.Table.{HasDistinctKeys}
 use Rattle.wit_data.specs.declared.function.Function.{Function}
 use Rattle.wit_remap_spec.specs.Joined.{joined_stability}
 use Rattle.wit_merge_spec.specs.Merged.{with_interface}
-use Rattle.wit_merge.specs.steps.UnionSteps.{brought_matched, functions_image, moved_names, merging_of}
+use Rattle.wit_merge.specs.steps.MergeSteps.{brought_matched, functions_image, moved_names, merging_of}
 use Rattle.wit_merge.proofs.MovedNames.{Table, types_moved}
 use Rattle.wit_merge.proofs.interfaces.InterfacePart.joined.Goals as goal
 

@@ -2,7 +2,7 @@ use Rattle.std.proofs.Common.{◌∙◌, ℕ, List, length, slice_get, sym, ap}
 use Rattle.std.proofs.lemmas.Option.{none-some}
 use Rattle.wit_link_spec.specs.facts.RangeFacts.{range-at, range-read}
 use Rattle.wit_merge_spec.specs.Merged.{merged_package}
-use Rattle.wit_merge.specs.steps.UnionSteps.{merging_of}
+use Rattle.wit_merge.specs.steps.MergeSteps.{merging_of}
 use Rattle.wit_merge.proofs.merge_plan.MergePlan.merged_package.Goals as goal
 
 pub returns-in-Some : goal.returns-in-Some

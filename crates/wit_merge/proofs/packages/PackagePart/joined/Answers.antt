@@ -1,7 +1,7 @@
 use Rattle.std.proofs.Common.{◌≡◌, ◌∙◌, ◌++◌, sym, subst}
 use Rattle.wit_values.specs.Table.{HasDistinctKeys}
 use Rattle.wit_merge_spec.specs.Merged.{with_package}
-use Rattle.wit_merge.specs.steps.UnionSteps.{moved_names, merging_of}
+use Rattle.wit_merge.specs.steps.MergeSteps.{moved_names, merging_of}
 use Rattle.wit_merge.proofs.MovedNames.{Table, interfaces_moved, worlds_moved}
 use Rattle.wit_merge.proofs.packages.PackagePart.joined.Goals as goal
 

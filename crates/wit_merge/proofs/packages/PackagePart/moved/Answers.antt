@@ -2,7 +2,7 @@ use Rattle.std.proofs.Common.{◌≡◌, ◌∙◌, ◌++◌, ℕ, List, ap, map
 use Rattle.wit_graph_theory.specs.facts.ImagesCome.{distinct_map}
 use Rattle.wit_values.specs.Table.{HasDistinctKeys}
 use Rattle.wit_merge_spec.specs.Merged.{merged_interface, merged_world, package_image}
-use Rattle.wit_merge.specs.steps.UnionSteps.{moved_names, merging_of}
+use Rattle.wit_merge.specs.steps.MergeSteps.{moved_names, merging_of}
 use Rattle.wit_merge.proofs.MovedNames.{Table, all_move, interfaces_moved, worlds_moved}
 use Rattle.wit_merge.proofs.packages.PackagePart.moved.Goals as goal
 use Rattle.wit_merge_spec.specs.steps.Parts.{moves_interface, moves_world}

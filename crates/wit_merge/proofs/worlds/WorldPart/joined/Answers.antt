@@ -1,7 +1,7 @@
 use Rattle.std.proofs.Common.{◌≡◌, ◌∙◌, map, sym}
 use Rattle.wit_remap_spec.specs.Joined.{joined_stability}
 use Rattle.wit_merge_spec.specs.Merged.{with_entries}
-use Rattle.wit_merge.specs.steps.UnionSteps.{entry_joined, merging_of}
+use Rattle.wit_merge.specs.steps.MergeSteps.{entry_joined, merging_of}
 use Rattle.wit_merge.proofs.MatchedThings.{entry_is}
 use Rattle.wit_merge.proofs.SameImages.{each_same}
 use Rattle.wit_merge.proofs.worlds.WorldPart.joined.Goals as goal

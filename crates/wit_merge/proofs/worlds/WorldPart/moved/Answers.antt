@@ -9,7 +9,7 @@ use Rattle.wit_remap_spec.specs.Image.{entry_image}
 use Rattle.wit_remap.specs.steps.Fits.{EntriesFit, Fits}
 use Rattle.wit_remap.specs.steps.Movers.{maps_of}
 use Rattle.wit_merge_spec.specs.Merged.{merged_package}
-use Rattle.wit_merge.specs.steps.UnionSteps.{merging_of}
+use Rattle.wit_merge.specs.steps.MergeSteps.{merging_of}
 use Rattle.wit_merge.proofs.Agrees.{entries_are}
 use Rattle.wit_merge.proofs.Chosen.{told_apart}
 use Rattle.wit_merge.proofs.worlds.WorldPart.moved.Goals as goal

@@ -1,5 +1,5 @@
 use Rattle.std.proofs.Common.{sym, string_bytes}
-use Rattle.wit_merge_match.specs.Differing as differing
+use Rattle.wit_merge_match.specs.steps.Differing as differing
 use Rattle.wit_merge_match.proofs.matched_graphs.MatchedGraphs.entry_mismatch.Goals as goal
 
 pub returns-in_ok-in_entry-in-Some-2-clause-some : goal.returns-in_ok-in_entry-in-Some-2-clause-some

@@ -1,7 +1,7 @@
 use Rattle.std.proofs.Common.{sym}
 use Rattle.std.proofs.lemmas.Option.{IfSome_then}
 use Rattle.std.proofs.lemmas.Result.{IfOk-weaker}
-use Rattle.wit_merge_match.specs.Differing as differing
+use Rattle.wit_merge_match.specs.steps.Differing as differing
 use Rattle.wit_merge_match.specs.steps.Differing.{merging_of}
 use Rattle.wit_merge_match.proofs.Steps.{held_alike, if_none}
 use Rattle.wit_merge_match.proofs.matched_graphs.MatchedGraphs.held_mismatch.Goals as goal

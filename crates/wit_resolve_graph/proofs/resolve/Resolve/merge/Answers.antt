@@ -17,11 +17,11 @@ returns-clause-ok c =
     let fits : old.source_map.end + other.source_map.end < 2 ^ 32 = omega (arith, less, end) in
     rw (← c.self.view_is, ← c.other.view_is) (elim c.if-is_offset_overflow.branch [
       | then-is_offset_overflow w ↦
-          never_merged old other other.graph c.in_ok-offset.offset refl c.in_ok-offset.ensures.ok.0 c.if-is_offset_overflow.self c.unite_kept-merged.result (c.is_offset_overflow.ensures.0 w.if-is_offset_overflow.true)
+          never_merged old other other.graph c.in_ok-offset.offset refl c.in_ok-offset.ensures.ok.0 c.if-is_offset_overflow.self c.merge_kept-merged.result (c.is_offset_overflow.ensures.0 w.if-is_offset_overflow.true)
       | else-is_offset_overflow w ↦
-          merges old other other.graph c.in_ok-offset.offset refl c.in_ok-offset.ensures.ok.0 c.if-is_offset_overflow.self c.unite_kept-merged.result fits
-          (made_one _ c.unite_kept-merged.new.graph c.if-is_offset_overflow.self.graph c.unite_kept-merged.result (ap (λ (s : State). s.graph) w.self-is) c.unite_kept-merged.ensures.graph) c.unite_kept-merged.ensures.remap (ap (λ (s : State). s.features) w.self-is) (ap (λ (s : State). s.track_rule) w.self-is)
-          (ap (λ (s : State). s.source_map) w.self-is ∙ placed) c.unite_kept-merged.ensures.refuses
+          merges old other other.graph c.in_ok-offset.offset refl c.in_ok-offset.ensures.ok.0 c.if-is_offset_overflow.self c.merge_kept-merged.result fits
+          (made_one _ c.merge_kept-merged.new.graph c.if-is_offset_overflow.self.graph c.merge_kept-merged.result (ap (λ (s : State). s.graph) w.self-is) c.merge_kept-merged.ensures.graph) c.merge_kept-merged.ensures.remap (ap (λ (s : State). s.features) w.self-is) (ap (λ (s : State). s.track_rule) w.self-is)
+          (ap (λ (s : State). s.source_map) w.self-is ∙ placed) c.merge_kept-merged.ensures.refuses
     ])
 
 pub returns-clause-err : goal.returns-clause-err
@@ -34,15 +34,15 @@ returns-clause-err c =
     let fits : old.source_map.end + other.source_map.end < 2 ^ 32 = omega (arith, less, end) in
     rw (← c.self.view_is, ← c.other.view_is) (elim c.if-is_offset_overflow.branch [
       | then-is_offset_overflow w ↦
-          takes_back old other other.graph c.in_ok-offset.offset refl c.in_ok-offset.ensures.ok.0 c.if-is_offset_overflow.self c.unite_kept-merged.result (c.is_offset_overflow.ensures.0 w.if-is_offset_overflow.true)
-          (same_after old.graph c.unite_kept-merged.new.graph c.if-is_offset_overflow.self.graph c.unite_kept-merged.result (ap (λ (s : State). s.graph) w.self-is) c.unite_kept-merged.ensures.err)
+          takes_back old other other.graph c.in_ok-offset.offset refl c.in_ok-offset.ensures.ok.0 c.if-is_offset_overflow.self c.merge_kept-merged.result (c.is_offset_overflow.ensures.0 w.if-is_offset_overflow.true)
+          (same_after old.graph c.merge_kept-merged.new.graph c.if-is_offset_overflow.self.graph c.merge_kept-merged.result (ap (λ (s : State). s.graph) w.self-is) c.merge_kept-merged.ensures.err)
           (ap (λ (s : State). s.features) w.self-is) (ap (λ (s : State). s.track_rule) w.self-is)
           (ap (λ (s : State). s.source_map) w.self-is ∙ w.truncate.ensures ∙ cut_back old.source_map other.source_map c.append.new.self c.len-len.result c.end-end.result placed c.len-len.ensures c.end-end.ensures.value)
-          c.unite_kept-merged.ensures.cause
+          c.merge_kept-merged.ensures.cause
       | else-is_offset_overflow w ↦
-          refuses old other other.graph c.in_ok-offset.offset refl c.in_ok-offset.ensures.ok.0 c.if-is_offset_overflow.self c.unite_kept-merged.result
+          refuses old other other.graph c.in_ok-offset.offset refl c.in_ok-offset.ensures.ok.0 c.if-is_offset_overflow.self c.merge_kept-merged.result
           fits (λ far. false≢true (sym w.if-is_offset_overflow.false ∙ c.is_offset_overflow.ensures.1 far))
-          (same_after old.graph c.unite_kept-merged.new.graph c.if-is_offset_overflow.self.graph c.unite_kept-merged.result (ap (λ (s : State). s.graph) w.self-is) c.unite_kept-merged.ensures.err)
+          (same_after old.graph c.merge_kept-merged.new.graph c.if-is_offset_overflow.self.graph c.merge_kept-merged.result (ap (λ (s : State). s.graph) w.self-is) c.merge_kept-merged.ensures.err)
           (ap (λ (s : State). s.features) w.self-is) (ap (λ (s : State). s.track_rule) w.self-is)
-          (ap (λ (s : State). s.source_map) w.self-is ∙ placed) c.unite_kept-merged.ensures.cause
+          (ap (λ (s : State). s.source_map) w.self-is ∙ placed) c.merge_kept-merged.ensures.cause
     ])

@@ -15,22 +15,22 @@ stands ids lent i id same within is = subst (λ (xs : List ℕ). slice_get xs i 
 
 pub set-requires : goal.set-requires
 set-requires c =
-    let at = stands c.args.rewritable_types.now c.as_slice-id-items.result.now c.loop-id.id-index c.id-item.result c.as_slice-id-items.ensures c.loop-id-test.true c.id-item.is in
-    let within = c.requires.in_range c.id-item.result (contained_at c.args.rewritable_types.now c.loop-id.id-index c.id-item.result at) in
+    let at = stands c.args.types_of_new_entries.now c.as_slice-id-items.result.now c.loop-id.id-index c.id-item.result c.as_slice-id-items.ensures c.loop-id-test.true c.id-item.is in
+    let within = c.requires.in_range c.id-item.result (contained_at c.args.types_of_new_entries.now c.loop-id.id-index c.id-item.result at) in
     let long = c.loop-id.invariant.filled.0 in
     let same = c.index.ensures in
     omega (arith, within, long, same)
 
 pub loop-id-preserved : goal.loop-id-preserved
 loop-id-preserved c =
-    let rewritable_types = c.args.rewritable_types.now in
+    let types_of_new_entries = c.args.types_of_new_entries.now in
     let u = semver_merge_of c.args.self.now in
     let f = newest_type u in
     let id = c.id-item.result in
-    let ids = take c.loop-id.id-index rewritable_types in
-    let at = stands rewritable_types c.as_slice-id-items.result.now c.loop-id.id-index id c.as_slice-id-items.ensures c.loop-id-test.true c.id-item.is in
-    let within = c.requires.in_range id (contained_at rewritable_types c.loop-id.id-index id at) in
-    let next = sym (take-next_at rewritable_types c.loop-id.id-index id at) in
+    let ids = take c.loop-id.id-index types_of_new_entries in
+    let at = stands types_of_new_entries c.as_slice-id-items.result.now c.loop-id.id-index id c.as_slice-id-items.ensures c.loop-id-test.true c.id-item.is in
+    let within = c.requires.in_range id (contained_at types_of_new_entries c.loop-id.id-index id at) in
+    let next = sym (take-next_at types_of_new_entries c.loop-id.id-index id at) in
     record {
       filled =
           subst (λ (is : List ℕ). IsFilled f is (length c.args.self.now.graph.now.types) c.set.new.self) next
@@ -41,7 +41,7 @@ loop-id-preserved c =
 
 pub returns-clause-complete : goal.returns-clause-complete
 returns-clause-complete c message =
-    let rewritable_types = c.args.rewritable_types.now in
-    let long : length c.as_slice-id-items.result.now ≡ length rewritable_types = ap length c.as_slice-id-items.ensures in
-    let past : length rewritable_types ≤ c.loop-id.id-index = omega (arith, long, c.loop-id-test.false) in
-    subst (λ (is : List ℕ). LackTypes (semver_merge_of c.args.self.now) is message → ⊥) (take_all c.loop-id.id-index rewritable_types past) (c.loop-id.invariant.complete message)
+    let types_of_new_entries = c.args.types_of_new_entries.now in
+    let long : length c.as_slice-id-items.result.now ≡ length types_of_new_entries = ap length c.as_slice-id-items.ensures in
+    let past : length types_of_new_entries ≤ c.loop-id.id-index = omega (arith, long, c.loop-id-test.false) in
+    subst (λ (is : List ℕ). LackTypes (semver_merge_of c.args.self.now) is message → ⊥) (take_all c.loop-id.id-index types_of_new_entries past) (c.loop-id.invariant.complete message)

@@ -6,6 +6,6 @@ use Rattle.wit_semver.proofs.semver_merge_plan.SemverMergePlan.new_targets.Given
 -- what the first ones name is in its place, and none of them lacks a type
 abbrev pub invariant-loop-id : goal.invariant-loop-id
 invariant-loop-id l = record {
-  filled : IsFilled (newest_type (semver_merge_of l.self)) (take l.id-index l.rewritable_types) (length l.self.graph.now.types) l.targets;
-  complete : (message : List ℕ) → LackTypes (semver_merge_of l.self) (take l.id-index l.rewritable_types) message → ⊥;
+  filled : IsFilled (newest_type (semver_merge_of l.self)) (take l.id-index l.types_of_new_entries) (length l.self.graph.now.types) l.targets;
+  complete : (message : List ℕ) → LackTypes (semver_merge_of l.self) (take l.id-index l.types_of_new_entries) message → ⊥;
 }
