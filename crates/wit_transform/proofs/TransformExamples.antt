@@ -196,7 +196,7 @@ examples_of_refused_transformations = record {
     chain_world,
     refl,
     export_conflict (codes "foo:bar/c") (λ home taken. two_worlds (codes "x") home chain_home chain chain_world refl refl refl x_is_not_v taken) refl chain_conflict
-        (key.Interface 2, (a ∷ [], c, [], refl, a_safe, c_leads, refl), refl) refl,
+        (key.Interface 2, (c, record { before = a ∷ []; after = []; are = refl; earlier = a_safe; is = c_leads }, refl), refl) refl,
   );
   taken_before = λ name cause. taken_before_at cause.0 name (inside chain_world cause.0 cause.1) cause.2;
   taken_is = (chain_world, refl, exportized_name_taken chain_home chain_taken refl);
