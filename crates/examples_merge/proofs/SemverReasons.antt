@@ -107,7 +107,7 @@ conflict = (
     world = listed_world exporting_both;
     there = Contains-here (listed_world exporting_both) [];
     conflict = (3, 2, Contains-there 1 3 (3 ∷ []) (Contains-here 3 []), Contains-here 2 [], (two_not_there, 1, (1 ∷ [], (Contains-here 1 [], refl)), Contains-here 1 (3 ∷ [])));
-    name_is = (key.Interface 3, (entry_of 1 ∷ [], entry_of 3, [], refl, not_before, (3, Contains-here 3 [], (2, 2, Contains-here 2 [], ([], refl), (two_not_there, 1, (1 ∷ [], (Contains-here 1 [], refl)), Contains-here 1 (3 ∷ [])))), refl), refl);
+    name_is = (key.Interface 3, (entry_of 3, record { before = entry_of 1 ∷ []; after = []; are = refl; earlier = not_before; is = (3, Contains-here 3 [], (2, 2, Contains-here 2 [], ([], refl), (two_not_there, 1, (1 ∷ [], (Contains-here 1 [], refl)), Contains-here 1 (3 ∷ [])))) }, refl), refl);
     span_is = refl;
   }),
 )
