@@ -22,10 +22,9 @@ pub struct ResolveParts {
 }
 
 /// A graph with its details, where the value has some.
-fn with_details(alloc: Global, value: &Value<'_>, graph: Graph) -> Result<Graph, ReadError>
+fn with_details(alloc: Global, value: &Value<'_>, mut graph: Graph) -> Result<Graph, ReadError>
     ensures { Reads result (with_details graph (get (codes "details") (value_view value.now))) }
 {
-    let mut graph = graph;
     if let Some(details) = value.get("details") {
         member_details(alloc, details, "details", &mut graph)?;
     }

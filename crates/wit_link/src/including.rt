@@ -64,13 +64,12 @@ fn includes_at(
 
 /// The same of one include.
 fn include_at(
-    include: WorldInclude,
+    mut include: WorldInclude,
     new_ids: &NewIds,
     offset: u32,
 ) -> Result<WorldInclude, AllocError>
     ensures { IfOk result (λ new. new ≡ include_at new_ids.now offset include) }
 {
-    let mut include = include;
     match include.span.moved(offset) {
         Some(span) => include.span = span,
         None => return Err(AllocError),

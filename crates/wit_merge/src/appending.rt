@@ -140,7 +140,7 @@ fn elaborated_world(
     alloc: Global,
     graph: &Graph,
     elaborator: &mut Elaborator,
-    world: World,
+    mut world: World,
 ) -> ResolveResult<World>
     requires uses { elaborator.old ≡ graph_uses graph.now }
     requires acyclic { IsAcyclic (graph_uses graph.now) }
@@ -155,7 +155,6 @@ fn elaborated_world(
         return Ok(world);
     }
     let lists = elaborator.lists_for(alloc, graph, &world)?;
-    let mut world = world;
     world.imports = lists.imports;
     world.exports = lists.exports;
     Ok(world)

@@ -262,10 +262,9 @@ impl Draft {
 }
 
 /// What a package knows of other packages, of which it names few things each, without memory that nothing takes.
-fn shrunk(deps: Table<PackageName, ForeignNames>) -> Table<PackageName, ForeignNames>
+fn shrunk(mut deps: Table<PackageName, ForeignNames>) -> Table<PackageName, ForeignNames>
     ensures { result ≡ deps }
 {
-    let mut deps = deps;
     for at in 0..deps.len() {
         deps.value_at_mut(at).shrink();
     }

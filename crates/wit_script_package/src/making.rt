@@ -128,12 +128,11 @@ impl Draft {
     fn make_forms(
         &mut self,
         forms: &[Wrap],
-        kind: TypeDefKind,
+        mut kind: TypeDefKind,
         here: &LineContext,
     ) -> Result<TypeDefKind, LineFault>
         ensures { Makes (Some (forms_made self.old forms.now kind here.now)) result self.new }
     {
-        let mut kind = kind;
         let mut at = forms.len();
         while at > 0 {
             at -= 1;

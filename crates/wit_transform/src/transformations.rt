@@ -85,7 +85,7 @@ fn elaborated(
     alloc: Global,
     graph: &Graph,
     elaborator: &mut Elaborator,
-    world: World,
+    mut world: World,
 ) -> ResolveResult<World>
     requires uses { elaborator.old ≡ graph_uses graph.now }
     requires acyclic { IsAcyclic (graph_uses graph.now) }
@@ -95,7 +95,6 @@ fn elaborated(
     ensures cause { IfErr result (λ e. (e ≡ OutOfMemory) ⊎ IsConflictError graph.now world e) }
     ensures same { elaborator.new ≡ elaborator.old }
 {
-    let mut world = world;
     let lists = elaborator.lists_for(alloc, graph, &world)?;
     world.imports = lists.imports;
     world.exports = lists.exports;
