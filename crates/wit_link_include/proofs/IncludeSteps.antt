@@ -252,10 +252,10 @@ module _ (g : Graph) (include : WorldInclude) (home : ℕ) (world : World) (g' :
   told_of P l l' same p = subst (λ (b : Bool). P b l') step.other_is (subst (P other) same p)
 
   pub step_fine : (old : World) → slice_get g.worlds include.id ≡ Some old → AreRenamed old include.names → JoinIsAccepted other include.span (codes "import") world.imports imports → JoinIsAccepted other include.span (codes "export") world.exports exports → NoCause (IsCauseOfInclude home (before_includes g world) include)
-  step_fine old at names of_imports of_exports =
+  step_fine old at names imports_fine exports_fine =
       include_is_accepted g include step.old world home step.at step.good (record {
-        imports = told_of (λ (b : Bool) (l : List Entry). JoinIsAccepted b include.span (codes "import") world.imports l) imports _ step.imports_are of_imports;
-        exports = told_of (λ (b : Bool) (l : List Entry). JoinIsAccepted b include.span (codes "export") world.exports l) exports _ step.exports_are of_exports;
+        imports = told_of (λ (b : Bool) (l : List Entry). JoinIsAccepted b include.span (codes "import") world.imports l) imports _ step.imports_are imports_fine;
+        exports = told_of (λ (b : Bool) (l : List Entry). JoinIsAccepted b include.span (codes "export") world.exports l) exports _ step.exports_are exports_fine;
         names = subst (λ (w : World). AreRenamed w include.names) (same_at g.worlds include.id include.id old step.old refl at step.at) names;
       })
 

@@ -1,6 +1,6 @@
 -- A world of an addition that is reached can be added with its includes, as the laws of stages have it. For the proofs of
 -- the crates above.
-use Rattle.wit_labels.specs.facts.PlacedFacts.{placed_into}
+use Rattle.std.proofs.Common.{◌≡◌, ℕ, ◌<◌, List, [], ◌∷◌, length, take, Some, slice_get, refl, ap, subst, suc, arith, Contains}
 use Rattle.std.proofs.lemmas.Option.{slice_get_within}
 use Rattle.std.specs.List.{AllByRecursion}
 use Rattle.wit_values.specs.facts.Lists.{AllByRecursion-at}
