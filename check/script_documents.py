@@ -272,15 +272,32 @@ def world_lines(graph, world):
     return [name, *(f"  {word} {text}" for word, text in sides)]
 
 
+def asked_words(command):
+    """What a refusal tells of what was asked."""
+    [(word, asked)] = command.items()
+    if word == "push-groups":
+        return f"{word} {asked['main']['main']['name']}"
+    if word in ("importize", "exportize", "semver"):
+        return f"{word} {asked['package']} {asked['world']}"
+    return word
+
+
+def is_told(command, reply):
+    """Whether a refusal is told with its text first, and at the end with what was asked and its number."""
+    error, rendered = reply["refused"]["error"], reply["refused"]["rendered"]
+    end = f"\n      = {asked_words(command)}\n      = {error['number']} in docs/REFUSALS.md"
+    return error["text"] in rendered.removesuffix(end) and rendered.endswith(end)
+
+
 def reply_lines(graph, command, reply):
     """The lines of a reply, as a script has them."""
     [(word, asked)] = command.items()
     if word == "merge":
         lines = [line for it in zip(asked, reply["merge"]["replies"]) for line in reply_lines(None, *it)]
         last = reply["merge"]["reply"]
-        return lines + (["merged"] if "merged" in last else refused_lines(last))
+        return lines + (["merged"] if "merged" in last else refused_lines(command, last))
     if isinstance(reply, dict) and "refused" in reply:
-        return refused_lines(reply)
+        return refused_lines(command, reply)
     match reply:
         case "done":
             return [] if word in ("add-feature", "set-all-features", "set-track-rule") else ["done"]
@@ -295,9 +312,10 @@ def reply_lines(graph, command, reply):
     return [str(reply)]
 
 
-def refused_lines(reply):
+def refused_lines(command, reply):
     error = reply["refused"]["error"]
-    return f"refused {error['number']} {error['text']}".split("\n")
+    told = [] if is_told(command, reply) else [reply["refused"]["rendered"]]
+    return f"refused {error['number']} {error['text']}".split("\n") + told
 
 
 def run(program, text):

@@ -8,12 +8,14 @@ use Rattle.wit_resolve_graph.specs.State.{new_state}
 use Rattle.wit_shape_faults.specs.declared.clause.ShapeClause.TheVariants as clause
 use Rattle.wit_shape_faults.specs.declared.fault.ShapeFault.{ShapeFault}
 use Rattle.wit_shape_faults.specs.declared.place.ShapePlace.TheVariants as place
+use Rattle.wit_sources.specs.SourceMap.{Sources}
 use Rattle.wit_json.specs.Graph.{compact}
 use Rattle.wit_json_reading.specs.declared.fault.Expected.TheVariants as expected
 use Rattle.wit_json_reading.specs.declared.fault.Fault.{Fault}
 use Rattle.wit_json_reading.specs.declared.fault.Step.TheVariants as step
 use Rattle.wit_json_replies.specs.Answers.{json_of_answer, json_of_response}
 use Rattle.wit_json_replies.specs.Documents.{json_of_fault, json_of_output}
+use Rattle.wit_json_replies.specs.Refusals.{rendered}
 use Rattle.wit_json_replies.specs.declared.answers.Answer.{Answer}
 use Rattle.wit_json_replies.specs.declared.answers.Answer.TheVariants as answer
 use Rattle.wit_json_replies.specs.declared.answers.Response.{Response}
@@ -28,6 +30,10 @@ misplaced_function = record { clause = clause.OwnersFunctions; place = place.Fun
 
 abbrev pub unshaped_text : Option ℕ → Option ℕ → List ℕ
 unshaped_text group nested = answer_text (answer.NotShaped (record { group = group; «package» = nested; fault = misplaced_function }))
+
+-- one file of two lines
+abbrev pub one_file : Sources
+one_file = record { files = record { path = codes "f"; contents = codes "package a:b\nworld"; start = 0 } ∷ []; end = 18 }
 
 abbrev pub a_remap : Remap
 a_remap = record { types = Some 4 ∷ None ∷ []; interfaces = Some 2 ∷ []; worlds = []; packages = 1 ∷ 0 ∷ [] }
@@ -55,6 +61,12 @@ pub record ExamplesOfAnswers : Type 0 where
   -- a refusal, with its line
   pub refused : answer_text (answer.Refused (record { error = kind.OutOfMemory; rendered = codes "out of memory" }))
       ≡ codes "{\"refused\":{\"error\":{\"number\":28,\"cause\":\"out-of-memory\",\"text\":\"out of memory\"},\"rendered\":\"out of memory\"}}"
+  -- a refusal as it is told: its text, what was asked, and where more is said of its number
+  pub told : rendered new_state.source_map (codes "merge") kind.OffsetOverflow ≡ codes "source positions would pass 4294967295\n      = merge\n      = 27 in docs/REFUSALS.md"
+  pub not_alone : rendered new_state.source_map (codes "merge") kind.OffsetOverflow ≢ codes "source positions would pass 4294967295"
+  -- with its line
+  pub with_line : rendered one_file (codes "push-groups a:b") (kind.PackageCycle (Some (12, 17)) (record { namespace = codes "a"; name = codes "b"; version = None }))
+      ≡ codes "package `a:b` creates a dependency cycle\n     --> f:2:1\n      |\n    2 | world\n      | ^----\n      = push-groups a:b\n      = 6 in docs/REFUSALS.md"
   -- a package without its shape: the path to it, and what it lacks
   pub main : unshaped_text None None
       ≡ codes "{\"not-shaped\":{\"path\":[\"main\",\"main\"],\"clause\":\"owners.functions\",\"place\":\"interfaces[1].functions[1]\",\"text\":\"a function stands under its name\"}}"

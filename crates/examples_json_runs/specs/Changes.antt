@@ -4,6 +4,7 @@ use Rattle.wit_names.specs.declared.track.TrackRule.TheVariants.{Published, With
 use Rattle.wit_resolve_graph.specs.State.{State, new_state}
 use Rattle.wit_resolve_graph.specs.declared.command.Command.TheVariants as command
 use Rattle.wit_resolve_graph.specs.declared.command.Reply.TheVariants as reply
+use Rattle.wit_json_commands.specs.Asked.{change_text}
 use Rattle.wit_json_commands.specs.declared.changes.Change.TheVariants as change
 use Rattle.wit_json_commands.specs.declared.orders.Order.TheVariants as order
 use Rattle.wit_json_commands.specs.declared.orders.Request.TheVariants as request
@@ -26,10 +27,13 @@ pub record ExamplesOfChanges : Type 0 where
   -- the command that a change is
   pub importized : command_of (change.Importize foo_bar (codes "w") None) ≡ command.Importize foo_bar (codes "w") None
   pub not_exportized : command_of (change.Importize foo_bar (codes "w") None) ≢ command.Exportize foo_bar (codes "w") None None
+  -- what was asked, in words
+  pub asked : change_text (change.Exportize foo_bar (codes "w") None None) ≡ codes "exportize foo:bar w"
+  pub not_turned : change_text (change.Importize foo_bar (codes "w") None) ≢ codes "exportize foo:bar w"
   -- the answer that a reply is
-  pub done : answer_of new_state.source_map reply.Done ≡ answer.Done
-  pub pushed : answer_of new_state.source_map (reply.Pushed 2) ≡ answer.Pushed 2
-  pub no_world : answer_of new_state.source_map reply.NoWorld ≢ answer.Done
+  pub done : answer_of new_state.source_map (codes "semver a:b w") reply.Done ≡ answer.Done
+  pub pushed : answer_of new_state.source_map (codes "push-groups a:b") (reply.Pushed 2) ≡ answer.Pushed 2
+  pub no_world : answer_of new_state.source_map (codes "semver a:b w") reply.NoWorld ≢ answer.Done
   -- what a document begins with
   pub empty : first_state None ≡ new_state
   pub given : (first_state (Some begun)).features.all ≡ true

@@ -1,5 +1,5 @@
 -- What changes of a graph are read from.
-use Rattle.std.specs.Prelude.{ℕ, List, [], ◌∷◌, Result, Ok, Err, codes, if◌then◌else◌, bytes_eq}
+use Rattle.std.specs.Prelude.{ℕ, List, [], ◌∷◌, Ok, codes, if◌then◌else◌, bytes_eq}
 use Rattle.json.specs.Json.{Json}
 use Rattle.wit_json_reading.specs.Features.{rule_of}
 use Rattle.wit_json_reading.specs.Groups.{group_of}

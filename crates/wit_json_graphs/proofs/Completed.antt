@@ -1,6 +1,6 @@
 -- A call that completes a thing in place, as a part of another.
 use Rattle.std.proofs.Common.{◌≡◌, ◌∙◌, ◌++◌, ◌∷◌, [], ap, sym, Result, Ok, Err, refl}
-use Rattle.wit_json_reading.specs.Reading.{Reading, Reads, instead_of, under}
+use Rattle.wit_json_reading.specs.Reading.{Reading, ◌>>=◌, Reads, under}
 use Rattle.wit_json_reading.specs.declared.fault.Expected.TheVariants as expected
 use Rattle.wit_json_reading.specs.declared.fault.Fault.{Fault}
 use Rattle.wit_json_reading.specs.declared.fault.ReadError.{ReadError}
@@ -52,3 +52,9 @@ pub fails : {A : Type 0} (result : Result Nothing ReadError) (fault : Fault) (re
 fails (Ok x) fault reading new is reads = absurd (clash x fault (sym reads))
 fails {A} (Err (error.Fault other)) fault reading new is reads = is ∙ ap (λ (f : Fault). let it : Reading A = Err f in it) (one_fault fault other reads)
 fails (Err error.OutOfMemory) fault reading new is reads = tt
+
+-- as the part that is put into another
+pub then_put : {A B : Type 0} (put : A → B) (r : Result Nothing ReadError) (reading : Reading A) (new : A) → Completes r reading new → Completes r (reading >>= λ x. Ok (put x)) (put new)
+then_put put (Ok x) reading new done = ap (λ read. read >>= λ x. Ok (put x)) done
+then_put put (Err (error.Fault fault)) reading new done = ap (λ read. read >>= λ x. Ok (put x)) done
+then_put put (Err error.OutOfMemory) reading new done = tt

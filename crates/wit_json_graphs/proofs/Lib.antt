@@ -1,2 +1,2 @@
 mod Completed
-mod Turns
+mod Rows

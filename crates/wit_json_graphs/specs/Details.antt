@@ -1,6 +1,6 @@
 -- What the details of a graph say of its things: spans, external ids, and the docs of entries. What they leave out is
 -- unknown, or isn't there.
-use Rattle.std.specs.Prelude.{ℕ, suc, List, [], ◌∷◌, Option, Result, Ok, Err, codes, if◌then◌else◌, bytes_eq}
+use Rattle.std.specs.Prelude.{ℕ, suc, List, [], ◌∷◌, Option, Ok, codes, if◌then◌else◌, bytes_eq}
 use Rattle.json.specs.Json.{Items, Json, Members}
 use Rattle.json.specs.Json as json
 use Rattle.wit_data.specs.declared.function.Function.{Function}

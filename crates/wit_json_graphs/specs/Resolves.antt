@@ -1,5 +1,5 @@
 -- What the parts of a `Resolve` are read from: a graph with what stands beside it, as it comes out.
-use Rattle.std.specs.Prelude.{ℕ, List, [], ◌∷◌, Option, Some, None, Result, Ok, Err, codes, false, unwrap_or}
+use Rattle.std.specs.Prelude.{[], ◌∷◌, Option, Some, None, Ok, codes, false, unwrap_or}
 use Rattle.json.specs.Find.{get}
 use Rattle.json.specs.Json.{Json}
 use Rattle.wit_names.specs.declared.track.TrackRule.{TrackRule}

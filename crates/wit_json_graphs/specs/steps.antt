@@ -1,1 +1,2 @@
 pub mod Completes
+pub mod Parts

@@ -1,12 +1,13 @@
 //! What the details of a graph say of its things.
-ghost use Rattle.std.specs.Prelude.{◌≡◌, IfOk, bytes_eq};
+ghost use Rattle.std.specs.Prelude.{◌≡◌, ◌<◌, ℕ, IfOk, bytes_eq, length};
 ghost use Rattle.json.specs.Json.{Json};
 ghost use Rattle.json.specs.Value.{value_view};
 ghost use Rattle.wit_json.specs.Worlds.{entry_name};
 ghost use Rattle.wit_json_reading.specs.Reading.{Reading, required, under};
-ghost use Rattle.wit_json_reading.specs.declared.fault.Step.TheVariants.{Item, Member};
+ghost use Rattle.wit_json_reading.specs.declared.fault.Step.TheVariants.{Member};
 ghost use Rattle.wit_json_graphs.specs.Details.{items_with, list_with, named_with};
 ghost use Rattle.wit_json_graphs.specs.steps.Completes.{Completes};
+ghost use Rattle.wit_json_graphs.specs.steps.Parts.{with_entry, with_item, with_named, with_parts};
 
 use json::Value;
 use std::alloc::{AllocError, Global};
@@ -50,16 +51,40 @@ pub(crate) fn member_details<T: ReadDetails>(
     in_member(alloc, thing.read_details(alloc, value), name)
 }
 
-/// Reads the details that the item at an index has.
-fn item_details<T: ReadDetails>(
-    alloc: Global,
-    value: &Value<'_>,
-    index: usize,
-    thing: &mut T,
-) -> Result<(), ReadError>
-    ensures { Completes result (under (Item index) (T.detailed thing.old (value_view value.now))) thing.new }
+/// Things in a row, of which the parts of a value tell, one of each.
+trait Row<P>: Sized {
+    /// How many there are.
+    ghost many: { Self → ℕ };
+
+    /// The row with what a part says of the thing at an index.
+    ghost with_part: { Self → ℕ → P → Reading Self };
+
+    /// How many there are.
+    fn many(&self) -> usize
+        ensures { result ≡ many self.now };
+
+    /// Reads what a part says of the thing at an index. Of the row after an error only its length is said.
+    fn read_part(&mut self, alloc: Global, index: usize, part: &P) -> Result<(), ReadError>
+        requires { index < many self.old }
+        ensures many { many self.new ≡ many self.old }
+        ensures part { Completes result (with_part self.old index part.now) self.new };
+}
+
+/// Reads what parts say of the things of a row, as many as there are, in order.
+fn read_parts<P, R: Row<P>>(alloc: Global, row: &mut R, parts: &[P]) -> Result<(), ReadError>
+    ensures { Completes result (with_parts R.with_part (R.many row.old) 0 row.old parts.now) row.new }
 {
-    in_item(thing.read_details(alloc, value), index)
+    let many = row.many();
+    for index in 0..many {
+        let Some(part) = parts.get(index) else {
+            return instead_of(alloc, Expected::Details);
+        };
+        row.read_part(alloc, index, part)?;
+    }
+    if many < parts.len() {
+        return instead_of(alloc, Expected::Details);
+    }
+    Ok(())
 }
 
 /// Of each item, in order.
@@ -67,19 +92,31 @@ impl<T: ReadDetails> ReadDetails for Items<T> {
     ghost detailed = { list_with T.detailed };
 
     fn read_details(&mut self, alloc: Global, value: &Value<'_>) -> Result<(), ReadError> {
-        let Value::Array(values) = value else {
-            return instead_of(alloc, Expected::List);
-        };
-        for index in 0..self.len() {
-            let Some(details) = values.get(index) else {
-                return instead_of(alloc, Expected::Details);
-            };
-            item_details(alloc, details, index, self.at_mut(index))?;
+        match value {
+            Value::Array(values) => read_parts(alloc, self, values),
+            _ => instead_of(alloc, Expected::List),
         }
-        if self.len() < values.len() {
-            return instead_of(alloc, Expected::Details);
-        }
-        Ok(())
+    }
+}
+
+impl<'a, T: ReadDetails> Row<Value<'a>> for Items<T> {
+    ghost many = { length };
+
+    ghost with_part = { with_item T.detailed };
+
+    fn many(&self) -> usize
+        ensures { result ≡ length self.now }
+    {
+        self.len()
+    }
+
+    fn read_part(
+        &mut self,
+        alloc: Global,
+        index: usize,
+        details: &Value<'a>,
+    ) -> Result<(), ReadError> {
+        in_item(self.at_mut(index).read_details(alloc, details), index)
     }
 }
 
@@ -88,22 +125,34 @@ impl<T: ReadDetails> ReadDetails for Names<T> {
     ghost detailed = { named_with T.detailed };
 
     fn read_details(&mut self, alloc: Global, value: &Value<'_>) -> Result<(), ReadError> {
-        let Value::Object(members) = value else {
-            return instead_of(alloc, Expected::Object);
-        };
-        for index in 0..self.len() {
-            let Some(member) = members.get(index) else {
-                return instead_of(alloc, Expected::Details);
-            };
-            if member.0 != self.entry_at(index).0 {
-                return instead_of(alloc, Expected::Details);
-            }
-            member_details(alloc, &member.1, member.0, self.value_at_mut(index))?;
+        match value {
+            Value::Object(members) => read_parts(alloc, self, members),
+            _ => instead_of(alloc, Expected::Object),
         }
-        if self.len() < members.len() {
+    }
+}
+
+impl<'a, T: ReadDetails> Row<(&'a str, Value<'a>)> for Names<T> {
+    ghost many = { length };
+
+    ghost with_part = { with_named T.detailed };
+
+    fn many(&self) -> usize
+        ensures { result ≡ length self.now }
+    {
+        self.len()
+    }
+
+    fn read_part(
+        &mut self,
+        alloc: Global,
+        index: usize,
+        member: &(&'a str, Value<'a>),
+    ) -> Result<(), ReadError> {
+        if member.0 != self.entry_at(index).0 {
             return instead_of(alloc, Expected::Details);
         }
-        Ok(())
+        member_details(alloc, &member.1, member.0, self.value_at_mut(index))
     }
 }
 
@@ -112,22 +161,34 @@ impl ReadDetails for Table<WorldKey, WorldItem> {
     ghost detailed = { items_with };
 
     fn read_details(&mut self, alloc: Global, value: &Value<'_>) -> Result<(), ReadError> {
-        let Value::Object(members) = value else {
-            return instead_of(alloc, Expected::Object);
-        };
-        for index in 0..self.len() {
-            let Some(member) = members.get(index) else {
-                return instead_of(alloc, Expected::Details);
-            };
-            if !is_name_of(alloc, member.0, self.entry_at(index).0)? {
-                return instead_of(alloc, Expected::Details);
-            }
-            member_details(alloc, &member.1, member.0, self.value_at_mut(index))?;
+        match value {
+            Value::Object(members) => read_parts(alloc, self, members),
+            _ => instead_of(alloc, Expected::Object),
         }
-        if self.len() < members.len() {
+    }
+}
+
+impl<'a> Row<(&'a str, Value<'a>)> for Table<WorldKey, WorldItem> {
+    ghost many = { length };
+
+    ghost with_part = { with_entry };
+
+    fn many(&self) -> usize
+        ensures { result ≡ length self.now }
+    {
+        self.len()
+    }
+
+    fn read_part(
+        &mut self,
+        alloc: Global,
+        index: usize,
+        member: &(&'a str, Value<'a>),
+    ) -> Result<(), ReadError> {
+        if !is_name_of(alloc, member.0, self.entry_at(index).0)? {
             return instead_of(alloc, Expected::Details);
         }
-        Ok(())
+        member_details(alloc, &member.1, member.0, self.value_at_mut(index))
     }
 }
 

@@ -1,5 +1,5 @@
 -- What is answered to questions about a graph.
-use Rattle.std.specs.Prelude.{◌≡◌, ℕ, List, [], ◌∷◌, Option, None, Some, Result, Ok, Err, option_and_then, slice_get, bytes_eq, if◌then◌else◌}
+use Rattle.std.specs.Prelude.{◌≡◌, ℕ, List, [], ◌∷◌, Option, None, Some, Ok, option_and_then, slice_get, codes, bytes_eq, if◌then◌else◌}
 use Rattle.std.specs.Map.{lookup}
 use Rattle.wit_names.specs.declared.package_name.PackageName.{PackageName}
 use Rattle.wit_sources.specs.SourceMap.{Sources}
@@ -10,11 +10,9 @@ use Rattle.wit_data.specs.declared.world.WorldItem.{WorldItem}
 use Rattle.wit_data.specs.declared.world.WorldItem.TheVariants as item
 use Rattle.wit_data.specs.declared.world.WorldKey.{WorldKey}
 use Rattle.wit_data.specs.declared.world.WorldKey.TheVariants as key
-use Rattle.wit_graph_data.specs.ErrorText.{rendered_text}
 use Rattle.wit_graph_data.specs.Named.{interface_in, package_named, world_named}
 use Rattle.wit_graph_data.specs.Queries.{canonical_id_text, futures_and_streams as function_futures, interface_direct_deps, package_direct_deps, topological_packages}
 use Rattle.wit_graph_data.specs.declared.graph.Graph.{Graph}
-use Rattle.wit_graph_data.specs.declared.error_kind.ResolveErrorKind.{ResolveErrorKind}
 use Rattle.wit_queries.specs.Selection.{IsSelectionError, selected_world}
 use Rattle.wit_json_commands.specs.declared.questions.FunctionPlace.{FunctionPlace}
 use Rattle.wit_json_commands.specs.declared.questions.FunctionSite.{FunctionSite}
@@ -22,6 +20,7 @@ use Rattle.wit_json_commands.specs.declared.questions.FunctionSite.TheVariants a
 use Rattle.wit_json_commands.specs.declared.questions.Mangling.{Mangling}
 use Rattle.wit_json_commands.specs.declared.questions.Question.{Question}
 use Rattle.wit_json_commands.specs.declared.questions.Question.TheVariants as question
+use Rattle.wit_json_replies.specs.Refusals.{refused}
 use Rattle.wit_json_replies.specs.declared.answers.Answer.{Answer}
 use Rattle.wit_json_replies.specs.declared.answers.Answer.TheVariants as answer
 use Rattle.wit_json_questions.specs.CoreNames.{core_names_of, mangling_of}
@@ -32,10 +31,6 @@ found f None = answer.NotFound
 found f (Some x) = f x
 
 -- ---- which world a text names
-
--- the refusal of a state of the files, with its line
-abbrev pub refused : Sources → ResolveErrorKind → Answer
-refused files error = answer.Refused (record { error = error; rendered = rendered_text files.files error })
 
 -- the ids of packages of these names, where all are there
 abbrev pub with_package : Option ℕ → Option (List ℕ) → Option (List ℕ)
@@ -50,7 +45,7 @@ packages_named g (name ∷ names) = with_package (package_named g name) (package
 abbrev pub TellsChoice : Graph → Sources → List ℕ → Option (List ℕ) → Answer → Type 0
 TellsChoice g files mains text (answer.World id) = selected_world g mains text ≡ Ok id
 TellsChoice g files mains text (answer.Refused refusal) =
-    IsSelectionError (selected_world g mains text) refusal.error × (answer.Refused refusal ≡ refused files refusal.error)
+    IsSelectionError (selected_world g mains text) refusal.error × (answer.Refused refusal ≡ refused files (codes "select") refusal.error)
 TellsChoice g files mains text _ = ⊥
 
 abbrev pub TellsAmong : Graph → Sources → Option (List ℕ) → Option (List ℕ) → Answer → Type 0

@@ -6,7 +6,7 @@ ghost use Rattle.wit_json_questions.specs.Tells.{TellsChoice, TellsSelect, packa
 use std::alloc::{AllocError, Global};
 use wit_data::{Items, PackageId, PackageName, SourceMap, Text};
 use wit_graph_data::{Graph, ResolveResult};
-use wit_json_replies::{Answer, Refusal};
+use wit_json_replies::{Answer, refused};
 use wit_queries::selection::select_world;
 
 /// The world that a text names among main packages, or why there is none.
@@ -59,9 +59,6 @@ fn choose(
     };
     match select_world(alloc, graph, mains, text) {
         Ok(id) => Ok(Answer::World(id)),
-        Err(error) => {
-            let rendered = Text::from_string(error.render(alloc, files)?);
-            Ok(Answer::Refused(Refusal { error, rendered }))
-        }
+        Err(error) => refused(alloc, files, "select", error),
     }
 }

@@ -3,4 +3,5 @@ pub mod Remaps
 pub mod Unshaped
 pub mod Answers
 pub mod Documents
+pub mod Refusals
 pub mod steps

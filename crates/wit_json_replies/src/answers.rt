@@ -12,7 +12,7 @@ use wit_graph_data::ResolveError;
 use wit_json::{JsonText, WriteJson};
 use wit_remap::Remap;
 
-/// What is refused, and its text with the line where it is.
+/// What is refused, and how it is told: with its lines, and with what was asked.
 #[derive(Drop)]
 pub struct Refusal {
     pub error: ResolveError,

@@ -1,5 +1,5 @@
 -- Answers one after another, and the answers to commands.
-use Rattle.std.proofs.Common.{◌≡◌, suc, List, [], ◌∷◌, ◌++◌, refl, sym, subst}
+use Rattle.std.proofs.Common.{◌≡◌, ℕ, suc, List, [], ◌∷◌, ◌++◌, refl, sym, subst}
 use Rattle.std.specs.List.{AllByRecursion}
 use Rattle.wit_data.specs.Each.{Each}
 use Rattle.wit_data.specs.Shape.{IsGroupShaped}
@@ -33,9 +33,9 @@ RespondsEach-more old mid new [] (reply ∷ replies) it told each one = absurd e
 RespondsEach-more old mid new (first ∷ its) [] it told each one = absurd each
 
 -- the one reply to one command
-pub one_reply : (old new : State) (it : Command) (reply : Reply) → Run old (it ∷ []) (reply ∷ []) new → (told : Answer) → told ≡ answer_of new.source_map reply
-    → AnswersCommand old it told new
-one_reply old new it reply run told is = record { reply = reply; step = subst (λ (s : State). Step old it reply s) (sym run.2) run.1; told_is = is }
+pub one_reply : (asked : List ℕ) (old new : State) (it : Command) (reply : Reply) → Run old (it ∷ []) (reply ∷ []) new → (told : Answer)
+    → told ≡ answer_of new.source_map asked reply → AnswersCommand asked old it told new
+one_reply asked old new it reply run told is = record { reply = reply; step = subst (λ (s : State). Step old it reply s) (sym run.2) run.1; told_is = is }
 
 -- ---- shapes
 

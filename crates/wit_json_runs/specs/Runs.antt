@@ -1,5 +1,5 @@
 -- What a document's commands do, and what is answered to each.
-use Rattle.std.specs.Prelude.{◌≡◌, ◌⊎◌, ℕ, List, [], ◌∷◌}
+use Rattle.std.specs.Prelude.{◌≡◌, ◌⊎◌, ℕ, List, [], ◌∷◌, codes}
 use Rattle.wit_sources.specs.SourceMap.{Sources}
 use Rattle.wit_resolve_graph.specs.State.{State, new_state}
 use Rattle.wit_resolve_graph.specs.Step.{Step}
@@ -7,13 +7,15 @@ use Rattle.wit_resolve_graph.specs.declared.command.Command.{Command}
 use Rattle.wit_resolve_graph.specs.declared.command.Command.TheVariants as command
 use Rattle.wit_resolve_graph.specs.declared.command.Reply.{Reply}
 use Rattle.wit_resolve_graph.specs.declared.command.Reply.TheVariants as reply
+use Rattle.wit_json_commands.specs.Asked.{change_text}
 use Rattle.wit_json_commands.specs.declared.changes.Change.{Change}
 use Rattle.wit_json_commands.specs.declared.changes.Change.TheVariants as change
 use Rattle.wit_json_commands.specs.declared.orders.Order.{Order}
 use Rattle.wit_json_commands.specs.declared.orders.Order.TheVariants as order
 use Rattle.wit_json_commands.specs.declared.orders.Request.{Request}
 use Rattle.wit_json_commands.specs.declared.orders.Request.TheVariants as request
-use Rattle.wit_json_questions.specs.Tells.{Tells, refused}
+use Rattle.wit_json_questions.specs.Tells.{Tells}
+use Rattle.wit_json_replies.specs.Refusals.{refused}
 use Rattle.wit_json_replies.specs.declared.answers.Answer.{Answer}
 use Rattle.wit_json_replies.specs.declared.answers.Answer.TheVariants as answer
 use Rattle.wit_json_replies.specs.declared.answers.Response.{Response}
@@ -23,19 +25,19 @@ use Rattle.wit_json_runs.specs.Unshaped.{IsChangeShaped, IsUnshaped}
 
 -- ---- commands
 
--- the answer that a reply is; the line of a refusal is looked up in these files
-abbrev pub answer_of : Sources → Reply → Answer
-answer_of files reply.Done = answer.Done
-answer_of files (reply.Pushed id) = answer.Pushed id
-answer_of files (reply.Merged remap) = answer.Merged remap
-answer_of files reply.NoWorld = answer.NoWorld
-answer_of files (reply.Refused error) = refused files error
+-- the answer that a reply to what was asked is; the lines of a refusal are looked up in these files
+abbrev pub answer_of : Sources → List ℕ → Reply → Answer
+answer_of files asked reply.Done = answer.Done
+answer_of files asked (reply.Pushed id) = answer.Pushed id
+answer_of files asked (reply.Merged remap) = answer.Merged remap
+answer_of files asked reply.NoWorld = answer.NoWorld
+answer_of files asked (reply.Refused error) = refused files asked error
 
--- a command is carried out, and its reply is answered
-pub record AnswersCommand (old : State) (it : Command) (told : Answer) (new : State) : Type 0 where
+-- a command is carried out, which in words is this, and its reply is answered
+pub record AnswersCommand (asked : List ℕ) (old : State) (it : Command) (told : Answer) (new : State) : Type 0 where
   pub reply : Reply
   pub step : Step old it reply new
-  pub told_is : told ≡ answer_of new.source_map reply
+  pub told_is : told ≡ answer_of new.source_map asked reply
 
 -- ---- changes
 
@@ -52,7 +54,7 @@ command_of (change.Semver home world) = command.Semver home world
 -- a change whose groups have their shape is carried out
 pub record AnswersShaped (old : State) (it : Change) (told : Answer) (new : State) : Type 0 where
   pub shaped : IsChangeShaped it
-  pub answered : AnswersCommand old (command_of it) told new
+  pub answered : AnswersCommand (change_text it) old (command_of it) told new
 
 -- of another one the first package is told that lacks its shape, with what it lacks, and nothing has changed
 pub record TellsShape (old : State) (it : Change) (told : Answer) (new : State) : Type 0 where
@@ -82,7 +84,7 @@ AnswersEach old _ _ new = ⊥
 pub record MergesOther (old : State) (its : List Request) (answers : List Answer) (told : Answer) (new : State) : Type 0 where
   pub other : State
   pub made : AnswersEach new_state its answers other
-  pub merged : AnswersCommand old (command.Merge other) told new
+  pub merged : AnswersCommand (codes "merge") old (command.Merge other) told new
 
 abbrev pub Responds : State → Order → Response → State → Type 0
 Responds old (order.Request it) (response.Answer told) new = Answers old it told new

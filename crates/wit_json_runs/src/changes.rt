@@ -1,14 +1,13 @@
 //! Changes carried out.
 ghost use Rattle.std.specs.Prelude.{◌≡◌, IfOk};
-ghost use Rattle.wit_json_questions.specs.Tells.{refused};
 ghost use Rattle.wit_json_runs.specs.Runs.{AnswersChange, AnswersCommand, answer_of, command_of};
 ghost use Rattle.wit_resolve_graph.specs.Step.{IsCommandShaped};
 
 use crate::shapes::find_unshaped;
 use std::alloc::Global;
 use wit_json_commands::Change;
-use wit_json_replies::{Answer, Refusal};
-use wit_resolve_graph::{Command, Items, Reply, Resolve, ResolveError, ResolveResult, Text, run};
+use wit_json_replies::{Answer, refused};
+use wit_resolve_graph::{Command, Items, Reply, Resolve, ResolveResult, run};
 
 /// Carries out a change, and answers it. The only refusal is want of memory outside the command (28).
 pub fn answer_change(alloc: Global, resolve: &mut Resolve, change: Change) -> ResolveResult<Answer>
@@ -16,7 +15,10 @@ pub fn answer_change(alloc: Global, resolve: &mut Resolve, change: Change) -> Re
 {
     match find_unshaped(alloc, &change)? {
         Some(unshaped) => Ok(Answer::NotShaped(unshaped)),
-        None => carry_out(alloc, resolve, command_of(change)),
+        None => {
+            let asked = format!(in alloc; "{change}")?;
+            carry_out(alloc, resolve, command_of(change), &asked)
+        }
     }
 }
 
@@ -53,37 +55,34 @@ fn command_of(change: Change) -> Command
     }
 }
 
-/// Carries out a command, and answers its reply.
-pub fn carry_out(alloc: Global, resolve: &mut Resolve, command: Command) -> ResolveResult<Answer>
+/// Carries out a command, which in words is `asked`, and answers its reply.
+pub fn carry_out(
+    alloc: Global,
+    resolve: &mut Resolve,
+    command: Command,
+    asked: &str,
+) -> ResolveResult<Answer>
     requires { IsCommandShaped command }
-    ensures { IfOk result (λ answer. AnswersCommand resolve.old command answer resolve.new) }
+    ensures { IfOk result (λ answer. AnswersCommand asked.now resolve.old command answer resolve.new) }
 {
     let mut commands = Items::new(alloc);
     commands.push(command)?;
     let mut replies = run(alloc, resolve, commands.into_vec())?;
     match replies.pop() {
-        Some(reply) => answer_of(alloc, resolve, reply),
+        Some(reply) => answer_of(alloc, resolve, asked, reply),
         None => unreachable!(),
     }
 }
 
-/// The answer that a reply is.
-fn answer_of(alloc: Global, resolve: &Resolve, reply: Reply) -> ResolveResult<Answer>
-    ensures { IfOk result (λ answer. answer ≡ answer_of resolve.now.source_map reply) }
+/// The answer that a reply to what was asked is.
+fn answer_of(alloc: Global, resolve: &Resolve, asked: &str, reply: Reply) -> ResolveResult<Answer>
+    ensures { IfOk result (λ answer. answer ≡ answer_of resolve.now.source_map asked.now reply) }
 {
     match reply {
         Reply::Done => Ok(Answer::Done),
         Reply::Pushed(id) => Ok(Answer::Pushed(id)),
         Reply::Merged(remap) => Ok(Answer::Merged(remap)),
         Reply::NoWorld => Ok(Answer::NoWorld),
-        Reply::Refused(error) => refused(alloc, resolve, error),
+        Reply::Refused(error) => refused(alloc, resolve.source_map(), asked, error),
     }
-}
-
-/// A refusal with its line.
-fn refused(alloc: Global, resolve: &Resolve, error: ResolveError) -> ResolveResult<Answer>
-    ensures { IfOk result (λ answer. answer ≡ refused resolve.now.source_map error) }
-{
-    let rendered = Text::from_string(error.render(alloc, resolve.source_map())?);
-    Ok(Answer::Refused(Refusal { error, rendered }))
 }

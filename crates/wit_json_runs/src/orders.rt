@@ -42,7 +42,7 @@ fn merge(alloc: Global, resolve: &mut Resolve, requests: Items<Request>) -> Reso
 {
     let mut other = Resolve::new(alloc);
     let replies = answers_to(alloc, &mut other, requests)?;
-    let reply = carry_out(alloc, resolve, Command::Merge(other))?;
+    let reply = carry_out(alloc, resolve, Command::Merge(other), "merge")?;
     Ok(Response::Merge { replies, reply })
 }
 

@@ -1,4 +1,5 @@
 use Rattle.std.proofs.Common.{◌≡◌, ◌∷◌, [], inl, ap, refl, codes}
+use Rattle.wit_values.specs.facts.Lists.{differ}
 use Rattle.wit_resolve_graph.specs.State.{State}
 use Rattle.wit_resolve_graph.specs.declared.command.Reply.TheVariants as reply
 use Rattle.examples_json_runs.specs.Changes.{with_f}
@@ -11,6 +12,8 @@ pub returns : goal.returns
 returns c = record {
   importized = refl;
   not_exportized = λ same. cc;
+  asked = refl;
+  not_turned = differ _ _ refl;
   done = refl;
   pushed = refl;
   no_world = λ same. cc;

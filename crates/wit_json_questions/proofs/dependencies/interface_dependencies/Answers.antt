@@ -1,4 +1,4 @@
-use Rattle.std.proofs.Common.{◌≡◌, ◌∙◌, Some, sym, ap, rules}
+use Rattle.std.proofs.Common.{◌≡◌, Some, rules}
 use Rattle.wit_json_questions.specs.Tells.{interface_named}
 use Rattle.wit_json_questions.proofs.Within.{interface_within}
 use Rattle.wit_json_questions.proofs.dependencies.interface_dependencies.Goals as goal
