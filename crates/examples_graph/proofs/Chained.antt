@@ -45,7 +45,7 @@ a_safe : (f : Entry) → Contains (a ∷ []) f → IsEntryInConflict (graph_uses
 a_safe f has conflict = from_a (subst (λ (e : Entry). IsEntryInConflict (graph_uses chain_with_k) (a ∷ c ∷ []) e) (sym (only_one a f has)) conflict)
 
 refused_c : IsRefusedName chain_with_k.packages chain_with_k.interfaces (graph_uses chain_with_k) (a ∷ c ∷ []) (codes "foo:bar/c")
-refused_c = (key.Interface 2, (a ∷ [], c, [], refl, a_safe, c_leads, refl), refl)
+refused_c = (key.Interface 2, (c, record { before = a ∷ []; after = []; are = refl; earlier = a_safe; is = c_leads }, refl), refl)
 
 -- ---- what else could be told
 

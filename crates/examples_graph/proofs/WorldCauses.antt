@@ -196,7 +196,7 @@ world_causes = record {
     whole_is = refl;
     cause = conflict_4 (codes "foo:bar/c")
         (2, 1, (1, lit< tt, refl), (0, lit< tt, refl), (b_outside, 0, (0 ∷ [], ((0, lit< tt, refl), refl)), (0, lit< tt, refl)))
-        (key.Interface 2, (entry_of 0 ∷ [], entry_of 2, [], refl, a_clear, (2, (0, lit< tt, refl), (1, 1, (0, lit< tt, refl), ([], refl), (b_outside, 0, (0 ∷ [], ((0, lit< tt, refl), refl)), (0, lit< tt, refl)))), refl), refl);
+        (key.Interface 2, (entry_of 2, record { before = entry_of 0 ∷ []; after = []; are = refl; earlier = a_clear; is = (2, (0, lit< tt, refl), (1, 1, (0, lit< tt, refl), ([], refl), (b_outside, 0, (0 ∷ [], ((0, lit< tt, refl), refl)), (0, lit< tt, refl)))) }, refl), refl);
   })));
   closed = λ span name c.
       let found = of_conflict (exporting (codes "b")) span name c in
