@@ -6,11 +6,11 @@ mod Chained
 mod Computed
 mod FirstFaults
 mod GateCauses
+mod GroupOrders
 mod HasImage
 mod LaterWorlds
 mod Matching
-mod Names
-mod Orders
+mod NameCauses
 mod ShapeMisses
 mod Shaped
 mod TakenNames

@@ -183,7 +183,7 @@ module _ (a : Addition) (k : ℕ) where
       by : IsMet a k (InvalidTransitiveDependency span name) → IsCauseAtFinish a k (InvalidTransitiveDependency span name)
       by (of_include j image earlier is) = absurd (false≢true (include_number _ _ _ _ (7 ∷ 8 ∷ 16 ∷ []) refl refl refl (InvalidTransitiveDependency span name) is.cause))
       by (of_finish image fine is) = is
-      by (of_labels at none is) = absurd (false≢true (label_number _ (17 ∷ 18 ∷ []) refl refl (InvalidTransitiveDependency span name) is))
+      by (of_labels at none is) = absurd (false≢true (label_number (image_at a at.id at.world) (17 ∷ 18 ∷ []) refl refl (InvalidTransitiveDependency span name) is))
 
   world_number : (error : ResolveErrorKind) → IsCauseAtWorld a k error → list_any (nat_eq (error_number error)) (4 ∷ 7 ∷ 8 ∷ 16 ∷ 17 ∷ 18 ∷ []) ≡ true
   world_number error c = by (met a k error c)
@@ -191,7 +191,7 @@ module _ (a : Addition) (k : ℕ) where
       by : IsMet a k error → list_any (nat_eq (error_number error)) (4 ∷ 7 ∷ 8 ∷ 16 ∷ 17 ∷ 18 ∷ []) ≡ true
       by (of_include j image earlier is) = include_number _ _ _ _ (4 ∷ 7 ∷ 8 ∷ 16 ∷ 17 ∷ 18 ∷ []) refl refl refl error is.cause
       by (of_finish image fine is) = finish_number _ _ (4 ∷ 7 ∷ 8 ∷ 16 ∷ 17 ∷ 18 ∷ []) refl refl refl error is.cause
-      by (of_labels at none is) = label_number _ (4 ∷ 7 ∷ 8 ∷ 16 ∷ 17 ∷ 18 ∷ []) refl refl error is
+      by (of_labels at none is) = label_number (image_at a at.id at.world) (4 ∷ 7 ∷ 8 ∷ 16 ∷ 17 ∷ 18 ∷ []) refl refl error is
 
   -- an error of another number is told of no world
   not_of_world : (error : ResolveErrorKind) → list_any (nat_eq (error_number error)) (4 ∷ 7 ∷ 8 ∷ 16 ∷ 17 ∷ 18 ∷ []) ≡ false → IsCauseAtWorld a k error → ⊥
@@ -230,7 +230,7 @@ module _ (a : Addition) where
   at_include : (k : ℕ) (error : ResolveErrorKind) → list_any (nat_eq (error_number error)) (4 ∷ 17 ∷ 18 ∷ []) ≡ false → IsReached a k → IsMet a k error → FoundAtInclude error
   at_include k error other reached (of_include j image earlier is) = (k, j, record { has_image = image; worlds = reached; includes = earlier }, is)
   at_include k error other reached (of_finish image fine is) = absurd (false≢true (sym other ∙ finish_number _ _ (4 ∷ 17 ∷ 18 ∷ []) refl refl refl error is.cause))
-  at_include k error other reached (of_labels at none is) = absurd (false≢true (sym other ∙ label_number _ (4 ∷ 17 ∷ 18 ∷ []) refl refl error is))
+  at_include k error other reached (of_labels at none is) = absurd (false≢true (sym other ∙ label_number (image_at a at.id at.world) (4 ∷ 17 ∷ 18 ∷ []) refl refl error is))
 
   pub of_shadowing : (span : OptionalSpan) (word name : List ℕ) → IsAdditionCause a (ItemShadowing span word name) → FoundAtInclude (ItemShadowing span word name)
   of_shadowing span word name (reason.of_world k _ reached c) = at_include k _ refl reached (met a k _ c)

@@ -1,4 +1,4 @@
-use Rattle.examples_graph.proofs.Names.{names}
+use Rattle.examples_graph.proofs.NameCauses.{names}
 use Rattle.examples_graph.proofs.causes.examples_of_names.Goals as goal
 
 pub returns : goal.returns
