@@ -20,7 +20,7 @@ returns-in-Err-clause-holds c =
     IfOk-weaker c.without_elaboration.result
     (λ canonical holds.
     let conflict : HasTransitiveConflict (graph_uses c.args.graph.now) c.args.world.now.exports =
-        elim c.in-Err.ensures.cause [ | inl none ↦ absurd (holds.1 none) | inr told ↦ told.2 ] in (
+    elim c.in-Err.ensures.cause [ inl none ↦ absurd (holds.1 none) | inr told ↦ told.2 ] in (
       λ passed. absurd (is_not_true canonical holds.0 passed),
       λ elaborated. absurd (elaborated.no_conflict conflict),
     ))
