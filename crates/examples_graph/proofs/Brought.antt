@@ -162,13 +162,17 @@ included_causes = record {
         cause = conflict_4 (codes "foo:bar/c")
             (2, 1, (0, lit< tt, refl), (0, lit< tt, refl), (b_outside, 0, (0 ∷ [], ((0, lit< tt, refl), refl)), (1, lit< tt, refl))) (
               key.Interface 2,
-              (entry_of 2, record {
-                before = [];
-                after = entry_of 0 ∷ [];
-                are = refl;
-                earlier = λ e inside. absurd (none_in e inside);
-                is = (2, (0, lit< tt, refl), (1, 1, (0, lit< tt, refl), ([], refl), (b_outside, 0, (0 ∷ [], ((0, lit< tt, refl), refl)), (1, lit< tt, refl))));
-              }, refl),
+              (
+                entry_of 2,
+                record {
+                  before = [];
+                  after = entry_of 0 ∷ [];
+                  are = refl;
+                  earlier = λ e inside. absurd (none_in e inside);
+                  is = (2, (0, lit< tt, refl), (1, 1, (0, lit< tt, refl), ([], refl), (b_outside, 0, (0 ∷ [], ((0, lit< tt, refl), refl)), (1, lit< tt, refl))));
+                },
+                refl,
+              ),
               refl,
             );
       })));
