@@ -18,7 +18,7 @@ use Rattle.wit_labels.specs.examples.Examples.{function_entry}
 use Rattle.wit_link_spec.specs.Addition.{Addition}
 use Rattle.wit_link_spec.specs.Cause as reason
 use Rattle.wit_link_spec.specs.Gates.{OptionalSpan}
-use Rattle.wit_link_spec.specs.Include.{is_other_package, lists_of}
+use Rattle.wit_link_spec.specs.Include.{is_other_package}
 use Rattle.wit_remap_spec.specs.Joined.{include_stability, HasStability}
 use Rattle.wit_link_spec.specs.Reasons.{IsResolved}
 use Rattle.wit_link_spec.specs.WorldReasons.{conflict_4, mismatch_8, no_getter_18, not_strongly_unique_17, of_exports, of_labels, shadowing_7}

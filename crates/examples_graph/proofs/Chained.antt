@@ -1,5 +1,5 @@
 -- The chain with a type in its world: what is in conflict, and where a type would be exported.
-use Rattle.std.proofs.Common.{◌≡◌, ℕ, true, false, List, [], ◌∷◌, None, Some, codes, refl, sym, ap, subst, arith, inl, inr, Contains}
+use Rattle.std.proofs.Common.{◌≡◌, ℕ, true, false, List, [], ◌∷◌, None, Some, codes, refl, sym, subst, arith, inl, inr, Contains}
 use Rattle.wit_digraph.specs.facts.MemberFacts.{Contains-here, Contains-nil, Contains-there}
 use Rattle.wit_digraph.specs.Relation.{direct}
 use Rattle.wit_sources.specs.Span.{OptionalSpan}

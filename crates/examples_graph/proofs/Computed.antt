@@ -1,5 +1,5 @@
 -- The examples that compute.
-use Rattle.std.proofs.Common.{◌≡◌, ℕ, zero, suc, List, [], ◌∷◌, ◌++◌, Some, slice_get, length, map, flat_map, refl, ap, lit<, arith}
+use Rattle.std.proofs.Common.{◌≡◌, ℕ, zero, suc, List, [], ◌∷◌, Some, slice_get, length, map, flat_map, refl, ap, lit<, arith}
 use Rattle.std.specs.Prelude.{codes}
 use Rattle.wit_values.specs.facts.Lists.{differ}
 use Rattle.wit_digraph.specs.PostOrder.{post_order, post_order_within}

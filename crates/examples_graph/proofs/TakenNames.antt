@@ -11,7 +11,6 @@ use Rattle.wit_digraph.specs.PostOrder.{post_order, post_order_within}
 use Rattle.wit_values.specs.facts.Lists.{differ}
 use Rattle.wit_data.specs.declared.world.World.{World}
 use Rattle.wit_elaboration.specs.Elaboration.{graph_uses}
-use Rattle.wit_elaboration.specs.Entries.{Entry}
 use Rattle.wit_elaboration.specs.Imported.{HasTransitiveConflict}
 use Rattle.wit_graph_data.specs.examples.Samples.{foo_bar_of, world_of}
 use Rattle.wit_graph_data.specs.declared.cause.Cause.TheVariants.{NameTaken}

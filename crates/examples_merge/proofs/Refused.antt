@@ -71,7 +71,7 @@ conflict = merging.conflict_4 _ _ (are_one (merge_of_graphs exports_two c_uses_b
   conflict = (2, 1, (1, lit< tt, refl), (0, lit< tt, refl), (not_b, 0, (0 ∷ [], ((0, lit< tt, refl), refl)), (0, lit< tt, refl)));
   name_is = (
     key.Interface 2,
-    (entry_of 0 ∷ [], entry_of 2, [], refl, not_first, (2, (0, lit< tt, refl), (1, 1, (0, lit< tt, refl), ([], refl), (not_b, 0, (0 ∷ [], ((0, lit< tt, refl), refl)), (0, lit< tt, refl)))), refl),
+    (entry_of 2, record { before = entry_of 0 ∷ []; after = []; are = refl; earlier = not_first; is = (2, (0, lit< tt, refl), (1, 1, (0, lit< tt, refl), ([], refl), (not_b, 0, (0 ∷ [], ((0, lit< tt, refl), refl)), (0, lit< tt, refl)))) }, refl),
     refl,
   );
   span_is = refl;

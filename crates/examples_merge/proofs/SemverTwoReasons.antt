@@ -154,7 +154,7 @@ conflict = record {
   conflict = (4, 3, (1, lit< tt, refl), (0, lit< tt, refl), (three_not_there, 1, (2 ∷ 1 ∷ [], ((0, lit< tt, refl), ((0, lit< tt, refl), refl))), (0, lit< tt, refl)));
   name_is = (
     key.Interface 4,
-    (entry_of 1 ∷ [], entry_of 4, [], refl, not_before, (4, (0, lit< tt, refl), (3, 3, (0, lit< tt, refl), ([], refl), (three_not_there, 1, (2 ∷ 1 ∷ [], ((0, lit< tt, refl), ((0, lit< tt, refl), refl))), (0, lit< tt, refl)))), refl),
+    (entry_of 4, record { before = entry_of 1 ∷ []; after = []; are = refl; earlier = not_before; is = (4, (0, lit< tt, refl), (3, 3, (0, lit< tt, refl), ([], refl), (three_not_there, 1, (2 ∷ 1 ∷ [], ((0, lit< tt, refl), ((0, lit< tt, refl), refl))), (0, lit< tt, refl)))) }, refl),
     refl,
   );
   span_is = refl;

@@ -2,6 +2,7 @@ pub mod AcceptedExamples
 pub mod CauseExamples
 pub mod Copies
 pub mod Graphs
+pub mod MergedGraphs
 pub mod NamesHeld
 pub mod Pairs
 pub mod Refusals
@@ -11,4 +12,3 @@ pub mod SemverTwoReasons
 pub mod Stabilities
 pub mod TrackExamples
 pub mod TwoReasons
-pub mod MergedGraphs

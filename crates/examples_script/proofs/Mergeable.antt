@@ -50,7 +50,7 @@ module _ (ps : List Package) (ns : List (PackageName × ℕ)) (qs : List Package
   none_differ : (message : List ℕ) → GraphsDiffer of_packages message → ⊥
   none_differ _ (merging.interfaces p home there name text named of is told) = no_pair (counterpart_interface of_packages) [] p
   none_differ _ (merging.worlds p home there exported text of is told) = no_pair (counterpart_world of_packages) [] p
-  none_differ _ (merging.types message first) = no_types (counterpart_type of_packages) first.pair.from first.pair.into first.ending first.differs
+  none_differ _ (merging.types message first) = no_types (counterpart_type of_packages) first.pair.from first.pair.into first.first.is.0 first.first.is.1
 
   module _ (falling : all_uses (falls (λ p. p)) (graph_package_uses (joined_graph of_packages)) ≡ true) where
     pub packages_merge : MergeIsAccepted of_packages
@@ -94,7 +94,7 @@ module _ (f g : List ℕ) (offset : ℕ) where
   agree : (message : List ℕ) → GraphsDiffer of_gates message → ⊥
   agree _ (merging.interfaces p home there name text named of is told) = no_function p.from p.into p.x text p.from_is told
   agree _ (merging.worlds p home there exported text of is told) = no_pair (counterpart_world of_gates) [] p
-  agree _ (merging.types message first) = no_types (counterpart_type of_gates) first.pair.from first.pair.into first.ending first.differs
+  agree _ (merging.types message first) = no_types (counterpart_type of_gates) first.pair.from first.pair.into first.first.is.0 first.first.is.1
 
   module _ (same : gate g ≡ gate f) where
     join : (from into : Stability) → StabilitiesMismatch of_gates from into → ⊥
