@@ -115,7 +115,7 @@ const VERSIONS: &str = "package foo:x@0.2.0\n\
     push\n";
 
 /// How much the world imports when its imports are merged by a rule.
-fn merged(rt: &impl Abort, alloc: Global, rule: TrackRule) -> String {
+fn semver_merged(rt: &impl Abort, alloc: Global, rule: TrackRule) -> String {
     let mut graph = graph(rt, alloc, VERSIONS);
     assert!(rt; graph.worlds.len() == 1);
     assert!(rt; is_valid(alloc, &graph).expect(rt, "memory"));
@@ -126,6 +126,14 @@ fn merged(rt: &impl Abort, alloc: Global, rule: TrackRule) -> String {
 #[test]
 fn imports_are_merged_by_each_rule(rt: HostRuntime) {
     let alloc = rt.alloc();
-    assert_text(&rt, merged(&rt, alloc, TrackRule::Published), "w 2 0");
-    assert_text(&rt, merged(&rt, alloc, TrackRule::WithPrereleases), "w 1 0");
+    assert_text(
+        &rt,
+        semver_merged(&rt, alloc, TrackRule::Published),
+        "w 2 0",
+    );
+    assert_text(
+        &rt,
+        semver_merged(&rt, alloc, TrackRule::WithPrereleases),
+        "w 1 0",
+    );
 }
