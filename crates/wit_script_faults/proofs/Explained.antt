@@ -17,7 +17,9 @@ use Rattle.wit_script_faults.specs.Desk.{new_desk}
 use Rattle.wit_script_faults.specs.Explained.{ExplainsAction, ExplainsAll, ExplainsCommand, ExplainsMisread, ExplainsScript, ExplainsSelect, place_of, rest_of}
 use Rattle.wit_script_faults.specs.Lines.{script_lines_of}
 use Rattle.wit_script_faults.specs.Misread.{IsMisreadText}
-use Rattle.wit_script_faults.specs.Refusals.{refusal_text}
+use Rattle.wit_script_faults.specs.Refusals.{TellsRefusal, TellsReplies, TellsReply}
+use Rattle.wit_script_faults.specs.declared.arrow.Arrow.{Arrow}
+use Rattle.wit_resolve_graph.specs.declared.command.Reply.{Reply}
 use Rattle.wit_script_faults.specs.declared.desk.Desk.{Desk}
 use Rattle.wit_script_faults.specs.declared.desk.TrackedGraph.{TrackedGraph}
 use Rattle.wit_script_faults.specs.declared.lines.CommandPlace.{CommandPlace}
@@ -66,9 +68,21 @@ module _ (script : ScriptLines) where
   -- a choice that is refused, of a package that is there
   pub select-refused : {E : Type 0} (place : CommandPlace) (tracked : TrackedGraph) (owner : PackageName) (text : Option (List ℕ)) (id : ℕ) (kind : ResolveErrorKind) (told : Result (String Global) E)
       → package_named tracked.resolve.graph owner ≡ Some id → IsChoice tracked.resolve.graph id text (Err kind)
-      → IfOk told (λ out. string_bytes out ≡ refusal_text script place tracked kind) → IfOk told (λ out. ExplainsSelect script place tracked owner text (string_bytes out))
+      → IfOk told (λ out. TellsRefusal script place tracked [] kind (string_bytes out)) → IfOk told (λ out. ExplainsSelect script place tracked owner text (string_bytes out))
   select-refused place tracked owner text id kind (Ok out) there refused said = rw there (Err kind, refused, said)
   select-refused place tracked owner text id kind (Err e) there refused said = tt
+
+-- one more reply
+pub TellsReplies-more : (script : ScriptLines) (place : CommandPlace) (after : TrackedGraph) (others : List Arrow) (answers : List Reply) (answer : Reply) (text more : List ℕ)
+    → TellsReplies script place after others answers text → TellsReply script place after others answer more → TellsReplies script place after others (answers ++ answer ∷ []) (text ++ more)
+TellsReplies-more script place after others [] answer text more all one = (more, [], one, refl, ap (λ (t : List ℕ). t ++ more) all ∙ sym (append-nil more))
+TellsReplies-more script place after others (first ∷ answers) answer text more all one = (
+  all.0,
+  all.1 ++ more,
+  all.2,
+  TellsReplies-more script place after others answers answer all.1 more all.3 one,
+  ap (λ (t : List ℕ). t ++ more) all.4 ∙ append_assoc all.0 all.1 more,
+)
 
 -- what is told of a script that is understood, by its lines
 pub told_understood : (input text : List ℕ) (script : ScriptLines) (commands : List ScriptCommand) (after : Desk) → IsUtf8 input → script ≡ script_lines_of (lines_of input)
