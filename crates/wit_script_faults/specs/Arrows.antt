@@ -82,13 +82,13 @@ after_part s _ = s
 
 -- where the lines after a line of this index stand
 abbrev pub after_said : Spot → ℕ → Statement → Spot
-after_said s index (says.Package name) = record { package = Some name; first = index; interface = None; world = None }
+after_said s index (says.Package name) = record { owner = Some name; first = index; interface = None; world = None }
 after_said s index (says.Line said gate) = after_part s said
 after_said s index _ = s
 
 -- the arrows of what a line says, and where the lines after it stand; a line that says nothing has none
 abbrev pub read_arrows : Features → ArrowSort → Spot → ℕ → Option (Option Statement) → List Arrow
-read_arrows features sort s index (Some (Some said)) = option_to_list (line_arrow features sort s index s.package said)
+read_arrows features sort s index (Some (Some said)) = option_to_list (line_arrow features sort s index s.owner said)
 read_arrows features sort s index _ = []
 
 abbrev pub after_read : Spot → ℕ → Option (Option Statement) → Spot
@@ -103,7 +103,7 @@ arrows_from features sort s index (line ∷ lines) =
 
 -- in no package
 abbrev pub no_spot : Spot
-no_spot = record { package = None; first = 0; interface = None; world = None }
+no_spot = record { owner = None; first = 0; interface = None; world = None }
 
 -- the first line of the packages that a command brings, or its own line, where it brings none
 abbrev pub coming_start : ScriptLines → CommandPlace → ℕ

@@ -1,5 +1,5 @@
 -- The way of a refusal: how what it names leads back to itself, or past what isn't exported to what is.
-use Rattle.std.specs.Prelude.{◌≡◌, ◌↔◌, ◌⊎◌, ⊥, ℕ, ◌||◌, not, Bool, true, false, List, [], ◌∷◌, ◌++◌, Contains, filter_map, slice_get, Option, None, Some, option_and_then, option_map, codes, flat_map, bytes_eq, if◌then◌else◌, MatchOption}
+use Rattle.std.specs.Prelude.{◌≡◌, ◌↔◌, ◌⊎◌, ℕ, ◌||◌, not, Bool, true, false, List, [], ◌∷◌, ◌++◌, Contains, filter_map, slice_get, Option, None, Some, option_and_then, option_map, codes, flat_map, bytes_eq, if◌then◌else◌, MatchOption}
 use Rattle.std.specs.List.{list_any}
 use Rattle.std.specs.Option.{option_map_or}
 use Rattle.wit_names.specs.PackageName.{package_name_text}
@@ -57,14 +57,20 @@ abbrev pub chosen_keys : Option Statement → Option (List (List ℕ))
 chosen_keys (Some (says.Request (Exportize owner world new keys))) = keys
 chosen_keys _ = None
 
--- the id of the world that a line begins, of the package that another begins
-abbrev pub world_by : Option Statement → Option Statement → Option (List ℕ)
-world_by (Some (says.Package p)) (Some (says.Line (part.World name) gate)) = Some (item_text p name)
-world_by _ _ = None
+-- the package that a line begins; the world that one begins
+abbrev pub package_of : Option Statement → Option PackageName
+package_of (Some (says.Package p)) = Some p
+package_of _ = None
+
+abbrev pub world_of : Option Statement → Option (List ℕ)
+world_of (Some (says.Line (part.World name) gate)) = Some name
+world_of _ = None
 
 -- the id of the world that stands at a span
 abbrev pub world_at : ScriptLines → TrackedGraph → Option (ℕ × ℕ) → Option (List ℕ)
-world_at script t span = option_and_then (λ (p : ℕ × List ℕ × ℕ). world_by (said_at script p.2) (said_at script p.0)) (span_place script t span)
+world_at script t span =
+    option_and_then (λ (p : ℕ × List ℕ × ℕ). option_and_then (λ owner. option_map (λ name. item_text owner name) (world_of (said_at script p.0))) (package_of (said_at script p.2)))
+    (span_place script t span)
 
 -- these names, and one more where it isn't among them
 abbrev pub with_name : List (List ℕ) → List ℕ → List (List ℕ)

@@ -38,7 +38,7 @@ pub enum ArrowSort {
 /// worlds, where it is in one.
 #[derive(Drop)]
 pub struct Spot {
-    pub package: Option<PackageName>,
+    pub owner: Option<PackageName>,
     pub first: usize,
     pub interface: Option<Text>,
     pub world: Option<Text>,
@@ -104,7 +104,7 @@ impl Spot {
         ensures { result ≡ no_spot }
     {
         Spot {
-            package: None,
+            owner: None,
             first: 0,
             interface: None,
             world: None,
@@ -144,7 +144,7 @@ impl Spot {
     {
         match said {
             Statement::Package(name) => {
-                self.package = Some(name);
+                self.owner = Some(name);
                 self.first = index;
                 self.interface = None;
                 self.world = None;
@@ -180,9 +180,9 @@ impl Spot {
         index: usize,
         said: &Statement,
     ) -> Result<Option<Arrow>, AllocError>
-        ensures { IfOk result (λ arrow. arrow ≡ line_arrow features.now sort self.now index self.now.package said.now) }
+        ensures { IfOk result (λ arrow. arrow ≡ line_arrow features.now sort self.now index self.now.owner said.now) }
     {
-        match (&self.package, said) {
+        match (&self.owner, said) {
             (Some(package), Statement::Line { said, gate }) => {
                 let on = is_active(features, gate);
                 let Some((from, to)) = self.ends(alloc, package, on, sort, said)? else {

@@ -1,9 +1,9 @@
 //! The way of a refusal: how what it names leads back to itself, or past what isn't exported to what is.
-ghost use Rattle.std.specs.Prelude.{◌≡◌, ⊥, ℕ, IfOk, List, [], MatchOption, filter_map, string_bytes};
+ghost use Rattle.std.specs.Prelude.{◌≡◌, ℕ, IfOk, List, [], MatchOption, filter_map, string_bytes};
 ghost use Rattle.std.specs.List.{flat_map};
 ghost use Rattle.wit_names.specs.PackageName.{package_name_text};
 ghost use Rattle.wit_script_faults.specs.Arrows.{coming_arrows};
-ghost use Rattle.wit_script_faults.specs.Ways.{AreExported, AreExports, IsRound, IsTold, chosen_keys, cycle_text, export_of, known_uses, line_text, said_at, step_text, way_text, with_names, world_at, world_by};
+ghost use Rattle.wit_script_faults.specs.Ways.{AreExported, AreExports, IsRound, IsTold, chosen_keys, cycle_text, export_of, known_uses, line_text, package_of, said_at, step_text, way_text, with_names, world_at, world_of};
 ghost use Rattle.wit_script_faults.specs.declared.arrow.ArrowSort.TheVariants as sort;
 
 use crate::arrow::{Arrow, ArrowSort, coming_arrows, id_text, package_text};
@@ -216,28 +216,35 @@ fn world_at(
     let Some((index, _, first)) = span_place(script, tracked, span) else {
         return Ok(None);
     };
-    let package = said_at(alloc, script, first)?;
-    let world = said_at(alloc, script, index)?;
-    world_by(alloc, package, world)
+    let Some(package) = package_of(said_at(alloc, script, first)?) else {
+        return Ok(None);
+    };
+    let Some(name) = world_of(said_at(alloc, script, index)?) else {
+        return Ok(None);
+    };
+    Ok(Some(id_text(alloc, &package, &name)?))
 }
 
-/// The id of the world that a line begins, of the package that another begins.
-fn world_by(
-    alloc: Global,
-    package: Option<Statement>,
-    world: Option<Statement>,
-) -> Result<Option<Text>, AllocError>
-    ensures { IfOk result (λ id. id ≡ world_by «package» world) }
+/// The package that a line begins.
+fn package_of(said: Option<Statement>) -> Option<PackageName>
+    ensures { result ≡ package_of said }
 {
-    match (&package, &world) {
-        (
-            Some(Statement::Package(package)),
-            Some(Statement::Line {
-                said: PackageLine::World(name),
-                ..
-            }),
-        ) => Ok(Some(id_text(alloc, package, name)?)),
-        _ => Ok(None),
+    match said {
+        Some(Statement::Package(name)) => Some(name),
+        _ => None,
+    }
+}
+
+/// The world that a line begins.
+fn world_of(said: Option<Statement>) -> Option<Text>
+    ensures { result ≡ world_of said }
+{
+    match said {
+        Some(Statement::Line {
+            said: PackageLine::World(name),
+            ..
+        }) => Some(name),
+        _ => None,
     }
 }
 

@@ -1,5 +1,5 @@
 //! Ways along arrows, from a name to one of some goals.
-ghost use Rattle.std.specs.Prelude.{◌≡◌, ◌<◌, ⊥, ℕ, ◌||◌, not, Bool, true, None, List, [], Contains, IfNone, IfOk, IfSome, OnOk, Some, bytes_eq, length, slice_get};
+ghost use Rattle.std.specs.Prelude.{◌≡◌, ◌<◌, ℕ, ◌||◌, not, Bool, true, None, List, [], Contains, IfNone, IfOk, IfSome, OnOk, Some, bytes_eq, length, slice_get};
 ghost use Rattle.std.specs.Map.{lookup};
 ghost use Rattle.wit_script_faults.specs.Ways.{AreIncluded, IsChosen, IsWay, is_among};
 ghost use Rattle.wit_script_faults.specs.steps.Searching.{GoesOn, IsAt, IsClosed, IsIndexOf, IsSearched, IsSearching};

@@ -1,5 +1,5 @@
 -- The search for a way: what it has reached, and how it goes on.
-use Rattle.std.specs.Prelude.{◌≡◌, ⊥, ℕ, zero, suc, ◌+◌, ◌<◌, ◌≤◌, ◌||◌, not, Bool, true, false, List, [], ◌∷◌, ◌++◌, length, slice_get, Contains, count_by, Option, None, Some, IfSome, bytes_eq, if◌then◌else◌}
+use Rattle.std.specs.Prelude.{◌≡◌, ℕ, zero, suc, ◌+◌, ◌<◌, ◌≤◌, ◌||◌, not, Bool, true, false, List, [], ◌∷◌, ◌++◌, length, slice_get, Contains, count_by, Option, None, Some, IfSome, bytes_eq, if◌then◌else◌}
 use Rattle.std.specs.Map.{lookup}
 use Rattle.wit_script_faults.specs.Ways.{is_among}
 use Rattle.wit_script_faults.specs.declared.arrow.Arrow.{Arrow}
@@ -10,7 +10,7 @@ use Rattle.wit_script_faults.specs.declared.way.Search.{Search}
 -- an arrow begins at a name
 abbrev pub begins_at : Option Arrow → List ℕ → Bool
 begins_at None name = false
-begins_at (Some a) name = bytes_eq name a.from
+begins_at (Some a) name = bytes_eq a.from name
 
 -- the last of the first so many arrows that begins at a name
 abbrev pub last_from : List Arrow → List ℕ → ℕ → Option ℕ

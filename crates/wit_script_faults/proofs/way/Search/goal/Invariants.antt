@@ -1,4 +1,4 @@
-use Rattle.std.proofs.Common.{◌≡◌, ◌<◌, ⊥, ℕ, Some, true}
+use Rattle.std.proofs.Common.{◌≡◌, ◌<◌, ℕ, Some, true}
 use Rattle.std.specs.Prelude.{slice_get}
 use Rattle.wit_script_faults.specs.Ways.{is_among}
 use Rattle.wit_script_faults.specs.declared.arrow.Arrow.{Arrow}
