@@ -9,6 +9,7 @@ use Rattle.wit_graph_data.specs.declared.cause.Cause.TheVariants.{InterfaceCycle
 use Rattle.wit_graph_data.specs.declared.error_kind.ResolveErrorKind.{ResolveErrorKind}
 use Rattle.wit_graph_data.specs.declared.error_kind.ResolveErrorKind.TheVariants.{InvalidTransitiveDependency, PackageCycle, Semantic}
 use Rattle.wit_script_lines.specs.Statement.{statement_of}
+use Rattle.wit_script_lines.specs.declared.package_line.PackageLine.{PackageLine}
 use Rattle.wit_script_lines.specs.declared.package_line.PackageLine.TheVariants as part
 use Rattle.wit_script_lines.specs.declared.request.Request.TheVariants.{Exportize}
 use Rattle.wit_script_lines.specs.declared.statement.Statement.{Statement}
@@ -62,8 +63,12 @@ abbrev pub package_of : Option Statement → Option PackageName
 package_of (Some (says.Package p)) = Some p
 package_of _ = None
 
+abbrev pub world_in : PackageLine → Option (List ℕ)
+world_in (part.World name) = Some name
+world_in _ = None
+
 abbrev pub world_of : Option Statement → Option (List ℕ)
-world_of (Some (says.Line (part.World name) gate)) = Some name
+world_of (Some (says.Line said gate)) = world_in said
 world_of _ = None
 
 -- the id of the world that stands at a span

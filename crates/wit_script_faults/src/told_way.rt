@@ -3,7 +3,7 @@ ghost use Rattle.std.specs.Prelude.{◌≡◌, ℕ, IfOk, List, [], MatchOption,
 ghost use Rattle.std.specs.List.{flat_map};
 ghost use Rattle.wit_names.specs.PackageName.{package_name_text};
 ghost use Rattle.wit_script_faults.specs.Arrows.{coming_arrows};
-ghost use Rattle.wit_script_faults.specs.Ways.{AreExported, AreExports, IsRound, IsTold, chosen_keys, cycle_text, export_of, known_uses, line_text, package_of, said_at, step_text, way_text, with_names, world_at, world_of};
+ghost use Rattle.wit_script_faults.specs.Ways.{AreExported, AreExports, IsRound, IsTold, chosen_keys, cycle_text, export_of, known_uses, line_text, package_of, said_at, step_text, way_text, with_names, world_at, world_in, world_of};
 ghost use Rattle.wit_script_faults.specs.declared.arrow.ArrowSort.TheVariants as sort;
 
 use crate::arrow::{Arrow, ArrowSort, coming_arrows, id_text, package_text};
@@ -240,10 +240,17 @@ fn world_of(said: Option<Statement>) -> Option<Text>
     ensures { result ≡ world_of said }
 {
     match said {
-        Some(Statement::Line {
-            said: PackageLine::World(name),
-            ..
-        }) => Some(name),
+        Some(Statement::Line { said, .. }) => world_in(said),
+        _ => None,
+    }
+}
+
+/// The world that a line of a package begins.
+fn world_in(said: PackageLine) -> Option<Text>
+    ensures { result ≡ world_in said }
+{
+    match said {
+        PackageLine::World(name) => Some(name),
         _ => None,
     }
 }
