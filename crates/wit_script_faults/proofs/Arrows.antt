@@ -12,7 +12,9 @@ use Rattle.wit_script_faults.specs.declared.arrow.Spot.{Spot}
 pub drop_next : {X : Type 0} (xs : List X) (i : ℕ) (x : X) → slice_get xs i ≡ Some x → drop i xs ≡ x ∷ drop (i + 1) xs
 drop_next [] i x there = cc
 drop_next (y ∷ xs) zero x there = let same : y ≡ x = cc in ap (λ z. z ∷ xs) same
-drop_next (y ∷ xs) (suc i) x there = drop_next xs i x there
+drop_next (y ∷ xs) (suc i) x there =
+    let more : suc (i + 1) ≡ suc i + 1 = omega arith in
+    drop_next xs i x there ∙ ap (λ (k : ℕ). x ∷ drop k (y ∷ xs)) more
 
 pub drop_none : {X : Type 0} (xs : List X) (i : ℕ) → slice_get xs i ≡ None → drop i xs ≡ []
 drop_none [] zero none = refl
