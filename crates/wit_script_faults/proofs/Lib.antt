@@ -1,5 +1,6 @@
 pub mod Arrows
 pub mod CommandLines
+pub mod CycleNames
 pub mod Explained
 pub mod Placed
 pub mod Reasons
