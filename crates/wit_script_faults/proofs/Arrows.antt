@@ -16,6 +16,14 @@ drop_next (y ∷ xs) (suc i) x there =
     let more : suc (i + 1) ≡ suc i + 1 = omega arith in
     drop_next xs i x there ∙ ap (λ (k : ℕ). x ∷ drop k (y ∷ xs)) more
 
+-- one more of the first
+pub take_next : {X : Type 0} (xs : List X) (i : ℕ) (x : X) → slice_get xs i ≡ Some x → take (i + 1) xs ≡ take i xs ++ x ∷ []
+take_next [] i x there = cc
+take_next (y ∷ xs) zero x there = let same : y ≡ x = cc in ap (λ z. z ∷ []) same
+take_next (y ∷ xs) (suc i) x there =
+    let more : suc i + 1 ≡ suc (i + 1) = omega arith in
+    ap (λ (k : ℕ). take k (y ∷ xs)) more ∙ ap (λ ys. y ∷ ys) (take_next xs i x there)
+
 pub drop_none : {X : Type 0} (xs : List X) (i : ℕ) → slice_get xs i ≡ None → drop i xs ≡ []
 drop_none [] zero none = refl
 drop_none [] (suc i) none = refl

@@ -17,5 +17,6 @@ returns c =
     told,
     c.in_ok-format.ensures.ok ∙ ap (λ (n : ℕ). told_text n (kind_text kind) (string_bytes c.in_ok-places.places) (string_bytes c.in_ok-shown.shown)) c.number-number.ensures
     ∙ ap (λ t. told_text (error_number kind) (kind_text kind) t (string_bytes c.in_ok-shown.shown)) places
-    ∙ ap (told_text (error_number kind) (kind_text kind) (places_text c.args.script.now c.args.place.now c.args.tracked.now kind)) c.in_ok-shown.ensures,
+    ∙ ap (told_text (error_number kind) (kind_text kind) (places_text c.args.script.now c.args.place.now c.args.tracked.now kind))
+    (c.in_ok-shown.ensures ∙ ap (way_text c.args.script.now) c.as_slice.ensures),
     )
