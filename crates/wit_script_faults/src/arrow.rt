@@ -276,11 +276,7 @@ fn path_of(said: &PackageLine) -> Option<&ParsedUsePath>
 }
 
 /// What a path of a package names.
-fn path_text(
-    alloc: Global,
-    package: &PackageName,
-    path: &ParsedUsePath,
-) -> Result<Text, AllocError>
+fn path_text(alloc: Global, package: &PackageName, path: &ParsedUsePath) -> Result<Text, AllocError>
     ensures { IfOk result (λ text. text ≡ path_text «package».now path.now) }
 {
     match path {

@@ -129,7 +129,9 @@ fn add_exports(
     let Some(owner) = world.package else {
         return Ok(());
     };
-    let from = tracked.resolve.id_of_name(alloc, owner, world.name.as_str())?;
+    let from = tracked
+        .resolve
+        .id_of_name(alloc, owner, world.name.as_str())?;
     for (key, _) in world.exports.iter() {
         if let Some(arrow) = export_arrow(alloc, tracked, from.as_str(), key)? {
             arrows.push(arrow)?;

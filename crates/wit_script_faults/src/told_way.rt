@@ -274,11 +274,7 @@ fn said_at(
 }
 
 /// `way: A -> B -> .. -> C` and the line of each step, or nothing where there is no way.
-pub fn way_text(
-    alloc: Global,
-    script: &ScriptLines,
-    way: &[Arrow],
-) -> Result<String, AllocError>
+pub fn way_text(alloc: Global, script: &ScriptLines, way: &[Arrow]) -> Result<String, AllocError>
     ensures { IfOk result (λ text. string_bytes text ≡ way_text script.now way.now) }
 {
     let Some((first, _)) = way.split_first() else {
