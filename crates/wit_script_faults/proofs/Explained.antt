@@ -1,8 +1,8 @@
 -- Refusals that are told, one after another.
-use Rattle.std.proofs.Common.{◌≡◌, ℕ, List, [], ◌∷◌, ◌++◌, Option, Some, Result, Ok, Err, String, string_bytes, refl, sym, ap, ◌∙◌, subst, append_assoc}
-use Rattle.std.specs.Prelude.{IfOk, IsUtf8}
+use Rattle.std.proofs.Common.{◌≡◌, ◌≤◌, ◌+◌, ℕ, List, [], ◌∷◌, ◌++◌, Option, Some, Result, Ok, Err, String, string_bytes, length, take, refl, sym, ap, ◌∙◌, subst, append_assoc}
+use Rattle.std.specs.Prelude.{IfOk, IsUtf8, slice_get}
 use Rattle.std.specs.declared.alloc.Global.{Global}
-use Rattle.std.proofs.lemmas.List.{append-nil}
+use Rattle.std.proofs.lemmas.List.{append-nil, take_all}
 use Rattle.wit_names.specs.declared.package_name.PackageName.{PackageName}
 use Rattle.wit_graph_data.specs.declared.error_kind.ResolveErrorKind.{ResolveErrorKind}
 use Rattle.wit_graph_data.specs.Named.{package_named}
@@ -17,11 +17,14 @@ use Rattle.wit_script_faults.specs.Desk.{new_desk}
 use Rattle.wit_script_faults.specs.Explained.{ExplainsAction, ExplainsAll, ExplainsCommand, ExplainsMisread, ExplainsScript, ExplainsSelect, place_of, rest_of}
 use Rattle.wit_script_faults.specs.Lines.{script_lines_of}
 use Rattle.wit_script_faults.specs.Misread.{IsMisreadText}
-use Rattle.wit_script_faults.specs.Refusals.{refusal_text}
+use Rattle.wit_script_faults.specs.Refusals.{TellsRefusal, TellsReplies, TellsReply}
+use Rattle.wit_script_faults.specs.declared.arrow.Arrow.{Arrow}
+use Rattle.wit_resolve_graph.specs.declared.command.Reply.{Reply}
 use Rattle.wit_script_faults.specs.declared.desk.Desk.{Desk}
 use Rattle.wit_script_faults.specs.declared.desk.TrackedGraph.{TrackedGraph}
 use Rattle.wit_script_faults.specs.declared.lines.CommandPlace.{CommandPlace}
 use Rattle.wit_script_faults.specs.declared.lines.ScriptLines.{ScriptLines}
+use Rattle.wit_script_faults.proofs.Arrows.{take_next}
 
 -- the places that are left after some commands
 abbrev pub rest_after : List CommandPlace → List ScriptCommand → List CommandPlace
@@ -66,9 +69,34 @@ module _ (script : ScriptLines) where
   -- a choice that is refused, of a package that is there
   pub select-refused : {E : Type 0} (place : CommandPlace) (tracked : TrackedGraph) (owner : PackageName) (text : Option (List ℕ)) (id : ℕ) (kind : ResolveErrorKind) (told : Result (String Global) E)
       → package_named tracked.resolve.graph owner ≡ Some id → IsChoice tracked.resolve.graph id text (Err kind)
-      → IfOk told (λ out. string_bytes out ≡ refusal_text script place tracked kind) → IfOk told (λ out. ExplainsSelect script place tracked owner text (string_bytes out))
+      → IfOk told (λ out. TellsRefusal script place tracked [] kind (string_bytes out)) → IfOk told (λ out. ExplainsSelect script place tracked owner text (string_bytes out))
   select-refused place tracked owner text id kind (Ok out) there refused said = rw there (Err kind, refused, said)
   select-refused place tracked owner text id kind (Err e) there refused said = tt
+
+-- one more reply
+pub TellsReplies-more : (script : ScriptLines) (place : CommandPlace) (after : TrackedGraph) (others : List Arrow) (answers : List Reply) (answer : Reply) (text more : List ℕ)
+    → TellsReplies script place after others answers text → TellsReply script place after others answer more → TellsReplies script place after others (answers ++ answer ∷ []) (text ++ more)
+TellsReplies-more script place after others [] answer text more all one = (more, [], one, refl, ap (λ (t : List ℕ). t ++ more) all ∙ sym (append-nil more))
+TellsReplies-more script place after others (first ∷ answers) answer text more all one = (
+  all.0,
+  all.1 ++ more,
+  all.2,
+  TellsReplies-more script place after others answers answer all.1 more all.3 one,
+  ap (λ (t : List ℕ). t ++ more) all.4 ∙ append_assoc all.0 all.1 more,
+)
+
+-- of the replies up to one, and that one
+pub told_next : (script : ScriptLines) (place : CommandPlace) (after : TrackedGraph) (others : List Arrow) (replies : List Reply) (k : ℕ) (reply : Reply) (text more longer : List ℕ)
+    → slice_get replies k ≡ Some reply → TellsReplies script place after others (take k replies) text → TellsReply script place after others reply more
+    → longer ≡ text ++ more → TellsReplies script place after others (take (k + 1) replies) longer
+told_next script place after others replies k reply text more longer there so_far one is =
+    subst (λ (rs : List Reply). TellsReplies script place after others rs longer) (sym (take_next replies k reply there))
+    (subst (TellsReplies script place after others (take k replies ++ reply ∷ [])) (sym is) (TellsReplies-more script place after others (take k replies) reply text more so_far one))
+
+-- of all replies
+pub told_all : (script : ScriptLines) (place : CommandPlace) (after : TrackedGraph) (others : List Arrow) (replies : List Reply) (k : ℕ) (text : List ℕ)
+    → length replies ≤ k → TellsReplies script place after others (take k replies) text → TellsReplies script place after others replies text
+told_all script place after others replies k text past so_far = subst (λ (rs : List Reply). TellsReplies script place after others rs text) (take_all k replies past) so_far
 
 -- what is told of a script that is understood, by its lines
 pub told_understood : (input text : List ℕ) (script : ScriptLines) (commands : List ScriptCommand) (after : Desk) → IsUtf8 input → script ≡ script_lines_of (lines_of input)

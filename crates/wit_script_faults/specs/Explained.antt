@@ -1,5 +1,5 @@
 -- What is told of a script: its refusals, each with the lines at which it is, or the line at which it isn't understood.
-use Rattle.std.specs.Prelude.{◌≡◌, ℕ, Bool, true, false, List, [], ◌∷◌, ◌++◌, length, Option, None, Some, Result, Ok, Err, MatchOption, flat_map, IsUtf8}
+use Rattle.std.specs.Prelude.{◌≡◌, ℕ, Bool, true, false, List, [], ◌∷◌, ◌++◌, length, Option, None, Some, Result, Ok, Err, MatchOption, IsUtf8}
 use Rattle.wit_names.specs.declared.package_name.PackageName.{PackageName}
 use Rattle.wit_graph_data.specs.Named.{package_named}
 use Rattle.wit_graph_data.specs.declared.error_kind.ResolveErrorKind.{ResolveErrorKind}
@@ -18,40 +18,42 @@ use Rattle.wit_script_lines.specs.Line.{lines_of}
 use Rattle.wit_script_faults.specs.Desk.{coming_packages, new_desk, new_tracked, only_first, tracked_after, with_working, working}
 use Rattle.wit_script_faults.specs.Lines.{script_lines_of}
 use Rattle.wit_script_faults.specs.Misread.{IsMisreadText}
-use Rattle.wit_script_faults.specs.Refusals.{refusal_text, reply_text, unless_refused}
+use Rattle.wit_script_faults.specs.Arrows.{uses_in}
+use Rattle.wit_script_faults.specs.Refusals.{TellsRefusal, TellsReplies, unless_refused}
+use Rattle.wit_script_faults.specs.declared.arrow.Arrow.{Arrow}
 use Rattle.wit_script_faults.specs.declared.desk.Desk.{Desk}
 use Rattle.wit_script_faults.specs.declared.desk.TrackedGraph.{TrackedGraph}
 use Rattle.wit_script_faults.specs.declared.lines.CommandPlace.{CommandPlace}
 use Rattle.wit_script_faults.specs.declared.lines.ScriptLines.{ScriptLines}
 
 -- a run of one command whose files, where it brings any, begin with these lines, and the packages that it brings with those;
--- and what is told of its replies
-abbrev pub ExplainsRun : ScriptLines → CommandPlace → TrackedGraph → Command → List ℕ → List ℕ → List ℕ → TrackedGraph → Type 0
-ExplainsRun script place before command coming brought text after =
+-- and what is told of its replies, where these are the uses of a graph that it brings
+abbrev pub ExplainsRun : ScriptLines → CommandPlace → TrackedGraph → Command → List ℕ → List ℕ → List Arrow → List ℕ → TrackedGraph → Type 0
+ExplainsRun script place before command coming brought others text after =
     (replies : List Reply) × (new : State) × Run before.resolve (command ∷ []) replies new
     × (after ≡ tracked_after before new coming (unless_refused replies brought))
-    × (text ≡ flat_map (reply_text script place after) replies)
+    × TellsReplies script place after others replies text
 
 -- a run of one command on the graph on which commands work
 abbrev pub ExplainsWork : ScriptLines → CommandPlace → Desk → Command → List ℕ → Desk → Type 0
 ExplainsWork script place before command text after =
-    (new : TrackedGraph) × ExplainsRun script place (working before) command (coming_packages script place) (coming_packages script place) text new × (after ≡ with_working before new)
+    (new : TrackedGraph) × ExplainsRun script place (working before) command (coming_packages script place) (coming_packages script place) [] text new × (after ≡ with_working before new)
 
 -- `merge`: the second graph goes into the first, and is no longer there
 abbrev pub ExplainsMerge : ScriptLines → CommandPlace → Desk → Option TrackedGraph → List ℕ → Desk → Type 0
 ExplainsMerge script place before None text after = (text ≡ []) × (after ≡ before)
 ExplainsMerge script place before (Some second) text after =
-    (new : TrackedGraph) × ExplainsRun script place before.first (Merge second.resolve) second.file_starts second.package_starts text new × (after ≡ only_first new)
+    (new : TrackedGraph) × ExplainsRun script place before.first (Merge second.resolve) second.file_starts second.package_starts (uses_in script second) text new × (after ≡ only_first new)
 
 -- what is told of a choice of a world
-abbrev pub choice_text : ScriptLines → CommandPlace → TrackedGraph → Result ℕ ResolveErrorKind → List ℕ
-choice_text script place tracked (Ok world) = []
-choice_text script place tracked (Err kind) = refusal_text script place tracked kind
+abbrev pub TellsChoice : ScriptLines → CommandPlace → TrackedGraph → Result ℕ ResolveErrorKind → List ℕ → Type 0
+TellsChoice script place tracked (Ok world) text = text ≡ []
+TellsChoice script place tracked (Err kind) text = TellsRefusal script place tracked [] kind text
 
 -- `select`: a choice that may be made of a package; nothing where the package isn't there
 abbrev pub ExplainsSelect : ScriptLines → CommandPlace → TrackedGraph → PackageName → Option (List ℕ) → List ℕ → Type 0
 ExplainsSelect script place tracked owner said text =
-    MatchOption (package_named tracked.resolve.graph owner) (text ≡ []) (λ id. (choice : Result ℕ ResolveErrorKind) × IsChoice tracked.resolve.graph id said choice × (text ≡ choice_text script place tracked choice))
+    MatchOption (package_named tracked.resolve.graph owner) (text ≡ []) (λ id. (choice : Result ℕ ResolveErrorKind) × IsChoice tracked.resolve.graph id said choice × TellsChoice script place tracked choice text)
 
 -- what is told of what a command does that pushes nothing, and the desk after it
 abbrev pub ExplainsAction : ScriptLines → CommandPlace → Desk → Action → List ℕ → Desk → Type 0

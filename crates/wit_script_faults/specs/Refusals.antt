@@ -1,5 +1,5 @@
--- What is told of a refusal: its text, the lines at which it is, and where more is said of its number.
-use Rattle.std.specs.Prelude.{ℕ, ◌||◌, ◌==◌, not, Bool, true, false, List, [], ◌++◌, length, Option, Some, None, codes, decimal, if◌then◌else◌}
+-- What is told of a refusal: its text, the lines at which it is, its way, and where more is said of its number.
+use Rattle.std.specs.Prelude.{◌≡◌, ℕ, ◌||◌, ◌==◌, not, Bool, true, false, List, [], ◌∷◌, ◌++◌, length, Option, Some, None, codes, decimal, if◌then◌else◌}
 use Rattle.std.specs.List.{list_any}
 use Rattle.std.specs.Option.{option_map_or}
 use Rattle.wit_graph_data.specs.Error.{error_number, error_span}
@@ -12,6 +12,8 @@ use Rattle.wit_resolve_graph.specs.declared.command.Reply.{Reply}
 use Rattle.wit_resolve_graph.specs.declared.command.Reply.TheVariants as reply
 use Rattle.wit_script_faults.specs.Places.{defined_line, span_place}
 use Rattle.wit_script_faults.specs.Shown.{command_text, place_text}
+use Rattle.wit_script_faults.specs.Ways.{IsTold, way_text}
+use Rattle.wit_script_faults.specs.declared.arrow.Arrow.{Arrow}
 use Rattle.wit_script_faults.specs.declared.desk.TrackedGraph.{TrackedGraph}
 use Rattle.wit_script_faults.specs.declared.lines.CommandPlace.{CommandPlace}
 use Rattle.wit_script_faults.specs.declared.lines.ScriptLines.{ScriptLines}
@@ -39,19 +41,28 @@ with_command script place named = if not place.is_push || (length named == 0) th
 abbrev pub places_text : ScriptLines → CommandPlace → TrackedGraph → ResolveErrorKind → List ℕ
 places_text script place tracked kind = with_command script place (spans_text script tracked kind)
 
--- `refused N TEXT`, the lines at which it is, and the document that says more of N
-abbrev pub told_text : ℕ → List ℕ → List ℕ → List ℕ
-told_text number text places =
-    codes "refused " ++ (decimal number ++ (codes " " ++ (text ++ (codes "\n" ++ (places ++ (codes "      = " ++ (decimal number ++ codes " in docs/REFUSALS.md\n")))))))
+-- `refused N TEXT`, the lines at which it is, its way, and the document that says more of N
+abbrev pub told_text : ℕ → List ℕ → List ℕ → List ℕ → List ℕ
+told_text number text places way =
+    codes "refused " ++ (decimal number ++ (codes " " ++ (text ++ (codes "\n" ++ (places ++ (way ++ (codes "      = " ++ (decimal number ++ codes " in docs/REFUSALS.md\n"))))))))
 
--- what is told of a refusal, N being its number
-abbrev pub refusal_text : ScriptLines → CommandPlace → TrackedGraph → ResolveErrorKind → List ℕ
-refusal_text script place tracked kind = told_text (error_number kind) (kind_text kind) (places_text script place tracked kind)
+-- what is told of a refusal with a way, N being its number
+abbrev pub refusal_text : ScriptLines → CommandPlace → TrackedGraph → List Arrow → ResolveErrorKind → List ℕ
+refusal_text script place tracked way kind = told_text (error_number kind) (kind_text kind) (places_text script place tracked kind) (way_text script way)
+
+-- what is told of a refusal, where these are the uses of a graph that was to come
+abbrev pub TellsRefusal : ScriptLines → CommandPlace → TrackedGraph → List Arrow → ResolveErrorKind → List ℕ → Type 0
+TellsRefusal script place tracked others kind text = (way : List Arrow) × IsTold script place tracked others kind way × (text ≡ refusal_text script place tracked way kind)
 
 -- what is told of a reply, in the state after it
-abbrev pub reply_text : ScriptLines → CommandPlace → TrackedGraph → Reply → List ℕ
-reply_text script place after (reply.Refused kind) = refusal_text script place after kind
-reply_text script place after _ = []
+abbrev pub TellsReply : ScriptLines → CommandPlace → TrackedGraph → List Arrow → Reply → List ℕ → Type 0
+TellsReply script place after others (reply.Refused kind) text = TellsRefusal script place after others kind text
+TellsReply script place after others _ text = text ≡ []
+
+abbrev pub TellsReplies : ScriptLines → CommandPlace → TrackedGraph → List Arrow → List Reply → List ℕ → Type 0
+TellsReplies script place after others [] text = text ≡ []
+TellsReplies script place after others (answer ∷ answers) text =
+    (first : List ℕ) × (rest : List ℕ) × TellsReply script place after others answer first × TellsReplies script place after others answers rest × (text ≡ first ++ rest)
 
 abbrev pub is_refusal : Reply → Bool
 is_refusal (reply.Refused kind) = true

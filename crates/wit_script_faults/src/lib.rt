@@ -5,9 +5,11 @@
 //! which go into the files of packages.
 #![tactic(auto)]
 
+mod arrow;
 mod context;
 mod culprit;
 mod desk;
+mod graph_arrow;
 pub mod laws;
 mod lines;
 mod misread;
@@ -16,6 +18,8 @@ mod place;
 mod reason;
 mod refusals;
 mod shown;
+mod told_way;
+mod way;
 mod word_reason;
 
 pub use crate::lines::{CommandPlace, ScriptLines, script_lines};

@@ -1,20 +1,23 @@
 //! The refusals of a script, each with the lines at which it is, and a script that isn't understood.
 ghost use Rattle.std.specs.Prelude.{◌≡◌, IfErr, IfOk, Err, Ok, string_bytes};
-ghost use Rattle.std.specs.List.{flat_map, list_any};
+ghost use Rattle.std.specs.List.{list_any};
 ghost use Rattle.wit_resolve_graph.specs.Step.{IsCommandShaped};
 ghost use Rattle.wit_script.specs.Answer.{IsActionShaped, IsChoice};
 ghost use Rattle.wit_script_faults.specs.Desk.{new_desk};
 ghost use Rattle.wit_script_faults.specs.Explained.{Explains, ExplainsAction, ExplainsAll, ExplainsCommand, ExplainsMerge, ExplainsRun, ExplainsSelect, ExplainsWork, place_of, rest_of};
 ghost use Rattle.wit_script_faults.specs.Misread.{IsMisreadText};
-ghost use Rattle.wit_script_faults.specs.Refusals.{is_refusal, other_text, places_text, refusal_text, reply_text, span_text, spans_text, unless_refused};
+ghost use Rattle.wit_script_faults.specs.Refusals.{TellsRefusal, TellsReplies, TellsReply, is_refusal, other_text, places_text, span_text, spans_text, unless_refused};
 ghost use Rattle.wit_script_faults.specs.declared.desk.Desk.{Desk};
 
+use crate::arrow::Arrow;
 use crate::culprit::fault_index;
 use crate::desk::{Desk, TrackedGraph, coming_packages};
+use crate::graph_arrow::uses_in;
 use crate::lines::{CommandPlace, ScriptLines, script_lines};
 use crate::misread::misread_text;
 use crate::place::{defined_line, span_place};
 use crate::shown::{command_text, place_text};
+use crate::told_way::{way_of, way_text};
 use std::alloc::{AllocError, Global};
 use wit_data::Span;
 use wit_resolve_graph::{
@@ -147,7 +150,7 @@ fn work(
 {
     let coming = coming_packages(script, place);
     match &mut desk.second {
-        Some(second) => carry_out(alloc, script, place, second, command, coming, coming),
+        Some(second) => carry_out(alloc, script, place, second, command, coming, coming, &[]),
         None => carry_out(
             alloc,
             script,
@@ -156,6 +159,7 @@ fn work(
             command,
             coming,
             coming,
+            &[],
         ),
     }
 }
@@ -172,6 +176,7 @@ fn merge(
     let Some(second) = desk.second.take() else {
         return Ok(String::new(alloc));
     };
+    let others = uses_in(alloc, script, &second)?;
     let TrackedGraph {
         resolve,
         file_starts,
@@ -187,11 +192,12 @@ fn merge(
         command,
         file_starts,
         package_starts,
+        others.as_slice(),
     )
 }
 
 /// Carries out a command, and answers its refusal, or an empty text. The files that come begin with these lines, and the
-/// packages that come with those.
+/// packages that come with those; a graph that comes has these uses.
 fn carry_out(
     alloc: Global,
     script: &ScriptLines,
@@ -200,15 +206,16 @@ fn carry_out(
     command: Command,
     coming: &[usize],
     brought: &[usize],
+    others: &[Arrow],
 ) -> ResolveResult<String>
     requires { IsCommandShaped command }
-    ensures { IfOk result (λ text. ExplainsRun script.now place.now tracked.old command coming.now brought.now (string_bytes text) tracked.new) }
+    ensures { IfOk result (λ text. ExplainsRun script.now place.now tracked.old command coming.now brought.now others.now (string_bytes text) tracked.new) }
 {
     let mut commands = Items::new(alloc);
     commands.push(command)?;
     let replies = run(alloc, &mut tracked.resolve, commands.into_vec())?;
     tracked.track(coming, unless_refused(&replies, brought))?;
-    replies_text(alloc, script, place, tracked, &replies)
+    replies_text(alloc, script, place, tracked, others, &replies)
 }
 
 /// These, unless a reply is a refusal.
@@ -241,13 +248,14 @@ fn replies_text(
     script: &ScriptLines,
     place: &CommandPlace,
     tracked: &TrackedGraph,
+    others: &[Arrow],
     replies: &[Reply],
 ) -> ResolveResult<String>
-    ensures { IfOk result (λ text. string_bytes text ≡ flat_map (reply_text script.now place.now tracked.now) replies.now) }
+    ensures { IfOk result (λ text. TellsReplies script.now place.now tracked.now others.now replies.now (string_bytes text)) }
 {
     let mut text = String::new(alloc);
     for reply in replies {
-        let shown = reply_text(alloc, script, place, tracked, reply)?;
+        let shown = reply_text(alloc, script, place, tracked, others, reply)?;
         text.push_str(&shown)?;
     }
     Ok(text)
@@ -259,30 +267,35 @@ fn reply_text(
     script: &ScriptLines,
     place: &CommandPlace,
     tracked: &TrackedGraph,
+    others: &[Arrow],
     reply: &Reply,
 ) -> ResolveResult<String>
-    ensures { IfOk result (λ text. string_bytes text ≡ reply_text script.now place.now tracked.now reply.now) }
+    ensures { IfOk result (λ text. TellsReply script.now place.now tracked.now others.now reply.now (string_bytes text)) }
 {
     match reply {
-        Reply::Refused(refusal) => refusal_text(alloc, script, place, tracked, refusal),
+        Reply::Refused(refusal) => refusal_text(alloc, script, place, tracked, others, refusal),
         _ => Ok(String::new(alloc)),
     }
 }
 
-/// `refused N TEXT`, N being the number of the refusal, the lines at which it is, and where more is said of N.
+/// `refused N TEXT`, N being the number of the refusal, the lines at which it is, its way, and where more is said of N.
 fn refusal_text(
     alloc: Global,
     script: &ScriptLines,
     place: &CommandPlace,
     tracked: &TrackedGraph,
+    others: &[Arrow],
     refusal: &ResolveError,
 ) -> ResolveResult<String>
-    ensures { IfOk result (λ text. string_bytes text ≡ refusal_text script.now place.now tracked.now refusal.now) }
+    ensures { IfOk result (λ text. TellsRefusal script.now place.now tracked.now others.now refusal.now (string_bytes text)) }
 {
     let number = refusal.number();
-    let places = places_text(alloc, script, place, tracked, refusal.kind())?;
+    let kind = refusal.kind();
+    let places = places_text(alloc, script, place, tracked, kind)?;
+    let way = way_of(alloc, script, place, tracked, others, kind)?;
+    let shown = way_text(alloc, script, way.as_slice())?;
     Ok(format!(in alloc;
-        "refused {number} {refusal}\n{places}      = {number} in docs/REFUSALS.md\n"
+        "refused {number} {refusal}\n{places}{shown}      = {number} in docs/REFUSALS.md\n"
     )?)
 }
 
@@ -379,7 +392,7 @@ fn select(
     };
     match chosen(alloc, tracked, *id, text) {
         Ok(_) => Ok(String::new(alloc)),
-        Err(refusal) => refusal_text(alloc, script, place, tracked, &refusal),
+        Err(refusal) => refusal_text(alloc, script, place, tracked, &[], &refusal),
     }
 }
 

@@ -1,0 +1,19 @@
+use Rattle.std.proofs.Common.{◌≡◌, ◌∙◌, ℕ, List, Bor, Option, subst, sym}
+use Rattle.std.specs.Prelude.{MatchOption}
+use Rattle.wit_script_faults.specs.Ways.{IsRound, cycle_text, known_uses}
+use Rattle.wit_script_faults.specs.declared.arrow.Arrow.{Arrow}
+use Rattle.wit_script_faults.proofs.CycleNames.{one_name}
+use Rattle.wit_script_faults.proofs.told_way.interface_round.Goals as goal
+
+pub returns-in_default : goal.returns-in_default
+returns-in_default c = λ name whole.
+    let message = c.args.message.now in
+    let none = subst (λ (o : Option (Bor (List ℕ))). MatchOption o ((n : List ℕ) → message ≡ cycle_text n → ⊥) (λ x. message ≡ cycle_text x.now)) c.in_default.is c.interface_named.ensures in
+    absurd (none name whole)
+
+pub returns : goal.returns
+returns c = λ name whole.
+    let way = c.in_ok-round.field-0 in
+    let same : c.in-Some.name.now ≡ name = one_name c.in-Some.name.now name (sym c.in-Some.ensures ∙ whole) in
+    subst (λ (n : List ℕ). IsRound (known_uses c.args.script.now c.args.place.now c.args.tracked.now c.args.others.now) n way) (c.in_ok-name.ensures ∙ same)
+    (subst (λ (arrows : List Arrow). IsRound arrows c.in_ok-name.name way) (c.as_slice.ensures ∙ c.in_ok-uses.ensures) c.in_ok-round.ensures)
