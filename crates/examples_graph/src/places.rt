@@ -1,6 +1,6 @@
 //! Examples of positions in source texts, and that each is in one file.
 ghost use Rattle.examples_graph.specs.OneFile.{HaveNoneInCommon};
-ghost use Rattle.examples_graph.specs.Places.{ExamplesOfHighlights, ExamplesOfLocations};
+ghost use Rattle.examples_graph.specs.Places.{ExamplesOfHighlights, ExamplesOfLocations, ExamplesOfShown};
 
 /// Where spans begin, by files, lines and columns.
 pub fn examples_of_locations()
@@ -10,6 +10,11 @@ pub fn examples_of_locations()
 /// What stands under spans.
 pub fn examples_of_highlights()
     ensures { ExamplesOfHighlights }
+{}
+
+/// Places with their lines, and the beginnings of long ones.
+pub fn examples_of_shown()
+    ensures { ExamplesOfShown }
 {}
 
 /// The files of a source map have no position in common.

@@ -71,6 +71,47 @@ fn a_text_is_told_in_the_line_of_its_span(rt: HostRuntime) {
     }
 }
 
+/// The place and the line of a span in the second line of a file, which is so many letters long.
+fn shown_in_second_line(rt: &impl Abort, alloc: Global, letters: usize, span: Span) -> String {
+    let mut contents = string(rt, alloc, "world a\n");
+    for _i in 0..letters {
+        contents.push_str("x").expect(rt, "memory");
+    }
+    let mut map = SourceMap::new(alloc);
+    map.push_str(alloc, "m.wit", contents).expect(rt, "memory");
+    match map.show_span(alloc, span).expect(rt, "memory") {
+        Some(shown) => shown,
+        None => string(rt, alloc, "nowhere"),
+    }
+}
+
+#[test]
+fn a_span_is_shown_in_its_line(rt: HostRuntime) {
+    assert_text(
+        &rt,
+        shown_in_second_line(&rt, rt.alloc(), 4, Span::new(9, 11)),
+        "     --> m.wit:2:2\n\
+        \x20     |\n\
+        \x20   2 | xxxx\n\
+        \x20     |  ^-",
+    );
+    assert_text(
+        &rt,
+        shown_in_second_line(&rt, rt.alloc(), 4, Span::unknown()),
+        "nowhere",
+    );
+}
+
+#[test]
+fn of_a_long_line_the_beginning_is_shown(rt: HostRuntime) {
+    let shown = shown_in_second_line(&rt, rt.alloc(), 501, Span::new(8, 10));
+    let (head, rest) = shown.as_str().split_once(" | ").expect(&rt, "a line");
+    let (line, mark) = rest.split_once('\n').expect(&rt, "a mark");
+    assert!(rt; head == "     --> m.wit:2:1\n      |\n    2", "the place");
+    assert!(rt; line.len() == 503 && line.ends_with("xx .."), "500 letters");
+    assert!(rt; mark == "      | ^-", "the mark");
+}
+
 const TRACKS: [(&str, &str, &str); 4] = [
     ("1.2.3", "1", "on 1.0.0 with .2.3"),
     ("0.2.1+b", "0.2", "on 0.2.0 with .1+b"),

@@ -1,3 +1,4 @@
 pub mod LineLemmas
 pub mod LocationLemmas
 pub mod SourceMapLemmas
+pub mod Starts

@@ -7,7 +7,8 @@ use lib.Utf8.{encode}
 use Rattle.std.proofs.lemmas.Bool.{false≢true}
 use Rattle.std.proofs.lemmas.List.{append-nil}
 use Rattle.wit_sources.specs.declared.source_map.SourceFile.{SourceFile}
-use Rattle.wit_sources.specs.Locations.{file_at, has_position, in_four}
+use Rattle.wit_sources.specs.Locations.{file_at, has_position}
+use Rattle.wit_sources.specs.Shown.{in_four}
 use Rattle.wit_sources.specs.Span.{start_of}
 
 -- the file of a known span is the first one that has its beginning

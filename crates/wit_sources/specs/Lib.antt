@@ -1,5 +1,6 @@
 pub mod Lines
 pub mod Locations
+pub mod Shown
 pub mod SourceMap
 pub mod Span
 pub mod steps

@@ -40,6 +40,6 @@ text_between text start end = take (end - start) (drop start text)
 abbrev pub is_in_line : List ℕ → ℕ → ℕ → Bool
 is_in_line text start end = is_char_boundary_at text start && (is_char_boundary_at text end && not (list_any is_line_feed (text_between text start end)))
 
--- how many characters follow the first one between two positions, none where these aren't whole characters of one line
-abbrev pub dashes : List ℕ → ℕ → ℕ → ℕ
-dashes text start end = if is_in_line text start end then count_by is_char_start (text_between text start end) - 1 else 0
+-- how many bytes stand between two positions, none where these aren't whole characters of one line
+abbrev pub len_in_line : List ℕ → ℕ → ℕ → ℕ
+len_in_line text start end = if is_in_line text start end then end - start else 0

@@ -1,7 +1,8 @@
 -- Places of a source map as they are told, and texts that show them.
-use Rattle.std.specs.Prelude.{ℕ, ◌+◌, ◌-◌, ◌&&◌, nat_le, nat_lt, Bool, List, ◌++◌, length, replicate, Option, option_and_then, codes, decimal, if◌then◌else◌, find, option_map}
+use Rattle.std.specs.Prelude.{ℕ, ◌+◌, ◌-◌, ◌&&◌, nat_le, nat_lt, Bool, List, ◌++◌, length, Option, option_and_then, codes, decimal, if◌then◌else◌, find, option_map}
 use Rattle.std.specs.Option.{option_map_or}
-use Rattle.wit_sources.specs.Lines.{column, dashes, line_number, line_text}
+use Rattle.wit_sources.specs.Lines.{column, len_in_line, line_before, line_number, line_text}
+use Rattle.wit_sources.specs.Shown.{marked_line}
 use Rattle.wit_sources.specs.Span.{end_of, start_of}
 use Rattle.wit_sources.specs.declared.source_map.SourceFile.{SourceFile}
 
@@ -29,27 +30,25 @@ location_in file position = location_text file.path (line_number file.contents (
 abbrev pub location_of : List SourceFile → Option (ℕ × ℕ) → List ℕ
 location_of files span = option_map_or (λ (file : SourceFile). location_in file (start_of span)) (file_at files span) (codes "<unknown>")
 
--- a number in four places, the last of which is its last digit
-abbrev pub in_four : ℕ → List ℕ
-in_four n = replicate (4 - length (decimal n)) 32 ++ decimal n
+-- the place at which a span of a file begins, and below it its line with a mark under the span; of a line over 500 bytes its
+-- beginning
+abbrev pub shown_in : SourceFile → Option (ℕ × ℕ) → List ℕ
+shown_in file span =
+    let start = offset_in file (start_of span) in
+    let before = length (line_before file.contents start) in
+    codes "     --> " ++ (location_in file (start_of span) ++ (codes "\n"
+    ++ marked_line (line_number file.contents start) (line_text file.contents start) before (before + len_in_line file.contents start (offset_in file (end_of span)))))
 
--- the mark under the first character of a span, after so many spaces and before so many dashes
-abbrev pub mark_text : ℕ → ℕ → List ℕ
-mark_text spaces dashes = replicate spaces 32 ++ (codes "^" ++ replicate dashes 45)
-
--- a text, the place, and a line with its number and a mark under it
-abbrev pub snippet_text : List ℕ → List ℕ → ℕ → List ℕ → List ℕ → List ℕ
-snippet_text text place number line mark =
-    text ++ (codes "\n     --> " ++ (place ++ (codes "\n      |\n " ++ (in_four number ++ (codes " | " ++ (line ++ (codes "\n      | " ++ mark)))))))
+-- the same, None where the span is unknown or in no file
+abbrev pub shown_span : List SourceFile → Option (ℕ × ℕ) → Option (List ℕ)
+shown_span files span = option_map (λ (file : SourceFile). shown_in file span) (file_at files span)
 
 -- a text with the line of a file in which a span begins; of a line over 500 bytes the place alone
 abbrev pub highlight_text_in : SourceFile → Option (ℕ × ℕ) → List ℕ → List ℕ
 highlight_text_in file span text =
-    let start = offset_in file (start_of span) in
-    let line = line_text file.contents start in
-    if nat_lt 500 (length line)
+    if nat_lt 500 (length (line_text file.contents (offset_in file (start_of span))))
     then location_in file (start_of span) ++ (codes ": " ++ text)
-    else snippet_text text (location_in file (start_of span)) (line_number file.contents start) line (mark_text (column file.contents start - 1) (dashes file.contents start (offset_in file (end_of span))))
+    else text ++ (codes "\n" ++ shown_in file span)
 
 -- a text with the line in which a span begins, None where the span is unknown or in no file
 abbrev pub highlight_text : List SourceFile → Option (ℕ × ℕ) → List ℕ → Option (List ℕ)

@@ -2,8 +2,10 @@
 #![tactic(auto)]
 
 mod lines;
+mod shown;
 mod source_map;
 mod span;
 
-pub use crate::source_map::{MapFault, SourceFiles, SourceMap, SourceNames};
+pub use crate::shown::marked_line;
+pub use crate::source_map::{Location, MapFault, SourceFiles, SourceMap, SourceNames};
 pub use crate::span::Span;

@@ -2,7 +2,7 @@
 ghost use Rattle.std.specs.Prelude.{◌≡◌, ◌≤◌, ◌<◌, ◌-◌, length, not, slice_index, count_by};
 ghost use Rattle.std.specs.Fmt.{is_char_start};
 ghost use Rattle.std.specs.List.{position_or_len, suffix_len};
-ghost use Rattle.wit_sources.specs.Lines.{column, dashes, is_char_boundary_at, is_line_feed, line_number, line_text};
+ghost use Rattle.wit_sources.specs.Lines.{column, is_char_boundary_at, is_line_feed, len_in_line, line_before, line_number, line_text};
 
 /// The number of the line in which a position of a text stands, from 1.
 pub(crate) fn line_number(text: &str, offset: usize) -> usize
@@ -34,25 +34,36 @@ pub(crate) fn line_at(text: &str, offset: usize) -> &str
     &text[start..end]
 }
 
-/// How many characters follow the first one between two positions of a text. None where they are
-/// past its end or in a character, or where the line ends between them.
-pub(crate) fn dashes(text: &str, start: usize, end: usize) -> usize
+/// How many bytes stand before a position in its line.
+pub(crate) fn offset_in_line(text: &str, offset: usize) -> usize
+    requires { offset ≤ length text.now }
+    ensures value { result ≡ length (line_before text.now offset) }
+    ensures within { result ≤ offset }
+{
+    let before = &text.as_bytes()[..offset];
+    let start = last_line_start(before);
+    before[start..].len()
+}
+
+/// How many bytes stand between two positions of a text. None where these are past its end or in a character, or where the
+/// line ends between them.
+pub(crate) fn len_in_line(text: &str, start: usize, end: usize) -> usize
     requires { start ≤ end }
-    ensures { result ≡ dashes text.now start end }
+    ensures value { result ≡ len_in_line text.now start end }
+    ensures within { result ≤ end }
 {
     let bytes = text.as_bytes();
     if !is_char_boundary_at(bytes, start) || !is_char_boundary_at(bytes, end) {
         return 0;
     }
-    let shown = &bytes[start..end];
-    if shown.contains(&b'\n') {
+    if bytes[start..end].contains(&b'\n') {
         return 0;
     }
-    count_chars(shown).saturating_sub(1)
+    end - start
 }
 
 /// How many characters begin in a part of a text.
-fn count_chars(bytes: &[u8]) -> usize
+pub(crate) fn count_chars(bytes: &[u8]) -> usize
     ensures value { result ≡ count_by is_char_start bytes.now }
     ensures within { result ≤ length bytes.now }
 {
@@ -60,7 +71,7 @@ fn count_chars(bytes: &[u8]) -> usize
 }
 
 /// Whether a byte is the first of a character.
-fn is_char_start(byte: u8) -> bool
+pub(crate) fn is_char_start(byte: u8) -> bool
     ensures { result ≡ is_char_start byte }
 {
     byte < 0x80 || byte >= 0xC0

@@ -13,6 +13,8 @@ use wit_values::{Text, TryClone, try_clone_two};
 
 mod rendering;
 
+pub use rendering::Location;
+
 /// Why a source map takes no further file.
 #[derive(Clone, Copy, Debug, PartialEq, Eq)]
 pub enum MapFault {

@@ -1,19 +1,17 @@
 //! Spans of a source map as they are told, and the text that shows one.
-ghost use Rattle.std.specs.Prelude.{◌≡◌, Some, IfOk, IfSome, replicate, string_bytes};
+ghost use Rattle.std.specs.Prelude.{◌≡◌, Some, IfOk, IfSome, string_bytes};
 ghost use Rattle.std.specs.Option.{option_copied, option_map};
 ghost use Rattle.wit_sources.specs.Lines.{column, line_number};
-ghost use Rattle.wit_sources.specs.Locations.{file_at, has_position, highlight_text, highlight_text_in, in_four, location_of, location_text, offset_in};
+ghost use Rattle.wit_sources.specs.Locations.{file_at, has_position, highlight_text, highlight_text_in, location_of, location_text, offset_in, shown_in, shown_span};
 ghost use Rattle.wit_sources.specs.steps.Locations.{IsIn};
 ghost use Rattle.wit_sources.specs.Span.{start_of};
 
 use super::{SourceFile, SourceMap};
-use crate::lines::{column, dashes, line_at, line_number};
+use crate::lines::{column, len_in_line, line_at, line_number, offset_in_line};
+use crate::shown::{LONGEST_LINE, marked_line};
 use crate::span::Span;
 use std::alloc::{AllocError, Global};
 use std::fmt;
-
-/// The longest line that is shown, in bytes.
-const LONGEST_LINE: usize = 500;
 
 impl SourceMap {
     /// Where a span begins: `path:line:column`, both numbers from 1, or `<unknown>` where the span is unknown or in no
@@ -47,6 +45,17 @@ impl SourceMap {
     {
         match self.file_at(span) {
             Some(file) => Ok(Some(file.highlight_text(alloc, span, text)?)),
+            None => Ok(None),
+        }
+    }
+
+    /// The place at which a span begins, and below it the line with its number and the span underlined in it; of a line of
+    /// more than 500 bytes its beginning. None where the span is unknown or in no file. The only error is want of memory.
+    pub fn show_span(&self, alloc: Global, span: Span) -> Result<Option<String>, AllocError>
+        ensures { IfOk result (λ shown. option_map string_bytes shown ≡ shown_span self.now.files span) }
+    {
+        match self.file_at(span) {
+            Some(file) => Ok(Some(file.shown_text(alloc, span)?)),
             None => Ok(None),
         }
     }
@@ -97,27 +106,36 @@ impl SourceFile {
         ensures { IfOk result (λ shown. string_bytes shown ≡ highlight_text_in self.now span text.now) }
     {
         let location = self.location(span);
-        let contents = self.contents.as_str();
         let offset = (span.start() - self.start) as usize;
-        let line = line_at(contents, offset);
-        if line.len() > LONGEST_LINE {
+        if line_at(self.contents.as_str(), offset).len() > LONGEST_LINE {
             return format!(in alloc; "{location}: {text}");
         }
-        let number = InFour(location.line);
-        let spaces = Spaces(location.column - 1);
-        let dashes = Dashes(dashes(contents, offset, (span.end() - self.start) as usize));
-        format!(in alloc;
-            "{text}\n     --> {location}\n      |\n {number} | {line}\n      | {spaces}^{dashes}"
-        )
+        let shown = self.shown_text(alloc, span)?;
+        format!(in alloc; "{text}\n{shown}")
+    }
+
+    /// The place at which a span of this file begins, and its line with a mark under the span.
+    fn shown_text(&self, alloc: Global, span: Span) -> Result<String, AllocError>
+        requires { IsIn self.now span }
+        ensures { IfOk result (λ shown. string_bytes shown ≡ shown_in self.now span) }
+    {
+        let location = self.location(span);
+        let contents = self.contents.as_str();
+        let offset = (span.start() - self.start) as usize;
+        let start = offset_in_line(contents, offset);
+        let len = len_in_line(contents, offset, (span.end() - self.start) as usize);
+        let line = line_at(contents, offset);
+        let line = marked_line(alloc, location.line, line, start, start + len)?;
+        format!(in alloc; "     --> {location}\n{line}")
     }
 }
 
-/// A position in a file.
+/// A position in a file, both numbers from 1.
 #[derive(Drop)]
-struct Location<'a> {
-    path: &'a str,
-    line: usize,
-    column: usize,
+pub struct Location<'a> {
+    pub path: &'a str,
+    pub line: usize,
+    pub column: usize,
 }
 
 impl<'a> fmt::Display for Location<'a> {
@@ -126,48 +144,5 @@ impl<'a> fmt::Display for Location<'a> {
     fn fmt<W: fmt::Write>(&self, f: &mut fmt::Formatter<W>) -> fmt::Result {
         let (path, line, column) = (self.path, self.line, self.column);
         write!(f, "{path}:{line}:{column}")
-    }
-}
-
-/// So many spaces.
-#[derive(Drop)]
-struct Spaces(usize);
-
-impl fmt::Display for Spaces {
-    ghost output = { λ s. Some (replicate s.0 32) };
-
-    fn fmt<W: fmt::Write>(&self, f: &mut fmt::Formatter<W>) -> fmt::Result {
-        for _i in 0..self.0 {
-            write!(f, " ")?;
-        }
-        Ok(())
-    }
-}
-
-/// So many dashes.
-#[derive(Drop)]
-struct Dashes(usize);
-
-impl fmt::Display for Dashes {
-    ghost output = { λ s. Some (replicate s.0 45) };
-
-    fn fmt<W: fmt::Write>(&self, f: &mut fmt::Formatter<W>) -> fmt::Result {
-        for _i in 0..self.0 {
-            write!(f, "-")?;
-        }
-        Ok(())
-    }
-}
-
-/// A number in four places.
-#[derive(Drop)]
-struct InFour(usize);
-
-impl fmt::Display for InFour {
-    ghost output = { λ n. Some (in_four n.0) };
-
-    fn fmt<W: fmt::Write>(&self, f: &mut fmt::Formatter<W>) -> fmt::Result {
-        let number = self.0;
-        write!(f, "{number:4}")
     }
 }

@@ -1,4 +1,4 @@
-use Rattle.std.proofs.Common.{refl, arith}
+use Rattle.std.proofs.Common.{refl}
 use Rattle.std.specs.Fmt.{digits}
 use Rattle.wit_values.specs.facts.Lists.{differ}
 use Rattle.examples_graph.proofs.places.examples_of_highlights.Goals as goal
@@ -12,6 +12,7 @@ returns c = record {
   in_no_file = refl;
   unknown = refl;
   three_characters = refl;
+  within_a_line = refl;
   one_character = refl;
   empty = refl;
   cut_at_its_end = refl;
@@ -22,5 +23,5 @@ returns c = record {
   just_shown = refl;
   not_further = differ _ _ refl;
   not_longer = differ _ _ refl;
-  not_bytes = λ same. absurd (omega (arith, same));
+  not_bytes = differ _ _ refl;
 }
