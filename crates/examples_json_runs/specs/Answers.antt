@@ -1,7 +1,10 @@
 -- Answers, and the documents that come out.
-use Rattle.std.specs.Prelude.{◌≡◌, ◌≢◌, ℕ, List, [], ◌∷◌, Option, Some, None, codes}
+use Rattle.std.specs.Prelude.{◌≡◌, ◌≢◌, ℕ, List, [], ◌∷◌, ◌++◌, Option, Some, None, codes}
 use Rattle.wit_data.specs.declared.world.WorldKey.TheVariants as key
+use Rattle.wit_data.specs.New.{new_world}
 use Rattle.wit_graph_data.specs.declared.error_kind.ResolveErrorKind.TheVariants as kind
+use Rattle.wit_graph_data.specs.declared.graph.Graph.{Graph}
+use Rattle.wit_names.specs.declared.package_name.PackageName.{PackageName}
 use Rattle.wit_names.specs.declared.track.TrackRule.TheVariants.{Published, WithPrereleases}
 use Rattle.wit_remap.specs.declared.remap.Remap.{Remap}
 use Rattle.wit_resolve_graph.specs.State.{new_state}
@@ -35,6 +38,23 @@ unshaped_text group nested = answer_text (answer.NotShaped (record { group = gro
 abbrev pub one_file : Sources
 one_file = record { files = record { path = codes "f"; contents = codes "package a:b\nworld"; start = 0 } ∷ []; end = 18 }
 
+-- the same, and another file of one line
+abbrev pub two_lines : Sources
+two_lines = record { files = one_file.files ++ record { path = codes "g"; contents = codes "xyz"; start = 19 } ∷ []; end = 23 }
+
+abbrev pub a_name : PackageName
+a_name = record { namespace = codes "a"; name = codes "b"; version = None }
+
+-- a graph with one package, which has one world, on the second line of the first file
+abbrev pub with_world : Graph
+with_world = record {
+  types = [];
+  interfaces = [];
+  worlds = record (new_world (codes "w")) { «package» = Some 0; span = Some (12, 17) } ∷ [];
+  packages = record { name = a_name; docs = record { contents = None }; interfaces = []; worlds = (codes "w", 0) ∷ [] } ∷ [];
+  package_names = (a_name, 0) ∷ [];
+}
+
 abbrev pub a_remap : Remap
 a_remap = record { types = Some 4 ∷ None ∷ []; interfaces = Some 2 ∷ []; worlds = []; packages = 1 ∷ 0 ∷ [] }
 
@@ -62,11 +82,18 @@ pub record ExamplesOfAnswers : Type 0 where
   pub refused : answer_text (answer.Refused (record { error = kind.OutOfMemory; rendered = codes "out of memory" }))
       ≡ codes "{\"refused\":{\"error\":{\"number\":28,\"cause\":\"out-of-memory\",\"text\":\"out of memory\"},\"rendered\":\"out of memory\"}}"
   -- a refusal as it is told: its text, what was asked, and where more is said of its number
-  pub told : rendered new_state.source_map (codes "merge") kind.OffsetOverflow ≡ codes "source positions would pass 4294967295\n      = merge\n      = 27 in docs/REFUSALS.md"
-  pub not_alone : rendered new_state.source_map (codes "merge") kind.OffsetOverflow ≢ codes "source positions would pass 4294967295"
+  pub told : rendered new_state.graph new_state.source_map (codes "merge") kind.OffsetOverflow ≡ codes "source positions would pass 4294967295\n      = merge\n      = 27 in docs/REFUSALS.md"
+  pub not_alone : rendered new_state.graph new_state.source_map (codes "merge") kind.OffsetOverflow ≢ codes "source positions would pass 4294967295"
   -- with its line
-  pub with_line : rendered one_file (codes "push-groups a:b") (kind.PackageCycle (Some (12, 17)) (record { namespace = codes "a"; name = codes "b"; version = None }))
+  pub with_line : rendered new_state.graph one_file (codes "push-groups a:b") (kind.PackageCycle (Some (12, 17)) a_name)
       ≡ codes "package `a:b` creates a dependency cycle\n     --> f:2:1\n      |\n    2 | world\n      | ^----\n      = push-groups a:b\n      = 6 in docs/REFUSALS.md"
+  -- a package that is defined twice, with both places: those of the error, or that of what the graph has of the package
+  pub both_known : rendered new_state.graph two_lines (codes "merge") (kind.DuplicatePackage a_name (Some (20, 21)) (Some (8, 9)))
+      ≡ codes "package `a:b` is defined in two different locations\n     --> g:1:2\n      |\n    1 | xyz\n      |  ^\n     --> f:1:9\n      |\n    1 | package a:b\n      |         ^\n      = merge\n      = 5 in docs/REFUSALS.md"
+  pub other_by_the_graph : rendered with_world two_lines (codes "push-groups a:b") (kind.DuplicatePackage a_name (Some (20, 21)) None)
+      ≡ codes "package `a:b` is defined in two different locations\n     --> g:1:2\n      |\n    1 | xyz\n      |  ^\n     --> f:2:1\n      |\n    2 | world\n      | ^----\n      = push-groups a:b\n      = 5 in docs/REFUSALS.md"
+  pub not_of_another : rendered with_world two_lines (codes "push-groups c:d") (kind.DuplicatePackage (record a_name { namespace = codes "c" }) None None)
+      ≡ codes "package `c:b` is defined in two different locations\n      = push-groups c:d\n      = 5 in docs/REFUSALS.md"
   -- a package without its shape: the path to it, and what it lacks
   pub main : unshaped_text None None
       ≡ codes "{\"not-shaped\":{\"path\":[\"main\",\"main\"],\"clause\":\"owners.functions\",\"place\":\"interfaces[1].functions[1]\",\"text\":\"a function stands under its name\"}}"

@@ -31,9 +31,9 @@ pub record ExamplesOfChanges : Type 0 where
   pub asked : change_text (change.Exportize foo_bar (codes "w") None None) ≡ codes "exportize foo:bar w"
   pub not_turned : change_text (change.Importize foo_bar (codes "w") None) ≢ codes "exportize foo:bar w"
   -- the answer that a reply is
-  pub done : answer_of new_state.source_map (codes "semver a:b w") reply.Done ≡ answer.Done
-  pub pushed : answer_of new_state.source_map (codes "push-groups a:b") (reply.Pushed 2) ≡ answer.Pushed 2
-  pub no_world : answer_of new_state.source_map (codes "semver a:b w") reply.NoWorld ≢ answer.Done
+  pub done : answer_of new_state (codes "semver a:b w") reply.Done ≡ answer.Done
+  pub pushed : answer_of new_state (codes "push-groups a:b") (reply.Pushed 2) ≡ answer.Pushed 2
+  pub no_world : answer_of new_state (codes "semver a:b w") reply.NoWorld ≢ answer.Done
   -- what a document begins with
   pub empty : first_state None ≡ new_state
   pub given : (first_state (Some begun)).features.all ≡ true

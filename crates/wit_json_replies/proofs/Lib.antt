@@ -1,2 +1,3 @@
+mod FirstKnown
 mod PackagePaths
 mod Paths

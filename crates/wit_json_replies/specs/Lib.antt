@@ -3,5 +3,6 @@ pub mod Remaps
 pub mod Unshaped
 pub mod Answers
 pub mod Documents
+pub mod Places
 pub mod Refusals
 pub mod steps

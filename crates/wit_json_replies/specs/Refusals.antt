@@ -1,20 +1,36 @@
 -- Refusals as they are told.
-use Rattle.std.specs.Prelude.{ℕ, List, ◌++◌, codes, decimal}
-use Rattle.wit_graph_data.specs.Error.{error_number}
-use Rattle.wit_graph_data.specs.ErrorText.{rendered_text}
+use Rattle.std.specs.Prelude.{ℕ, List, [], ◌∷◌, ◌++◌, codes, decimal}
+use Rattle.std.specs.Option.{option_map_or}
+use Rattle.wit_graph_data.specs.Error.{error_number, error_span}
+use Rattle.wit_graph_data.specs.ErrorText.{kind_text}
 use Rattle.wit_graph_data.specs.declared.error_kind.ResolveErrorKind.{ResolveErrorKind}
+use Rattle.wit_graph_data.specs.declared.error_kind.ResolveErrorKind.TheVariants.{DuplicatePackage}
+use Rattle.wit_graph_data.specs.declared.graph.Graph.{Graph}
+use Rattle.wit_sources.specs.Locations.{shown_span}
 use Rattle.wit_sources.specs.SourceMap.{Sources}
+use Rattle.wit_sources.specs.Span.{OptionalSpan}
+use Rattle.wit_sources.specs.declared.source_map.SourceFile.{SourceFile}
+use Rattle.wit_json_replies.specs.Places.{first_known, package_span}
 use Rattle.wit_json_replies.specs.declared.answers.Answer.{Answer}
 use Rattle.wit_json_replies.specs.declared.answers.Answer.TheVariants as answer
 
--- what is told, on lines of their own what was asked and which document says more of the number
-abbrev pub with_asked : List ℕ → List ℕ → ℕ → List ℕ
-with_asked told asked number = told ++ (codes "\n      = " ++ (asked ++ (codes "\n      = " ++ (decimal number ++ codes " in docs/REFUSALS.md"))))
+-- where a span begins, on lines of their own; nothing where it is unknown or in no file
+abbrev pub place_text : List SourceFile → OptionalSpan → List ℕ
+place_text files span = option_map_or (λ shown. codes "\n" ++ shown) (shown_span files span) []
 
--- an error with its lines in these files, and what was asked
-abbrev pub rendered : Sources → List ℕ → ResolveErrorKind → List ℕ
-rendered files asked error = with_asked (rendered_text files.files error) asked (error_number error)
+-- where an error is; of a package that is defined twice both places, the other one by the graph where the error has none
+abbrev pub places_text : Graph → List SourceFile → ResolveErrorKind → List ℕ
+places_text g files (DuplicatePackage name span1 span2) = place_text files span1 ++ place_text files (first_known (span2 ∷ package_span g name ∷ []))
+places_text g files kind = place_text files (error_span kind)
 
--- the refusal of what was asked, told by these files
-abbrev pub refused : Sources → List ℕ → ResolveErrorKind → Answer
-refused files asked error = answer.Refused (record { error = error; rendered = rendered files asked error })
+-- on lines of their own what was asked, and which document says more of the number
+abbrev pub asked_text : List ℕ → ℕ → List ℕ
+asked_text asked number = codes "\n      = " ++ (asked ++ (codes "\n      = " ++ (decimal number ++ codes " in docs/REFUSALS.md")))
+
+-- an error of a graph with its lines in these files, and what was asked
+abbrev pub rendered : Graph → Sources → List ℕ → ResolveErrorKind → List ℕ
+rendered g files asked error = kind_text error ++ (places_text g files.files error ++ asked_text asked (error_number error))
+
+-- the refusal of what was asked of a graph, told by these files
+abbrev pub refused : Graph → Sources → List ℕ → ResolveErrorKind → Answer
+refused g files asked error = answer.Refused (record { error = error; rendered = rendered g files asked error })

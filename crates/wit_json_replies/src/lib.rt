@@ -4,6 +4,7 @@
 mod answers;
 mod core_names;
 mod documents;
+mod places;
 mod refusals;
 mod remaps;
 mod unshaped;

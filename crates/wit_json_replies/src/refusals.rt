@@ -1,25 +1,62 @@
 //! Refusals as they are told.
-ghost use Rattle.std.specs.Prelude.{◌≡◌, IfOk};
-ghost use Rattle.wit_json_replies.specs.Refusals.{refused};
+ghost use Rattle.std.specs.Prelude.{◌≡◌, IfOk, string_bytes};
+ghost use Rattle.wit_json_replies.specs.Refusals.{place_text, places_text, refused};
 
 use crate::answers::{Answer, Refusal};
-use std::alloc::Global;
-use wit_data::{SourceMap, Text};
-use wit_graph_data::{ResolveError, ResolveResult};
+use crate::places::package_span;
+use std::alloc::{AllocError, Global};
+use wit_data::{SourceMap, Span, Text};
+use wit_graph_data::{Graph, ResolveError, ResolveErrorKind};
 
-/// The refusal of what was asked: the error with its lines in these files, what was asked, and which document says more of
-/// its number. The only refusal of its own is want of memory (28).
+/// The refusal of what was asked of a graph: the error with its lines in these files, what was asked, and which document
+/// says more of its number. The only error is want of memory.
 pub fn refused(
     alloc: Global,
+    graph: &Graph,
     files: &SourceMap,
     asked: &str,
     error: ResolveError,
-) -> ResolveResult<Answer>
-    ensures { IfOk result (λ answer. answer ≡ refused files.now asked.now error) }
+) -> Result<Answer, AllocError>
+    ensures { IfOk result (λ answer. answer ≡ refused graph.now files.now asked.now error) }
 {
-    let (told, number) = (error.render(alloc, files)?, error.number());
+    let places = places_text(alloc, graph, files, error.kind())?;
+    let number = error.number();
     let rendered = Text::from_string(format!(in alloc;
-        "{told}\n      = {asked}\n      = {number} in docs/REFUSALS.md"
+        "{error}{places}\n      = {asked}\n      = {number} in docs/REFUSALS.md"
     )?);
     Ok(Answer::Refused(Refusal { error, rendered }))
+}
+
+/// Where an error is, with the line; of a package that is defined twice both places.
+fn places_text(
+    alloc: Global,
+    graph: &Graph,
+    files: &SourceMap,
+    kind: &ResolveErrorKind,
+) -> Result<String, AllocError>
+    ensures { IfOk result (λ text. string_bytes text ≡ places_text graph.now files.now.files kind.now) }
+{
+    match kind {
+        ResolveErrorKind::DuplicatePackage { name, span1, span2 } => {
+            let other = if span2.is_known() {
+                *span2
+            } else {
+                package_span(graph, name)
+            };
+            let first = place_text(alloc, files, *span1)?;
+            let second = place_text(alloc, files, other)?;
+            format!(in alloc; "{first}{second}")
+        }
+        kind => place_text(alloc, files, kind.span()),
+    }
+}
+
+/// Where a span begins, on lines of their own; nothing where it is unknown or in no file.
+fn place_text(alloc: Global, files: &SourceMap, span: Span) -> Result<String, AllocError>
+    ensures { IfOk result (λ text. string_bytes text ≡ place_text files.now.files span) }
+{
+    match files.show_span(alloc, span)? {
+        Some(shown) => format!(in alloc; "\n{shown}"),
+        None => Ok(String::new(alloc)),
+    }
 }

@@ -34,7 +34,7 @@ RespondsEach-more old mid new (first ∷ its) [] it told each one = absurd each
 
 -- the one reply to one command
 pub one_reply : (asked : List ℕ) (old new : State) (it : Command) (reply : Reply) → Run old (it ∷ []) (reply ∷ []) new → (told : Answer)
-    → told ≡ answer_of new.source_map asked reply → AnswersCommand asked old it told new
+    → told ≡ answer_of new asked reply → AnswersCommand asked old it told new
 one_reply asked old new it reply run told is = record { reply = reply; step = subst (λ (s : State). Step old it reply s) (sym run.2) run.1; told_is = is }
 
 -- ---- shapes

@@ -1,6 +1,5 @@
 -- What a document's commands do, and what is answered to each.
 use Rattle.std.specs.Prelude.{◌≡◌, ◌⊎◌, ℕ, List, [], ◌∷◌, codes}
-use Rattle.wit_sources.specs.SourceMap.{Sources}
 use Rattle.wit_resolve_graph.specs.State.{State, new_state}
 use Rattle.wit_resolve_graph.specs.Step.{Step}
 use Rattle.wit_resolve_graph.specs.declared.command.Command.{Command}
@@ -25,19 +24,19 @@ use Rattle.wit_json_runs.specs.Unshaped.{IsChangeShaped, IsUnshaped}
 
 -- ---- commands
 
--- the answer that a reply to what was asked is; the lines of a refusal are looked up in these files
-abbrev pub answer_of : Sources → List ℕ → Reply → Answer
-answer_of files asked reply.Done = answer.Done
-answer_of files asked (reply.Pushed id) = answer.Pushed id
-answer_of files asked (reply.Merged remap) = answer.Merged remap
-answer_of files asked reply.NoWorld = answer.NoWorld
-answer_of files asked (reply.Refused error) = refused files asked error
+-- the answer that a reply to what was asked of a graph is
+abbrev pub answer_of : State → List ℕ → Reply → Answer
+answer_of state asked reply.Done = answer.Done
+answer_of state asked (reply.Pushed id) = answer.Pushed id
+answer_of state asked (reply.Merged remap) = answer.Merged remap
+answer_of state asked reply.NoWorld = answer.NoWorld
+answer_of state asked (reply.Refused error) = refused state.graph state.source_map asked error
 
 -- a command is carried out, which in words is this, and its reply is answered
 pub record AnswersCommand (asked : List ℕ) (old : State) (it : Command) (told : Answer) (new : State) : Type 0 where
   pub reply : Reply
   pub step : Step old it reply new
-  pub told_is : told ≡ answer_of new.source_map asked reply
+  pub told_is : told ≡ answer_of new asked reply
 
 -- ---- changes
 

@@ -76,13 +76,16 @@ pub fn carry_out(
 
 /// The answer that a reply to what was asked is.
 fn answer_of(alloc: Global, resolve: &Resolve, asked: &str, reply: Reply) -> ResolveResult<Answer>
-    ensures { IfOk result (λ answer. answer ≡ answer_of resolve.now.source_map asked.now reply) }
+    ensures { IfOk result (λ answer. answer ≡ answer_of resolve.now asked.now reply) }
 {
     match reply {
         Reply::Done => Ok(Answer::Done),
         Reply::Pushed(id) => Ok(Answer::Pushed(id)),
         Reply::Merged(remap) => Ok(Answer::Merged(remap)),
         Reply::NoWorld => Ok(Answer::NoWorld),
-        Reply::Refused(error) => refused(alloc, resolve.source_map(), asked, error),
+        Reply::Refused(error) => {
+            let (graph, files) = (resolve.graph(), resolve.source_map());
+            Ok(refused(alloc, graph, files, asked, error)?)
+        }
     }
 }
