@@ -1,5 +1,0 @@
-use Rattle.std.proofs.Common.{rules}
-use Rattle.wit_sources.proofs.lines.dashes.Goals as goal
-
-pub returns : goal.returns
-returns c = search rules
