@@ -52,7 +52,8 @@ enum {
  * a capacity of 0 or a guess, and calls again at WITGRAPH_OUTPUT_TOO_SMALL. */
 uint32_t witgraph_execute(const uint8_t *input, size_t length, uint8_t *output, size_t capacity, size_t *needed);
 
-/* Runs a script on an empty graph, and writes its refusals alone, each with the lines at which it is:
+/* Runs a script on an empty graph, and writes its refusals, and which commands name a world or a package that isn't there,
+ * each with the lines at which it is:
  *
  *     refused 11 found a reference to a interface which is excluded due to its feature not being activated
  *          --> line 6 (p:q:5:1)
@@ -64,8 +65,17 @@ uint32_t witgraph_execute(const uint8_t *input, size_t length, uint8_t *output, 
  * `line 6` is the line of the script, counted from 1 as an editor counts, with lines that say nothing; in brackets stand
  * the name of a package, the line counted from the first of that package, and the column. Of `merge`, `select`,
  * `importize`, `exportize` and `semver` the line of the command stands below the lines that the refusal names; of `push`
- * where no other line is known. docs/REFUSALS.md says more of each number. Nothing is written, and *needed is 0, where no
- * command is refused.
+ * where no other line is known. Of exports in conflict (4) and of circles (6, 22, 23) a line ` = way: a:b/i -> a:b/j -> a:b/i`
+ * says on which way they lead, with the line of each step. docs/REFUSALS.md says more of each number. What isn't there is
+ * told so:
+ *
+ *     no world
+ *          --> line 4
+ *           |
+ *         4 | print p:q w
+ *           | ^----------
+ *
+ * Nothing is written, and *needed is 0, where each command came to something.
  *
  * Where the script isn't understood, the line at which it isn't and why:
  *

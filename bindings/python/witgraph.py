@@ -1121,7 +1121,7 @@ class Library:
         return self._script("witgraph_execute", script)
 
     def explain(self, script: str) -> str:
-        """The refusals of a script, each with its lines. Raises `NotUnderstood` with the reason."""
+        """The refusals of a script, and what its commands don't find, with the lines. Raises `NotUnderstood` with the reason."""
         return self._script("witgraph_explain", script)
 
 
@@ -1143,7 +1143,7 @@ def execute(script: str) -> str:
 
 
 def explain(script: str) -> str:
-    """The refusals of a script, each with its lines. Raises `NotUnderstood` with the reason."""
+    """The refusals of a script, and what its commands don't find, with the lines. Raises `NotUnderstood` with the reason."""
     return library().explain(script)
 
 

@@ -13,18 +13,18 @@ use Rattle.wit_script.specs.declared.ready.ScriptCommand.{ScriptCommand}
 use Rattle.wit_script.specs.declared.ready.ScriptCommand.TheVariants as asks
 use Rattle.wit_script.specs.Script.{IsNotUnderstood, IsUnderstood}
 use Rattle.wit_script_lines.specs.Line.{lines_of}
-use Rattle.wit_script_faults.specs.Desk.{new_desk}
+use Rattle.wit_script_places.specs.Desk.{new_desk}
 use Rattle.wit_script_faults.specs.Explained.{ExplainsAction, ExplainsAll, ExplainsCommand, ExplainsMisread, ExplainsScript, ExplainsSelect, place_of, rest_of}
-use Rattle.wit_script_faults.specs.Lines.{script_lines_of}
+use Rattle.wit_script_places.specs.Lines.{script_lines_of}
 use Rattle.wit_script_faults.specs.Misread.{IsMisreadText}
 use Rattle.wit_script_faults.specs.Refusals.{TellsRefusal, TellsReplies, TellsReply}
-use Rattle.wit_script_faults.specs.declared.arrow.Arrow.{Arrow}
+use Rattle.wit_script_places.specs.declared.arrow.Arrow.{Arrow}
 use Rattle.wit_resolve_graph.specs.declared.command.Reply.{Reply}
-use Rattle.wit_script_faults.specs.declared.desk.Desk.{Desk}
-use Rattle.wit_script_faults.specs.declared.desk.TrackedGraph.{TrackedGraph}
-use Rattle.wit_script_faults.specs.declared.lines.CommandPlace.{CommandPlace}
-use Rattle.wit_script_faults.specs.declared.lines.ScriptLines.{ScriptLines}
-use Rattle.wit_script_faults.proofs.Arrows.{take_next}
+use Rattle.wit_script_places.specs.declared.desk.Desk.{Desk}
+use Rattle.wit_script_places.specs.declared.desk.TrackedGraph.{TrackedGraph}
+use Rattle.wit_script_places.specs.declared.lines.CommandPlace.{CommandPlace}
+use Rattle.wit_script_places.specs.declared.lines.ScriptLines.{ScriptLines}
+use Rattle.wit_script_places.proofs.Arrows.{take_next}
 
 -- the places that are left after some commands
 abbrev pub rest_after : List CommandPlace → List ScriptCommand → List CommandPlace

@@ -1,9 +1,3 @@
-pub mod Arrows
-pub mod CommandLines
-pub mod CycleNames
 pub mod Explained
-pub mod Placed
 pub mod Reasons
-pub mod Searching
 pub mod Staged
-pub mod Starts

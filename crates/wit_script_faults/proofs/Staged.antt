@@ -3,12 +3,12 @@ use Rattle.std.proofs.Common.{◌≡◌, List, [], ℕ, Option, None, Some, Resu
 use Rattle.std.specs.Prelude.{IfOk}
 use Rattle.std.specs.declared.alloc.Global.{Global}
 use Rattle.wit_resolve_graph.specs.declared.command.Command.{Command}
-use Rattle.wit_script_faults.specs.Desk.{coming_packages, with_working_of, working_of}
+use Rattle.wit_script_places.specs.Desk.{coming_packages, with_working_of, working_of}
 use Rattle.wit_script_faults.specs.Explained.{ExplainsRun, ExplainsWork}
-use Rattle.wit_script_faults.specs.declared.desk.Desk.{Desk}
-use Rattle.wit_script_faults.specs.declared.desk.TrackedGraph.{TrackedGraph}
-use Rattle.wit_script_faults.specs.declared.lines.CommandPlace.{CommandPlace}
-use Rattle.wit_script_faults.specs.declared.lines.ScriptLines.{ScriptLines}
+use Rattle.wit_script_places.specs.declared.desk.Desk.{Desk}
+use Rattle.wit_script_places.specs.declared.desk.TrackedGraph.{TrackedGraph}
+use Rattle.wit_script_places.specs.declared.lines.CommandPlace.{CommandPlace}
+use Rattle.wit_script_places.specs.declared.lines.ScriptLines.{ScriptLines}
 
 module _ {E : Type 0} (script : ScriptLines) (place : CommandPlace) (desk : Desk) (command : Command) (coming : List ℕ) (is : coming ≡ coming_packages script place) (told : Result (String Global) E) where
   -- a run with these files to come is one with those that come

@@ -11,11 +11,11 @@ use Rattle.wit_script_lines.specs.declared.package_line.PackageLine.{PackageLine
 use Rattle.wit_script_lines.specs.declared.package_line.PackageLine.TheVariants as part
 use Rattle.wit_script_lines.specs.declared.statement.Statement.{Statement}
 use Rattle.wit_script_lines.specs.declared.statement.Statement.TheVariants as says
-use Rattle.wit_script_faults.specs.Lines.{sort_of}
+use Rattle.wit_script_places.specs.Lines.{sort_of}
 use Rattle.wit_script_faults.specs.declared.culprit.Search.{Search}
-use Rattle.wit_script_faults.specs.declared.lines.LineSort.{LineSort}
-use Rattle.wit_script_faults.specs.declared.lines.LineSort.TheVariants as sort
-use Rattle.wit_script_faults.specs.declared.lines.ScriptLines.{ScriptLines}
+use Rattle.wit_script_places.specs.declared.lines.LineSort.{LineSort}
+use Rattle.wit_script_places.specs.declared.lines.LineSort.TheVariants as sort
+use Rattle.wit_script_places.specs.declared.lines.ScriptLines.{ScriptLines}
 
 abbrev pub no_search : Search
 no_search = record { found = None; world = None }

@@ -1,7 +1,9 @@
--- What is told of a script: its refusals, each with the lines at which it is, or the line at which it isn't understood.
-use Rattle.std.specs.Prelude.{◌≡◌, ℕ, Bool, true, false, List, [], ◌∷◌, ◌++◌, length, Option, None, Some, Result, Ok, Err, MatchOption, IsUtf8}
+-- What is told of a script: its refusals, and which commands name what isn't there, each with the lines at which it is; or the
+-- line at which it isn't understood.
+use Rattle.std.specs.Prelude.{◌≡◌, ℕ, Bool, true, false, List, [], ◌∷◌, ◌++◌, length, Option, None, Some, Result, Ok, Err, MatchOption, IsUtf8, codes}
+use Rattle.std.specs.Option.{option_map_or}
 use Rattle.wit_names.specs.declared.package_name.PackageName.{PackageName}
-use Rattle.wit_graph_data.specs.Named.{package_named}
+use Rattle.wit_graph_data.specs.Named.{package_named, world_named}
 use Rattle.wit_graph_data.specs.declared.error_kind.ResolveErrorKind.{ResolveErrorKind}
 use Rattle.wit_resolve_graph.specs.State.{State}
 use Rattle.wit_resolve_graph.specs.Step.{Run}
@@ -15,19 +17,19 @@ use Rattle.wit_script.specs.declared.answer.Action.TheVariants as does
 use Rattle.wit_script.specs.declared.ready.ScriptCommand.{ScriptCommand}
 use Rattle.wit_script.specs.declared.ready.ScriptCommand.TheVariants as asks
 use Rattle.wit_script_lines.specs.Line.{lines_of}
-use Rattle.wit_script_faults.specs.Desk.{coming_packages, new_desk, new_tracked, only_first, tracked_after, with_working, working}
-use Rattle.wit_script_faults.specs.Lines.{script_lines_of}
+use Rattle.wit_script_places.specs.Desk.{coming_packages, new_desk, new_tracked, only_first, tracked_after, with_working, working}
+use Rattle.wit_script_places.specs.Lines.{script_lines_of}
 use Rattle.wit_script_faults.specs.Misread.{IsMisreadText}
-use Rattle.wit_script_faults.specs.Arrows.{uses_in}
-use Rattle.wit_script_faults.specs.Refusals.{TellsRefusal, TellsReplies, unless_refused}
-use Rattle.wit_script_faults.specs.declared.arrow.Arrow.{Arrow}
-use Rattle.wit_script_faults.specs.declared.desk.Desk.{Desk}
-use Rattle.wit_script_faults.specs.declared.desk.TrackedGraph.{TrackedGraph}
-use Rattle.wit_script_faults.specs.declared.lines.CommandPlace.{CommandPlace}
-use Rattle.wit_script_faults.specs.declared.lines.ScriptLines.{ScriptLines}
+use Rattle.wit_script_places.specs.Arrows.{graph_arrows}
+use Rattle.wit_script_faults.specs.Refusals.{TellsRefusal, TellsReplies, missing_text, unless_refused}
+use Rattle.wit_script_places.specs.declared.arrow.Arrow.{Arrow}
+use Rattle.wit_script_places.specs.declared.desk.Desk.{Desk}
+use Rattle.wit_script_places.specs.declared.desk.TrackedGraph.{TrackedGraph}
+use Rattle.wit_script_places.specs.declared.lines.CommandPlace.{CommandPlace}
+use Rattle.wit_script_places.specs.declared.lines.ScriptLines.{ScriptLines}
 
 -- a run of one command whose files, where it brings any, begin with these lines, and the packages that it brings with those;
--- and what is told of its replies, where these are the uses of a graph that it brings
+-- and what is told of its replies, where these are the arrows of a graph that it brings
 abbrev pub ExplainsRun : ScriptLines → CommandPlace → TrackedGraph → Command → List ℕ → List ℕ → List Arrow → List ℕ → TrackedGraph → Type 0
 ExplainsRun script place before command coming brought others text after =
     (replies : List Reply) × (new : State) × Run before.resolve (command ∷ []) replies new
@@ -43,24 +45,28 @@ ExplainsWork script place before command text after =
 abbrev pub ExplainsMerge : ScriptLines → CommandPlace → Desk → Option TrackedGraph → List ℕ → Desk → Type 0
 ExplainsMerge script place before None text after = (text ≡ []) × (after ≡ before)
 ExplainsMerge script place before (Some second) text after =
-    (new : TrackedGraph) × ExplainsRun script place before.first (Merge second.resolve) second.file_starts second.package_starts (uses_in script second) text new × (after ≡ only_first new)
+    (new : TrackedGraph) × ExplainsRun script place before.first (Merge second.resolve) second.file_starts second.package_starts (graph_arrows script second None) text new × (after ≡ only_first new)
 
 -- what is told of a choice of a world
 abbrev pub TellsChoice : ScriptLines → CommandPlace → TrackedGraph → Result ℕ ResolveErrorKind → List ℕ → Type 0
 TellsChoice script place tracked (Ok world) text = text ≡ []
 TellsChoice script place tracked (Err kind) text = TellsRefusal script place tracked [] kind text
 
--- `select`: a choice that may be made of a package; nothing where the package isn't there
+-- `print`: there is no such world
+abbrev pub print_text : ScriptLines → CommandPlace → TrackedGraph → PackageName → List ℕ → List ℕ
+print_text script place tracked owner world = option_map_or (λ w. []) (world_named tracked.resolve.graph owner world) (missing_text script place (codes "no world"))
+
+-- `select`: there is no such package, or a choice that may be made of it
 abbrev pub ExplainsSelect : ScriptLines → CommandPlace → TrackedGraph → PackageName → Option (List ℕ) → List ℕ → Type 0
 ExplainsSelect script place tracked owner said text =
-    MatchOption (package_named tracked.resolve.graph owner) (text ≡ []) (λ id. (choice : Result ℕ ResolveErrorKind) × IsChoice tracked.resolve.graph id said choice × TellsChoice script place tracked choice text)
+    MatchOption (package_named tracked.resolve.graph owner) (text ≡ missing_text script place (codes "no package")) (λ id. (choice : Result ℕ ResolveErrorKind) × IsChoice tracked.resolve.graph id said choice × TellsChoice script place tracked choice text)
 
 -- what is told of what a command does that pushes nothing, and the desk after it
 abbrev pub ExplainsAction : ScriptLines → CommandPlace → Desk → Action → List ℕ → Desk → Type 0
 ExplainsAction script place before (does.Run command style) text after = ExplainsWork script place before command text after
 ExplainsAction script place before does.Open text after = (text ≡ []) × (after ≡ record { first = before.first; second = Some new_tracked })
 ExplainsAction script place before does.Merge text after = ExplainsMerge script place before before.second text after
-ExplainsAction script place before (does.Print owner world) text after = (text ≡ []) × (after ≡ before)
+ExplainsAction script place before (does.Print owner world) text after = (text ≡ print_text script place (working before) owner world) × (after ≡ before)
 ExplainsAction script place before (does.Select owner said) text after = (after ≡ before) × ExplainsSelect script place (working before) owner said text
 
 -- what is told of a command, and the desk after it
@@ -86,7 +92,7 @@ ExplainsAll script places before (command ∷ commands) text after =
     × ExplainsCommand script (place_of script places) before command first between
     × ExplainsAll script (rest_of places) between commands rest after × (text ≡ first ++ rest)
 
--- what is told of a script that is understood: the refusals of its commands on an empty graph
+-- what is told of a script that is understood: the refusals of its commands on an empty graph, and what isn't there
 pub record ExplainsScript (input text : List ℕ) : Type 0 where
   pub utf8 : IsUtf8 input
   pub commands : List ScriptCommand

@@ -2,8 +2,8 @@
 use Rattle.std.specs.Prelude.{◌≡◌, ℕ, ◌+◌, List, [], ◌++◌, codes, decimal, slice_get}
 use Rattle.std.specs.Option.{option_map_or}
 use Rattle.wit_script_faults.specs.Culprit.{fault_index}
-use Rattle.wit_script_faults.specs.Shown.{snippet_text}
-use Rattle.wit_script_faults.specs.declared.lines.ScriptLines.{ScriptLines}
+use Rattle.wit_script_places.specs.Shown.{snippet_text}
+use Rattle.wit_script_places.specs.declared.lines.ScriptLines.{ScriptLines}
 
 -- `line N: REASON`, and the line with a mark
 abbrev pub misread_text_of : ℕ → List ℕ → List ℕ → List ℕ

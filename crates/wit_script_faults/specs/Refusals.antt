@@ -1,4 +1,5 @@
--- What is told of a refusal: its text, the lines at which it is, its way, and where more is said of its number.
+-- What is told of a refusal: its text, the lines at which it is, its way, and where more is said of its number; and of what
+-- isn't there.
 use Rattle.std.specs.Prelude.{◌≡◌, ℕ, ◌||◌, ◌==◌, not, Bool, true, false, List, [], ◌∷◌, ◌++◌, length, Option, Some, None, codes, decimal, if◌then◌else◌}
 use Rattle.std.specs.List.{list_any}
 use Rattle.std.specs.Option.{option_map_or}
@@ -10,13 +11,13 @@ use Rattle.wit_names.specs.PackageName.{package_name_text}
 use Rattle.wit_names.specs.declared.package_name.PackageName.{PackageName}
 use Rattle.wit_resolve_graph.specs.declared.command.Reply.{Reply}
 use Rattle.wit_resolve_graph.specs.declared.command.Reply.TheVariants as reply
-use Rattle.wit_script_faults.specs.Places.{defined_line, span_place}
-use Rattle.wit_script_faults.specs.Shown.{command_text, place_text}
-use Rattle.wit_script_faults.specs.Ways.{IsTold, way_text}
-use Rattle.wit_script_faults.specs.declared.arrow.Arrow.{Arrow}
-use Rattle.wit_script_faults.specs.declared.desk.TrackedGraph.{TrackedGraph}
-use Rattle.wit_script_faults.specs.declared.lines.CommandPlace.{CommandPlace}
-use Rattle.wit_script_faults.specs.declared.lines.ScriptLines.{ScriptLines}
+use Rattle.wit_script_places.specs.Places.{defined_line, span_place}
+use Rattle.wit_script_places.specs.Shown.{command_text, place_text}
+use Rattle.wit_script_places.specs.Ways.{IsTold, way_text}
+use Rattle.wit_script_places.specs.declared.arrow.Arrow.{Arrow}
+use Rattle.wit_script_places.specs.declared.desk.TrackedGraph.{TrackedGraph}
+use Rattle.wit_script_places.specs.declared.lines.CommandPlace.{CommandPlace}
+use Rattle.wit_script_places.specs.declared.lines.ScriptLines.{ScriptLines}
 
 -- the line of a span, or nothing where it is unknown
 abbrev pub span_text : ScriptLines → TrackedGraph → Option (ℕ × ℕ) → List ℕ
@@ -50,13 +51,18 @@ told_text number text places way =
 abbrev pub refusal_text : ScriptLines → CommandPlace → TrackedGraph → List Arrow → ResolveErrorKind → List ℕ
 refusal_text script place tracked way kind = told_text (error_number kind) (kind_text kind) (places_text script place tracked kind) (way_text script way)
 
--- what is told of a refusal, where these are the uses of a graph that was to come
+-- what is told of a refusal, where these are the arrows of a graph that was to come
 abbrev pub TellsRefusal : ScriptLines → CommandPlace → TrackedGraph → List Arrow → ResolveErrorKind → List ℕ → Type 0
 TellsRefusal script place tracked others kind text = (way : List Arrow) × IsTold script place tracked others kind way × (text ≡ refusal_text script place tracked way kind)
+
+-- what is told of a command that names what isn't there: this, and its line
+abbrev pub missing_text : ScriptLines → CommandPlace → List ℕ → List ℕ
+missing_text script place missing = missing ++ (codes "\n" ++ command_text script place.line)
 
 -- what is told of a reply, in the state after it
 abbrev pub TellsReply : ScriptLines → CommandPlace → TrackedGraph → List Arrow → Reply → List ℕ → Type 0
 TellsReply script place after others (reply.Refused kind) text = TellsRefusal script place after others kind text
+TellsReply script place after others reply.NoWorld text = text ≡ missing_text script place (codes "no world")
 TellsReply script place after others _ text = text ≡ []
 
 abbrev pub TellsReplies : ScriptLines → CommandPlace → TrackedGraph → List Arrow → List Reply → List ℕ → Type 0

@@ -3,10 +3,10 @@
 ghost use Rattle.std.specs.Prelude.{◌≡◌, IfOk, OnOk, take};
 ghost use Rattle.wit_script_faults.specs.Culprit.{culprit, fault_index, includes, is_at_fault, is_push, names_badly, noted, searched, no_search, with_line, with_part, world_after};
 
-use crate::lines::{LineSort, ScriptLines, sort_of};
 use std::alloc::{AllocError, Global};
 use wit_data::{PackageName, ParsedUsePath, Text, is_kebab_name};
 use wit_script_lines::{LineFault, PackageLine, Statement, read_line};
+use wit_script_places::{LineSort, ScriptLines, sort_of};
 
 /// A search through the lines of packages, for the first that names something by no kebab name, or includes the world in
 /// which it stands.

@@ -2,10 +2,9 @@
 ghost use Rattle.std.specs.Prelude.{◌≡◌, IfOk, List, ℕ, string_bytes};
 ghost use Rattle.wit_script_faults.specs.Misread.{misread_text};
 
-use crate::lines::ScriptLines;
 use crate::reason::reason;
-use crate::shown::snippet;
 use std::alloc::{AllocError, Global};
+use wit_script_places::{ScriptLines, snippet};
 
 /// `line N: REASON`, and the line with a mark, for the line of an index, where the line of a number isn't understood. The
 /// only error is want of memory.

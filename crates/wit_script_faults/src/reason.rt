@@ -1,10 +1,10 @@
 //! Why a line isn't understood.
 use crate::context::{Context, context_before, said_by};
-use crate::lines::ScriptLines;
 use crate::name_reason::{culprit_reason, part_reason};
 use crate::word_reason::word_reason;
 use std::alloc::{AllocError, Global};
 use wit_script_lines::{Request, Statement};
+use wit_script_places::ScriptLines;
 
 /// Why the line of an index isn't understood, which shows at the line of another, or at the same.
 pub fn reason(

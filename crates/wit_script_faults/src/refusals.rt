@@ -1,23 +1,16 @@
-//! The refusals of a script, each with the lines at which it is, and a script that isn't understood.
+//! The refusals of a script and what its commands don't find, each with its lines, and a script that isn't understood.
 ghost use Rattle.std.specs.Prelude.{◌≡◌, IfErr, IfOk, Err, Ok, string_bytes};
 ghost use Rattle.std.specs.List.{list_any};
 ghost use Rattle.wit_resolve_graph.specs.Step.{IsCommandShaped};
 ghost use Rattle.wit_script.specs.Answer.{IsActionShaped, IsChoice};
-ghost use Rattle.wit_script_faults.specs.Desk.{new_desk};
-ghost use Rattle.wit_script_faults.specs.Explained.{Explains, ExplainsAction, ExplainsAll, ExplainsCommand, ExplainsMerge, ExplainsRun, ExplainsSelect, ExplainsWork, place_of, rest_of};
+ghost use Rattle.wit_script_places.specs.Desk.{new_desk};
+ghost use Rattle.wit_script_faults.specs.Explained.{Explains, ExplainsAction, ExplainsAll, ExplainsCommand, ExplainsMerge, ExplainsRun, ExplainsSelect, ExplainsWork, place_of, print_text, rest_of};
 ghost use Rattle.wit_script_faults.specs.Misread.{IsMisreadText};
-ghost use Rattle.wit_script_faults.specs.Refusals.{TellsRefusal, TellsReplies, TellsReply, is_refusal, other_text, places_text, span_text, spans_text, unless_refused};
-ghost use Rattle.wit_script_faults.specs.declared.desk.Desk.{Desk};
+ghost use Rattle.wit_script_faults.specs.Refusals.{TellsRefusal, TellsReplies, TellsReply, is_refusal, missing_text, other_text, places_text, span_text, spans_text, unless_refused};
+ghost use Rattle.wit_script_places.specs.declared.desk.Desk.{Desk};
 
-use crate::arrow::Arrow;
 use crate::culprit::fault_index;
-use crate::desk::{Desk, TrackedGraph, coming_packages};
-use crate::graph_arrow::uses_in;
-use crate::lines::{CommandPlace, ScriptLines, script_lines};
 use crate::misread::misread_text;
-use crate::place::{defined_line, span_place};
-use crate::shown::{command_text, place_text};
-use crate::told_way::{way_of, way_text};
 use std::alloc::{AllocError, Global};
 use wit_data::Span;
 use wit_resolve_graph::{
@@ -25,9 +18,13 @@ use wit_resolve_graph::{
     Text, WorldId, run,
 };
 use wit_script::{Action, ReadFault, ReadyCommand, ScriptCommand, action_of, read_script};
+use wit_script_places::{
+    Arrow, CommandPlace, Desk, ScriptLines, TrackedGraph, coming_packages, command_text,
+    defined_line, graph_arrows, place_text, script_lines, span_place, way_of, way_text,
+};
 
-/// What there is to say of a script: whether it is understood, and its refusals where it is, each with its lines, or else
-/// the line at which it isn't. The only error is want of memory outside a command.
+/// What there is to say of a script: whether it is understood, and where it is its refusals and which commands name what
+/// isn't there, each with its lines, or else the line at which it isn't. The only error is want of memory outside a command.
 pub fn explain_text(alloc: Global, script: &str) -> Result<(bool, String), AllocError>
     ensures { IfOk result (λ answer. Explains script.now answer.0 (string_bytes answer.1)) }
 {
@@ -130,7 +127,9 @@ fn refusal_to_action(
             Ok(String::new(alloc))
         }
         Action::Merge => merge(alloc, script, place, desk),
-        Action::Print { .. } => Ok(String::new(alloc)),
+        Action::Print { package, world } => {
+            print(alloc, script, place, desk.working(), &package, &world)
+        }
         Action::Select { package, text } => {
             select(alloc, script, place, desk.working(), &package, &text)
         }
@@ -176,7 +175,7 @@ fn merge(
     let Some(second) = desk.second.take() else {
         return Ok(String::new(alloc));
     };
-    let others = uses_in(alloc, script, &second)?;
+    let others = graph_arrows(alloc, script, &second, None)?;
     let TrackedGraph {
         resolve,
         file_starts,
@@ -197,7 +196,7 @@ fn merge(
 }
 
 /// Carries out a command, and answers its refusal, or an empty text. The files that come begin with these lines, and the
-/// packages that come with those; a graph that comes has these uses.
+/// packages that come with those; these are the arrows of a graph that comes.
 fn carry_out(
     alloc: Global,
     script: &ScriptLines,
@@ -274,8 +273,22 @@ fn reply_text(
 {
     match reply {
         Reply::Refused(refusal) => refusal_text(alloc, script, place, tracked, others, refusal),
+        Reply::NoWorld => Ok(missing_text(alloc, script, place, "no world")?),
         _ => Ok(String::new(alloc)),
     }
+}
+
+/// What is told of a command that names what isn't there: this, and its line.
+fn missing_text(
+    alloc: Global,
+    script: &ScriptLines,
+    place: &CommandPlace,
+    missing: &str,
+) -> Result<String, AllocError>
+    ensures { IfOk result (λ text. string_bytes text ≡ missing_text script.now place.now missing.now) }
+{
+    let command = command_text(alloc, script, place.line)?;
+    format!(in alloc; "{missing}\n{command}")
 }
 
 /// `refused N TEXT`, N being the number of the refusal, the lines at which it is, its way, and where more is said of N.
@@ -376,7 +389,24 @@ fn span_text(
     }
 }
 
-/// What is told of the choice of a world of a package, and nothing where the package isn't there.
+/// What is told of a world that is to be printed.
+fn print(
+    alloc: Global,
+    script: &ScriptLines,
+    place: &CommandPlace,
+    tracked: &TrackedGraph,
+    owner: &PackageName,
+    world: &Text,
+) -> ResolveResult<String>
+    ensures { IfOk result (λ text. string_bytes text ≡ print_text script.now place.now tracked.now owner.now world.now) }
+{
+    match tracked.resolve.world_named(owner, world.as_str()) {
+        Some(_) => Ok(String::new(alloc)),
+        None => Ok(missing_text(alloc, script, place, "no world")?),
+    }
+}
+
+/// What is told of the choice of a world of a package.
 fn select(
     alloc: Global,
     script: &ScriptLines,
@@ -388,7 +418,7 @@ fn select(
     ensures { IfOk result (λ out. ExplainsSelect script.now place.now tracked.now owner.now text.now (string_bytes out)) }
 {
     let Some(id) = tracked.resolve.package_names().get(owner) else {
-        return Ok(String::new(alloc));
+        return Ok(missing_text(alloc, script, place, "no package")?);
     };
     match chosen(alloc, tracked, *id, text) {
         Ok(_) => Ok(String::new(alloc)),

@@ -1,4 +1,4 @@
-//! The refusals of a script, each with its line.
+//! The refusals of a script and what its commands don't find, each with its line.
 ghost use Rattle.std.specs.Prelude.{◌≡◌, ◌≤◌, true, false};
 ghost use Rattle.std.specs.Str.{IsUtf8};
 ghost use Rattle.wit_script_faults.specs.Explained.{Explains};
@@ -9,9 +9,9 @@ use crate::status::{INPUT_NOT_UTF8, NO_MEMORY, NOT_UNDERSTOOD, OUTPUT_TOO_SMALL,
 use std::alloc::Global;
 use wit_script_faults::explain_text;
 
-/// Runs a script on an empty graph, and writes its refusals to the front of the output, each with the lines at which it
-/// is, as `explain_text` of `wit_script_faults` tells them. Nothing is written of a script without a refusal; of one that
-/// isn't understood, the line at which it isn't and why.
+/// Runs a script on an empty graph, and writes its refusals and what its commands don't find to the front of the output,
+/// each with its lines, as `explain_text` of `wit_script_faults` tells them. Nothing is written of a script whose commands
+/// all come to something; of one that isn't understood, the line at which it isn't and why.
 ///
 /// All else is as of `execute`.
 pub fn explain(alloc: Global, input: &[u8], output: &mut [u8], needed: &mut usize) -> u32

@@ -1,7 +1,7 @@
 use Rattle.std.proofs.Common.{◌≡◌, ◌++◌, ◌∙◌, ◌∷◌, [], ap, sym, subst, string_bytes, ℕ, List}
-use Rattle.wit_script_faults.specs.Desk.{new_desk}
+use Rattle.wit_script_places.specs.Desk.{new_desk}
 use Rattle.wit_script_faults.specs.Explained.{ExplainsAll, ExplainsCommand, place_of, rest_of}
-use Rattle.wit_script_faults.specs.declared.lines.CommandPlace.{CommandPlace}
+use Rattle.wit_script_places.specs.declared.lines.CommandPlace.{CommandPlace}
 use Rattle.wit_script_faults.proofs.Explained.{ExplainsAll-more, rest_after-more}
 use Rattle.wit_script_faults.proofs.refusals.refusals_to.Goals as goal
 

@@ -1,5 +1,5 @@
 use Rattle.std.proofs.Common.{◌≡◌, string_bytes}
-use Rattle.wit_script_faults.specs.Desk.{new_desk}
+use Rattle.wit_script_places.specs.Desk.{new_desk}
 use Rattle.wit_script_faults.specs.Explained.{ExplainsAll}
 use Rattle.wit_script_faults.proofs.Explained.{rest_after}
 use Rattle.wit_script_faults.proofs.refusals.refusals_to.Given as goal

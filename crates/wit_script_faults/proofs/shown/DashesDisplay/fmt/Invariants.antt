@@ -1,6 +1,0 @@
-use Rattle.std.proofs.Common.{replicate}
-use Rattle.std.specs.Fmt.{HasWritten, IsPlainFormatter}
-use Rattle.wit_script_faults.proofs.shown.DashesDisplay.fmt.Given as goal
-
-abbrev pub invariant-loop-i : goal.invariant-loop-i
-invariant-loop-i g l = IsPlainFormatter l.initial.f → HasWritten g.W.Write.write_str_gives l.initial.f (replicate l._i 45) l.f

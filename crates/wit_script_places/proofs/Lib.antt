@@ -1,0 +1,6 @@
+pub mod Arrows
+pub mod CommandLines
+pub mod CycleNames
+pub mod Placed
+pub mod Searching
+pub mod TypeRounds

@@ -1,0 +1,182 @@
+-- What names what in a script and in its graphs: each name as refusals tell it. Indices count from 0.
+use Rattle.std.specs.Prelude.{ℕ, ◌+◌, ◌-◌, Bool, true, List, [], ◌∷◌, ◌++◌, length, take, drop, flat_map, filter_map, slice_get, Option, None, Some, option_and_then, option_map, option_to_list, bytes_eq, codes, if◌then◌else◌}
+use Rattle.std.specs.List.{range_with_len}
+use Rattle.std.specs.Option.{option_map_or}
+use Rattle.wit_names.specs.PackageName.{package_name_text, version_suffix}
+use Rattle.wit_names.specs.declared.package_name.PackageName.{PackageName}
+use Rattle.wit_names.specs.declared.use_path.ParsedUsePath.{ParsedUsePath}
+use Rattle.wit_names.specs.declared.use_path.ParsedUsePath.TheVariants as path
+use Rattle.wit_data.specs.Entries.{Entry}
+use Rattle.wit_data.specs.Uses.{type_interface_dep}
+use Rattle.wit_data.specs.declared.interface.Interface.{Interface}
+use Rattle.wit_data.specs.declared.types.TypeDef.{TypeDef}
+use Rattle.wit_data.specs.declared.world.World.{World}
+use Rattle.wit_data.specs.declared.world.WorldKey.{WorldKey}
+use Rattle.wit_data.specs.declared.world.WorldKey.TheVariants as key
+use Rattle.wit_graph_data.specs.IdText.{id_text, interface_id_at}
+use Rattle.wit_graph_data.specs.Queries.{package_direct_deps}
+use Rattle.wit_graph_data.specs.declared.features.Features.{Features}
+use Rattle.wit_graph_data.specs.declared.graph.Package.{Package}
+use Rattle.wit_link_spec.specs.Gates.{is_active}
+use Rattle.wit_script_lines.specs.Statement.{statement_of}
+use Rattle.wit_script_lines.specs.declared.package_line.PackageLine.{PackageLine}
+use Rattle.wit_script_lines.specs.declared.package_line.PackageLine.TheVariants as part
+use Rattle.wit_script_lines.specs.declared.statement.Statement.{Statement}
+use Rattle.wit_script_lines.specs.declared.statement.Statement.TheVariants as says
+use Rattle.wit_semver_spec.specs.SemverMerged.{SemverMerge}
+use Rattle.wit_script_places.specs.Instead.{used_instead}
+use Rattle.wit_script_places.specs.Places.{span_place}
+use Rattle.wit_script_places.specs.declared.arrow.Arrow.{Arrow}
+use Rattle.wit_script_places.specs.declared.arrow.ArrowSort.{ArrowSort}
+use Rattle.wit_script_places.specs.declared.arrow.ArrowSort.TheVariants as sort
+use Rattle.wit_script_places.specs.declared.arrow.Spot.{Spot}
+use Rattle.wit_script_places.specs.declared.desk.TrackedGraph.{TrackedGraph}
+use Rattle.wit_script_places.specs.declared.lines.CommandPlace.{CommandPlace}
+use Rattle.wit_script_places.specs.declared.lines.ScriptLines.{ScriptLines}
+
+-- ---- lines
+
+-- `namespace:package/name`, and `@version` where there is one
+abbrev pub item_text : PackageName → List ℕ → List ℕ
+item_text p name = p.namespace ++ (codes ":" ++ (p.name ++ (codes "/" ++ (name ++ version_suffix p.version))))
+
+-- what a path of a package names
+abbrev pub path_text : PackageName → ParsedUsePath → List ℕ
+path_text p (path.Name name) = item_text p name
+path_text p (path.Package parent name) = item_text parent name
+
+-- the path of a line that has one
+abbrev pub path_of : PackageLine → Option ParsedUsePath
+path_of (part.Use from name new) = Some from
+path_of (part.Import label from) = Some from
+path_of (part.Export label from) = Some from
+path_of (part.Include from names) = Some from
+path_of _ = None
+
+-- the package that a path names, as another one's
+abbrev pub package_ends : PackageName → Option ParsedUsePath → Option (List ℕ × List ℕ)
+package_ends p (Some (path.Package parent name)) = Some (package_name_text p, package_name_text parent)
+package_ends p _ = None
+
+-- the item in which a line stands and what its path names, where its gate is met
+abbrev pub item_ends : PackageName → Bool → Option (List ℕ) → ParsedUsePath → Option (List ℕ × List ℕ)
+item_ends p true (Some item) from = Some (item_text p item, path_text p from)
+item_ends p _ _ from = None
+
+-- which names which by a line of a package: an interface uses types of another, a world exports an interface under its own
+-- key or includes a world, a package names another
+abbrev pub ends : PackageName → Bool → ArrowSort → Spot → PackageLine → Option (List ℕ × List ℕ)
+ends p on sort.Use s (part.Use from name new) = item_ends p on s.interface from
+ends p on sort.Export s (part.Export None from) = item_ends p on s.world from
+ends p on sort.Include s (part.Include from names) = item_ends p on s.world from
+ends p on sort.Dependency s said = package_ends p (path_of said)
+ends p on _ s _ = None
+
+-- the arrow of a line of this index, where the line stands there
+abbrev pub line_arrow : Features → ArrowSort → Spot → ℕ → Option PackageName → Statement → Option Arrow
+line_arrow features sort s index (Some p) (says.Line said gate) =
+    option_map (λ (e : List ℕ × List ℕ). record { from = e.0; to = e.1; line = Some (index, package_name_text p, s.first) }) (ends p (is_active features gate) sort s said)
+line_arrow features sort s index _ _ = None
+
+-- where the lines after a line of a package stand
+abbrev pub after_part : Spot → PackageLine → Spot
+after_part s (part.Interface name) = record s { interface = Some name; world = None }
+after_part s (part.World name) = record s { interface = None; world = Some name }
+after_part s _ = s
+
+-- where the lines after a line of this index stand
+abbrev pub after_said : Spot → ℕ → Statement → Spot
+after_said s index (says.Package name) = record { owner = Some name; first = index; interface = None; world = None }
+after_said s index (says.Line said gate) = after_part s said
+after_said s index _ = s
+
+-- the arrows of what a line says, and where the lines after it stand; a line that says nothing has none
+abbrev pub read_arrows : Features → ArrowSort → Spot → ℕ → Option (Option Statement) → List Arrow
+read_arrows features sort s index (Some (Some said)) = option_to_list (line_arrow features sort s index s.owner said)
+read_arrows features sort s index _ = []
+
+abbrev pub after_read : Spot → ℕ → Option (Option Statement) → Spot
+after_read s index (Some (Some said)) = after_said s index said
+after_read s index _ = s
+
+-- the arrows of lines, of which the first has this index and stands there
+abbrev pub arrows_from : Features → ArrowSort → Spot → ℕ → List (List ℕ) → List Arrow
+arrows_from features sort s index [] = []
+arrows_from features sort s index (line ∷ lines) =
+    read_arrows features sort s index (statement_of line) ++ arrows_from features sort (after_read s index (statement_of line)) (index + 1) lines
+
+-- in no package
+abbrev pub no_spot : Spot
+no_spot = record { owner = None; first = 0; interface = None; world = None }
+
+-- the first line of the packages that a command brings, or its own line, where it brings none
+abbrev pub coming_start : ScriptLines → CommandPlace → ℕ
+coming_start script place = option_map_or (λ index. index) (option_and_then (slice_get script.filed) (slice_get script.packages place.packages)) place.line
+
+-- the arrows of the packages that a command brings, where these features are on
+abbrev pub coming_arrows : ScriptLines → CommandPlace → Features → ArrowSort → List Arrow
+coming_arrows script place features sort =
+    arrows_from features sort no_spot (coming_start script place) (take (place.line - coming_start script place) (drop (coming_start script place) script.lines))
+
+-- ---- graphs
+
+-- the text of the name of a package
+abbrev pub package_text_at : List Package → ℕ → Option (List ℕ)
+package_text_at packages p = option_map (λ (home : Package). package_name_text home.name) (slice_get packages p)
+
+-- as what an interface uses others and is used: by its id, or of dependencies as its package
+abbrev pub known_as : TrackedGraph → ArrowSort → ℕ → Option (List ℕ)
+known_as t sort.Dependency i = option_and_then (λ (interface : Interface). option_and_then (package_text_at t.resolve.graph.packages) interface.package) (slice_get t.resolve.graph.interfaces i)
+known_as t _ i = interface_id_at t.resolve.graph.packages t.resolve.graph.interfaces i
+
+-- from one name to another, by a line
+abbrev pub arrow_between : Option (List ℕ) → Option (ℕ × List ℕ × ℕ) → Option (List ℕ) → Option Arrow
+arrow_between (Some from) line (Some to) = if bytes_eq from to then None else Some (record { from = from; to = to; line = line })
+arrow_between _ line _ = None
+
+-- the line at which a type stands
+abbrev pub type_line : ScriptLines → TrackedGraph → ℕ → Option (ℕ × List ℕ × ℕ)
+type_line script t id = option_and_then (λ (def : TypeDef). span_place script t def.span) (slice_get t.resolve.graph.types id)
+
+-- what interface i uses by a type, by the type's line
+abbrev pub use_arrow : ScriptLines → TrackedGraph → Option SemverMerge → ArrowSort → ℕ → ℕ → Option Arrow
+use_arrow script t u s i id =
+    option_and_then (λ used. arrow_between (known_as t s i) (type_line script t id) (known_as t s (used_instead u i used))) (type_interface_dep t.resolve.graph.types id)
+
+-- what interface i uses
+abbrev pub interface_arrows : ScriptLines → TrackedGraph → Option SemverMerge → ArrowSort → ℕ → List Arrow
+interface_arrows script t u s i =
+    option_map_or (λ (interface : Interface). filter_map (λ (e : List ℕ × ℕ). use_arrow script t u s i e.1) interface.types) (slice_get t.resolve.graph.interfaces i) []
+
+-- what the interfaces of a graph use
+abbrev pub uses_in : ScriptLines → TrackedGraph → Option SemverMerge → ArrowSort → List Arrow
+uses_in script t u s = flat_map (interface_arrows script t u s) (range_with_len 0 (length t.resolve.graph.interfaces))
+
+-- what a package depends on, by whatever lines
+abbrev pub package_arrows : TrackedGraph → ℕ → List Arrow
+package_arrows t p =
+    let g = t.resolve.graph in
+    filter_map (λ q. arrow_between (package_text_at g.packages p) None (package_text_at g.packages q)) (package_direct_deps g.types g.interfaces g.worlds g.packages p)
+
+-- what the packages of a graph depend on; of a graph as semver merging would leave it, what uses of interfaces tell is all
+abbrev pub dependencies_in : TrackedGraph → Option SemverMerge → List Arrow
+dependencies_in t None = flat_map (package_arrows t) (range_with_len 0 (length t.resolve.graph.packages))
+dependencies_in t (Some u) = []
+
+-- what leads where in a graph: which package depends on which, once more by the lines of the types that are used, and which
+-- interface uses which
+abbrev pub graph_arrows : ScriptLines → TrackedGraph → Option SemverMerge → List Arrow
+graph_arrows script t u = dependencies_in t u ++ (uses_in script t u sort.Dependency ++ uses_in script t u sort.Use)
+
+-- the export of an interface under its own key by the world of this name
+abbrev pub export_arrow : TrackedGraph → List ℕ → WorldKey → Option Arrow
+export_arrow t from (key.Interface i) = option_map (λ to. record { from = from; to = to; line = None }) (interface_id_at t.resolve.graph.packages t.resolve.graph.interfaces i)
+export_arrow t from (key.Name label) = None
+
+-- what a world exports under its own key
+abbrev pub world_arrows : TrackedGraph → World → List Arrow
+world_arrows t world = option_map_or (λ owner. filter_map (λ (e : Entry). export_arrow t (id_text t.resolve.graph.packages owner world.name) e.0) world.exports) world.package []
+
+-- what the worlds of a graph export
+abbrev pub exports_in : TrackedGraph → List Arrow
+exports_in t = flat_map (world_arrows t) t.resolve.graph.worlds

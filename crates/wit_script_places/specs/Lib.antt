@@ -1,0 +1,10 @@
+pub mod Arrows
+pub mod Desk
+pub mod Instead
+pub mod Lines
+pub mod Places
+pub mod Shown
+pub mod TypeArrows
+pub mod Ways
+pub mod laws
+pub mod steps
