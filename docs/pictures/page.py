@@ -15,6 +15,9 @@ section { border-top: 1px solid #ddd; padding: 0.5em 0 1.5em; }
 pre { flex: 0 1 34em; white-space: pre-wrap; margin: 0; padding: 0.8em; background: #f6f6f3; border: 1px solid #ddd; border-radius: 6px;
   font-size: 12px; overflow-x: auto; max-width: 100%; box-sizing: border-box; }
 .choice { color: #1f5fa8; } .comment { color: #6a6a6a; }
+.numbered { padding-left: 3.2em; }
+.numbered .line { counter-increment: line; }
+.numbered .line::before { content: counter(line); display: inline-block; width: 2em; margin-left: -2.8em; margin-right: 0.8em; text-align: right; color: #a0a0a0; }
 figure { flex: 1 1 420px; margin: 0; min-width: 0; }
 figure svg { max-width: 100%; height: auto; }
 code { background: #f0f0ec; padding: 0 0.2em; }
@@ -30,13 +33,16 @@ def inline(text):
     return re.sub(r"`([^`]*)`", r"<code>\1</code>", text)
 
 
-def coloured(script):
-    def line(text):
-        sort = "choice" if re.match(r"# (show|hide|only-added)", text) else "comment"
-        shown = html.escape(text)
-        return f'<span class="{sort}">{shown}</span>' if text.startswith("#") else shown
+def listing(script):
+    """A script, its comments in a colour, its lines with the numbers that notes tell, where no line stands for others."""
 
-    return "\n".join(line(it) for it in script.rstrip("\n").split("\n"))
+    def line(text):
+        sort = "" if not text.startswith("#") else " choice" if re.match(r"# (show|hide|only-added)", text) else " comment"
+        return f'<span class="line{sort}">{html.escape(text)}</span>'
+
+    lines = script.rstrip("\n").split("\n")
+    sort = "" if any(it.startswith("#+ ") for it in lines) else ' class="numbered"'
+    return f"<pre{sort}>" + "\n".join(line(it) for it in lines) + "</pre>"
 
 
 def picture(name, told):
@@ -55,7 +61,7 @@ def section(title, body):
         script = (HERE / f"{name}.script").read_text()
         shown.append(
             f"<p>{inline(name + '.script' + more)}</p>\n"
-            f'<div class="pair">\n<pre>{coloured(script)}</pre>\n<figure>\n{picture(name, told)}</figure>\n</div>'
+            f'<div class="pair">\n{listing(script)}\n<figure>\n{picture(name, told)}</figure>\n</div>'
         )
     anchor = pairs[0][0]
     return anchor, f'<section id="{anchor}">\n<h2>{inline(title)}</h2>\n' + "\n".join(shown) + "\n</section>"

@@ -1,2 +1,5 @@
 mod Appended
+mod Gathered
 mod Staged
+mod Viewed
+mod Written

@@ -2,8 +2,13 @@ pub mod Boxes
 pub mod Bundles
 pub mod Choice
 pub mod Drawn
+pub mod Frames
 pub mod Labels
+pub mod Lines
 pub mod Listed
+pub mod Made
+pub mod Picture
+pub mod Pushed
 pub mod Scene
 pub mod Sets
 pub mod Shown

@@ -1,6 +1,6 @@
 -- The imports that lines list, each a world and an interface that it imports under the interface's own id; and the worlds that
 -- worlds include.
-use Rattle.std.specs.Prelude.{◌&&◌, ℕ, Bool, List, [], ◌∷◌, ◌++◌, filter, nat_eq, not, if◌then◌else◌, flat_map}
+use Rattle.std.specs.Prelude.{◌&&◌, ℕ, Bool, List, [], ◌∷◌, ◌++◌, Option, filter, fold, nat_eq, not, if◌then◌else◌, flat_map, option_and_then, option_map, slice_get}
 use Rattle.std.specs.List.{list_any}
 use Rattle.witgraph_dot.specs.declared.listing.Import.{Import}
 use Rattle.witgraph_dot.specs.declared.listing.Include.{Include}
@@ -66,3 +66,27 @@ with_include all world included = if includes all world included then all else a
 abbrev pub with_includes : List Include → ℕ → List ℕ → List Include
 with_includes all world [] = all
 with_includes all world (included ∷ more) = with_includes (with_include all world included) world more
+
+-- ---- of several worlds
+
+-- with some imports more, each where it isn't there
+abbrev pub with_all_imports : List Import → List Import → List Import
+with_all_imports imports more = fold (λ (all : List Import) (one : Import). with_import all one.world one.interface) imports more
+
+-- so with includes
+abbrev pub with_all_includes : List Include → List Include → List Include
+with_all_includes includes more = fold (λ (all : List Include) (one : Include). with_include all one.world one.included) includes more
+
+-- ---- after a merge
+
+-- where a thing is now by a list of places; None where it is left out
+abbrev pub moved : List (Option ℕ) → ℕ → Option ℕ
+moved places i = option_and_then (λ (place : Option ℕ). place) (slice_get places i)
+
+-- an import whose world and interface are now where these lists say
+abbrev pub moved_import : List (Option ℕ) → List (Option ℕ) → Import → Option Import
+moved_import worlds interfaces listed = option_and_then (λ w. option_map (λ i. record { world = w; interface = i }) (moved interfaces listed.interface)) (moved worlds listed.world)
+
+-- so an include
+abbrev pub moved_include : List (Option ℕ) → Include → Option Include
+moved_include worlds include = option_and_then (λ w. option_map (λ u. record { world = w; included = u }) (moved worlds include.included)) (moved worlds include.world)

@@ -3,11 +3,8 @@ use Rattle.std.specs.Prelude.{ℕ, List, ◌++◌, codes, nat_eq, if◌then◌el
 use Rattle.std.specs.Char.{encode_utf8}
 use Rattle.std.specs.List.{flat_map}
 use Rattle.std.specs.Str.{chars}
-use Rattle.wit_names.specs.PackageName.{package_name_text, version_suffix}
+use Rattle.wit_names.specs.PackageName.{version_suffix}
 use Rattle.wit_names.specs.declared.package_name.PackageName.{PackageName}
-use Rattle.wit_script.specs.declared.ready.ScriptCommand.{ScriptCommand}
-use Rattle.wit_script.specs.declared.ready.ScriptCommand.TheVariants as asks
-use Rattle.wit_script_lines.specs.steps.Request.{request_text}
 
 -- between the quotes of a label: a quotation mark, a backslash and an ampersand stand for themselves
 abbrev pub quoted_char : ℕ → List ℕ
@@ -35,8 +32,3 @@ html_char c =
 -- a text there
 abbrev pub html_text : List ℕ → List ℕ
 html_text text = flat_map html_char (chars text)
-
--- a command as a note names it: with the package and the world that it works on
-abbrev pub heading : ScriptCommand → List ℕ
-heading (asks.Push main deps) = codes "push " ++ package_name_text main.main.name
-heading (asks.Request asked) = request_text asked

@@ -1,5 +1,5 @@
 -- What counts as listed after a command that transforms a world.
-use Rattle.std.specs.Prelude.{◌≡◌, ℕ, List, [], ◌∷◌, Option, Some, None, if◌then◌else◌, slice_get}
+use Rattle.std.specs.Prelude.{◌≡◌, ℕ, Bool, true, false, List, [], ◌∷◌, Option, if◌then◌else◌, slice_get}
 use Rattle.std.specs.Option.{option_map_or}
 use Rattle.wit_graph_data.specs.declared.graph.Graph.{Graph}
 use Rattle.wit_graph_data.specs.Named.{world_named}
@@ -14,10 +14,10 @@ use Rattle.witgraph_dot.specs.Tracks.{is_version_of_any}
 use Rattle.witgraph_dot.specs.declared.listed_graph.ListedGraph.{ListedGraph}
 use Rattle.witgraph_dot.specs.declared.listing.Import.{Import}
 
--- what is listed stays as it was where a note says that the command came to nothing
-abbrev pub unless_noted : {A : Type 0} → Option A → List Import → List Import → List Import
-unless_noted (Some note) before after = before
-unless_noted None before after = after
+-- what there is, as a command leaves it that came to something, else as before
+abbrev pub if_done : {A : Type 0} → Bool → A → A → A
+if_done true before after = after
+if_done false before after = before
 
 -- these in place of what was listed for a world
 abbrev pub replaced : ℕ → List ℕ → List Import → List Import
@@ -59,7 +59,7 @@ imports_after (command.SetTrackRule rule) g after imports = imports
 imports_after (command.PushGroups main deps) g after imports = imports
 imports_after (command.Merge other) g after imports = imports
 
--- what counts as listed then, of a command of which there may be a note that it came to nothing
-abbrev pub IsListedAfter : {A : Type 0} → ListedGraph → Command → Option A → ListedGraph → Type 0
-IsListedAfter before command note after =
-    after.listing.imports.items ≡ unless_noted note before.listing.imports.items (imports_after command before.resolve.graph after.resolve before.listing.imports.items)
+-- what counts as listed then, of a command that came to something or nothing
+abbrev pub IsListedAfter : ListedGraph → Command → Bool → ListedGraph → Type 0
+IsListedAfter before command done after =
+    after.listing.imports.items ≡ if_done done before.listing.imports.items (imports_after command before.resolve.graph after.resolve before.listing.imports.items)

@@ -1,6 +1,8 @@
 //! The frames of packages.
 ghost use Rattle.std.specs.Prelude.{◌≡◌, ◌++◌, OnOk, string_bytes};
 ghost use Rattle.std.specs.List.{flat_map};
+ghost use Rattle.witgraph_dot.specs.Scene.{view_of};
+ghost use Rattle.witgraph_dot.specs.Frames.{frame_head, frame_text, has_inner_frame, inner_frame, shown_boxes, shown_world, shows_world, whole_frame, world_boxes};
 ghost use Rattle.witgraph_dot.specs.Boxes.{entry_line, interface_box, interface_boxes, line_of_entry, name_box, world_box, world_head};
 
 use crate::scene::Scene;
@@ -9,7 +11,7 @@ use crate::texts::{Quoted, QuotedName};
 use std::alloc::AllocError;
 use std::fmt::Write;
 use wit_resolve_graph::{
-    InterfaceId, Package, PackageId, PackageName, Table, World, WorldItem, WorldKey,
+    InterfaceId, Package, PackageId, PackageName, Table, World, WorldId, WorldItem, WorldKey,
 };
 
 /// Writes the frame of a package with its interfaces and worlds that are shown. Where there are none it isn't drawn.
@@ -18,39 +20,91 @@ pub fn write_frame(
     package: &Package,
     id: PackageId,
     text: &mut String,
-) -> Result<(), AllocError> {
+) -> Result<(), AllocError>
+    ensures { OnOk result (string_bytes text.new ≡ string_bytes text.old ++ frame_text (view_of scene.now) id «package».now) }
+{
     let Some(interfaces) = scene.frames.get(id.index()) else {
         return Ok(());
     };
     if interfaces.is_empty() && !shows_world(scene, package) {
         return Ok(());
     }
-    let index = id.index();
-    write!(text, "  subgraph cluster_{index} {{\n")?;
-    text.push_str(
-        "    style=\"rounded,filled\"; color=\"#c9c9c9\"; fillcolor=\"#f6f6f3\"; label=\"\";\n",
-    )?;
-    write_name(index, &package.name, text)?;
-    if has_inner_frame(scene, package, interfaces.len()) {
-        write!(text, "    subgraph cluster_{index}_interfaces {{\n")?;
-        text.push_str("    style=rounded; color=\"#dcdcd4\"; label=\"\";\n")?;
-        write_interfaces(package, interfaces.as_slice(), text)?;
-        text.push_str("    }\n")?;
-    } else {
-        write_interfaces(package, interfaces.as_slice(), text)?;
-    }
+    write_whole_frame(scene, package, id.index(), interfaces.as_slice(), text)
+}
+
+/// Writes the frame of a package with these interfaces, and with its worlds that are shown.
+fn write_whole_frame(
+    scene: &Scene<'_>,
+    package: &Package,
+    index: usize,
+    interfaces: &[InterfaceId],
+    text: &mut String,
+) -> Result<(), AllocError>
+    ensures { OnOk result (string_bytes text.new ≡ string_bytes text.old ++ whole_frame (view_of scene.now) index «package».now interfaces.now) }
+{
+    write_frame_head(index, &package.name, text)?;
+    write_shown(scene, package, index, interfaces, text)?;
     write_worlds(scene, package, text)?;
     text.push_str("  }\n")
 }
 
+/// Writes the beginning of a frame, with the name of its package.
+fn write_frame_head(index: usize, owner: &PackageName, text: &mut String) -> Result<(), AllocError>
+    ensures { OnOk result (string_bytes text.new ≡ string_bytes text.old ++ frame_head index owner.now) }
+{
+    write!(
+        text,
+        "  subgraph cluster_{index} {{\n    style=\"rounded,filled\"; color=\"#c9c9c9\"; fillcolor=\"#f6f6f3\"; label=\"\";\n"
+    )?;
+    write_name(index, owner, text)
+}
+
+/// Writes the interfaces of a package that are shown, in a frame of their own where they have one.
+fn write_shown(
+    scene: &Scene<'_>,
+    package: &Package,
+    index: usize,
+    interfaces: &[InterfaceId],
+    text: &mut String,
+) -> Result<(), AllocError>
+    ensures { OnOk result (string_bytes text.new ≡ string_bytes text.old ++ shown_boxes scene.now.worlds.items index «package».now interfaces.now) }
+{
+    if has_inner_frame(scene, package, interfaces.len()) {
+        write_inner_frame(package, index, interfaces, text)
+    } else {
+        write_interfaces(package, interfaces, text)
+    }
+}
+
+/// Writes several interfaces of a package, in a frame of their own.
+fn write_inner_frame(
+    package: &Package,
+    index: usize,
+    interfaces: &[InterfaceId],
+    text: &mut String,
+) -> Result<(), AllocError>
+    ensures { OnOk result (string_bytes text.new ≡ string_bytes text.old ++ inner_frame index «package».now interfaces.now) }
+{
+    write!(
+        text,
+        "    subgraph cluster_{index}_interfaces {{\n    style=rounded; color=\"#dcdcd4\"; label=\"\";\n"
+    )?;
+    write_interfaces(package, interfaces, text)?;
+    text.push_str("    }\n")
+}
+
 /// Whether several interfaces of a package stand in a frame of their own: beside its worlds, so that these can have an
 /// arrow to it.
-pub fn has_inner_frame(scene: &Scene<'_>, package: &Package, interfaces: usize) -> bool {
+pub fn has_inner_frame(scene: &Scene<'_>, package: &Package, interfaces: usize) -> bool
+    ensures { result ≡ has_inner_frame scene.now.worlds.items «package».now interfaces }
+{
     interfaces > 1 && shows_world(scene, package)
 }
 
 /// Whether a world of a package is shown.
-fn shows_world(scene: &Scene<'_>, package: &Package) -> bool {
+fn shows_world(scene: &Scene<'_>, package: &Package) -> bool
+    ensures { result ≡ shows_world scene.now.worlds.items «package».now }
+{
     for (_, id) in package.worlds.iter() {
         if is_world_among(&scene.worlds, *id) {
             return true;
@@ -95,15 +149,26 @@ fn write_interface(index: usize, name: &str, text: &mut String) -> Result<(), Al
 }
 
 /// Writes the worlds of a package that are shown.
-fn write_worlds(scene: &Scene<'_>, package: &Package, text: &mut String) -> Result<(), AllocError> {
+fn write_worlds(scene: &Scene<'_>, package: &Package, text: &mut String) -> Result<(), AllocError>
+    ensures { OnOk result (string_bytes text.new ≡ string_bytes text.old ++ world_boxes scene.now.resolve.now.graph.worlds scene.now.worlds.items «package».now) }
+{
     for (_, id) in package.worlds.iter() {
-        if is_world_among(&scene.worlds, *id) {
-            if let Some(world) = scene.resolve.worlds().get(id.index()) {
-                write_world(id.index(), world, text)?;
-            }
-        }
+        write_shown_world(scene, *id, text)?;
     }
     Ok(())
+}
+
+/// Writes a world where it is shown.
+fn write_shown_world(scene: &Scene<'_>, id: WorldId, text: &mut String) -> Result<(), AllocError>
+    ensures { OnOk result (string_bytes text.new ≡ string_bytes text.old ++ shown_world scene.now.resolve.now.graph.worlds scene.now.worlds.items id) }
+{
+    if !is_world_among(&scene.worlds, id) {
+        return Ok(());
+    }
+    match scene.resolve.worlds().get(id.index()) {
+        Some(world) => write_world(id.index(), world, text),
+        None => Ok(()),
+    }
 }
 
 /// Writes a world, with its functions and types below its name.

@@ -1,6 +1,6 @@
 //! The imports that lines list, and the worlds that they include.
-ghost use Rattle.std.specs.Prelude.{◌≡◌, IfOk, OnOk, []};
-ghost use Rattle.witgraph_dot.specs.Listed.{imports_of, includes, includes_of, lists, others_of, with_import, with_imports, with_include, with_includes};
+ghost use Rattle.std.specs.Prelude.{◌≡◌, IfOk, OnOk, [], filter_map};
+ghost use Rattle.witgraph_dot.specs.Listed.{imports_of, includes, includes_of, lists, moved_import, moved_include, others_of, with_all_imports, with_all_includes, with_import, with_imports, with_include, with_includes};
 
 use std::alloc::{AllocError, Global};
 use wit_resolve_graph::{InterfaceId, Remap, WorldId};
@@ -12,11 +12,33 @@ struct Import {
     interface: InterfaceId,
 }
 
+impl Import {
+    /// The same of things that are now where a remap says; None where one is left out.
+    fn moved(&self, remap: &Remap) -> Option<Import>
+        ensures { result ≡ moved_import remap.now.worlds remap.now.interfaces self.now }
+    {
+        let world = (*remap.worlds().get(self.world.index())?)?;
+        let interface = (*remap.interfaces().get(self.interface.index())?)?;
+        Some(Import { world, interface })
+    }
+}
+
 /// That a world includes another, by a line or by one of a world that it includes.
 #[derive(Clone, Copy)]
 pub struct Include {
     pub world: WorldId,
     pub included: WorldId,
+}
+
+impl Include {
+    /// The same of worlds that are now where a remap says; None where one is left out.
+    fn moved(&self, remap: &Remap) -> Option<Include>
+        ensures { result ≡ moved_include remap.now.worlds self.now }
+    {
+        let world = (*remap.worlds().get(self.world.index())?)?;
+        let included = (*remap.worlds().get(self.included.index())?)?;
+        Some(Include { world, included })
+    }
 }
 
 /// The imports that lines list, and the worlds that they include. What a world imports beside the former under an
@@ -149,19 +171,18 @@ impl Listing {
     }
 
     /// Adds what is listed in a graph that was merged, whose things are now where the remap says.
-    pub fn merge(&mut self, other: &Listing, remap: &Remap) -> Result<(), AllocError> {
+    pub fn merge(&mut self, other: &Listing, remap: &Remap) -> Result<(), AllocError>
+        ensures imports { OnOk result (self.new.imports.items ≡ with_all_imports self.old.imports.items (filter_map (moved_import remap.now.worlds remap.now.interfaces) other.now.imports.items)) }
+        ensures includes { OnOk result (self.new.includes.items ≡ with_all_includes self.old.includes.items (filter_map (moved_include remap.now.worlds) other.now.includes.items)) }
+    {
         for import in &other.imports {
-            let world = remap.worlds().get(import.world.index());
-            let interface = remap.interfaces().get(import.interface.index());
-            if let (Some(Some(world)), Some(Some(interface))) = (world, interface) {
-                self.add(*world, *interface)?;
+            if let Some(Import { world, interface }) = import.moved(remap) {
+                self.add(world, interface)?;
             }
         }
         for include in &other.includes {
-            let world = remap.worlds().get(include.world.index());
-            let included = remap.worlds().get(include.included.index());
-            if let (Some(Some(world)), Some(Some(included))) = (world, included) {
-                self.add_include(*world, *included)?;
+            if let Some(Include { world, included }) = include.moved(remap) {
+                self.add_include(world, included)?;
             }
         }
         Ok(())

@@ -4,11 +4,14 @@
 //! A package is a frame with its name, which holds its interfaces, round, and its worlds, with the functions and types
 //! that they import and export under their names. An arrow leads from an interface to each that it uses, and from a world
 //! to the interfaces that it imports and exports; its colour tells which, as the line below the picture says. An import
-//! that elaboration added has a colour of its own: see `Listing` for what that is. A command that is refused leaves a
-//! note with the number of the refusal, its text and the line at which it is.
+//! that elaboration added has a colour of its own: see `Listing` for what that is. Below stands what `witgraph_explain`
+//! tells of the script: its refusals, and what isn't there, each with its lines.
 //!
-//! A script that isn't understood gives the line of `witgraph` and no picture.
+//! Of a script that isn't understood there is no picture, but what `witgraph_explain` tells.
 #![tactic(auto)]
+
+ghost use Rattle.std.specs.Prelude.{IfOk, string_bytes};
+ghost use Rattle.witgraph_dot.specs.Picture.{Draws};
 
 mod arrow;
 mod bundles;
@@ -16,7 +19,6 @@ mod choice;
 mod drawing;
 mod entries;
 mod frame;
-mod heading;
 mod labels;
 mod listed_graph;
 mod listing;
@@ -39,20 +41,20 @@ use std::io;
 use std::process::ExitCode;
 use wit_resolve_graph::{ResolveError, ResolveResult};
 use wit_script::{ReadFault, read_script};
+use wit_script_faults::explain_text;
 
-/// The picture of a script, and status 0; of one that isn't understood the line that says so, and status 1. The only
-/// refusal is want of memory.
-fn answer(alloc: Global, script: &str) -> ResolveResult<(String, ExitCode)> {
+/// Whether a script is understood, and its picture, or why it isn't. The only refusal is want of memory.
+fn answer(alloc: Global, script: &str) -> ResolveResult<(bool, String)>
+    ensures { IfOk result (λ answer. Draws script.now answer.0 (string_bytes answer.1)) }
+{
+    let (_, told) = explain_text(alloc, script)?;
     match read_script(alloc, script) {
         Ok(commands) => {
             let stage = Stage::after(alloc, commands)?;
             let choice = Choice::of_script(alloc, script)?;
-            Ok((draw(alloc, &stage, &choice)?, ExitCode::SUCCESS))
+            Ok((true, draw(alloc, stage.first(), &told, &choice)?))
         }
-        Err(ReadFault::NotUnderstood { line }) => Ok((
-            format!(in alloc; "line {line}: not understood\n")?,
-            ExitCode::FAILURE,
-        )),
+        Err(ReadFault::NotUnderstood { .. }) => Ok((false, told)),
         Err(ReadFault::OutOfMemory) => Err(ResolveError::from(AllocError)),
     }
 }
@@ -62,11 +64,11 @@ fn main(rt: HostRuntime) -> ExitCode {
     let Ok(script) = io::read_to_string(rt.alloc(), rt.reader()) else {
         return ExitCode::FAILURE;
     };
-    let Ok((text, status)) = answer(rt.alloc(), script.as_str()) else {
+    let Ok((is_understood, text)) = answer(rt.alloc(), script.as_str()) else {
         return ExitCode::FAILURE;
     };
     match print!(rt; "{text}") {
-        Ok(()) => status,
-        Err(_) => ExitCode::FAILURE,
+        Ok(()) if is_understood => ExitCode::SUCCESS,
+        _ => ExitCode::FAILURE,
     }
 }

@@ -1,6 +1,7 @@
 //! Worlds and interfaces by their names.
 ghost use Rattle.std.specs.Prelude.{◌≡◌};
 ghost use Rattle.std.specs.Option.{option_map};
+ghost use Rattle.witgraph_dot.specs.Pushed.{interface_named, interface_of, is_interface, is_world, world_of};
 ghost use Rattle.witgraph_dot.specs.Tracks.{full_name};
 
 use wit_resolve_graph::{
@@ -8,7 +9,9 @@ use wit_resolve_graph::{
 };
 
 /// The interface of this name in the package of that name.
-fn interface_named(resolve: &Resolve, owner: &PackageName, name: &str) -> Option<InterfaceId> {
+fn interface_named(resolve: &Resolve, owner: &PackageName, name: &str) -> Option<InterfaceId>
+    ensures { result ≡ interface_named resolve.now.graph owner.now name.now }
+{
     let id = resolve.package_names().get(owner)?;
     let package = resolve.packages().get(id.index())?;
     let interface = package.interfaces.get(name)?;
@@ -16,7 +19,9 @@ fn interface_named(resolve: &Resolve, owner: &PackageName, name: &str) -> Option
 }
 
 /// Whether an item of another package is the interface of this id.
-fn is_interface(item: &AstItem, id: InterfaceId) -> bool {
+fn is_interface(item: &AstItem, id: InterfaceId) -> bool
+    ensures { result ≡ is_interface id item.now }
+{
     match item {
         AstItem::Interface(other) => *other == id,
         AstItem::World(_) => false,
@@ -24,7 +29,9 @@ fn is_interface(item: &AstItem, id: InterfaceId) -> bool {
 }
 
 /// Whether an item of another package is the world of this id.
-fn is_world(item: &AstItem, id: WorldId) -> bool {
+fn is_world(item: &AstItem, id: WorldId) -> bool
+    ensures { result ≡ is_world id item.now }
+{
     match item {
         AstItem::Interface(_) => false,
         AstItem::World(other) => *other == id,
@@ -36,7 +43,9 @@ pub fn interface_of(
     resolve: &Resolve,
     package: &UnresolvedPackage,
     id: InterfaceId,
-) -> Option<InterfaceId> {
+) -> Option<InterfaceId>
+    ensures { result ≡ interface_of resolve.now.graph «package».now id }
+{
     for (owner, items) in package.foreign_deps.iter() {
         for (name, (item, _)) in items.iter() {
             if is_interface(item, id) {
@@ -50,7 +59,9 @@ pub fn interface_of(
 }
 
 /// The world of the graph that a package which is pushed names by this id of its own.
-pub fn world_of(resolve: &Resolve, package: &UnresolvedPackage, id: WorldId) -> Option<WorldId> {
+pub fn world_of(resolve: &Resolve, package: &UnresolvedPackage, id: WorldId) -> Option<WorldId>
+    ensures { result ≡ world_of resolve.now.graph «package».now id }
+{
     for (owner, items) in package.foreign_deps.iter() {
         for (name, (item, _)) in items.iter() {
             if is_world(item, id) {

@@ -1,4 +1,8 @@
 //! What the lines of packages list.
+ghost use Rattle.std.specs.Prelude.{◌≡◌, ◌++◌, OnOk, flat_map, fold};
+ghost use Rattle.witgraph_dot.specs.Listed.{with_all_includes, with_all_imports, with_imports};
+ghost use Rattle.witgraph_dot.specs.Pushed.{includes_for, line_imports, line_includes, package_imports, package_includes, pushed_imports, pushed_includes, with_brought_imports, with_brought_includes, world_imports, world_includes};
+
 use crate::listing::{Include, Listing};
 use crate::names::{interface_of, world_of};
 use std::alloc::{AllocError, Global};
@@ -12,64 +16,135 @@ pub fn list_groups(
     resolve: &Resolve,
     groups: &[UnresolvedPackageGroup],
     listing: &mut Listing,
-) -> Result<(), AllocError> {
+) -> Result<(), AllocError>
+    ensures imports { OnOk result (listing.new.imports.items ≡ pushed_imports resolve.now.graph groups.now listing.old.imports.items) }
+    ensures includes { OnOk result (listing.new.includes.items ≡ pushed_includes resolve.now.graph groups.now listing.old.includes.items) }
+{
     let mut includes = Vec::new(alloc);
     for group in groups {
         list_package(resolve, &group.main, listing, &mut includes)?;
-        for package in group.nested.iter() {
-            list_package(resolve, package, listing, &mut includes)?;
-        }
+        list_packages(resolve, group.nested.as_slice(), listing, &mut includes)?;
     }
     // A world that includes another gets what that has by then, so a chain of includes takes as many rounds as it has links.
     for _round in 0..includes.len() {
-        for include in &includes {
-            let imports = listing.imports_of(alloc, include.included)?;
-            listing.add_all(include.world, &imports)?;
-            let included = listing.includes_of(alloc, include.included)?;
-            listing.add_includes(include.world, &included)?;
-        }
+        list_included(alloc, &includes, listing)?;
     }
     Ok(())
 }
 
-/// Adds what the `import` lines of a package list, and gathers its includes.
+/// Adds to what is listed for each world that includes another what is listed for that, in turn.
+fn list_included(
+    alloc: Global,
+    includes: &[Include],
+    listing: &mut Listing,
+) -> Result<(), AllocError>
+    ensures imports { OnOk result (listing.new.imports.items ≡ fold with_brought_imports listing.old.imports.items includes.now) }
+    ensures includes { OnOk result (listing.new.includes.items ≡ fold with_brought_includes listing.old.includes.items includes.now) }
+{
+    for include in includes {
+        let imports = listing.imports_of(alloc, include.included)?;
+        listing.add_all(include.world, &imports)?;
+        let included = listing.includes_of(alloc, include.included)?;
+        listing.add_includes(include.world, &included)?;
+    }
+    Ok(())
+}
+
+/// Adds what the lines of packages list, and gathers their includes.
+fn list_packages(
+    resolve: &Resolve,
+    packages: &[UnresolvedPackage],
+    listing: &mut Listing,
+    includes: &mut Vec<Include>,
+) -> Result<(), AllocError>
+    ensures imports { OnOk result (listing.new.imports.items ≡ with_all_imports listing.old.imports.items (flat_map (package_imports resolve.now.graph) packages.now)) }
+    ensures includes { OnOk result (listing.new.includes.items ≡ with_all_includes listing.old.includes.items (flat_map (package_includes resolve.now.graph) packages.now)) }
+    ensures gathered { OnOk result (includes.new.items ≡ includes.old.items ++ flat_map (package_includes resolve.now.graph) packages.now) }
+{
+    for package in packages {
+        list_package(resolve, package, listing, includes)?;
+    }
+    Ok(())
+}
+
+/// Adds what the lines of a package list, and gathers its includes.
 fn list_package(
     resolve: &Resolve,
     package: &UnresolvedPackage,
     listing: &mut Listing,
     includes: &mut Vec<Include>,
-) -> Result<(), AllocError> {
-    for (index, world) in package.worlds.iter().enumerate() {
-        let Some(id) = world_of(resolve, package, WorldId::from_index(index)) else {
-            continue;
-        };
-        list_world(resolve, package, world, id, listing)?;
-        for include in world.includes.iter() {
-            if let Some(included) = world_of(resolve, package, include.id) {
-                listing.add_include(id, included)?;
-                includes.push(Include {
-                    world: id,
-                    included,
-                })?;
+) -> Result<(), AllocError>
+    ensures imports { OnOk result (listing.new.imports.items ≡ with_all_imports listing.old.imports.items (package_imports resolve.now.graph «package».now)) }
+    ensures includes { OnOk result (listing.new.includes.items ≡ with_all_includes listing.old.includes.items (package_includes resolve.now.graph «package».now)) }
+    ensures gathered { OnOk result (includes.new.items ≡ includes.old.items ++ package_includes resolve.now.graph «package».now) }
+{
+    for (index, world) in package.worlds.as_slice().iter().enumerate() {
+        list_world(resolve, package, world, index, listing, includes)?;
+    }
+    Ok(())
+}
+
+/// Adds what the lines of a world list, which has this index in its package, where the graph has it, and gathers its includes.
+fn list_world(
+    resolve: &Resolve,
+    package: &UnresolvedPackage,
+    world: &World,
+    index: usize,
+    listing: &mut Listing,
+    includes: &mut Vec<Include>,
+) -> Result<(), AllocError>
+    ensures imports { OnOk result (listing.new.imports.items ≡ with_all_imports listing.old.imports.items (world_imports resolve.now.graph «package».now index world.now)) }
+    ensures includes { OnOk result (listing.new.includes.items ≡ with_all_includes listing.old.includes.items (world_includes resolve.now.graph «package».now index world.now)) }
+    ensures gathered { OnOk result (includes.new.items ≡ includes.old.items ++ world_includes resolve.now.graph «package».now index world.now) }
+{
+    let Some(id) = world_of(resolve, package, WorldId::from_index(index)) else {
+        return Ok(());
+    };
+    list_imports(resolve, package, world, id, listing)?;
+    list_includes(resolve, package, world, id, listing, includes)
+}
+
+/// Adds what the `import` lines of a world list, which has this id in the graph.
+fn list_imports(
+    resolve: &Resolve,
+    package: &UnresolvedPackage,
+    world: &World,
+    id: WorldId,
+    listing: &mut Listing,
+) -> Result<(), AllocError>
+    ensures imports { OnOk result (listing.new.imports.items ≡ with_imports listing.old.imports.items id (line_imports resolve.now.graph «package».now world.now)) }
+    ensures includes { listing.new.includes.items ≡ listing.old.includes.items }
+{
+    for (key, _) in world.imports.iter() {
+        if let WorldKey::Interface(interface) = key {
+            if let Some(interface) = interface_of(resolve, package, *interface) {
+                listing.add(id, interface)?;
             }
         }
     }
     Ok(())
 }
 
-/// Adds what the `import` lines of a world list, which has this id in the graph.
-fn list_world(
+/// Adds what the `include` lines of a world include, which has this id in the graph, and gathers it.
+fn list_includes(
     resolve: &Resolve,
     package: &UnresolvedPackage,
     world: &World,
     id: WorldId,
     listing: &mut Listing,
-) -> Result<(), AllocError> {
-    for (key, _) in world.imports.iter() {
-        if let WorldKey::Interface(interface) = key {
-            if let Some(interface) = interface_of(resolve, package, *interface) {
-                listing.add(id, interface)?;
-            }
+    includes: &mut Vec<Include>,
+) -> Result<(), AllocError>
+    ensures imports { listing.new.imports.items ≡ listing.old.imports.items }
+    ensures includes { OnOk result (listing.new.includes.items ≡ with_all_includes listing.old.includes.items (includes_for (line_includes resolve.now.graph «package».now world.now) id)) }
+    ensures gathered { OnOk result (includes.new.items ≡ includes.old.items ++ includes_for (line_includes resolve.now.graph «package».now world.now) id) }
+{
+    for include in world.includes.as_slice() {
+        if let Some(included) = world_of(resolve, package, include.id) {
+            listing.add_include(id, included)?;
+            includes.push(Include {
+                world: id,
+                included,
+            })?;
         }
     }
     Ok(())

@@ -1,9 +1,15 @@
 //! The picture of a graph.
+ghost use Rattle.std.specs.Prelude.{◌≡◌, ◌++◌, IfOk, OnOk, string_bytes};
+ghost use Rattle.witgraph_dot.specs.Drawn.{listed_state};
+ghost use Rattle.witgraph_dot.specs.Frames.{frame_texts};
+ghost use Rattle.witgraph_dot.specs.Picture.{chosen_view, note_line, picture_text};
+ghost use Rattle.witgraph_dot.specs.Scene.{view_of};
+
 use crate::choice::Choice;
 use crate::drawing::write_arrows;
 use crate::frame::write_frame;
+use crate::listed_graph::ListedGraph;
 use crate::scene::Scene;
-use crate::stage::Stage;
 use crate::texts::Html;
 use std::alloc::{AllocError, Global};
 use std::fmt::Write;
@@ -30,34 +36,51 @@ const LEGEND: &str = "  labeljust=c;
     <tr><td><font color=\"#6a6a6a\" point-size=\"10\">to a frame: to all in it &#160; to a world: to all that it imports</font></td></tr>
 ";
 
-/// What stands after the notes.
+/// What stands after the note.
 const END: &str = "  </table>>;
 }
 ";
 
-/// What a choice shows of the graph of a stage, in DOT, with the notes. The only error is want of memory.
-pub fn draw(alloc: Global, stage: &Stage, choice: &Choice) -> Result<String, AllocError> {
-    let first = stage.first();
-    let scene = Scene::of(alloc, &first.resolve, &first.listing, choice)?;
+/// What a choice shows of a graph, with what lines list for its worlds, in DOT, and a note below it. The only error is want
+/// of memory.
+pub fn draw(
+    alloc: Global,
+    graph: &ListedGraph,
+    note: &str,
+    choice: &Choice,
+) -> Result<String, AllocError>
+    ensures { IfOk result (λ text. string_bytes text ≡ picture_text (chosen_view choice.now (listed_state graph.now)) note.now) }
+{
+    let scene = Scene::of(alloc, &graph.resolve, &graph.listing, choice)?;
     let mut text = String::from_str(alloc, HEAD)?;
-    for (index, package) in scene.resolve.packages().iter().enumerate() {
-        write_frame(&scene, package, PackageId::from_index(index), &mut text)?;
-    }
+    write_frames(&scene, &mut text)?;
     write_arrows(alloc, &scene, &mut text)?;
     text.push_str(LEGEND)?;
-    write_notes(stage.notes(), &mut text)?;
+    write_note(note, &mut text)?;
     text.push_str(END)?;
     Ok(text)
 }
 
-/// Writes the notes, one below the other.
-fn write_notes(notes: &[String], text: &mut String) -> Result<(), AllocError> {
-    for note in notes {
-        let note = Html(note.as_str());
-        write!(
-            text,
-            "    <tr><td border=\"1\" align=\"left\" color=\"#c9b458\" bgcolor=\"#fff3c4\" cellpadding=\"6\"><font face=\"monospace\" point-size=\"11\">{note}</font></td></tr>\n"
-        )?;
+/// Writes the frames of the packages.
+fn write_frames(scene: &Scene<'_>, text: &mut String) -> Result<(), AllocError>
+    ensures { OnOk result (string_bytes text.new ≡ string_bytes text.old ++ frame_texts (view_of scene.now) 0 scene.now.resolve.now.graph.packages) }
+{
+    for (index, package) in scene.resolve.packages().iter().enumerate() {
+        write_frame(scene, package, PackageId::from_index(index), text)?;
     }
     Ok(())
+}
+
+/// Writes a note on a ground of its own, where it says something.
+fn write_note(note: &str, text: &mut String) -> Result<(), AllocError>
+    ensures { OnOk result (string_bytes text.new ≡ string_bytes text.old ++ note_line note.now) }
+{
+    if note.is_empty() {
+        return Ok(());
+    }
+    let note = Html(note);
+    write!(
+        text,
+        "    <tr><td border=\"1\" align=\"left\" color=\"#c9b458\" bgcolor=\"#fff3c4\" cellpadding=\"6\"><font face=\"monospace\" point-size=\"11\">{note}</font></td></tr>\n"
+    )
 }

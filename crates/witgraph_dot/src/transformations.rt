@@ -1,7 +1,7 @@
 //! The commands that transform a world, and what counts as listed after them.
 ghost use Rattle.std.specs.Prelude.{◌≡◌, IfOk, OnOk};
 ghost use Rattle.wit_resolve_graph.specs.declared.command.Command.TheVariants.{Exportize, Importize, Semver};
-ghost use Rattle.witgraph_dot.specs.Drawn.{Carries};
+ghost use Rattle.witgraph_dot.specs.Made.{Carries};
 ghost use Rattle.witgraph_dot.specs.Transformed.{IsListedAfter, exportized_imports, exports_of, importized_imports, semver_merged_imports, with_versions};
 
 use crate::entries::{own_exports, own_imports};
@@ -22,9 +22,9 @@ impl ListedGraph {
         package: PackageName,
         world: Text,
         out: Option<Text>,
-    ) -> ResolveResult<Option<String>>
-        ensures carried { OnOk result (Carries self.old.resolve (Importize «package» world out) self.new.resolve) }
-        ensures listed { IfOk result (λ note. IsListedAfter self.old (Importize «package» world out) note self.new) }
+    ) -> ResolveResult<bool>
+        ensures carried { IfOk result (λ done. Carries self.old.resolve (Importize «package» world out) done self.new.resolve) }
+        ensures listed { IfOk result (λ done. IsListedAfter self.old (Importize «package» world out) done self.new) }
         ensures included { self.new.listing.includes.items ≡ self.old.listing.includes.items }
     {
         let id = self.resolve.world_named(&package, world.as_str());
@@ -34,11 +34,11 @@ impl ListedGraph {
             world,
             out,
         };
-        let note = self.change(alloc, command)?;
-        if note.is_none() {
+        let done = self.change(alloc, command)?;
+        if done {
             list_exports(alloc, &mut self.listing, id, &exports)?;
         }
-        Ok(note)
+        Ok(done)
     }
 
     /// `exportize`: after it what was listed and isn't exported counts as listed.
@@ -49,9 +49,9 @@ impl ListedGraph {
         world: Text,
         out: Option<Text>,
         keys: Option<Items<Text>>,
-    ) -> ResolveResult<Option<String>>
-        ensures carried { OnOk result (Carries self.old.resolve (Exportize «package» world out keys) self.new.resolve) }
-        ensures listed { IfOk result (λ note. IsListedAfter self.old (Exportize «package» world out keys) note self.new) }
+    ) -> ResolveResult<bool>
+        ensures carried { IfOk result (λ done. Carries self.old.resolve (Exportize «package» world out keys) done self.new.resolve) }
+        ensures listed { IfOk result (λ done. IsListedAfter self.old (Exportize «package» world out keys) done self.new) }
         ensures included { self.new.listing.includes.items ≡ self.old.listing.includes.items }
     {
         let id = self.resolve.world_named(&package, world.as_str());
@@ -61,11 +61,11 @@ impl ListedGraph {
             out,
             keys,
         };
-        let note = self.change(alloc, command)?;
-        if note.is_none() {
+        let done = self.change(alloc, command)?;
+        if done {
             list_unexported(alloc, &self.resolve, &mut self.listing, id)?;
         }
-        Ok(note)
+        Ok(done)
     }
 
     /// `semver`: after it an import on the track of something listed counts as listed too.
@@ -74,17 +74,17 @@ impl ListedGraph {
         alloc: Global,
         package: PackageName,
         world: Text,
-    ) -> ResolveResult<Option<String>>
-        ensures carried { OnOk result (Carries self.old.resolve (Semver «package» world) self.new.resolve) }
-        ensures listed { IfOk result (λ note. IsListedAfter self.old (Semver «package» world) note self.new) }
+    ) -> ResolveResult<bool>
+        ensures carried { IfOk result (λ done. Carries self.old.resolve (Semver «package» world) done self.new.resolve) }
+        ensures listed { IfOk result (λ done. IsListedAfter self.old (Semver «package» world) done self.new) }
         ensures included { self.new.listing.includes.items ≡ self.old.listing.includes.items }
     {
         let id = self.resolve.world_named(&package, world.as_str());
-        let note = self.change(alloc, Command::Semver { package, world })?;
-        if note.is_none() {
+        let done = self.change(alloc, Command::Semver { package, world })?;
+        if done {
             list_newest(alloc, &self.resolve, &mut self.listing, id)?;
         }
-        Ok(note)
+        Ok(done)
     }
 }
 

@@ -1,6 +1,7 @@
-use Rattle.std.proofs.Common.{◌≡◌, None, OnOk, Some, rules, subst}
-use Rattle.wit_resolve_graph.specs.declared.command.Command.TheVariants.{Merge}
-use Rattle.witgraph_dot.specs.Drawn.{Carries}
+use Rattle.std.proofs.Common.{◌≡◌, None, Some, rules, subst}
+use Rattle.std.specs.Prelude.{IfOk}
+use Rattle.witgraph_dot.specs.Drawn.{listed_state}
+use Rattle.witgraph_dot.specs.Made.{AfterMerge}
 use Rattle.witgraph_dot.specs.declared.listed_graph.ListedGraph.{ListedGraph}
 use Rattle.witgraph_dot.proofs.Staged.{merges-in}
 use Rattle.witgraph_dot.proofs.stage.Stage.merge.Goals as goal
@@ -12,5 +13,5 @@ returns c =
     let first : c.replace-second.new.dest ≡ c.in-Some.first = search rules in
     let second : c.replace-second.result ≡ c.args.self.now.active = search rules in
     merges-in c.merge.result c.args.self.now.active c.in-Some.first c.merge.new.self c.args.self.now.waiting c.take.new.self there gone
-    (subst (λ (f : ListedGraph). OnOk c.merge.result (Carries f.resolve (Merge c.args.self.now.active.resolve) c.merge.new.self.resolve)) first
-    (subst (λ (s : ListedGraph). OnOk c.merge.result (Carries c.replace-second.new.dest.resolve (Merge s.resolve) c.merge.new.self.resolve)) second c.merge.ensures))
+    (subst (λ (f : ListedGraph). IfOk c.merge.result (λ said. AfterMerge (listed_state c.args.self.now.active) (listed_state f) said (listed_state c.merge.new.self))) first
+    (subst (λ (s : ListedGraph). IfOk c.merge.result (λ said. AfterMerge (listed_state s) (listed_state c.replace-second.new.dest) said (listed_state c.merge.new.self))) second c.merge.ensures))
