@@ -80,9 +80,9 @@ pub fn execute_into(script: impl AsRef<[u8]>, output: &mut [u8]) -> Result<Writt
     written(ffi::execute, script.as_ref(), output)
 }
 
-/// Runs a script on an empty graph, and gives its refusals, and which commands name what isn't there, each with the lines at
-/// which it is: the text is empty where each command came to something. Lines are those of the script as an editor counts them; in brackets stand the package,
-/// the line counted from its first, and the column.
+/// Runs a script on an empty graph, and gives its refusals, and which commands name what isn't there, each with the lines
+/// at which it is: the text is empty where each command came to something. Lines are those of the script as an editor
+/// counts them; in brackets stand the package, the line counted from its first, and the column.
 ///
 /// ```
 /// let script = "
