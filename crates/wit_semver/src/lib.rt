@@ -13,4 +13,6 @@ mod semver_merge_plan;
 mod targets;
 mod tracks;
 
-pub use crate::merging::{SemverChange, find_semver_merge, merge_by_track, place_imports};
+pub use crate::merging::{
+    SemverChange, find_semver_merge, graph_with_new_entries, merge_by_track, place_imports,
+};

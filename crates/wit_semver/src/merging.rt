@@ -1,26 +1,28 @@
 //! Imports of a world merged by tracks.
-ghost use Rattle.std.specs.Prelude.{◌≡◌, ◌⊎◌, ◌<◌, IfErr, IfOk, OnErr, OnOk, is_some, length};
+ghost use Rattle.std.specs.Prelude.{◌≡◌, ◌⊎◌, ◌<◌, ℕ, Contains, IfErr, IfOk, OnErr, OnOk, is_some, length};
 ghost use Rattle.std.specs.List.{list_any};
 ghost use Rattle.wit_elaboration.specs.Valid.{IsValid};
 ghost use Rattle.wit_graph_data.specs.declared.error_kind.ResolveErrorKind.{ResolveErrorKind};
 ghost use Rattle.wit_graph_data.specs.declared.error_kind.ResolveErrorKind.TheVariants.{OutOfMemory};
-ghost use Rattle.wit_semver_spec.specs.SemverMerged.{semver_merged, IsSemverMergeCause};
+ghost use Rattle.wit_semver_spec.specs.SemverMerged.{semver_merged, types_of_new_entries, with_new_entries, IsSemverMergeCause};
 ghost use Rattle.wit_semver.specs.steps.Merging.{graph_after};
-ghost use Rattle.wit_semver.specs.steps.Replacing.{AreNewEntries, with_imports};
+ghost use Rattle.wit_semver.specs.steps.Replacing.{AreNewEntries, HasNewEntries, IsSemverMergeReady, semver_merge_of, with_imports};
 
 use crate::kept_imports::types_of_entries;
 use crate::new_entries::with_new_entries;
 use crate::semver_merge_plan::SemverMergePlan;
-use std::alloc::Global;
+use std::alloc::{AllocError, Global};
 use wit_data::{Items, Table, TrackRule, TypeId, WorldId, WorldItem, WorldKey};
 use wit_graph_data::{Graph, ResolveResult};
 use wit_semver_spec::laws::{same_types_keep_worlds, semver_merges_stay_valid};
 use wit_transform::check_and_elaborate;
 
-/// What a world lists after its imports are merged, and what each type of the graph names then, None where that stays.
+/// What a world lists after its imports are merged, the types that this brings, and what each type of the graph names then,
+/// None where that stays.
 #[derive(Drop)]
 struct NewEntries {
     imports: Table<WorldKey, WorldItem>,
+    types: Items<TypeId>,
     targets: Items<Option<TypeId>>,
 }
 
@@ -34,8 +36,25 @@ pub enum SemverChange {
 }
 
 /// What a world lists without its replaced imports, and what types name then: what its other entries use of a replaced
-/// interface they use of the newest. Refused where the newest lacks a type that is used, or disagrees in a function (25).
-fn new_entries(
+/// interface they use of the newest, where that has a type of the name.
+fn new_entries(alloc: Global, plan: &SemverMergePlan<'_>) -> Result<NewEntries, AllocError>
+    requires ready { IsSemverMergeReady plan.now }
+    requires in_range { (t : ℕ) → Contains (types_of_new_entries (semver_merge_of plan.now)) t → t < length plan.now.graph.now.types }
+    ensures { IfOk result (λ entries. HasNewEntries (semver_merge_of plan.now) entries) }
+{
+    let imports = plan.kept_imports(alloc)?;
+    let types = types_of_entries(alloc, plan.graph, &imports, &plan.world.exports)?;
+    let targets = plan.new_targets(alloc, &types)?;
+    Ok(NewEntries {
+        imports,
+        types,
+        targets,
+    })
+}
+
+/// The new entries of a world, where nothing that reads the graph as it is holds against them. Refused where the newest
+/// lacks a type that is used, or disagrees in a function (25).
+fn checked_entries(
     alloc: Global,
     graph: &Graph,
     world: WorldId,
@@ -49,10 +68,33 @@ fn new_entries(
     let current = graph.worlds.at(world.index());
     let plan = SemverMergePlan::new(alloc, graph, current, rule)?;
     plan.check_functions(alloc)?;
-    let imports = plan.kept_imports(alloc)?;
-    let types_of_new_entries = types_of_entries(alloc, graph, &imports, &current.exports)?;
-    let targets = plan.new_targets(alloc, &types_of_new_entries)?;
-    Ok(NewEntries { imports, targets })
+    let entries = new_entries(alloc, &plan)?;
+    plan.check_types(alloc, &entries.types)?;
+    Ok(entries)
+}
+
+/// A copy of a valid graph, in which a world has its new entries and types name what they are to name after the imports
+/// of the world are merged by a rule of tracks: what is to be elaborated. Of a type that the newest lacks (25) all stays as
+/// it was. The only error is want of memory.
+pub fn graph_with_new_entries(
+    alloc: Global,
+    graph: &Graph,
+    world: WorldId,
+    rule: TrackRule,
+) -> Result<Graph, AllocError>
+    requires valid { IsValid graph.now }
+    requires world { world < length graph.now.worlds }
+    ensures { IfOk result (λ made. made ≡ with_new_entries rule graph.now world) }
+{
+    let current = graph.worlds.at(world.index());
+    let plan = SemverMergePlan::new(alloc, graph, current, rule)?;
+    let entries = new_entries(alloc, &plan)?;
+    let NewEntries {
+        imports,
+        targets,
+        ..
+    } = entries;
+    with_new_entries(alloc, graph, world, imports, &targets)
 }
 
 /// Whether some type is to name another one.
@@ -90,8 +132,12 @@ pub fn find_semver_merge(
 {
     semver_merges_stay_valid();
     same_types_keep_worlds();
-    let entries = new_entries(alloc, graph, world, rule)?;
-    let NewEntries { imports, targets } = entries;
+    let entries = checked_entries(alloc, graph, world, rule)?;
+    let NewEntries {
+        imports,
+        targets,
+        ..
+    } = entries;
     if !is_any_retargeted(&targets) {
         return Ok(SemverChange::Imports(imports));
     }

@@ -9,7 +9,7 @@ ghost use Rattle.wit_semver_spec.specs.steps.Parts.{interface_type};
 
 use crate::refusal::type_missing;
 use crate::semver_merge_plan::{SemverMergePlan, replacement_of};
-use std::alloc::Global;
+use std::alloc::{AllocError, Global};
 use wit_data::{
     Interface, InterfaceId, Items, Text, TypeDef, TypeId, alias_target, type_interface_dep,
 };
@@ -18,45 +18,70 @@ use wit_graph_data::ResolveResult;
 impl<'a> SemverMergePlan<'a> {
     /// Of each type what it names after semver merging, None where it stays as it is: of some types that
     /// may name others, each that uses a replaced interface names the type of the same name in the one that
-    /// replaces it. Refused where that has none (25).
+    /// replaces it, where that has one.
     pub(crate) fn new_targets(
         &self,
         alloc: Global,
         types_of_new_entries: &Items<TypeId>,
-    ) -> ResolveResult<Items<Option<TypeId>>>
+    ) -> Result<Items<Option<TypeId>>, AllocError>
         requires ready { IsSemverMergeReady self.now }
         requires in_range { (t : ℕ) → Contains types_of_new_entries.now t → t < length self.now.graph.now.types }
-        ensures ok { IfOk result (λ targets. IsFilled (newest_type (semver_merge_of self.now)) types_of_new_entries.now (length self.now.graph.now.types) targets) }
-        ensures complete { OnOk result ((message : List ℕ) → LackTypes (semver_merge_of self.now) types_of_new_entries.now message → ⊥) }
-        ensures cause { IfErr result (λ e. (e ≡ OutOfMemory) ⊎ ((message : List ℕ) × LackTypes (semver_merge_of self.now) types_of_new_entries.now message × (e ≡ Semantic None message cause.UpgradeMismatch))) }
+        ensures { IfOk result (λ targets. IsFilled (newest_type (semver_merge_of self.now)) types_of_new_entries.now (length self.now.graph.now.types) targets) }
     {
         let mut targets = Items::from_vec(vec![in alloc; None; self.graph.types.len()]?);
         for id in types_of_new_entries.as_slice() {
-            let target = self.new_target(alloc, *id)?;
-            targets.set(id.index(), target);
+            targets.set(id.index(), self.new_target(*id));
         }
         Ok(targets)
     }
 
     /// What a type of a new entry names then, None where it stays as it is.
-    fn new_target(&self, alloc: Global, id: TypeId) -> ResolveResult<Option<TypeId>>
+    fn new_target(&self, id: TypeId) -> Option<TypeId>
         requires ready { IsSemverMergeReady self.now }
-        ensures ok { IfOk result (λ target. target ≡ newest_type (semver_merge_of self.now) id) }
+        ensures { result ≡ newest_type (semver_merge_of self.now) id }
+    {
+        let types = self.graph.types.as_slice();
+        let old = type_interface_dep(types, id)?;
+        let new = replacement_of(&self.replaced, old)?;
+        let name = target_name(types, id)?;
+        interface_type(self.graph.interfaces.as_slice(), new, name)
+    }
+
+    /// Refused where one of some types uses a replaced interface, and the one that replaces it has no type of
+    /// the name (25).
+    pub(crate) fn check_types(
+        &self,
+        alloc: Global,
+        types_of_new_entries: &Items<TypeId>,
+    ) -> ResolveResult<()>
+        requires ready { IsSemverMergeReady self.now }
+        ensures complete { OnOk result ((message : List ℕ) → LackTypes (semver_merge_of self.now) types_of_new_entries.now message → ⊥) }
+        ensures cause { IfErr result (λ e. (e ≡ OutOfMemory) ⊎ ((message : List ℕ) × LackTypes (semver_merge_of self.now) types_of_new_entries.now message × (e ≡ Semantic None message cause.UpgradeMismatch))) }
+    {
+        for id in types_of_new_entries.as_slice() {
+            self.check_type(alloc, *id)?;
+        }
+        Ok(())
+    }
+
+    /// The same of one type.
+    fn check_type(&self, alloc: Global, id: TypeId) -> ResolveResult<()>
+        requires ready { IsSemverMergeReady self.now }
         ensures complete { OnOk result ((message : List ℕ) → LacksType (semver_merge_of self.now) id message → ⊥) }
         ensures cause { IfErr result (λ e. (e ≡ OutOfMemory) ⊎ ((message : List ℕ) × LacksType (semver_merge_of self.now) id message × (e ≡ Semantic None message cause.UpgradeMismatch))) }
     {
         let types = self.graph.types.as_slice();
         let Some(old) = type_interface_dep(types, id) else {
-            return Ok(None);
+            return Ok(());
         };
         let Some(new) = replacement_of(&self.replaced, old) else {
-            return Ok(None);
+            return Ok(());
         };
         let Some(name) = target_name(types, id) else {
-            return Ok(None);
+            return Ok(());
         };
         match interface_type(self.graph.interfaces.as_slice(), new, name) {
-            Some(target) => Ok(Some(target)),
+            Some(_) => Ok(()),
             None => Err(type_missing(alloc, self.graph, old, new, name)?),
         }
     }

@@ -11,6 +11,7 @@ use Rattle.wit_graph_data.specs.declared.graph.Graph.{Graph}
 use Rattle.wit_semver_spec.specs.SemverMerged.{IsComplete, LacksType, SemverMerge, Versioned, both, is_replaced, kept_imports, newest, newest_type, types_of_new_entries, semver_merge, versioned}
 use Rattle.wit_semver_spec.specs.steps.SemverMerged.{Agrees}
 use Rattle.wit_semver.specs.contracts.tracks.TrackKeyPartialEq.TheImpl.{eq-value}
+use Rattle.wit_semver.specs.declared.merging.NewEntries.{NewEntries}
 use Rattle.wit_semver.specs.declared.tracks.TrackKey.{TrackKey}
 use Rattle.wit_semver.specs.declared.tracks.VersionedInterface.{VersionedInterface}
 use Rattle.wit_semver.specs.declared.semver_merge_plan.SemverMergePlan.{SemverMergePlan}
@@ -90,6 +91,12 @@ with_imports g w imports =
 -- and such types
 abbrev pub with_lists : Graph → ℕ → List Entry → List (Option ℕ) → Graph
 with_lists g w imports targets = record (with_imports g w imports) { types = with_targets g.types targets }
+
+-- these are the new entries of a world whose imports are to be merged
+pub record HasNewEntries (u : SemverMerge) (entries : NewEntries) : Type 0 where
+  pub imports_are : entries.imports ≡ kept_imports u
+  pub types_are : entries.types ≡ types_of_new_entries u
+  pub targets_are : IsFilled (newest_type u) (types_of_new_entries u) (length u.graph.types) entries.targets
 
 -- nothing of what reads the graph as it was holds against merging the imports of world w, and this is what
 -- it lists then and what types name then

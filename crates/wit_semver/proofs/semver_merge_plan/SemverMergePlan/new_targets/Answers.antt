@@ -1,12 +1,10 @@
-use Rattle.std.proofs.Common.{◌≡◌, ◌∙◌, ◌<◌, ◌≤◌, ℕ, List, Some, get_or, length, slice_get, slice_set, take, refl, sym, ap, subst, arith}
-use Rattle.std.proofs.lemmas.List.{take_all}
+use Rattle.std.proofs.Common.{◌≡◌, ◌∙◌, ◌<◌, ℕ, List, Some, get_or, length, slice_get, slice_set, take, refl, sym, ap, subst, arith}
 use Rattle.std.proofs.lemmas.Option.{slice_get_read}
 use Rattle.wit_values.specs.facts.Lists.{take-next_at}
 use Rattle.wit_graph_theory.specs.facts.ListFacts.{contained_at}
 use Rattle.wit_semver_spec.specs.SemverMerged.{newest_type}
-use Rattle.wit_semver.specs.steps.Replacing.{IsFilled, LackTypes, semver_merge_of}
+use Rattle.wit_semver.specs.steps.Replacing.{IsFilled, semver_merge_of}
 use Rattle.wit_semver.proofs.Filled.{filled-next}
-use Rattle.wit_semver.proofs.Used.{none_lacks-next}
 use Rattle.wit_semver.proofs.semver_merge_plan.SemverMergePlan.new_targets.Goals as goal
 
 -- what is read at a place of the lent list stands there
@@ -17,31 +15,19 @@ pub set-requires : goal.set-requires
 set-requires c =
     let at = stands c.args.types_of_new_entries.now c.as_slice-id-items.result.now c.loop-id.id-index c.id-item.result c.as_slice-id-items.ensures c.loop-id-test.true c.id-item.is in
     let within = c.requires.in_range c.id-item.result (contained_at c.args.types_of_new_entries.now c.loop-id.id-index c.id-item.result at) in
-    let long = c.loop-id.invariant.filled.0 in
+    let long = c.loop-id.invariant.0 in
     let same = c.index.ensures in
     omega (arith, within, long, same)
 
 pub loop-id-preserved : goal.loop-id-preserved
 loop-id-preserved c =
     let types_of_new_entries = c.args.types_of_new_entries.now in
-    let u = semver_merge_of c.args.self.now in
-    let f = newest_type u in
+    let f = newest_type (semver_merge_of c.args.self.now) in
     let id = c.id-item.result in
     let ids = take c.loop-id.id-index types_of_new_entries in
     let at = stands types_of_new_entries c.as_slice-id-items.result.now c.loop-id.id-index id c.as_slice-id-items.ensures c.loop-id-test.true c.id-item.is in
     let within = c.requires.in_range id (contained_at types_of_new_entries c.loop-id.id-index id at) in
     let next = sym (take-next_at types_of_new_entries c.loop-id.id-index id at) in
-    record {
-      filled =
-          subst (λ (is : List ℕ). IsFilled f is (length c.args.self.now.graph.now.types) c.set.new.self) next
-          (filled-next f (length c.args.self.now.graph.now.types) ids id c.loop-id.targets c.set.new.self within c.loop-id.invariant.filled
-          (c.set.ensures ∙ ap (λ (i : ℕ). slice_set c.loop-id.targets i c.in_ok-target.target) c.index.ensures ∙ ap (slice_set c.loop-id.targets id) c.in_ok-target.ensures.ok));
-      complete = λ message. subst (λ (is : List ℕ). LackTypes u is message → ⊥) next (none_lacks-next u ids id message c.loop-id.invariant.complete c.in_ok-target.ensures.complete);
-    }
-
-pub returns-clause-complete : goal.returns-clause-complete
-returns-clause-complete c message =
-    let types_of_new_entries = c.args.types_of_new_entries.now in
-    let long : length c.as_slice-id-items.result.now ≡ length types_of_new_entries = ap length c.as_slice-id-items.ensures in
-    let past : length types_of_new_entries ≤ c.loop-id.id-index = omega (arith, long, c.loop-id-test.false) in
-    subst (λ (is : List ℕ). LackTypes (semver_merge_of c.args.self.now) is message → ⊥) (take_all c.loop-id.id-index types_of_new_entries past) (c.loop-id.invariant.complete message)
+    subst (λ (is : List ℕ). IsFilled f is (length c.args.self.now.graph.now.types) c.set.new.self) next
+    (filled-next f (length c.args.self.now.graph.now.types) ids id c.loop-id.targets c.set.new.self within c.loop-id.invariant
+    (c.set.ensures ∙ ap (λ (i : ℕ). slice_set c.loop-id.targets i c.new_target.result) c.index.ensures ∙ ap (slice_set c.loop-id.targets id) c.new_target.ensures))

@@ -1,11 +1,8 @@
-use Rattle.std.proofs.Common.{ℕ, List, length, take}
+use Rattle.std.proofs.Common.{length, take}
 use Rattle.wit_semver_spec.specs.SemverMerged.{newest_type}
-use Rattle.wit_semver.specs.steps.Replacing.{IsFilled, LackTypes, semver_merge_of}
+use Rattle.wit_semver.specs.steps.Replacing.{IsFilled, semver_merge_of}
 use Rattle.wit_semver.proofs.semver_merge_plan.SemverMergePlan.new_targets.Given as goal
 
--- what the first ones name is in its place, and none of them lacks a type
+-- what the first ones name is in its place
 abbrev pub invariant-loop-id : goal.invariant-loop-id
-invariant-loop-id l = record {
-  filled : IsFilled (newest_type (semver_merge_of l.self)) (take l.id-index l.types_of_new_entries) (length l.self.graph.now.types) l.targets;
-  complete : (message : List ℕ) → LackTypes (semver_merge_of l.self) (take l.id-index l.types_of_new_entries) message → ⊥;
-}
+invariant-loop-id l = IsFilled (newest_type (semver_merge_of l.self)) (take l.id-index l.types_of_new_entries) (length l.self.graph.now.types) l.targets
