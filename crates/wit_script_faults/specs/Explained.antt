@@ -45,7 +45,7 @@ ExplainsWork script place before command text after =
 abbrev pub ExplainsMerge : ScriptLines → CommandPlace → Desk → Option TrackedGraph → List ℕ → Desk → Type 0
 ExplainsMerge script place before None text after = (text ≡ []) × (after ≡ before)
 ExplainsMerge script place before (Some second) text after =
-    (new : TrackedGraph) × ExplainsRun script place before.first (Merge second.resolve) second.file_starts second.package_starts (graph_arrows script second None) text new × (after ≡ only_first new)
+    (new : TrackedGraph) × ExplainsRun script place before.first (Merge second.resolve) second.file_starts second.package_starts (graph_arrows script second second.resolve.graph false) text new × (after ≡ only_first new)
 
 -- what is told of a choice of a world
 abbrev pub TellsChoice : ScriptLines → CommandPlace → TrackedGraph → Result ℕ ResolveErrorKind → List ℕ → Type 0

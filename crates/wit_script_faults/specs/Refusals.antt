@@ -13,7 +13,8 @@ use Rattle.wit_resolve_graph.specs.declared.command.Reply.{Reply}
 use Rattle.wit_resolve_graph.specs.declared.command.Reply.TheVariants as reply
 use Rattle.wit_script_places.specs.Places.{defined_line, span_place}
 use Rattle.wit_script_places.specs.Shown.{command_text, place_text}
-use Rattle.wit_script_places.specs.Ways.{IsTold, way_text}
+use Rattle.wit_script_places.specs.Told.{IsTold}
+use Rattle.wit_script_places.specs.Ways.{way_text}
 use Rattle.wit_script_places.specs.declared.arrow.Arrow.{Arrow}
 use Rattle.wit_script_places.specs.declared.desk.TrackedGraph.{TrackedGraph}
 use Rattle.wit_script_places.specs.declared.lines.CommandPlace.{CommandPlace}

@@ -175,7 +175,7 @@ fn merge(
     let Some(second) = desk.second.take() else {
         return Ok(String::new(alloc));
     };
-    let others = graph_arrows(alloc, script, &second, None)?;
+    let others = graph_arrows(alloc, script, &second, second.resolve.graph(), false)?;
     let TrackedGraph {
         resolve,
         file_starts,

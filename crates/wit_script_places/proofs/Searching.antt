@@ -12,7 +12,7 @@ use Rattle.std.proofs.lemmas.List.Elements.{Contains-append_cases, Contains-appe
 use Rattle.std.proofs.lemmas.Map.Views.{Contains-from_any, list_any-from_Contains}
 use Rattle.std.proofs.lemmas.Option.{slice_get-get_or, slice_get_within}
 use Rattle.std.proofs.lemmas.Slice.Eq.{bytes_eq-Decides}
-use Rattle.wit_script_places.specs.Ways.{AreIncluded, IsChosen, IsWay, is_among}
+use Rattle.wit_script_places.specs.Ways.{AreReached, IsChosen, IsWay, is_among}
 use Rattle.wit_script_places.specs.steps.Searching.{GoesOn, IsAt, IsClosed, IsLinked, IsSearched, IsSearching, IsIndexUpTo, IsSeen, begins_at, last_from, names_reached, unseen, with_new, with_reached}
 use Rattle.wit_script_places.specs.declared.arrow.Arrow.{Arrow}
 use Rattle.wit_script_places.specs.declared.way.ArrowIndex.{ArrowIndex}
@@ -470,7 +470,7 @@ module _ (arrows : List Arrow) (goals : List (List ℕ)) (start : List ℕ) (fir
       none at.0 at.1.0 at.1.1 at.1.2 at.1.3 (sym at.1.5) (subst (λ (x : List ℕ). is_among goals x ≡ true) at.1.4 goal)
 
 -- what is reached is what is included
-pub included : (arrows : List Arrow) (world : List ℕ) (s : Search) → IsSearched arrows [] world true s → AreIncluded arrows world s.past
+pub included : (arrows : List Arrow) (world : List ℕ) (s : Search) → IsSearched arrows [] world true s → AreReached arrows world s.past
 included arrows world s is name = (
   λ seen. seen_ways arrows [] world true s is.searching name true seen,
   λ w. ways_seen arrows [] world true s is world true is.begun w.0 w.1 name true w.2,

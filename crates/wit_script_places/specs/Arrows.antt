@@ -1,5 +1,5 @@
 -- What names what in a script and in its graphs: each name as refusals tell it. Indices count from 0.
-use Rattle.std.specs.Prelude.{ℕ, ◌+◌, ◌-◌, Bool, true, List, [], ◌∷◌, ◌++◌, length, take, drop, flat_map, filter_map, slice_get, Option, None, Some, option_and_then, option_map, option_to_list, bytes_eq, codes, if◌then◌else◌}
+use Rattle.std.specs.Prelude.{ℕ, ◌+◌, ◌-◌, Bool, true, List, [], ◌∷◌, ◌++◌, length, map, take, drop, flat_map, filter_map, slice_get, Option, None, Some, option_and_then, option_map, option_to_list, bytes_eq, codes, if◌then◌else◌}
 use Rattle.std.specs.List.{range_with_len}
 use Rattle.std.specs.Option.{option_map_or}
 use Rattle.wit_names.specs.PackageName.{package_name_text, version_suffix}
@@ -10,21 +10,23 @@ use Rattle.wit_data.specs.Entries.{Entry}
 use Rattle.wit_data.specs.Uses.{type_interface_dep}
 use Rattle.wit_data.specs.declared.interface.Interface.{Interface}
 use Rattle.wit_data.specs.declared.types.TypeDef.{TypeDef}
+use Rattle.wit_data.specs.declared.world.IncludeName.{IncludeName}
 use Rattle.wit_data.specs.declared.world.World.{World}
+use Rattle.wit_data.specs.declared.world.WorldItem.TheVariants as item
 use Rattle.wit_data.specs.declared.world.WorldKey.{WorldKey}
 use Rattle.wit_data.specs.declared.world.WorldKey.TheVariants as key
 use Rattle.wit_graph_data.specs.IdText.{id_text, interface_id_at}
 use Rattle.wit_graph_data.specs.Queries.{package_direct_deps}
 use Rattle.wit_graph_data.specs.declared.features.Features.{Features}
+use Rattle.wit_graph_data.specs.declared.graph.Graph.{Graph}
 use Rattle.wit_graph_data.specs.declared.graph.Package.{Package}
+use Rattle.wit_labels.specs.Rename.{renamed_label}
 use Rattle.wit_link_spec.specs.Gates.{is_active}
 use Rattle.wit_script_lines.specs.Statement.{statement_of}
 use Rattle.wit_script_lines.specs.declared.package_line.PackageLine.{PackageLine}
 use Rattle.wit_script_lines.specs.declared.package_line.PackageLine.TheVariants as part
 use Rattle.wit_script_lines.specs.declared.statement.Statement.{Statement}
 use Rattle.wit_script_lines.specs.declared.statement.Statement.TheVariants as says
-use Rattle.wit_semver_spec.specs.SemverMerged.{SemverMerge}
-use Rattle.wit_script_places.specs.Instead.{used_instead}
 use Rattle.wit_script_places.specs.Places.{span_place}
 use Rattle.wit_script_places.specs.declared.arrow.Arrow.{Arrow}
 use Rattle.wit_script_places.specs.declared.arrow.ArrowSort.{ArrowSort}
@@ -45,6 +47,15 @@ abbrev pub path_text : PackageName → ParsedUsePath → List ℕ
 path_text p (path.Name name) = item_text p name
 path_text p (path.Package parent name) = item_text parent name
 
+-- a label of a world: `namespace:package/world.label`, and `@version` where there is one
+abbrev pub label_text : PackageName → List ℕ → List ℕ → List ℕ
+label_text p world label = item_text p (world ++ (codes "." ++ label))
+
+-- a label of the world that a path of a package names
+abbrev pub path_label : PackageName → ParsedUsePath → List ℕ → List ℕ
+path_label p (path.Name world) label = label_text p world label
+path_label p (path.Package parent world) label = label_text parent world label
+
 -- the path of a line that has one
 abbrev pub path_of : PackageLine → Option ParsedUsePath
 path_of (part.Use from name new) = Some from
@@ -63,20 +74,40 @@ abbrev pub item_ends : PackageName → Bool → Option (List ℕ) → ParsedUseP
 item_ends p true (Some item) from = Some (item_text p item, path_text p from)
 item_ends p _ _ from = None
 
--- which names which by a line of a package: an interface uses types of another, a world exports an interface under its own
--- key or includes a world, a package names another
+-- the label of the world in which a line stands and what its path names, where its gate is met
+abbrev pub label_ends : PackageName → Bool → Option (List ℕ) → List ℕ → ParsedUsePath → Option (List ℕ × List ℕ)
+label_ends p true (Some world) label from = Some (label_text p world label, path_text p from)
+label_ends p _ _ label from = None
+
+-- the labels that the world has by an include, of these of the included world, and these, where its gate is met
+abbrev pub included_ends : PackageName → Bool → Option (List ℕ) → ParsedUsePath → List IncludeName → List (List ℕ) → List (List ℕ × List ℕ)
+included_ends p true (Some world) from names labels = map (λ label. (label_text p world (renamed_label names label), path_label p from label)) labels
+included_ends p _ _ from names labels = []
+
+-- which names which by a line of a package, where it is one thing: an interface uses types of another, a world exports an
+-- interface under its own key or under a label or includes a world, a package names another
 abbrev pub ends : PackageName → Bool → ArrowSort → Spot → PackageLine → Option (List ℕ × List ℕ)
 ends p on sort.Use s (part.Use from name new) = item_ends p on s.interface from
 ends p on sort.Export s (part.Export None from) = item_ends p on s.world from
+ends p on sort.Label s (part.Export (Some label) from) = label_ends p on s.world label from
 ends p on sort.Include s (part.Include from names) = item_ends p on s.world from
 ends p on sort.Dependency s said = package_ends p (path_of said)
 ends p on _ s _ = None
 
--- the arrow of a line of this index, where the line stands there
-abbrev pub line_arrow : Features → ArrowSort → Spot → ℕ → Option PackageName → Statement → Option Arrow
-line_arrow features sort s index (Some p) (says.Line said gate) =
-    option_map (λ (e : List ℕ × List ℕ). record { from = e.0; to = e.1; line = Some (index, package_name_text p, s.first) }) (ends p (is_active features gate) sort s said)
-line_arrow features sort s index _ _ = None
+-- the same of a line that may name many: an include brings labels, and puts labels in the place of others
+abbrev pub all_ends : PackageName → Bool → ArrowSort → Spot → PackageLine → List (List ℕ × List ℕ)
+all_ends p on (sort.IncludedLabel labels) s (part.Include from names) = included_ends p on s.world from names labels
+all_ends p on sort.Rename s (part.Include from names) = map (λ (name : IncludeName). (name.as_, name.name)) names
+all_ends p on kind s said = option_to_list (ends p on kind s said)
+
+-- an arrow by a line of this index, where the line stands there
+abbrev pub line_arrow : Spot → ℕ → PackageName → List ℕ × List ℕ → Arrow
+line_arrow s index p named = record { from = named.0; to = named.1; line = Some (index, package_name_text p, s.first) }
+
+-- the arrows of a line of this index
+abbrev pub line_arrows : Features → ArrowSort → Spot → ℕ → Option PackageName → Statement → List Arrow
+line_arrows features sort s index (Some p) (says.Line said gate) = map (line_arrow s index p) (all_ends p (is_active features gate) sort s said)
+line_arrows features sort s index _ _ = []
 
 -- where the lines after a line of a package stand
 abbrev pub after_part : Spot → PackageLine → Spot
@@ -92,7 +123,7 @@ after_said s index _ = s
 
 -- the arrows of what a line says, and where the lines after it stand; a line that says nothing has none
 abbrev pub read_arrows : Features → ArrowSort → Spot → ℕ → Option (Option Statement) → List Arrow
-read_arrows features sort s index (Some (Some said)) = option_to_list (line_arrow features sort s index s.owner said)
+read_arrows features sort s index (Some (Some said)) = line_arrows features sort s index s.owner said
 read_arrows features sort s index _ = []
 
 abbrev pub after_read : Spot → ℕ → Option (Option Statement) → Spot
@@ -125,9 +156,9 @@ abbrev pub package_text_at : List Package → ℕ → Option (List ℕ)
 package_text_at packages p = option_map (λ (home : Package). package_name_text home.name) (slice_get packages p)
 
 -- as what an interface uses others and is used: by its id, or of dependencies as its package
-abbrev pub known_as : TrackedGraph → ArrowSort → ℕ → Option (List ℕ)
-known_as t sort.Dependency i = option_and_then (λ (interface : Interface). option_and_then (package_text_at t.resolve.graph.packages) interface.package) (slice_get t.resolve.graph.interfaces i)
-known_as t _ i = interface_id_at t.resolve.graph.packages t.resolve.graph.interfaces i
+abbrev pub known_as : Graph → ArrowSort → ℕ → Option (List ℕ)
+known_as g sort.Dependency i = option_and_then (λ (interface : Interface). option_and_then (package_text_at g.packages) interface.package) (slice_get g.interfaces i)
+known_as g _ i = interface_id_at g.packages g.interfaces i
 
 -- from one name to another, by a line
 abbrev pub arrow_between : Option (List ℕ) → Option (ℕ × List ℕ × ℕ) → Option (List ℕ) → Option Arrow
@@ -135,48 +166,55 @@ arrow_between (Some from) line (Some to) = if bytes_eq from to then None else So
 arrow_between _ line _ = None
 
 -- the line at which a type stands
-abbrev pub type_line : ScriptLines → TrackedGraph → ℕ → Option (ℕ × List ℕ × ℕ)
-type_line script t id = option_and_then (λ (def : TypeDef). span_place script t def.span) (slice_get t.resolve.graph.types id)
+abbrev pub type_line : ScriptLines → TrackedGraph → Graph → ℕ → Option (ℕ × List ℕ × ℕ)
+type_line script t g id = option_and_then (λ (def : TypeDef). span_place script t def.span) (slice_get g.types id)
 
 -- what interface i uses by a type, by the type's line
-abbrev pub use_arrow : ScriptLines → TrackedGraph → Option SemverMerge → ArrowSort → ℕ → ℕ → Option Arrow
-use_arrow script t u s i id =
-    option_and_then (λ used. arrow_between (known_as t s i) (type_line script t id) (known_as t s (used_instead u i used))) (type_interface_dep t.resolve.graph.types id)
+abbrev pub use_arrow : ScriptLines → TrackedGraph → Graph → ArrowSort → ℕ → ℕ → Option Arrow
+use_arrow script t g s i id = option_and_then (λ used. arrow_between (known_as g s i) (type_line script t g id) (known_as g s used)) (type_interface_dep g.types id)
 
 -- what interface i uses
-abbrev pub interface_arrows : ScriptLines → TrackedGraph → Option SemverMerge → ArrowSort → ℕ → List Arrow
-interface_arrows script t u s i =
-    option_map_or (λ (interface : Interface). filter_map (λ (e : List ℕ × ℕ). use_arrow script t u s i e.1) interface.types) (slice_get t.resolve.graph.interfaces i) []
+abbrev pub interface_arrows : ScriptLines → TrackedGraph → Graph → ArrowSort → ℕ → List Arrow
+interface_arrows script t g s i =
+    option_map_or (λ (interface : Interface). filter_map (λ (e : List ℕ × ℕ). use_arrow script t g s i e.1) interface.types) (slice_get g.interfaces i) []
 
 -- what the interfaces of a graph use
-abbrev pub uses_in : ScriptLines → TrackedGraph → Option SemverMerge → ArrowSort → List Arrow
-uses_in script t u s = flat_map (interface_arrows script t u s) (range_with_len 0 (length t.resolve.graph.interfaces))
+abbrev pub uses_in : ScriptLines → TrackedGraph → Graph → ArrowSort → List Arrow
+uses_in script t g s = flat_map (interface_arrows script t g s) (range_with_len 0 (length g.interfaces))
 
 -- what a package depends on, by whatever lines
-abbrev pub package_arrows : TrackedGraph → ℕ → List Arrow
-package_arrows t p =
-    let g = t.resolve.graph in
+abbrev pub package_arrows : Graph → ℕ → List Arrow
+package_arrows g p =
     filter_map (λ q. arrow_between (package_text_at g.packages p) None (package_text_at g.packages q)) (package_direct_deps g.types g.interfaces g.worlds g.packages p)
 
--- what the packages of a graph depend on; of a graph as semver merging would leave it, what uses of interfaces tell is all
-abbrev pub dependencies_in : TrackedGraph → Option SemverMerge → List Arrow
-dependencies_in t None = flat_map (package_arrows t) (range_with_len 0 (length t.resolve.graph.packages))
-dependencies_in t (Some u) = []
+-- what the packages of a graph depend on
+abbrev pub dependencies_in : Graph → List Arrow
+dependencies_in g = flat_map (package_arrows g) (range_with_len 0 (length g.packages))
 
--- what leads where in a graph: which package depends on which, once more by the lines of the types that are used, and which
--- interface uses which
-abbrev pub graph_arrows : ScriptLines → TrackedGraph → Option SemverMerge → List Arrow
-graph_arrows script t u = dependencies_in t u ++ (uses_in script t u sort.Dependency ++ uses_in script t u sort.Use)
+-- the name of what has what stands under a key of a world: the world's, or `world.label`
+abbrev pub holder : List ℕ → WorldKey → List ℕ
+holder world (key.Interface i) = world
+holder world (key.Name label) = world ++ (codes "." ++ label)
 
--- the export of an interface under its own key by the world of this name
-abbrev pub export_arrow : TrackedGraph → List ℕ → WorldKey → Option Arrow
-export_arrow t from (key.Interface i) = option_map (λ to. record { from = from; to = to; line = None }) (interface_id_at t.resolve.graph.packages t.resolve.graph.interfaces i)
-export_arrow t from (key.Name label) = None
+-- that the world of a name has an interface, by the line of the entry
+abbrev pub entry_arrow : ScriptLines → TrackedGraph → Graph → ℕ → List ℕ → Entry → Option Arrow
+entry_arrow script t g owner world (k, item.Interface i stability docs span external_id) =
+    option_map (λ to. record { from = id_text g.packages owner (holder world k); to = to; line = span_place script t span }) (interface_id_at g.packages g.interfaces i)
+entry_arrow script t g owner world (k, _) = None
 
--- what a world exports under its own key
-abbrev pub world_arrows : TrackedGraph → World → List Arrow
-world_arrows t world = option_map_or (λ owner. filter_map (λ (e : Entry). export_arrow t (id_text t.resolve.graph.packages owner world.name) e.0) world.exports) world.package []
+-- the exports of a world, or its imports
+abbrev pub listed_by : World → Bool → List Entry
+listed_by world imports = if imports then world.imports else world.exports
 
--- what the worlds of a graph export
-abbrev pub exports_in : TrackedGraph → List Arrow
-exports_in t = flat_map (world_arrows t) t.resolve.graph.worlds
+-- what a world exports, or imports
+abbrev pub world_arrows : ScriptLines → TrackedGraph → Graph → Bool → World → List Arrow
+world_arrows script t g imports world = option_map_or (λ owner. filter_map (entry_arrow script t g owner world.name) (listed_by world imports)) world.package []
+
+-- what the worlds of a graph export, or import
+abbrev pub entries_in : ScriptLines → TrackedGraph → Graph → Bool → List Arrow
+entries_in script t g imports = flat_map (world_arrows script t g imports) g.worlds
+
+-- what leads where in a graph that has the sources of a tracked one: which package depends on which, once more by the lines of
+-- the types that are used, which interface uses which, and what worlds export, or import
+abbrev pub graph_arrows : ScriptLines → TrackedGraph → Graph → Bool → List Arrow
+graph_arrows script t g imports = dependencies_in g ++ (uses_in script t g sort.Dependency ++ (uses_in script t g sort.Use ++ entries_in script t g imports))

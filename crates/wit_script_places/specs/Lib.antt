@@ -1,9 +1,11 @@
 pub mod Arrows
+pub mod Asked
+pub mod Conflicts
 pub mod Desk
-pub mod Instead
 pub mod Lines
 pub mod Places
 pub mod Shown
+pub mod Told
 pub mod TypeArrows
 pub mod Ways
 pub mod laws

@@ -1,9 +1,10 @@
 //! What names what in a script: which interface uses which, which package names which, what worlds export and include.
-ghost use Rattle.std.specs.Prelude.{◌≡◌, ◌++◌, IfOk, OnOk, Some, option_copied};
+ghost use Rattle.std.specs.Prelude.{◌≡◌, ◌++◌, IfOk, OnOk, Some, map, option_copied};
 ghost use Rattle.wit_names.specs.PackageName.{package_name_text, version_suffix};
 ghost use Rattle.wit_script_lines.specs.Statement.{statement_of};
 ghost use Rattle.wit_script_places.specs.Arrows.{coming_arrows, coming_start, item_ends, item_text, package_ends, path_of, path_text};
 
+use crate::label::{included_ends, label_ends, renamed_ends};
 use crate::lines::{CommandPlace, ScriptLines};
 use std::alloc::{AllocError, Global};
 use std::fmt;
@@ -11,6 +12,7 @@ use wit_data::{Items, PackageName, ParsedUsePath, Text, TryClone, Version};
 use wit_link_spec::is_active;
 use wit_resolve_graph::Features;
 use wit_script_lines::{LineFault, PackageLine, Statement, read_line};
+use wit_values::try_clone_two;
 
 /// That one thing names another, each told as refusals tell it, and the line that does, where there is one: its index, the
 /// file into which it goes, and the index of the file's first line.
@@ -22,7 +24,7 @@ pub struct Arrow {
 }
 
 /// What names what.
-#[derive(Clone, Copy)]
+#[derive(Drop)]
 pub enum ArrowSort {
     /// An interface uses types of another.
     Use,
@@ -30,8 +32,14 @@ pub enum ArrowSort {
     Dependency,
     /// A world exports an interface under its own key.
     Export,
+    /// A label of a world is that of an exported interface.
+    Label,
     /// A world includes another.
     Include,
+    /// A label of a world is by an include one of these labels of the included world.
+    IncludedLabel(Items<Text>),
+    /// A label stands by an include in the place of another.
+    Rename,
 }
 
 /// Where a line stands: in which package, which begins with the line of this index, and in which of its interfaces or
@@ -67,9 +75,9 @@ pub fn coming_arrows(
     script: &ScriptLines,
     place: &CommandPlace,
     features: &Features,
-    sort: ArrowSort,
+    sort: &ArrowSort,
 ) -> Result<Items<Arrow>, AllocError>
-    ensures { IfOk result (λ arrows. arrows ≡ coming_arrows script.now place.now features.now sort) }
+    ensures { IfOk result (λ arrows. arrows ≡ coming_arrows script.now place.now features.now sort.now) }
 {
     let mut arrows = Items::new(alloc);
     let mut spot = Spot::new();
@@ -97,7 +105,7 @@ fn coming_start(script: &ScriptLines, place: &CommandPlace) -> usize
 }
 
 impl Spot {
-    ghost use Rattle.wit_script_places.specs.Arrows.{after_part, after_read, after_said, ends, line_arrow, no_spot, read_arrows};
+    ghost use Rattle.wit_script_places.specs.Arrows.{after_part, after_read, after_said, all_ends, ends, line_arrow, line_arrows, no_spot, read_arrows};
 
     /// In no package.
     fn new() -> Spot
@@ -111,24 +119,22 @@ impl Spot {
         }
     }
 
-    /// Looks at a line of this index, notes its arrow, and goes into what it begins.
+    /// Looks at a line of this index, notes its arrows, and goes into what it begins.
     fn add(
         &mut self,
         alloc: Global,
         features: &Features,
-        sort: ArrowSort,
+        sort: &ArrowSort,
         index: usize,
         line: &str,
         arrows: &mut Items<Arrow>,
     ) -> Result<(), AllocError>
         ensures spot { OnOk result (self.new ≡ after_read self.old index (statement_of line.now)) }
-        ensures arrows { OnOk result (arrows.new ≡ arrows.old ++ read_arrows features.now sort self.old index (statement_of line.now)) }
+        ensures arrows { OnOk result (arrows.new ≡ arrows.old ++ read_arrows features.now sort.now self.old index (statement_of line.now)) }
     {
         match read_line(alloc, line) {
             Ok(Some(said)) => {
-                if let Some(arrow) = self.arrow(alloc, features, sort, index, &said)? {
-                    arrows.push(arrow)?;
-                }
+                self.add_arrows(alloc, features, sort, index, &said, arrows)?;
                 self.enter(index, said);
                 Ok(())
             }
@@ -171,44 +177,95 @@ impl Spot {
         }
     }
 
-    /// The arrow of a line of this index, where it has one of this sort.
-    fn arrow(
+    /// Notes the arrows of a line of this index, those of this sort.
+    fn add_arrows(
         &self,
         alloc: Global,
         features: &Features,
-        sort: ArrowSort,
+        sort: &ArrowSort,
         index: usize,
         said: &Statement,
-    ) -> Result<Option<Arrow>, AllocError>
-        ensures { IfOk result (λ arrow. arrow ≡ line_arrow features.now sort self.now index self.now.owner said.now) }
+        arrows: &mut Items<Arrow>,
+    ) -> Result<(), AllocError>
+        ensures { OnOk result (arrows.new ≡ arrows.old ++ line_arrows features.now sort.now self.now index self.now.owner said.now) }
     {
         match (&self.owner, said) {
             (Some(package), Statement::Line { said, gate }) => {
                 let on = is_active(features, gate);
-                let Some((from, to)) = self.ends(alloc, package, on, sort, said)? else {
-                    return Ok(None);
-                };
-                let path = package_text(alloc, package)?;
-                Ok(Some(Arrow {
-                    from,
-                    to,
-                    line: Some((index, path, self.first)),
-                }))
+                let named = self.all_ends(alloc, package, on, sort, said)?;
+                self.add_each(alloc, package, index, &named, arrows)
             }
-            _ => Ok(None),
+            _ => Ok(()),
         }
     }
 
-    /// What a line of a package names, and as what.
+    /// Notes an arrow for each of what a line of this index names.
+    fn add_each(
+        &self,
+        alloc: Global,
+        package: &PackageName,
+        index: usize,
+        named: &Items<(Text, Text)>,
+        arrows: &mut Items<Arrow>,
+    ) -> Result<(), AllocError>
+        ensures { OnOk result (arrows.new ≡ arrows.old ++ map (line_arrow self.now index «package».now) named.now) }
+    {
+        for ends in named.as_slice() {
+            let (from, to) = try_clone_two(&ends.0, &ends.1)?;
+            let path = package_text(alloc, package)?;
+            arrows.push(Arrow {
+                from,
+                to,
+                line: Some((index, path, self.first)),
+            })?;
+        }
+        Ok(())
+    }
+
+    /// All that a line of a package names, each with what does.
+    fn all_ends(
+        &self,
+        alloc: Global,
+        package: &PackageName,
+        on: bool,
+        sort: &ArrowSort,
+        said: &PackageLine,
+    ) -> Result<Items<(Text, Text)>, AllocError>
+        ensures { IfOk result (λ named. named ≡ all_ends «package».now on sort.now self.now said.now) }
+    {
+        match (sort, said) {
+            (ArrowSort::IncludedLabel(labels), PackageLine::Include { path, names }) => {
+                included_ends(
+                    alloc,
+                    package,
+                    on,
+                    &self.world,
+                    path,
+                    names,
+                    labels.as_slice(),
+                )
+            }
+            (ArrowSort::Rename, PackageLine::Include { names, .. }) => renamed_ends(alloc, names),
+            _ => {
+                let mut named = Items::new(alloc);
+                if let Some(ends) = self.ends(alloc, package, on, sort, said)? {
+                    named.push(ends)?;
+                }
+                Ok(named)
+            }
+        }
+    }
+
+    /// What a line of a package names, and what does, where it names one thing.
     fn ends(
         &self,
         alloc: Global,
         package: &PackageName,
         on: bool,
-        sort: ArrowSort,
+        sort: &ArrowSort,
         said: &PackageLine,
     ) -> Result<Option<(Text, Text)>, AllocError>
-        ensures { IfOk result (λ named. named ≡ ends «package».now on sort self.now said.now) }
+        ensures { IfOk result (λ named. named ≡ ends «package».now on sort.now self.now said.now) }
     {
         match (sort, said) {
             (ArrowSort::Use, PackageLine::Use { path, .. }) => {
@@ -217,6 +274,13 @@ impl Spot {
             (ArrowSort::Export, PackageLine::Export { label: None, path }) => {
                 item_ends(alloc, package, on, &self.world, path)
             }
+            (
+                ArrowSort::Label,
+                PackageLine::Export {
+                    label: Some(label),
+                    path,
+                },
+            ) => { label_ends(alloc, package, on, &self.world, label, path) }
             (ArrowSort::Include, PackageLine::Include { path, .. }) => {
                 item_ends(alloc, package, on, &self.world, path)
             }
@@ -276,7 +340,11 @@ fn path_of(said: &PackageLine) -> Option<&ParsedUsePath>
 }
 
 /// What a path of a package names.
-fn path_text(alloc: Global, package: &PackageName, path: &ParsedUsePath) -> Result<Text, AllocError>
+pub fn path_text(
+    alloc: Global,
+    package: &PackageName,
+    path: &ParsedUsePath,
+) -> Result<Text, AllocError>
     ensures { IfOk result (λ text. text ≡ path_text «package».now path.now) }
 {
     match path {

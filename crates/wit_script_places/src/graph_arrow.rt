@@ -1,46 +1,46 @@
 //! What names what in a graph: which package depends on which, which interface uses which, and what worlds export.
-ghost use Rattle.std.specs.Prelude.{◌≡◌, ◌++◌, ◌<◌, ℕ, List, IfOk, OnOk, filter_map, length, option_map};
-ghost use Rattle.wit_script_places.specs.Arrows.{arrow_between, dependencies_in, export_arrow, exports_in, graph_arrows, interface_arrows, known_as, package_arrows, package_text_at, use_arrow, uses_in, world_arrows};
+ghost use Rattle.std.specs.Prelude.{◌≡◌, ◌++◌, ◌<◌, ℕ, List, IfOk, OnOk, filter_map, length};
+ghost use Rattle.wit_script_places.specs.Arrows.{arrow_between, dependencies_in, entries_in, entry_arrow, graph_arrows, holder, interface_arrows, known_as, listed_by, package_arrows, package_text_at, use_arrow, uses_in, world_arrows};
 ghost use Rattle.wit_script_places.specs.Places.{span_place};
-ghost use Rattle.wit_script_places.specs.steps.Merges.{merge_of};
 
 use crate::arrow::{Arrow, ArrowSort, package_text};
 use crate::desk::TrackedGraph;
-use crate::instead::{WorldMerge, used_instead};
 use crate::lines::ScriptLines;
 use crate::place::span_place;
 use std::alloc::{AllocError, Global};
 use wit_data::{
-    Interface, InterfaceId, Items, Names, PackageId, Span, Text, TypeId, World, WorldKey,
+    Interface, InterfaceId, Items, Names, PackageId, Span, Table, Text, TryClone, TypeId, World,
+    WorldItem, WorldKey, type_interface_dep,
 };
+use wit_graph_data::Graph;
+use wit_queries::package_deps::package_direct_deps;
 use wit_resolve_graph::ResolveResult;
 
-/// What leads where in a graph: which package depends on which, and which interface uses which, each by the line that brings
-/// the type, where one does. Where the imports of a world are to be merged, interfaces use what they would use then.
+/// What leads where in a graph that has the sources of a tracked one: which package depends on which, which interface uses
+/// which, and what worlds export, or import where `imports` are asked for; each by the line that brings it, where one does.
 pub fn graph_arrows(
     alloc: Global,
     script: &ScriptLines,
     tracked: &TrackedGraph,
-    merge: Option<WorldMerge<'_>>,
+    graph: &Graph,
+    imports: bool,
 ) -> ResolveResult<Items<Arrow>>
-    ensures { IfOk result (λ arrows. arrows ≡ graph_arrows script.now tracked.now (option_map merge_of merge.entry)) }
+    ensures { IfOk result (λ arrows. arrows ≡ graph_arrows script.now tracked.now graph.now imports) }
 {
-    let mut arrows = match merge {
-        Some(_) => Items::new(alloc),
-        None => dependencies_in(alloc, tracked)?,
-    };
-    arrows.append(uses_in(alloc, script, tracked, merge, ArrowSort::Dependency)?)?;
-    arrows.append(uses_in(alloc, script, tracked, merge, ArrowSort::Use)?)?;
+    let mut arrows = dependencies_in(alloc, graph)?;
+    arrows.append(uses_in(alloc, script, tracked, graph, &ArrowSort::Dependency)?)?;
+    arrows.append(uses_in(alloc, script, tracked, graph, &ArrowSort::Use)?)?;
+    arrows.append(entries_in(alloc, script, tracked, graph, imports)?)?;
     Ok(arrows)
 }
 
 /// What the packages of a graph depend on.
-fn dependencies_in(alloc: Global, tracked: &TrackedGraph) -> Result<Items<Arrow>, AllocError>
-    ensures { IfOk result (λ arrows. arrows ≡ dependencies_in tracked.now None) }
+fn dependencies_in(alloc: Global, graph: &Graph) -> Result<Items<Arrow>, AllocError>
+    ensures { IfOk result (λ arrows. arrows ≡ dependencies_in graph.now) }
 {
     let mut arrows = Items::new(alloc);
-    for index in 0..tracked.resolve.packages().len() {
-        add_dependencies(alloc, tracked, PackageId::from_index(index), &mut arrows)?;
+    for index in 0..graph.packages.len() {
+        add_dependencies(alloc, graph, PackageId::from_index(index), &mut arrows)?;
     }
     Ok(arrows)
 }
@@ -48,16 +48,16 @@ fn dependencies_in(alloc: Global, tracked: &TrackedGraph) -> Result<Items<Arrow>
 /// Notes what a package depends on.
 fn add_dependencies(
     alloc: Global,
-    tracked: &TrackedGraph,
+    graph: &Graph,
     package: PackageId,
     arrows: &mut Items<Arrow>,
 ) -> Result<(), AllocError>
-    requires { «package» < length tracked.now.resolve.graph.packages }
-    ensures { OnOk result (arrows.new ≡ arrows.old ++ package_arrows tracked.now «package») }
+    requires { «package» < length graph.now.packages }
+    ensures { OnOk result (arrows.new ≡ arrows.old ++ package_arrows graph.now «package») }
 {
-    for used in tracked.resolve.package_direct_deps(package) {
-        let from = package_text_at(alloc, tracked, package)?;
-        let to = package_text_at(alloc, tracked, used)?;
+    for used in package_direct_deps(graph, package) {
+        let from = package_text_at(alloc, graph, package)?;
+        let to = package_text_at(alloc, graph, used)?;
         if let Some(arrow) = arrow_between(from, None, to) {
             arrows.push(arrow)?;
         }
@@ -66,14 +66,10 @@ fn add_dependencies(
 }
 
 /// The text of the name of a package.
-fn package_text_at(
-    alloc: Global,
-    tracked: &TrackedGraph,
-    id: PackageId,
-) -> Result<Option<Text>, AllocError>
-    ensures { IfOk result (λ text. text ≡ package_text_at tracked.now.resolve.graph.packages id) }
+fn package_text_at(alloc: Global, graph: &Graph, id: PackageId) -> Result<Option<Text>, AllocError>
+    ensures { IfOk result (λ text. text ≡ package_text_at graph.now.packages id) }
 {
-    match tracked.resolve.packages().get(id.index()) {
+    match graph.packages.get(id.index()) {
         Some(package) => Ok(Some(package_text(alloc, &package.name)?)),
         None => Ok(None),
     }
@@ -99,15 +95,15 @@ fn uses_in(
     alloc: Global,
     script: &ScriptLines,
     tracked: &TrackedGraph,
-    merge: Option<WorldMerge<'_>>,
-    sort: ArrowSort,
+    graph: &Graph,
+    sort: &ArrowSort,
 ) -> ResolveResult<Items<Arrow>>
-    ensures { IfOk result (λ arrows. arrows ≡ uses_in script.now tracked.now (option_map merge_of merge.entry) sort) }
+    ensures { IfOk result (λ arrows. arrows ≡ uses_in script.now tracked.now graph.now sort.now) }
 {
     let mut arrows = Items::new(alloc);
-    for index in 0..tracked.resolve.interfaces().len() {
+    for index in 0..graph.interfaces.len() {
         let user = InterfaceId::from_index(index);
-        add_uses(alloc, script, tracked, merge, sort, user, &mut arrows)?;
+        add_uses(alloc, script, tracked, graph, sort, user, &mut arrows)?;
     }
     Ok(arrows)
 }
@@ -117,17 +113,17 @@ fn add_uses(
     alloc: Global,
     script: &ScriptLines,
     tracked: &TrackedGraph,
-    merge: Option<WorldMerge<'_>>,
-    sort: ArrowSort,
+    graph: &Graph,
+    sort: &ArrowSort,
     user: InterfaceId,
     arrows: &mut Items<Arrow>,
 ) -> ResolveResult<()>
-    ensures { OnOk result (arrows.new ≡ arrows.old ++ interface_arrows script.now tracked.now (option_map merge_of merge.entry) sort user) }
+    ensures { OnOk result (arrows.new ≡ arrows.old ++ interface_arrows script.now tracked.now graph.now sort.now user) }
 {
-    match tracked.resolve.interfaces().get(user.index()) {
+    match graph.interfaces.get(user.index()) {
         Some(interface) => {
             let types = &interface.types;
-            add_types(alloc, script, tracked, merge, sort, user, types, arrows)
+            add_types(alloc, script, tracked, graph, sort, user, types, arrows)
         }
         None => Ok(()),
     }
@@ -138,16 +134,16 @@ fn add_types(
     alloc: Global,
     script: &ScriptLines,
     tracked: &TrackedGraph,
-    merge: Option<WorldMerge<'_>>,
-    sort: ArrowSort,
+    graph: &Graph,
+    sort: &ArrowSort,
     user: InterfaceId,
     types: &Names<TypeId>,
     arrows: &mut Items<Arrow>,
 ) -> ResolveResult<()>
-    ensures { OnOk result (arrows.new ≡ arrows.old ++ filter_map (λ (e : List ℕ × ℕ). use_arrow script.now tracked.now (option_map merge_of merge.entry) sort user e.1) types.now) }
+    ensures { OnOk result (arrows.new ≡ arrows.old ++ filter_map (λ (e : List ℕ × ℕ). use_arrow script.now tracked.now graph.now sort.now user e.1) types.now) }
 {
     for (_, id) in types.iter() {
-        if let Some(arrow) = use_arrow(alloc, script, tracked, merge, sort, user, *id)? {
+        if let Some(arrow) = use_arrow(alloc, script, tracked, graph, sort, user, *id)? {
             arrows.push(arrow)?;
         }
     }
@@ -159,46 +155,45 @@ fn use_arrow(
     alloc: Global,
     script: &ScriptLines,
     tracked: &TrackedGraph,
-    merge: Option<WorldMerge<'_>>,
-    sort: ArrowSort,
+    graph: &Graph,
+    sort: &ArrowSort,
     user: InterfaceId,
     id: TypeId,
 ) -> ResolveResult<Option<Arrow>>
-    ensures { IfOk result (λ arrow. arrow ≡ use_arrow script.now tracked.now (option_map merge_of merge.entry) sort user id) }
+    ensures { IfOk result (λ arrow. arrow ≡ use_arrow script.now tracked.now graph.now sort.now user id) }
 {
-    let Some(used) = tracked.resolve.type_interface_dep(id) else {
+    let Some(used) = type_interface_dep(graph.types.as_slice(), id) else {
         return Ok(None);
     };
-    let used = used_instead(alloc, merge, user, used)?;
-    let line = match tracked.resolve.types().get(id.index()) {
+    let line = match graph.types.get(id.index()) {
         Some(def) => line_of(alloc, script, tracked, def.span)?,
         None => None,
     };
-    let from = known_as(alloc, tracked, sort, user)?;
-    let to = known_as(alloc, tracked, sort, used)?;
+    let from = known_as(alloc, graph, sort, user)?;
+    let to = known_as(alloc, graph, sort, used)?;
     Ok(arrow_between(from, line, to))
 }
 
 /// As what an interface uses others and is used: by its id, or of dependencies as its package.
 fn known_as(
     alloc: Global,
-    tracked: &TrackedGraph,
-    sort: ArrowSort,
+    graph: &Graph,
+    sort: &ArrowSort,
     id: InterfaceId,
 ) -> ResolveResult<Option<Text>>
-    ensures { IfOk result (λ text. text ≡ known_as tracked.now sort id) }
+    ensures { IfOk result (λ text. text ≡ known_as graph.now sort.now id) }
 {
     match sort {
-        ArrowSort::Dependency => match tracked.resolve.interfaces().get(id.index()) {
+        ArrowSort::Dependency => match graph.interfaces.get(id.index()) {
             Some(
                 Interface {
                     package: Some(home),
                     ..
                 },
-            ) => Ok(package_text_at(alloc, tracked, *home)?),
+            ) => Ok(package_text_at(alloc, graph, *home)?),
             _ => Ok(None),
         },
-        _ => match tracked.resolve.id_of(alloc, id)? {
+        _ => match graph.id_of(alloc, id)? {
             Some(text) => Ok(Some(Text::from_string(text))),
             None => Ok(None),
         },
@@ -220,58 +215,96 @@ pub fn line_of(
     }
 }
 
-/// What the worlds of a graph export under its own key.
-pub fn exports_in(alloc: Global, tracked: &TrackedGraph) -> ResolveResult<Items<Arrow>>
-    ensures { IfOk result (λ arrows. arrows ≡ exports_in tracked.now) }
+/// What the worlds of a graph export, or import.
+fn entries_in(
+    alloc: Global,
+    script: &ScriptLines,
+    tracked: &TrackedGraph,
+    graph: &Graph,
+    imports: bool,
+) -> ResolveResult<Items<Arrow>>
+    ensures { IfOk result (λ arrows. arrows ≡ entries_in script.now tracked.now graph.now imports) }
 {
     let mut arrows = Items::new(alloc);
-    for world in tracked.resolve.worlds() {
-        add_exports(alloc, tracked, world, &mut arrows)?;
+    for world in graph.worlds.as_slice() {
+        add_entries(alloc, script, tracked, graph, imports, world, &mut arrows)?;
     }
     Ok(arrows)
 }
 
-/// Notes what a world exports.
-fn add_exports(
+/// Notes what a world exports, or imports.
+fn add_entries(
     alloc: Global,
+    script: &ScriptLines,
     tracked: &TrackedGraph,
+    graph: &Graph,
+    imports: bool,
     world: &World,
     arrows: &mut Items<Arrow>,
 ) -> ResolveResult<()>
-    ensures { OnOk result (arrows.new ≡ arrows.old ++ world_arrows tracked.now world.now) }
+    ensures { OnOk result (arrows.new ≡ arrows.old ++ world_arrows script.now tracked.now graph.now imports world.now) }
 {
     let Some(owner) = world.package else {
         return Ok(());
     };
-    let from = tracked
-        .resolve
-        .id_of_name(alloc, owner, world.name.as_str())?;
-    for (key, _) in world.exports.iter() {
-        if let Some(arrow) = export_arrow(alloc, tracked, from.as_str(), key)? {
+    let name = &world.name;
+    for (key, item) in entries_of(world, imports).iter() {
+        if let Some(arrow) = entry_arrow(alloc, script, tracked, graph, owner, name, key, item)? {
             arrows.push(arrow)?;
         }
     }
     Ok(())
 }
 
-/// The export of an interface under its own key by the world of this name.
-fn export_arrow(
-    alloc: Global,
-    tracked: &TrackedGraph,
-    from: &str,
-    key: &WorldKey,
-) -> ResolveResult<Option<Arrow>>
-    ensures { IfOk result (λ arrow. arrow ≡ export_arrow tracked.now from.now key.now) }
+/// The exports of a world, or its imports.
+fn entries_of(world: &World, imports: bool) -> &Table<WorldKey, WorldItem>
+    ensures { result.now ≡ listed_by world.now imports }
 {
-    let WorldKey::Interface(id) = key else {
+    if imports {
+        &world.imports
+    } else {
+        &world.exports
+    }
+}
+
+/// That the world of a name has an interface, by the world's name or by that of the label under which it has it.
+fn entry_arrow(
+    alloc: Global,
+    script: &ScriptLines,
+    tracked: &TrackedGraph,
+    graph: &Graph,
+    owner: PackageId,
+    world: &Text,
+    key: &WorldKey,
+    item: &WorldItem,
+) -> ResolveResult<Option<Arrow>>
+    ensures { IfOk result (λ arrow. arrow ≡ entry_arrow script.now tracked.now graph.now owner world.now (key.now, item.now)) }
+{
+    let WorldItem::Interface { id, span, .. } = item else {
         return Ok(None);
     };
-    let Some(to) = tracked.resolve.id_of(alloc, *id)? else {
+    let Some(to) = graph.id_of(alloc, *id)? else {
         return Ok(None);
     };
+    let name = holder(alloc, world, key)?;
+    let from = graph.id_of_name(alloc, owner, name.as_str())?;
+    let line = line_of(alloc, script, tracked, *span)?;
     Ok(Some(Arrow {
-        from: Text::try_from_str(alloc, from)?,
+        from: Text::from_string(from),
         to: Text::from_string(to),
-        line: None,
+        line,
     }))
+}
+
+/// The name of what has what stands under a key of a world: the world's, or `world.label`.
+fn holder(alloc: Global, world: &Text, key: &WorldKey) -> Result<Text, AllocError>
+    ensures { IfOk result (λ name. name ≡ holder world.now key.now) }
+{
+    match key {
+        WorldKey::Interface(_) => world.try_clone(),
+        WorldKey::Name(label) => {
+            let joined = format!(in alloc; "{world}.{label}")?;
+            Ok(Text::from_string(joined))
+        }
+    }
 }

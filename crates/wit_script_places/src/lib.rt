@@ -5,13 +5,16 @@
 #![tactic(auto)]
 
 mod arrow;
+mod asked;
+mod conflict;
 mod desk;
 mod graph_arrow;
-mod instead;
+mod label;
 pub mod laws;
 mod lines;
 mod place;
 mod shown;
+mod shown_way;
 mod told_way;
 mod type_arrow;
 mod way;
@@ -19,8 +22,8 @@ mod way;
 pub use crate::arrow::Arrow;
 pub use crate::desk::{Desk, TrackedGraph, coming_packages};
 pub use crate::graph_arrow::graph_arrows;
-pub use crate::instead::WorldMerge;
 pub use crate::lines::{CommandPlace, LineSort, ScriptLines, script_lines, sort_of};
 pub use crate::place::{defined_line, span_place};
 pub use crate::shown::{command_text, place_text, snippet};
-pub use crate::told_way::{way_of, way_text};
+pub use crate::shown_way::way_text;
+pub use crate::told_way::way_of;

@@ -1,32 +1,30 @@
 //! Which type of a graph refers to which.
-ghost use Rattle.std.specs.Prelude.{◌≡◌, ◌++◌, IfOk, OnOk, map, option_map};
+ghost use Rattle.std.specs.Prelude.{◌≡◌, ◌++◌, IfOk, OnOk, map};
 ghost use Rattle.wit_data.specs.Kind.{referred};
-ghost use Rattle.wit_script_places.specs.TypeArrows.{home_for, member_text, reference_to, references_of, type_arrows, type_text};
-ghost use Rattle.wit_script_places.specs.steps.Merges.{merge_of};
+ghost use Rattle.wit_script_places.specs.TypeArrows.{member_text, reference_to, references_of, type_arrows, type_text};
 
 use crate::arrow::Arrow;
 use crate::desk::TrackedGraph;
 use crate::graph_arrow::line_of;
-use crate::instead::{WorldMerge, used_instead};
 use crate::lines::ScriptLines;
 use std::alloc::{AllocError, Global};
 use wit_data::{InterfaceId, Items, Text, TypeDef, TypeId, TypeOwner, referred};
+use wit_graph_data::Graph;
 use wit_resolve_graph::ResolveResult;
 
-/// Which type of a graph refers to which, by the lines of those that do. Where the imports of a world are to be merged, types
-/// refer to what they would refer to then.
+/// Which type of a graph that has the sources of a tracked one refers to which, by the lines of those that do.
 pub fn type_arrows(
     alloc: Global,
     script: &ScriptLines,
     tracked: &TrackedGraph,
-    merge: Option<WorldMerge<'_>>,
+    graph: &Graph,
 ) -> ResolveResult<Items<Arrow>>
-    ensures { IfOk result (λ arrows. arrows ≡ type_arrows script.now tracked.now (option_map merge_of merge.entry)) }
+    ensures { IfOk result (λ arrows. arrows ≡ type_arrows script.now tracked.now graph.now) }
 {
     let mut arrows = Items::new(alloc);
-    for index in 0..tracked.resolve.types().len() {
+    for index in 0..graph.types.len() {
         let id = TypeId::from_index(index);
-        add_type(alloc, script, tracked, merge, id, &mut arrows)?;
+        add_type(alloc, script, tracked, graph, id, &mut arrows)?;
     }
     Ok(arrows)
 }
@@ -36,14 +34,14 @@ fn add_type(
     alloc: Global,
     script: &ScriptLines,
     tracked: &TrackedGraph,
-    merge: Option<WorldMerge<'_>>,
+    graph: &Graph,
     id: TypeId,
     arrows: &mut Items<Arrow>,
 ) -> ResolveResult<()>
-    ensures { OnOk result (arrows.new ≡ arrows.old ++ references_of script.now tracked.now (option_map merge_of merge.entry) id) }
+    ensures { OnOk result (arrows.new ≡ arrows.old ++ references_of script.now tracked.now graph.now id) }
 {
-    match tracked.resolve.types().get(id.index()) {
-        Some(def) => add_references(alloc, script, tracked, merge, id, def, arrows),
+    match graph.types.get(id.index()) {
+        Some(def) => add_references(alloc, script, tracked, graph, id, def, arrows),
         None => Ok(()),
     }
 }
@@ -53,16 +51,16 @@ fn add_references(
     alloc: Global,
     script: &ScriptLines,
     tracked: &TrackedGraph,
-    merge: Option<WorldMerge<'_>>,
+    graph: &Graph,
     id: TypeId,
     def: &TypeDef,
     arrows: &mut Items<Arrow>,
 ) -> ResolveResult<()>
-    ensures { OnOk result (arrows.new ≡ arrows.old ++ map (reference_to script.now tracked.now (option_map merge_of merge.entry) id def.now) (referred def.now.kind)) }
+    ensures { OnOk result (arrows.new ≡ arrows.old ++ map (reference_to script.now tracked.now graph.now id def.now) (referred def.now.kind)) }
 {
     let others = referred(alloc, &def.kind)?;
     for other in others.as_slice() {
-        let arrow = reference_to(alloc, script, tracked, merge, id, def, *other)?;
+        let arrow = reference_to(alloc, script, tracked, graph, id, def, *other)?;
         arrows.push(arrow)?;
     }
     Ok(())
@@ -73,40 +71,31 @@ fn reference_to(
     alloc: Global,
     script: &ScriptLines,
     tracked: &TrackedGraph,
-    merge: Option<WorldMerge<'_>>,
+    graph: &Graph,
     id: TypeId,
     def: &TypeDef,
     other: TypeId,
 ) -> ResolveResult<Arrow>
-    ensures { IfOk result (λ arrow. arrow ≡ reference_to script.now tracked.now (option_map merge_of merge.entry) id def.now other) }
+    ensures { IfOk result (λ arrow. arrow ≡ reference_to script.now tracked.now graph.now id def.now other) }
 {
-    let from = type_text(alloc, tracked, None, def.owner, id)?;
-    let to = type_text(alloc, tracked, merge, def.owner, other)?;
+    let from = type_text(alloc, graph, id)?;
+    let to = type_text(alloc, graph, other)?;
     let line = line_of(alloc, script, tracked, def.span)?;
     Ok(Arrow { from, to, line })
 }
 
-/// A type as what has this owner refers to it: by its name in its interface, or else by its number.
-pub fn type_text(
-    alloc: Global,
-    tracked: &TrackedGraph,
-    merge: Option<WorldMerge<'_>>,
-    user: TypeOwner,
-    id: TypeId,
-) -> ResolveResult<Text>
-    ensures { IfOk result (λ text. text ≡ type_text tracked.now (option_map merge_of merge.entry) user id) }
+/// A type: by its name in its interface, or else by its number.
+pub fn type_text(alloc: Global, graph: &Graph, id: TypeId) -> ResolveResult<Text>
+    ensures { IfOk result (λ text. text ≡ type_text graph.now id) }
 {
-    let named = match tracked.resolve.types().get(id.index()) {
+    let named = match graph.types.get(id.index()) {
         Some(
             TypeDef {
                 name: Some(name),
                 owner: TypeOwner::Interface(home),
                 ..
             },
-        ) => {
-            let home = home_for(alloc, merge, user, *home)?;
-            member_text(alloc, tracked, name, home)?
-        }
+        ) => member_text(alloc, graph, name, *home)?,
         _ => None,
     };
     match named {
@@ -118,40 +107,22 @@ pub fn type_text(
     }
 }
 
-/// The interface of which a type is used by what has this owner, where it is one of this interface.
-fn home_for(
-    alloc: Global,
-    merge: Option<WorldMerge<'_>>,
-    user: TypeOwner,
-    home: InterfaceId,
-) -> Result<InterfaceId, AllocError>
-    ensures { IfOk result (λ id. id ≡ home_for (option_map merge_of merge.entry) user home) }
-{
-    let TypeOwner::Interface(user) = user else {
-        return Ok(home);
-    };
-    if user.index() == home.index() {
-        return Ok(home);
-    }
-    used_instead(alloc, merge, user, home)
-}
-
 /// `namespace:package/interface.type`, and `@version` where there is one.
 fn member_text(
     alloc: Global,
-    tracked: &TrackedGraph,
+    graph: &Graph,
     name: &Text,
     id: InterfaceId,
 ) -> ResolveResult<Option<Text>>
-    ensures { IfOk result (λ text. text ≡ member_text tracked.now name.now id) }
+    ensures { IfOk result (λ text. text ≡ member_text graph.now name.now id) }
 {
-    let Some(interface) = tracked.resolve.interfaces().get(id.index()) else {
+    let Some(interface) = graph.interfaces.get(id.index()) else {
         return Ok(None);
     };
     match (&interface.name, interface.package) {
         (Some(own), Some(home)) => {
             let joined = format!(in alloc; "{own}.{name}")?;
-            let text = tracked.resolve.id_of_name(alloc, home, joined.as_str())?;
+            let text = graph.id_of_name(alloc, home, joined.as_str())?;
             Ok(Some(Text::from_string(text)))
         }
         _ => Ok(None),

@@ -1,7 +1,7 @@
 //! Ways along arrows, from a name to one of some goals.
 ghost use Rattle.std.specs.Prelude.{◌≡◌, ◌<◌, ℕ, ◌||◌, not, Bool, true, None, List, [], Contains, IfNone, IfOk, IfSome, OnOk, Some, bytes_eq, length, slice_get};
 ghost use Rattle.std.specs.Map.{lookup};
-ghost use Rattle.wit_script_places.specs.Ways.{AreIncluded, IsChosen, IsWay, is_among};
+ghost use Rattle.wit_script_places.specs.Ways.{AreReached, IsChosen, IsWay, is_among};
 ghost use Rattle.wit_script_places.specs.steps.Searching.{GoesOn, IsAt, IsClosed, IsIndexOf, IsSearched, IsSearching};
 ghost use Rattle.wit_script_places.specs.declared.arrow.Arrow.{Arrow};
 ghost use Rattle.wit_script_places.specs.declared.way.Reached.{Reached};
@@ -60,7 +60,7 @@ pub fn find_way(
 
 /// The names that are reached from a name along one arrow or more. The only error is want of memory.
 pub fn reached_names(alloc: Global, arrows: &[Arrow], start: &Text) -> Result<NameSet, AllocError>
-    ensures { IfOk result (λ names. AreIncluded arrows.now start.now names) }
+    ensures { IfOk result (λ names. AreReached arrows.now start.now names) }
 {
     let goals = NameSet::new(alloc);
     let search = all_reached(alloc, arrows, start, true, &goals)?;

@@ -3,7 +3,8 @@ use Rattle.wit_graph_data.specs.Error.{error_number}
 use Rattle.wit_graph_data.specs.ErrorText.{kind_text}
 use Rattle.wit_graph_data.specs.declared.error_kind.ResolveErrorKind.{ResolveErrorKind}
 use Rattle.wit_script_faults.specs.Refusals.{places_text, told_text}
-use Rattle.wit_script_places.specs.Ways.{IsTold, way_text}
+use Rattle.wit_script_places.specs.Told.{IsTold}
+use Rattle.wit_script_places.specs.Ways.{way_text}
 use Rattle.wit_script_faults.proofs.refusals.refusal_text.Goals as goal
 
 pub returns : goal.returns

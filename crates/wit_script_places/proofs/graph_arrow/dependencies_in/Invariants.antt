@@ -4,4 +4,4 @@ use Rattle.wit_script_places.specs.Arrows.{package_arrows}
 use Rattle.wit_script_places.proofs.graph_arrow.dependencies_in.Given as goal
 
 abbrev pub invariant-loop-index : goal.invariant-loop-index
-invariant-loop-index l = l.arrows ≡ flat_map (package_arrows l.tracked) (range_with_len 0 l.index)
+invariant-loop-index l = l.arrows ≡ flat_map (package_arrows l.graph) (range_with_len 0 l.index)

@@ -1,7 +1,8 @@
 use Rattle.std.proofs.Common.{◌≡◌, ◌∙◌, ℕ, List, Bor, Option, codes, subst, sym}
 use Rattle.std.specs.Prelude.{MatchOption}
 use Rattle.wit_elaboration.specs.steps.Parts.{interface_cycle_text}
-use Rattle.wit_script_places.specs.Ways.{IsRound, known_arrows}
+use Rattle.wit_script_places.specs.Asked.{known_arrows}
+use Rattle.wit_script_places.specs.Ways.{IsRound}
 use Rattle.wit_script_places.specs.declared.arrow.Arrow.{Arrow}
 use Rattle.wit_script_places.proofs.CycleNames.{one_name}
 use Rattle.wit_script_places.proofs.told_way.interface_round.Goals as goal

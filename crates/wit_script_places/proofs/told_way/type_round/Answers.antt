@@ -1,9 +1,13 @@
-use Rattle.std.proofs.Common.{◌≡◌, ◌∙◌, ℕ, List, Bor, Option, codes, subst, sym}
+use Rattle.std.proofs.Common.{◌≡◌, ◌∙◌, ℕ, List, Bor, Option, ap, codes, subst, sym}
 use Rattle.std.specs.Prelude.{MatchOption}
 use Rattle.wit_elaboration.specs.steps.Parts.{type_cycle_text}
-use Rattle.wit_script_places.specs.Ways.{IsTypeRound, asked_types}
+use Rattle.wit_graph_data.specs.declared.graph.Graph.{Graph}
+use Rattle.wit_script_places.specs.Asked.{asked_graph, asked_graph_at}
+use Rattle.wit_script_places.specs.Told.{IsTypeRound}
+use Rattle.wit_script_places.specs.TypeArrows.{type_arrows}
 use Rattle.wit_script_places.specs.declared.arrow.Arrow.{Arrow}
 use Rattle.wit_script_places.proofs.CycleNames.{one_name}
+use Rattle.wit_script_places.proofs.Outcomes.{if_ok}
 use Rattle.wit_script_places.proofs.told_way.type_round.Goals as goal
 
 pub returns-in_default : goal.returns-in_default
@@ -13,7 +17,15 @@ returns-in_default c = λ name whole.
     absurd (none name whole)
 
 pub returns : goal.returns
-returns c = λ name whole.
+returns c =
+    let script = c.args.script.now in
+    let place = c.args.place.now in
+    let t = c.args.tracked.now in
+    let g = asked_graph_at script place t in
+    let graph_is : c.made_or_known-graph.result.now ≡ g = c.made_or_known-graph.ensures ∙ sym c.in_ok-made.ensures ∙ ap (asked_graph t.resolve) c.in_ok-said.ensures in
+    if_ok c.first_round.result c.first_round.ensures
+    (λ way is name whole.
     let same : c.in-Some.name.now ≡ name = one_name (codes "type `") (codes "` would refer to itself") c.in-Some.name.now name (sym c.in-Some.ensures ∙ whole) in
-    subst (λ (n : List ℕ). IsTypeRound c.args.tracked.now (asked_types c.args.script.now c.args.place.now c.args.tracked.now) n c.in_ok-way.way) same
-    (subst (λ (arrows : List Arrow). IsTypeRound c.args.tracked.now arrows c.in-Some.name.now c.in_ok-way.way) (c.as_slice.ensures ∙ c.in_ok-arrows.ensures) c.in_ok-way.ensures)
+    subst (λ (n : List ℕ). IsTypeRound g (type_arrows script t g) n way) same
+    (subst (λ (x : Graph). IsTypeRound x (type_arrows script t x) c.in-Some.name.now way) graph_is
+    (subst (λ (arrows : List Arrow). IsTypeRound c.made_or_known-graph.result.now arrows c.in-Some.name.now way) (c.as_slice.ensures ∙ c.in_ok-arrows.ensures) is)))

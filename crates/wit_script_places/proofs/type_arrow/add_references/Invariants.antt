@@ -1,11 +1,10 @@
-use Rattle.std.proofs.Common.{◌≡◌, ◌++◌, drop, map, option_map}
+use Rattle.std.proofs.Common.{◌≡◌, ◌++◌, drop, map}
 use Rattle.wit_data.specs.Kind.{referred}
 use Rattle.wit_script_places.specs.TypeArrows.{reference_to}
-use Rattle.wit_script_places.specs.steps.Merges.{merge_of}
 use Rattle.wit_script_places.proofs.type_arrow.add_references.Given as goal
 
 -- what is noted, and what those are that are left
 abbrev pub invariant-loop-other : goal.invariant-loop-other
 invariant-loop-other l =
-    l.arrows ++ map (reference_to l.script l.tracked (option_map merge_of l.merge) l.id l.def) (drop l.other-index l.other-items)
-    ≡ l.initial.arrows ++ map (reference_to l.script l.tracked (option_map merge_of l.merge) l.id l.def) (referred l.def.kind)
+    l.arrows ++ map (reference_to l.script l.tracked l.graph l.id l.def) (drop l.other-index l.other-items)
+    ≡ l.initial.arrows ++ map (reference_to l.script l.tracked l.graph l.id l.def) (referred l.def.kind)

@@ -1,7 +1,0 @@
-use Rattle.std.proofs.Common.{◌≡◌, [], drop, filter_map}
-use Rattle.wit_script_places.specs.Ways.{export_of, with_names}
-use Rattle.wit_script_places.proofs.told_way.exported_by.Given as goal
-
--- the names so far, and those that are left, are all
-abbrev pub invariant-loop-arrow : goal.invariant-loop-arrow
-invariant-loop-arrow l = with_names l.names (filter_map (export_of l.worlds) (drop l.arrow-index l.exports)) ≡ with_names [] (filter_map (export_of l.worlds) l.exports)
