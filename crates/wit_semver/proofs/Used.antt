@@ -1,12 +1,17 @@
 -- Types that lack what they use, one after another; interfaces that disagree with what replaces them.
-use Rattle.std.proofs.Common.{◌≡◌, ◌∙◌, ◌++◌, ◌∷◌, [], ℕ, Bool, true, false, List, Option, None, Some, get_or, slice_get, inl, inr, refl, sym, ap, subst, if◌then◌else◌}
+use Rattle.std.proofs.Common.{◌≡◌, ◌∙◌, ◌<◌, ◌++◌, ◌∷◌, [], ℕ, Bool, true, false, List, Option, None, Some, get_or, length, slice_get, inl, inr, refl, sym, ap, subst, if◌then◌else◌}
 use Rattle.std.proofs.lemmas.List.Elements.{Contains-append_cases}
+use Rattle.std.proofs.lemmas.Option.{slice_get_read}
 use Rattle.wit_digraph.specs.facts.MemberFacts.{Contains-cons_cases, Contains-nil}
 use Rattle.wit_data.specs.declared.interface.Interface.{Interface}
 use Rattle.wit_remap_spec.specs.FunctionMismatch.{HaveFunctionMismatch}
 use Rattle.wit_semver_spec.specs.SemverMerged.{Disagrees, LacksType, SemverMerge, is_replaced, newest, semver_merge_text}
 use Rattle.wit_semver.specs.steps.Replacing.{AreReplacements, LackTypes}
 use Rattle.wit_semver_spec.specs.steps.Parts.{disagreement_text}
+
+-- what is read at a place of a list that is lent stands there
+pub stands : (ids lent : List ℕ) (i id : ℕ) → lent ≡ ids → i < length lent → id ≡ get_or lent i id → slice_get ids i ≡ Some id
+stands ids lent i id same within is = subst (λ (xs : List ℕ). slice_get xs i ≡ Some id) same (slice_get_read lent _ i id refl within is)
 
 -- one type more, which lacks nothing
 pub none_lacks-next : (u : SemverMerge) (ids : List ℕ) (t : ℕ) (message : List ℕ) → ((message : List ℕ) → LackTypes u ids message → ⊥) → ((message : List ℕ) → LacksType u t message → ⊥) → LackTypes u (ids ++ t ∷ []) message → ⊥

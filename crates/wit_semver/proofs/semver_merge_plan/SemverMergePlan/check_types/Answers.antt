@@ -1,14 +1,9 @@
-use Rattle.std.proofs.Common.{◌≡◌, ◌<◌, ◌≤◌, ℕ, List, Some, get_or, length, slice_get, take, refl, sym, ap, subst, arith}
+use Rattle.std.proofs.Common.{◌≡◌, ◌≤◌, ℕ, List, length, take, sym, ap, subst, arith}
 use Rattle.std.proofs.lemmas.List.{take_all}
-use Rattle.std.proofs.lemmas.Option.{slice_get_read}
 use Rattle.wit_values.specs.facts.Lists.{take-next_at}
 use Rattle.wit_semver.specs.steps.Replacing.{LackTypes, semver_merge_of}
-use Rattle.wit_semver.proofs.Used.{none_lacks-next}
+use Rattle.wit_semver.proofs.Used.{none_lacks-next, stands}
 use Rattle.wit_semver.proofs.semver_merge_plan.SemverMergePlan.check_types.Goals as goal
-
--- what is read at a place of the lent list stands there
-stands : (ids lent : List ℕ) (i id : ℕ) → lent ≡ ids → i < length lent → id ≡ get_or lent i id → slice_get ids i ≡ Some id
-stands ids lent i id same within is = subst (λ (xs : List ℕ). slice_get xs i ≡ Some id) same (slice_get_read lent _ i id refl within is)
 
 pub loop-id-preserved : goal.loop-id-preserved
 loop-id-preserved c message =

@@ -1,15 +1,11 @@
-use Rattle.std.proofs.Common.{◌≡◌, ◌∙◌, ◌<◌, ℕ, List, Some, get_or, length, slice_get, slice_set, take, refl, sym, ap, subst, arith}
-use Rattle.std.proofs.lemmas.Option.{slice_get_read}
+use Rattle.std.proofs.Common.{◌∙◌, ℕ, List, length, slice_set, take, sym, ap, subst, arith}
 use Rattle.wit_values.specs.facts.Lists.{take-next_at}
 use Rattle.wit_graph_theory.specs.facts.ListFacts.{contained_at}
 use Rattle.wit_semver_spec.specs.SemverMerged.{newest_type}
 use Rattle.wit_semver.specs.steps.Replacing.{IsFilled, semver_merge_of}
 use Rattle.wit_semver.proofs.Filled.{filled-next}
+use Rattle.wit_semver.proofs.Used.{stands}
 use Rattle.wit_semver.proofs.semver_merge_plan.SemverMergePlan.new_targets.Goals as goal
-
--- what is read at a place of the lent list stands there
-stands : (ids lent : List ℕ) (i id : ℕ) → lent ≡ ids → i < length lent → id ≡ get_or lent i id → slice_get ids i ≡ Some id
-stands ids lent i id same within is = subst (λ (xs : List ℕ). slice_get xs i ≡ Some id) same (slice_get_read lent _ i id refl within is)
 
 pub set-requires : goal.set-requires
 set-requires c =
