@@ -17,6 +17,7 @@ use Rattle.wit_script_places.specs.Told.{IsTold}
 use Rattle.wit_script_places.specs.Ways.{way_text}
 use Rattle.wit_script_places.specs.declared.arrow.Arrow.{Arrow}
 use Rattle.wit_script_places.specs.declared.desk.TrackedGraph.{TrackedGraph}
+use Rattle.wit_script_places.specs.declared.graph_lines.GraphLines.{GraphLines}
 use Rattle.wit_script_places.specs.declared.lines.CommandPlace.{CommandPlace}
 use Rattle.wit_script_places.specs.declared.lines.ScriptLines.{ScriptLines}
 
@@ -52,8 +53,8 @@ told_text number text places way =
 abbrev pub refusal_text : ScriptLines → CommandPlace → TrackedGraph → List Arrow → ResolveErrorKind → List ℕ
 refusal_text script place tracked way kind = told_text (error_number kind) (kind_text kind) (places_text script place tracked kind) (way_text script way)
 
--- what is told of a refusal, where these are the arrows of a graph that was to come
-abbrev pub TellsRefusal : ScriptLines → CommandPlace → TrackedGraph → List Arrow → ResolveErrorKind → List ℕ → Type 0
+-- what is told of a refusal, where these are the lines of a graph that was to come
+abbrev pub TellsRefusal : ScriptLines → CommandPlace → TrackedGraph → GraphLines → ResolveErrorKind → List ℕ → Type 0
 TellsRefusal script place tracked others kind text = (way : List Arrow) × IsTold script place tracked others kind way × (text ≡ refusal_text script place tracked way kind)
 
 -- what is told of a command that names what isn't there: this, and its line
@@ -61,12 +62,12 @@ abbrev pub missing_text : ScriptLines → CommandPlace → List ℕ → List ℕ
 missing_text script place missing = missing ++ (codes "\n" ++ command_text script place.line)
 
 -- what is told of a reply, in the state after it
-abbrev pub TellsReply : ScriptLines → CommandPlace → TrackedGraph → List Arrow → Reply → List ℕ → Type 0
+abbrev pub TellsReply : ScriptLines → CommandPlace → TrackedGraph → GraphLines → Reply → List ℕ → Type 0
 TellsReply script place after others (reply.Refused kind) text = TellsRefusal script place after others kind text
 TellsReply script place after others reply.NoWorld text = text ≡ missing_text script place (codes "no world")
 TellsReply script place after others _ text = text ≡ []
 
-abbrev pub TellsReplies : ScriptLines → CommandPlace → TrackedGraph → List Arrow → List Reply → List ℕ → Type 0
+abbrev pub TellsReplies : ScriptLines → CommandPlace → TrackedGraph → GraphLines → List Reply → List ℕ → Type 0
 TellsReplies script place after others [] text = text ≡ []
 TellsReplies script place after others (answer ∷ answers) text =
     (first : List ℕ) × (rest : List ℕ) × TellsReply script place after others answer first × TellsReplies script place after others answers rest × (text ≡ first ++ rest)

@@ -13,4 +13,3 @@ mod refusals;
 mod word_reason;
 
 pub use crate::refusals::explain_text;
-pub use wit_script_places::{CommandPlace, ScriptLines, script_lines};

@@ -19,8 +19,8 @@ use wit_resolve_graph::{
 };
 use wit_script::{Action, ReadFault, ReadyCommand, ScriptCommand, action_of, read_script};
 use wit_script_places::{
-    Arrow, CommandPlace, Desk, ScriptLines, TrackedGraph, coming_packages, command_text,
-    defined_line, graph_arrows, place_text, script_lines, span_place, way_of, way_text,
+    CommandPlace, Desk, GraphLines, ScriptLines, TrackedGraph, coming_packages, command_text,
+    defined_line, place_text, script_lines, span_place, way_of, way_text,
 };
 
 /// What there is to say of a script: whether it is understood, and where it is its refusals and which commands name what
@@ -148,8 +148,11 @@ fn work(
     ensures { IfOk result (λ text. ExplainsWork script.now place.now desk.old command (string_bytes text) desk.new) }
 {
     let coming = coming_packages(script, place);
+    let others = GraphLines::new(alloc);
     match &mut desk.second {
-        Some(second) => carry_out(alloc, script, place, second, command, coming, coming, &[]),
+        Some(second) => carry_out(
+            alloc, script, place, second, command, coming, coming, &others,
+        ),
         None => carry_out(
             alloc,
             script,
@@ -158,7 +161,7 @@ fn work(
             command,
             coming,
             coming,
-            &[],
+            &others,
         ),
     }
 }
@@ -175,7 +178,7 @@ fn merge(
     let Some(second) = desk.second.take() else {
         return Ok(String::new(alloc));
     };
-    let others = graph_arrows(alloc, script, &second, second.resolve.graph(), false)?;
+    let others = GraphLines::of(alloc, script, &second)?;
     let TrackedGraph {
         resolve,
         file_starts,
@@ -191,12 +194,12 @@ fn merge(
         command,
         file_starts,
         package_starts,
-        others.as_slice(),
+        &others,
     )
 }
 
 /// Carries out a command, and answers its refusal, or an empty text. The files that come begin with these lines, and the
-/// packages that come with those; these are the arrows of a graph that comes.
+/// packages that come with those; these are the lines of a graph that comes.
 fn carry_out(
     alloc: Global,
     script: &ScriptLines,
@@ -205,7 +208,7 @@ fn carry_out(
     command: Command,
     coming: &[usize],
     brought: &[usize],
-    others: &[Arrow],
+    others: &GraphLines,
 ) -> ResolveResult<String>
     requires { IsCommandShaped command }
     ensures { IfOk result (λ text. ExplainsRun script.now place.now tracked.old command coming.now brought.now others.now (string_bytes text) tracked.new) }
@@ -247,7 +250,7 @@ fn replies_text(
     script: &ScriptLines,
     place: &CommandPlace,
     tracked: &TrackedGraph,
-    others: &[Arrow],
+    others: &GraphLines,
     replies: &[Reply],
 ) -> ResolveResult<String>
     ensures { IfOk result (λ text. TellsReplies script.now place.now tracked.now others.now replies.now (string_bytes text)) }
@@ -266,7 +269,7 @@ fn reply_text(
     script: &ScriptLines,
     place: &CommandPlace,
     tracked: &TrackedGraph,
-    others: &[Arrow],
+    others: &GraphLines,
     reply: &Reply,
 ) -> ResolveResult<String>
     ensures { IfOk result (λ text. TellsReply script.now place.now tracked.now others.now reply.now (string_bytes text)) }
@@ -297,7 +300,7 @@ fn refusal_text(
     script: &ScriptLines,
     place: &CommandPlace,
     tracked: &TrackedGraph,
-    others: &[Arrow],
+    others: &GraphLines,
     refusal: &ResolveError,
 ) -> ResolveResult<String>
     ensures { IfOk result (λ text. TellsRefusal script.now place.now tracked.now others.now refusal.now (string_bytes text)) }
@@ -422,7 +425,10 @@ fn select(
     };
     match chosen(alloc, tracked, *id, text) {
         Ok(_) => Ok(String::new(alloc)),
-        Err(refusal) => refusal_text(alloc, script, place, tracked, &[], &refusal),
+        Err(refusal) => {
+            let others = GraphLines::new(alloc);
+            refusal_text(alloc, script, place, tracked, &others, &refusal)
+        }
     }
 }
 

@@ -12,6 +12,7 @@ use Rattle.wit_data.specs.declared.interface.Interface.{Interface}
 use Rattle.wit_data.specs.declared.types.TypeDef.{TypeDef}
 use Rattle.wit_data.specs.declared.world.IncludeName.{IncludeName}
 use Rattle.wit_data.specs.declared.world.World.{World}
+use Rattle.wit_data.specs.declared.world.WorldItem.{WorldItem}
 use Rattle.wit_data.specs.declared.world.WorldItem.TheVariants as item
 use Rattle.wit_data.specs.declared.world.WorldKey.{WorldKey}
 use Rattle.wit_data.specs.declared.world.WorldKey.TheVariants as key
@@ -33,6 +34,8 @@ use Rattle.wit_script_places.specs.declared.arrow.ArrowSort.{ArrowSort}
 use Rattle.wit_script_places.specs.declared.arrow.ArrowSort.TheVariants as sort
 use Rattle.wit_script_places.specs.declared.arrow.Spot.{Spot}
 use Rattle.wit_script_places.specs.declared.desk.TrackedGraph.{TrackedGraph}
+use Rattle.wit_script_places.specs.declared.world_arrow.WorldSide.{WorldSide}
+use Rattle.wit_script_places.specs.declared.world_arrow.WorldSide.TheVariants as side
 use Rattle.wit_script_places.specs.declared.lines.CommandPlace.{CommandPlace}
 use Rattle.wit_script_places.specs.declared.lines.ScriptLines.{ScriptLines}
 
@@ -69,14 +72,19 @@ abbrev pub package_ends : PackageName → Option ParsedUsePath → Option (List 
 package_ends p (Some (path.Package parent name)) = Some (package_name_text p, package_name_text parent)
 package_ends p _ = None
 
--- the item in which a line stands and what its path names, where its gate is met
+-- the interface in which a line stands and what its path names, where its gate is met
 abbrev pub item_ends : PackageName → Bool → Option (List ℕ) → ParsedUsePath → Option (List ℕ × List ℕ)
 item_ends p true (Some item) from = Some (item_text p item, path_text p from)
 item_ends p _ _ from = None
 
--- the label of the world in which a line stands and what its path names, where its gate is met
-abbrev pub label_ends : PackageName → Bool → Option (List ℕ) → List ℕ → ParsedUsePath → Option (List ℕ × List ℕ)
-label_ends p true (Some world) label from = Some (label_text p world label, path_text p from)
+-- a label, or the empty one
+abbrev pub label_or_none : Option (List ℕ) → List ℕ
+label_or_none (Some label) = label
+label_or_none None = []
+
+-- the label of the world in which a line stands, the empty one where it has none, and what its path names, where its gate is met
+abbrev pub label_ends : PackageName → Bool → Option (List ℕ) → Option (List ℕ) → ParsedUsePath → Option (List ℕ × List ℕ)
+label_ends p true (Some world) label from = Some (label_text p world (label_or_none label), path_text p from)
 label_ends p _ _ label from = None
 
 -- the labels that the world has by an include, of these of the included world, and these, where its gate is met
@@ -84,13 +92,11 @@ abbrev pub included_ends : PackageName → Bool → Option (List ℕ) → Parsed
 included_ends p true (Some world) from names labels = map (λ label. (label_text p world (renamed_label names label), path_label p from label)) labels
 included_ends p _ _ from names labels = []
 
--- which names which by a line of a package, where it is one thing: an interface uses types of another, a world exports an
--- interface under its own key or under a label or includes a world, a package names another
+-- which names which by a line of a package, where it is one thing: an interface uses types of another, a label of a world is
+-- that of an interface, a package names another
 abbrev pub ends : PackageName → Bool → ArrowSort → Spot → PackageLine → Option (List ℕ × List ℕ)
 ends p on sort.Use s (part.Use from name new) = item_ends p on s.interface from
-ends p on sort.Export s (part.Export None from) = item_ends p on s.world from
-ends p on sort.Label s (part.Export (Some label) from) = label_ends p on s.world label from
-ends p on sort.Include s (part.Include from names) = item_ends p on s.world from
+ends p on sort.Export s (part.Export label from) = label_ends p on s.world label from
 ends p on sort.Dependency s said = package_ends p (path_of said)
 ends p on _ s _ = None
 
@@ -191,30 +197,56 @@ package_arrows g p =
 abbrev pub dependencies_in : Graph → List Arrow
 dependencies_in g = flat_map (package_arrows g) (range_with_len 0 (length g.packages))
 
--- the name of what has what stands under a key of a world: the world's, or `world.label`
+-- what has what stands under a key of a world: `world.label`. An interface's own key is the empty label, so that it is no
+-- interface that has the world's name
 abbrev pub holder : List ℕ → WorldKey → List ℕ
-holder world (key.Interface i) = world
+holder world (key.Interface i) = world ++ codes "."
 holder world (key.Name label) = world ++ (codes "." ++ label)
 
--- that the world of a name has an interface, by the line of the entry
-abbrev pub entry_arrow : ScriptLines → TrackedGraph → Graph → ℕ → List ℕ → Entry → Option Arrow
-entry_arrow script t g owner world (k, item.Interface i stability docs span external_id) =
+-- that a label of the world of a name is that of an interface, by the line of the entry
+abbrev pub held_by : ScriptLines → TrackedGraph → Graph → ℕ → List ℕ → Entry → Option Arrow
+held_by script t g owner world (k, item.Interface i stability docs span external_id) =
     option_map (λ to. record { from = id_text g.packages owner (holder world k); to = to; line = span_place script t span }) (interface_id_at g.packages g.interfaces i)
-entry_arrow script t g owner world (k, _) = None
+held_by script t g owner world (k, _) = None
 
--- the exports of a world, or its imports
-abbrev pub listed_by : World → Bool → List Entry
-listed_by world imports = if imports then world.imports else world.exports
+-- the interface that an entry of a world names, itself or by a type that it uses, and the span of the entry
+abbrev pub named_by : Graph → WorldItem → Option (ℕ × Option (ℕ × ℕ))
+named_by g (item.Interface i stability docs span external_id) = Some (i, span)
+named_by g (item.Type_ id span) = option_map (λ used. (used, span)) (type_interface_dep g.types id)
+named_by g _ = None
 
--- what a world exports, or imports
-abbrev pub world_arrows : ScriptLines → TrackedGraph → Graph → Bool → World → List Arrow
-world_arrows script t g imports world = option_map_or (λ owner. filter_map (entry_arrow script t g owner world.name) (listed_by world imports)) world.package []
+-- that a package depends on another by an entry of a world, where the entry has a line
+abbrev pub dependency_by : ScriptLines → TrackedGraph → Graph → ℕ → WorldItem → Option Arrow
+dependency_by script t g owner entry =
+    option_and_then
+    (λ (named : ℕ × Option (ℕ × ℕ)).
+    option_and_then (λ (line : ℕ × List ℕ × ℕ). arrow_between (package_text_at g.packages owner) (Some line) (known_as g sort.Dependency named.0)) (span_place script t named.1))
+    (named_by g entry)
 
--- what the worlds of a graph export, or import
-abbrev pub entries_in : ScriptLines → TrackedGraph → Graph → Bool → List Arrow
-entries_in script t g imports = flat_map (world_arrows script t g imports) g.worlds
+-- what leads where by an entry of the world of a name: of dependencies from the world's package, else from the label
+abbrev pub entry_arrow : ScriptLines → TrackedGraph → Graph → ArrowSort → ℕ → List ℕ → Entry → Option Arrow
+entry_arrow script t g sort.Dependency owner world e = dependency_by script t g owner e.1
+entry_arrow script t g _ owner world e = held_by script t g owner world e
+
+-- the imports of a world, or its exports
+abbrev pub listed_by : World → WorldSide → List Entry
+listed_by world side.Imports = world.imports
+listed_by world side.Exports = world.exports
+
+-- what a world has on a side
+abbrev pub world_arrows : ScriptLines → TrackedGraph → Graph → ArrowSort → WorldSide → World → List Arrow
+world_arrows script t g s on world = option_map_or (λ owner. filter_map (entry_arrow script t g s owner world.name) (listed_by world on)) world.package []
+
+-- what the worlds of a graph have on a side
+abbrev pub entries_in : ScriptLines → TrackedGraph → Graph → ArrowSort → WorldSide → List Arrow
+entries_in script t g s on = flat_map (world_arrows script t g s on) g.worlds
+
+-- which package depends on which by a line of a world
+abbrev pub world_dependencies : ScriptLines → TrackedGraph → Graph → List Arrow
+world_dependencies script t g = entries_in script t g sort.Dependency side.Imports ++ entries_in script t g sort.Dependency side.Exports
 
 -- what leads where in a graph that has the sources of a tracked one: which package depends on which, once more by the lines of
--- the types that are used, which interface uses which, and what worlds export, or import
-abbrev pub graph_arrows : ScriptLines → TrackedGraph → Graph → Bool → List Arrow
-graph_arrows script t g imports = dependencies_in g ++ (uses_in script t g sort.Dependency ++ (uses_in script t g sort.Use ++ entries_in script t g imports))
+-- worlds and of the types that are used, which interface uses which, and what worlds have on a side
+abbrev pub graph_arrows : ScriptLines → TrackedGraph → Graph → WorldSide → List Arrow
+graph_arrows script t g on =
+    dependencies_in g ++ (world_dependencies script t g ++ (uses_in script t g sort.Dependency ++ (uses_in script t g sort.Use ++ entries_in script t g sort.Export on)))

@@ -1,5 +1,5 @@
 -- The graph that the refusal of a command speaks of, and all that leads where then.
-use Rattle.std.specs.Prelude.{ℕ, Bool, true, false, List, ◌++◌, slice_get, Option, Some, option_and_then}
+use Rattle.std.specs.Prelude.{ℕ, List, ◌++◌, slice_get, Option, Some, option_and_then}
 use Rattle.std.specs.Option.{option_map_or}
 use Rattle.wit_graph_data.specs.Named.{world_named}
 use Rattle.wit_graph_data.specs.declared.graph.Graph.{Graph}
@@ -13,6 +13,8 @@ use Rattle.wit_script_places.specs.Arrows.{coming_arrows, graph_arrows}
 use Rattle.wit_script_places.specs.declared.arrow.Arrow.{Arrow}
 use Rattle.wit_script_places.specs.declared.arrow.ArrowSort.TheVariants as sort
 use Rattle.wit_script_places.specs.declared.desk.TrackedGraph.{TrackedGraph}
+use Rattle.wit_script_places.specs.declared.world_arrow.WorldSide.{WorldSide}
+use Rattle.wit_script_places.specs.declared.world_arrow.WorldSide.TheVariants as side
 use Rattle.wit_script_places.specs.declared.lines.CommandPlace.{CommandPlace}
 use Rattle.wit_script_places.specs.declared.lines.ScriptLines.{ScriptLines}
 
@@ -28,17 +30,17 @@ asked_graph state _ = state.graph
 abbrev pub asked_graph_at : ScriptLines → CommandPlace → TrackedGraph → Graph
 asked_graph_at script place t = asked_graph t.resolve (said_at script place.line)
 
--- a line asks to make exports of imports
-abbrev pub is_exportize : Option Statement → Bool
-is_exportize (Some (says.Request (Exportize owner world new keys))) = true
-is_exportize _ = false
+-- the side of worlds on which what is to be exported stands: of `exportize` the imports
+abbrev pub asked_side : Option Statement → WorldSide
+asked_side (Some (says.Request (Exportize owner world new keys))) = side.Imports
+asked_side _ = side.Exports
 
--- what leads where in that graph; of `exportize` by the imports of worlds, which are to be exports
+-- what leads where in that graph, by this side of worlds
 abbrev pub asked_arrows : ScriptLines → CommandPlace → TrackedGraph → List Arrow
-asked_arrows script place t = graph_arrows script t (asked_graph_at script place t) (is_exportize (said_at script place.line))
+asked_arrows script place t = graph_arrows script t (asked_graph_at script place t) (asked_side (said_at script place.line))
 
 -- what leads where: in that graph, in one that comes, and in packages that come
 abbrev pub known_arrows : ScriptLines → CommandPlace → TrackedGraph → List Arrow → List Arrow
 known_arrows script place t others =
     let coming = coming_arrows script place t.resolve.features in
-    asked_arrows script place t ++ (others ++ (coming sort.Use ++ (coming sort.Export ++ coming sort.Label)))
+    asked_arrows script place t ++ (others ++ (coming sort.Use ++ coming sort.Export))

@@ -1,22 +1,22 @@
 -- The way of exports in conflict (4): past what isn't exported to what is.
-use Rattle.std.specs.Prelude.{◌≡◌, ◌⊎◌, ◌<◌, ℕ, nat_eq, Bool, false, List, [], ◌∷◌, ◌++◌, map, length, filter_map, slice_get, Option, None, Some, option_and_then, option_map, if◌then◌else◌, MatchOption}
-use Rattle.std.specs.Option.{option_map_or}
-use Rattle.wit_data.specs.declared.world.World.{World}
+use Rattle.std.specs.Prelude.{◌≡◌, ◌⊎◌, ◌<◌, ℕ, false, List, [], ◌∷◌, ◌++◌, map, length, filter_map, Option, None, Some, option_and_then, option_map, if◌then◌else◌}
 use Rattle.wit_names.specs.declared.package_name.PackageName.{PackageName}
 use Rattle.wit_graph_data.specs.declared.features.Features.{Features}
-use Rattle.wit_graph_data.specs.declared.graph.Package.{Package}
 use Rattle.wit_script_lines.specs.declared.package_line.PackageLine.{PackageLine}
 use Rattle.wit_script_lines.specs.declared.package_line.PackageLine.TheVariants as part
 use Rattle.wit_script_lines.specs.declared.request.Request.TheVariants.{Exportize}
 use Rattle.wit_script_lines.specs.declared.statement.Statement.{Statement}
 use Rattle.wit_script_lines.specs.declared.statement.Statement.TheVariants as says
-use Rattle.wit_script_places.specs.Arrows.{coming_arrows, item_text, label_text}
-use Rattle.wit_script_places.specs.Asked.{said_at}
+use Rattle.wit_script_places.specs.Arrows.{coming_arrows, label_text}
+use Rattle.wit_script_places.specs.Asked.{known_arrows, said_at}
+use Rattle.wit_script_places.specs.GraphLines.{world_lines, world_on}
 use Rattle.wit_script_places.specs.Places.{span_place}
 use Rattle.wit_script_places.specs.Ways.{AreReached, IsChosen, is_among}
 use Rattle.wit_script_places.specs.declared.arrow.Arrow.{Arrow}
 use Rattle.wit_script_places.specs.declared.arrow.ArrowSort.TheVariants as sort
 use Rattle.wit_script_places.specs.declared.desk.TrackedGraph.{TrackedGraph}
+use Rattle.wit_script_places.specs.declared.graph_lines.GraphLines.{GraphLines}
+use Rattle.wit_script_places.specs.declared.graph_lines.WorldLine.{WorldLine}
 use Rattle.wit_script_places.specs.declared.lines.CommandPlace.{CommandPlace}
 use Rattle.wit_script_places.specs.declared.lines.ScriptLines.{ScriptLines}
 
@@ -35,33 +35,29 @@ abbrev pub world_of : Option Statement → Option (List ℕ)
 world_of (Some (says.Line said gate)) = world_in said
 world_of _ = None
 
--- a span stands at the line of an index
-abbrev pub stands_at : ScriptLines → TrackedGraph → ℕ → Option (ℕ × ℕ) → Bool
-stands_at script t index span = option_map_or (λ (p : ℕ × List ℕ × ℕ). nat_eq p.0 index) (span_place script t span) false
-
--- the name of the package of a world, and its own
-abbrev pub named_world : TrackedGraph → World → Option (PackageName × List ℕ)
-named_world t world = option_and_then (λ owner. option_map (λ (home : Package). (home.name, world.name)) (slice_get t.resolve.graph.packages owner)) world.package
-
--- the first of some worlds that stands at the line of an index, by these names
-abbrev pub known_world : ScriptLines → TrackedGraph → ℕ → List World → Option (PackageName × List ℕ)
-known_world script t index [] = None
-known_world script t index (world ∷ worlds) =
-    if stands_at script t index world.span then named_world t world else known_world script t index worlds
-
 -- the world of which a line says the name, and another one the package
 abbrev pub said_world : ScriptLines → ℕ → ℕ → Option (PackageName × List ℕ)
 said_world script index first = option_and_then (λ owner. option_map (λ name. (owner, name)) (world_of (said_at script index))) (package_of (said_at script first))
 
--- this, where there is one, else another
-abbrev pub or_said : Option (PackageName × List ℕ) → Option (PackageName × List ℕ) → Option (PackageName × List ℕ)
-or_said (Some world) other = Some world
-or_said None other = other
+-- this world, where there is one, else another
+abbrev pub or_other : Option WorldLine → Option WorldLine → Option WorldLine
+or_other (Some world) other = Some world
+or_other None other = other
 
--- the world that stands at a span: as the graph has it that has one there, else as its line says
-abbrev pub world_at : ScriptLines → TrackedGraph → Option (ℕ × ℕ) → Option (PackageName × List ℕ)
-world_at script t span =
-    option_and_then (λ (p : ℕ × List ℕ × ℕ). or_said (known_world script t p.0 t.resolve.graph.worlds) (said_world script p.0 p.2)) (span_place script t span)
+-- the world at the line of an index, of some worlds or else of others
+abbrev pub known_world : List WorldLine → List WorldLine → ℕ → Option WorldLine
+known_world own others index = or_other (world_on own index) (world_on others index)
+
+-- by the names that a graph has, where it has one there, else by those that lines say
+abbrev pub or_said : Option WorldLine → Option (PackageName × List ℕ) → Option (PackageName × List ℕ)
+or_said (Some world) said = Some (world.owner, world.name)
+or_said None said = said
+
+-- the world that stands at a span: as the graph has it that has one there, or else the one that was to come, or else as its
+-- line says
+abbrev pub world_at : ScriptLines → TrackedGraph → List WorldLine → Option (ℕ × ℕ) → Option (PackageName × List ℕ)
+world_at script t others span =
+    option_and_then (λ (p : ℕ × List ℕ × ℕ). or_said (known_world (world_lines script t) others p.0) (said_world script p.0 p.2)) (span_place script t span)
 
 -- ---- what is exported
 
@@ -78,23 +74,12 @@ abbrev pub with_names : List (List ℕ) → List (List ℕ) → List (List ℕ)
 with_names names [] = names
 with_names names (name ∷ more) = with_names (with_name names name) more
 
--- what one of these worlds exports, or stands under one of these labels
+-- what stands under these labels
 abbrev pub export_of : List (List ℕ) → Arrow → Option (List ℕ)
-export_of holders a = if is_among holders a.from then Some a.to else None
+export_of labels a = if is_among labels a.from then Some a.to else None
 
 abbrev pub exported_by : List (List ℕ) → List Arrow → List (List ℕ)
-exported_by holders arrows = with_names [] (filter_map (export_of holders) arrows)
-
--- what a world exports, itself or by a world that it includes
-abbrev pub AreExports : ScriptLines → CommandPlace → TrackedGraph → List Arrow → List ℕ → List (List ℕ) → Type 0
-AreExports script place t arrows world names =
-    (included : List (List ℕ)) × AreReached (coming_arrows script place t.resolve.features sort.Include) world included × (names ≡ exported_by (with_name included world) arrows)
-
--- what is exported where exports are in conflict: what an `exportize` chooses, or what the world exports that stands there
-abbrev pub AreExported : ScriptLines → CommandPlace → TrackedGraph → List Arrow → Option (ℕ × ℕ) → Option (List (List ℕ)) → List (List ℕ) → Type 0
-AreExported script place t arrows span (Some keys) names = names ≡ with_names [] keys
-AreExported script place t arrows span None names =
-    MatchOption (world_at script t span) (names ≡ []) (λ (world : PackageName × List ℕ). AreExports script place t arrows (item_text world.0 world.1) names)
+exported_by labels arrows = with_names [] (filter_map (export_of labels) arrows)
 
 -- ---- labels
 
@@ -106,20 +91,40 @@ former_labels script place features label = label ∷ map (λ (a : Arrow). a.to)
 abbrev pub included_labels : ScriptLines → CommandPlace → Features → List ℕ → List Arrow
 included_labels script place features label = coming_arrows script place features (sort.IncludedLabel (former_labels script place features label))
 
--- a way past what isn't exported to what is, from a label of a world, by labels of worlds that it includes, to the interface
--- that stands under it, and on. It isn't past these
-abbrev pub IsLabelWay : List Arrow → List Arrow → List (List ℕ) → List ℕ → List Arrow → Type 0
-IsLabelWay arrows included exported start way =
-    (former : List (List ℕ)) × AreReached included start former
-    × (let labels = with_name former start in IsChosen (arrows ++ included) (with_names (with_names exported labels) (exported_by labels arrows)) start false way)
+-- a label, and those of included worlds that it is
+abbrev pub AreSameLabels : List Arrow → List ℕ → List (List ℕ) → Type 0
+AreSameLabels included start labels = (former : List (List ℕ)) × AreReached included start former × (labels ≡ with_name former start)
+
+-- what a world exports under own keys, itself or by a world that it includes, by its empty label
+abbrev pub AreExports : ScriptLines → CommandPlace → TrackedGraph → List Arrow → List ℕ → List (List ℕ) → Type 0
+AreExports script place t arrows own names =
+    (labels : List (List ℕ)) × AreSameLabels (included_labels script place t.resolve.features []) own labels × (names ≡ exported_by labels arrows)
+
+-- what is exported where exports are in conflict: what an `exportize` chooses, or what this world exports
+abbrev pub AreExported : ScriptLines → CommandPlace → TrackedGraph → List Arrow → Option (PackageName × List ℕ) → Option (List (List ℕ)) → List (List ℕ) → Type 0
+AreExported script place t arrows world (Some keys) names = names ≡ with_names [] keys
+AreExported script place t arrows (Some world) None names = AreExports script place t arrows (label_text world.0 world.1 []) names
+AreExported script place t arrows None None names = names ≡ []
 
 -- ---- the way
 
+-- a way past what isn't exported to what is, from a label of a world. The labels and the interface under them with which it
+-- begins count as exported, so that what isn't comes after them
+abbrev pub IsLabelWay : List Arrow → List Arrow → List (List ℕ) → List ℕ → List Arrow → Type 0
+IsLabelWay arrows included exported start way =
+    (labels : List (List ℕ)) × AreSameLabels included start labels
+    × IsChosen (arrows ++ included) (with_names (with_names exported labels) (exported_by labels arrows)) start false way
+
+-- from the label of a name of a world, where there is one
+abbrev pub IsWorldWay : ScriptLines → CommandPlace → TrackedGraph → List Arrow → List (List ℕ) → List ℕ → Option (PackageName × List ℕ) → List Arrow → Type 0
+IsWorldWay script place t arrows exported name (Some world) way = IsLabelWay arrows (included_labels script place t.resolve.features name) exported (label_text world.0 world.1 name) way
+IsWorldWay script place t arrows exported name None way = way ≡ []
+
 -- 4: from an interface of the name that is told, or where there is no way from it from the label of this name of the world that
 -- stands at the span
-abbrev pub IsConflictWay : ScriptLines → CommandPlace → TrackedGraph → List Arrow → Option (ℕ × ℕ) → List ℕ → List Arrow → Type 0
-IsConflictWay script place t arrows span name way =
-    (exported : List (List ℕ)) × AreExported script place t arrows span (chosen_keys (said_at script place.line)) exported
-    × ((IsChosen arrows exported name false way × (0 < length way))
-    ⊎ (IsChosen arrows exported name false []
-    × MatchOption (world_at script t span) (way ≡ []) (λ (world : PackageName × List ℕ). IsLabelWay arrows (included_labels script place t.resolve.features name) exported (label_text world.0 world.1 name) way)))
+abbrev pub IsConflictWay : ScriptLines → CommandPlace → TrackedGraph → GraphLines → Option (ℕ × ℕ) → List ℕ → List Arrow → Type 0
+IsConflictWay script place t others span name way =
+    let arrows = known_arrows script place t others.arrows in
+    let world = world_at script t others.worlds span in
+    (exported : List (List ℕ)) × AreExported script place t arrows world (chosen_keys (said_at script place.line)) exported
+    × ((IsChosen arrows exported name false way × (0 < length way)) ⊎ (IsChosen arrows exported name false [] × IsWorldWay script place t arrows exported name world way))

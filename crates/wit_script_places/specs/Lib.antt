@@ -2,6 +2,7 @@ pub mod Arrows
 pub mod Asked
 pub mod Conflicts
 pub mod Desk
+pub mod GraphLines
 pub mod Lines
 pub mod Places
 pub mod Shown

@@ -17,6 +17,7 @@ use Rattle.wit_script_places.specs.Ways.{IsRound}
 use Rattle.wit_script_places.specs.declared.arrow.Arrow.{Arrow}
 use Rattle.wit_script_places.specs.declared.arrow.ArrowSort.TheVariants as sort
 use Rattle.wit_script_places.specs.declared.desk.TrackedGraph.{TrackedGraph}
+use Rattle.wit_script_places.specs.declared.graph_lines.GraphLines.{GraphLines}
 use Rattle.wit_script_places.specs.declared.lines.CommandPlace.{CommandPlace}
 use Rattle.wit_script_places.specs.declared.lines.ScriptLines.{ScriptLines}
 
@@ -40,9 +41,9 @@ IsTypeRound g arrows name [] = (id : ℕ) → IsRoundAt g arrows name id []
 IsTypeRound g arrows name (a ∷ way) = (id : ℕ) × IsRoundAt g arrows name id (a ∷ way)
 
 -- the way of a refusal: of a cycle (6, 22, 23) back to what it names, of exports in conflict (4) to what is exported; else none
-abbrev pub IsTold : ScriptLines → CommandPlace → TrackedGraph → List Arrow → ResolveErrorKind → List Arrow → Type 0
-IsTold script place t others (PackageCycle span owner) way = IsPackageRound script place t others span owner way
-IsTold script place t others (InvalidTransitiveDependency span name) way = IsConflictWay script place t (known_arrows script place t others) span name way
-IsTold script place t others (Semantic span message InterfaceCycle) way = (name : List ℕ) → message ≡ interface_cycle_text name → IsRound (known_arrows script place t others) name way
+abbrev pub IsTold : ScriptLines → CommandPlace → TrackedGraph → GraphLines → ResolveErrorKind → List Arrow → Type 0
+IsTold script place t others (PackageCycle span owner) way = IsPackageRound script place t others.arrows span owner way
+IsTold script place t others (InvalidTransitiveDependency span name) way = IsConflictWay script place t others span name way
+IsTold script place t others (Semantic span message InterfaceCycle) way = (name : List ℕ) → message ≡ interface_cycle_text name → IsRound (known_arrows script place t others.arrows) name way
 IsTold script place t others (Semantic span message TypeCycle) way = (name : List ℕ) → message ≡ type_cycle_text name → IsTypeRound (asked_graph_at script place t) (type_arrows script t (asked_graph_at script place t)) name way
 IsTold script place t others _ way = way ≡ []

@@ -1,4 +1,4 @@
-//! What names what in a script: which interface uses which, which package names which, what worlds export and include.
+//! What names what in a script: which interface uses which, which package names which, what labels of worlds are.
 ghost use Rattle.std.specs.Prelude.{◌≡◌, ◌++◌, IfOk, OnOk, Some, map, option_copied};
 ghost use Rattle.wit_names.specs.PackageName.{package_name_text, version_suffix};
 ghost use Rattle.wit_script_lines.specs.Statement.{statement_of};
@@ -30,12 +30,8 @@ pub enum ArrowSort {
     Use,
     /// A line of a package names something of a package by that one's name.
     Dependency,
-    /// A world exports an interface under its own key.
+    /// A label of a world is that of an exported interface; the empty one, where it is exported under its own key.
     Export,
-    /// A label of a world is that of an exported interface.
-    Label,
-    /// A world includes another.
-    Include,
     /// A label of a world is by an include one of these labels of the included world.
     IncludedLabel(Items<Text>),
     /// A label stands by an include in the place of another.
@@ -271,18 +267,8 @@ impl Spot {
             (ArrowSort::Use, PackageLine::Use { path, .. }) => {
                 item_ends(alloc, package, on, &self.interface, path)
             }
-            (ArrowSort::Export, PackageLine::Export { label: None, path }) => {
-                item_ends(alloc, package, on, &self.world, path)
-            }
-            (
-                ArrowSort::Label,
-                PackageLine::Export {
-                    label: Some(label),
-                    path,
-                },
-            ) => { label_ends(alloc, package, on, &self.world, label, path) }
-            (ArrowSort::Include, PackageLine::Include { path, .. }) => {
-                item_ends(alloc, package, on, &self.world, path)
+            (ArrowSort::Export, PackageLine::Export { label, path }) => {
+                label_ends(alloc, package, on, &self.world, label, path)
             }
             (ArrowSort::Dependency, said) => package_ends(alloc, package, said),
             _ => Ok(None),
@@ -290,7 +276,7 @@ impl Spot {
     }
 }
 
-/// What an item names by a line whose gate lets it be active, and the item.
+/// What an interface names by a line whose gate lets it be active, and the interface.
 fn item_ends(
     alloc: Global,
     package: &PackageName,

@@ -1,15 +1,16 @@
 //! The graph that the refusal of a command speaks of, and all that leads where then.
 ghost use Rattle.std.specs.Prelude.{◌≡◌, IfOk, unwrap_or};
-ghost use Rattle.wit_script_places.specs.Asked.{asked_arrows, asked_graph, is_exportize, known_arrows, said_at};
+ghost use Rattle.wit_script_places.specs.Asked.{asked_arrows, asked_graph, asked_side, known_arrows, said_at};
 
 use crate::arrow::{Arrow, ArrowSort, coming_arrows};
 use crate::desk::TrackedGraph;
-use crate::graph_arrow::graph_arrows;
+use crate::graph_lines::graph_arrows;
 use crate::lines::{CommandPlace, ScriptLines};
+use crate::world_arrow::WorldSide;
 use std::alloc::{AllocError, Global};
 use wit_data::Items;
 use wit_graph_data::Graph;
-use wit_resolve_graph::{Resolve, ResolveResult};
+use wit_resolve_graph::Resolve;
 use wit_script_lines::{LineFault, Request, Statement, read_line};
 use wit_semver::graph_with_new_entries;
 
@@ -32,11 +33,14 @@ pub fn asked_graph(
     Ok(Some(graph_with_new_entries(alloc, graph, id, rule)?))
 }
 
-/// Whether a statement asks to make exports of imports.
-pub fn is_exportize(said: &Option<Statement>) -> bool
-    ensures { result ≡ is_exportize said.now }
+/// The side of worlds on which what is to be exported stands: of `exportize` the imports.
+fn asked_side(said: &Option<Statement>) -> WorldSide
+    ensures { result ≡ asked_side said.now }
 {
-    matches!(said, Some(Statement::Request(Request::Exportize { .. })))
+    match said {
+        Some(Statement::Request(Request::Exportize { .. })) => WorldSide::Imports,
+        _ => WorldSide::Exports,
+    }
 }
 
 /// What leads where: in a graph, in one that comes, and in packages that come.
@@ -46,7 +50,7 @@ pub fn known_arrows(
     place: &CommandPlace,
     tracked: &TrackedGraph,
     others: &[Arrow],
-) -> ResolveResult<Items<Arrow>>
+) -> Result<Items<Arrow>, AllocError>
     ensures { IfOk result (λ arrows. arrows ≡ known_arrows script.now place.now tracked.now others.now) }
 {
     let mut arrows = asked_arrows(alloc, script, place, tracked)?;
@@ -56,8 +60,6 @@ pub fn known_arrows(
     arrows.append(uses)?;
     let exports = coming_arrows(alloc, script, place, features, &ArrowSort::Export)?;
     arrows.append(exports)?;
-    let labels = coming_arrows(alloc, script, place, features, &ArrowSort::Label)?;
-    arrows.append(labels)?;
     Ok(arrows)
 }
 
@@ -67,13 +69,13 @@ fn asked_arrows(
     script: &ScriptLines,
     place: &CommandPlace,
     tracked: &TrackedGraph,
-) -> ResolveResult<Items<Arrow>>
+) -> Result<Items<Arrow>, AllocError>
     ensures { IfOk result (λ arrows. arrows ≡ asked_arrows script.now place.now tracked.now) }
 {
     let said = said_at(alloc, script, place.line)?;
     let made = asked_graph(alloc, &tracked.resolve, &said)?;
     let graph = made_or_known(&made, tracked);
-    graph_arrows(alloc, script, tracked, graph, is_exportize(&said))
+    graph_arrows(alloc, script, tracked, graph, asked_side(&said))
 }
 
 /// The graph that was made, where one was, else the one that is there.

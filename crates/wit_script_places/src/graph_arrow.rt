@@ -1,6 +1,7 @@
-//! What names what in a graph: which package depends on which, which interface uses which, and what worlds export.
+//! What names what in a graph: which package depends on which, and which interface uses which.
 ghost use Rattle.std.specs.Prelude.{◌≡◌, ◌++◌, ◌<◌, ℕ, List, IfOk, OnOk, filter_map, length};
-ghost use Rattle.wit_script_places.specs.Arrows.{arrow_between, dependencies_in, entries_in, entry_arrow, graph_arrows, holder, interface_arrows, known_as, listed_by, package_arrows, package_text_at, use_arrow, uses_in, world_arrows};
+ghost use Rattle.wit_graph_data.specs.IdText.{id_text, interface_id_at};
+ghost use Rattle.wit_script_places.specs.Arrows.{arrow_between, dependencies_in, interface_arrows, known_as, package_arrows, package_text_at, use_arrow, uses_in};
 ghost use Rattle.wit_script_places.specs.Places.{span_place};
 
 use crate::arrow::{Arrow, ArrowSort, package_text};
@@ -9,33 +10,13 @@ use crate::lines::ScriptLines;
 use crate::place::span_place;
 use std::alloc::{AllocError, Global};
 use wit_data::{
-    Interface, InterfaceId, Items, Names, PackageId, Span, Table, Text, TryClone, TypeId, World,
-    WorldItem, WorldKey, type_interface_dep,
+    Interface, InterfaceId, Items, Names, PackageId, Span, Text, TypeId, type_interface_dep,
 };
 use wit_graph_data::Graph;
 use wit_queries::package_deps::package_direct_deps;
-use wit_resolve_graph::ResolveResult;
-
-/// What leads where in a graph that has the sources of a tracked one: which package depends on which, which interface uses
-/// which, and what worlds export, or import where `imports` are asked for; each by the line that brings it, where one does.
-pub fn graph_arrows(
-    alloc: Global,
-    script: &ScriptLines,
-    tracked: &TrackedGraph,
-    graph: &Graph,
-    imports: bool,
-) -> ResolveResult<Items<Arrow>>
-    ensures { IfOk result (λ arrows. arrows ≡ graph_arrows script.now tracked.now graph.now imports) }
-{
-    let mut arrows = dependencies_in(alloc, graph)?;
-    arrows.append(uses_in(alloc, script, tracked, graph, &ArrowSort::Dependency)?)?;
-    arrows.append(uses_in(alloc, script, tracked, graph, &ArrowSort::Use)?)?;
-    arrows.append(entries_in(alloc, script, tracked, graph, imports)?)?;
-    Ok(arrows)
-}
 
 /// What the packages of a graph depend on.
-fn dependencies_in(alloc: Global, graph: &Graph) -> Result<Items<Arrow>, AllocError>
+pub fn dependencies_in(alloc: Global, graph: &Graph) -> Result<Items<Arrow>, AllocError>
     ensures { IfOk result (λ arrows. arrows ≡ dependencies_in graph.now) }
 {
     let mut arrows = Items::new(alloc);
@@ -66,7 +47,11 @@ fn add_dependencies(
 }
 
 /// The text of the name of a package.
-fn package_text_at(alloc: Global, graph: &Graph, id: PackageId) -> Result<Option<Text>, AllocError>
+pub fn package_text_at(
+    alloc: Global,
+    graph: &Graph,
+    id: PackageId,
+) -> Result<Option<Text>, AllocError>
     ensures { IfOk result (λ text. text ≡ package_text_at graph.now.packages id) }
 {
     match graph.packages.get(id.index()) {
@@ -76,7 +61,7 @@ fn package_text_at(alloc: Global, graph: &Graph, id: PackageId) -> Result<Option
 }
 
 /// What leads from one name to another by a line.
-fn arrow_between(
+pub fn arrow_between(
     from: Option<Text>,
     line: Option<(usize, Text, usize)>,
     to: Option<Text>,
@@ -91,13 +76,13 @@ fn arrow_between(
 }
 
 /// What the interfaces of a graph use, each by the line that brings the type.
-fn uses_in(
+pub fn uses_in(
     alloc: Global,
     script: &ScriptLines,
     tracked: &TrackedGraph,
     graph: &Graph,
     sort: &ArrowSort,
-) -> ResolveResult<Items<Arrow>>
+) -> Result<Items<Arrow>, AllocError>
     ensures { IfOk result (λ arrows. arrows ≡ uses_in script.now tracked.now graph.now sort.now) }
 {
     let mut arrows = Items::new(alloc);
@@ -117,7 +102,7 @@ fn add_uses(
     sort: &ArrowSort,
     user: InterfaceId,
     arrows: &mut Items<Arrow>,
-) -> ResolveResult<()>
+) -> Result<(), AllocError>
     ensures { OnOk result (arrows.new ≡ arrows.old ++ interface_arrows script.now tracked.now graph.now sort.now user) }
 {
     match graph.interfaces.get(user.index()) {
@@ -139,7 +124,7 @@ fn add_types(
     user: InterfaceId,
     types: &Names<TypeId>,
     arrows: &mut Items<Arrow>,
-) -> ResolveResult<()>
+) -> Result<(), AllocError>
     ensures { OnOk result (arrows.new ≡ arrows.old ++ filter_map (λ (e : List ℕ × ℕ). use_arrow script.now tracked.now graph.now sort.now user e.1) types.now) }
 {
     for (_, id) in types.iter() {
@@ -159,7 +144,7 @@ fn use_arrow(
     sort: &ArrowSort,
     user: InterfaceId,
     id: TypeId,
-) -> ResolveResult<Option<Arrow>>
+) -> Result<Option<Arrow>, AllocError>
     ensures { IfOk result (λ arrow. arrow ≡ use_arrow script.now tracked.now graph.now sort.now user id) }
 {
     let Some(used) = type_interface_dep(graph.types.as_slice(), id) else {
@@ -175,12 +160,12 @@ fn use_arrow(
 }
 
 /// As what an interface uses others and is used: by its id, or of dependencies as its package.
-fn known_as(
+pub fn known_as(
     alloc: Global,
     graph: &Graph,
     sort: &ArrowSort,
     id: InterfaceId,
-) -> ResolveResult<Option<Text>>
+) -> Result<Option<Text>, AllocError>
     ensures { IfOk result (λ text. text ≡ known_as graph.now sort.now id) }
 {
     match sort {
@@ -190,13 +175,40 @@ fn known_as(
                     package: Some(home),
                     ..
                 },
-            ) => Ok(package_text_at(alloc, graph, *home)?),
+            ) => package_text_at(alloc, graph, *home),
             _ => Ok(None),
         },
-        _ => match graph.id_of(alloc, id)? {
-            Some(text) => Ok(Some(Text::from_string(text))),
-            None => Ok(None),
-        },
+        _ => interface_text(alloc, graph, id),
+    }
+}
+
+/// The id of an interface, where it has one.
+pub fn interface_text(
+    alloc: Global,
+    graph: &Graph,
+    id: InterfaceId,
+) -> Result<Option<Text>, AllocError>
+    ensures { IfOk result (λ text. text ≡ interface_id_at graph.now.packages graph.now.interfaces id) }
+{
+    match graph.id_of(alloc, id) {
+        Ok(Some(text)) => Ok(Some(Text::from_string(text))),
+        Ok(None) => Ok(None),
+        Err(_) => Err(AllocError),
+    }
+}
+
+/// A name in a package, as the ids of interfaces and worlds are.
+pub fn name_text(
+    alloc: Global,
+    graph: &Graph,
+    owner: PackageId,
+    name: &str,
+) -> Result<Text, AllocError>
+    ensures { IfOk result (λ text. text ≡ id_text graph.now.packages owner name.now) }
+{
+    match graph.id_of_name(alloc, owner, name) {
+        Ok(text) => Ok(Text::from_string(text)),
+        Err(_) => Err(AllocError),
     }
 }
 
@@ -212,99 +224,5 @@ pub fn line_of(
     match span_place(script, tracked, span) {
         Some((index, path, first)) => Ok(Some((index, Text::try_from_str(alloc, path)?, first))),
         None => Ok(None),
-    }
-}
-
-/// What the worlds of a graph export, or import.
-fn entries_in(
-    alloc: Global,
-    script: &ScriptLines,
-    tracked: &TrackedGraph,
-    graph: &Graph,
-    imports: bool,
-) -> ResolveResult<Items<Arrow>>
-    ensures { IfOk result (λ arrows. arrows ≡ entries_in script.now tracked.now graph.now imports) }
-{
-    let mut arrows = Items::new(alloc);
-    for world in graph.worlds.as_slice() {
-        add_entries(alloc, script, tracked, graph, imports, world, &mut arrows)?;
-    }
-    Ok(arrows)
-}
-
-/// Notes what a world exports, or imports.
-fn add_entries(
-    alloc: Global,
-    script: &ScriptLines,
-    tracked: &TrackedGraph,
-    graph: &Graph,
-    imports: bool,
-    world: &World,
-    arrows: &mut Items<Arrow>,
-) -> ResolveResult<()>
-    ensures { OnOk result (arrows.new ≡ arrows.old ++ world_arrows script.now tracked.now graph.now imports world.now) }
-{
-    let Some(owner) = world.package else {
-        return Ok(());
-    };
-    let name = &world.name;
-    for (key, item) in entries_of(world, imports).iter() {
-        if let Some(arrow) = entry_arrow(alloc, script, tracked, graph, owner, name, key, item)? {
-            arrows.push(arrow)?;
-        }
-    }
-    Ok(())
-}
-
-/// The exports of a world, or its imports.
-fn entries_of(world: &World, imports: bool) -> &Table<WorldKey, WorldItem>
-    ensures { result.now ≡ listed_by world.now imports }
-{
-    if imports {
-        &world.imports
-    } else {
-        &world.exports
-    }
-}
-
-/// That the world of a name has an interface, by the world's name or by that of the label under which it has it.
-fn entry_arrow(
-    alloc: Global,
-    script: &ScriptLines,
-    tracked: &TrackedGraph,
-    graph: &Graph,
-    owner: PackageId,
-    world: &Text,
-    key: &WorldKey,
-    item: &WorldItem,
-) -> ResolveResult<Option<Arrow>>
-    ensures { IfOk result (λ arrow. arrow ≡ entry_arrow script.now tracked.now graph.now owner world.now (key.now, item.now)) }
-{
-    let WorldItem::Interface { id, span, .. } = item else {
-        return Ok(None);
-    };
-    let Some(to) = graph.id_of(alloc, *id)? else {
-        return Ok(None);
-    };
-    let name = holder(alloc, world, key)?;
-    let from = graph.id_of_name(alloc, owner, name.as_str())?;
-    let line = line_of(alloc, script, tracked, *span)?;
-    Ok(Some(Arrow {
-        from: Text::from_string(from),
-        to: Text::from_string(to),
-        line,
-    }))
-}
-
-/// The name of what has what stands under a key of a world: the world's, or `world.label`.
-fn holder(alloc: Global, world: &Text, key: &WorldKey) -> Result<Text, AllocError>
-    ensures { IfOk result (λ name. name ≡ holder world.now key.now) }
-{
-    match key {
-        WorldKey::Interface(_) => world.try_clone(),
-        WorldKey::Name(label) => {
-            let joined = format!(in alloc; "{world}.{label}")?;
-            Ok(Text::from_string(joined))
-        }
     }
 }

@@ -1,7 +1,7 @@
 //! Labels of worlds: under which they export interfaces, themselves or by worlds that they include.
 ghost use Rattle.std.specs.Prelude.{◌≡◌, IfOk, map};
 ghost use Rattle.wit_data.specs.declared.world.IncludeName.{IncludeName};
-ghost use Rattle.wit_script_places.specs.Arrows.{included_ends, label_ends, label_text, path_label};
+ghost use Rattle.wit_script_places.specs.Arrows.{included_ends, label_ends, label_or_none, label_text, path_label};
 
 use crate::arrow::{id_text, path_text};
 use std::alloc::{AllocError, Global};
@@ -14,7 +14,7 @@ pub fn label_text(
     alloc: Global,
     package: &PackageName,
     world: &Text,
-    label: &Text,
+    label: &str,
 ) -> Result<Text, AllocError>
     ensures { IfOk result (λ text. text ≡ label_text «package».now world.now label.now) }
 {
@@ -22,23 +22,34 @@ pub fn label_text(
     id_text(alloc, package, &joined)
 }
 
-/// The label of a world at which a line stands whose gate lets it be active, and what its path names.
+/// The label of a world at which a line stands whose gate lets it be active, the empty one where it has none, and what its
+/// path names.
 pub fn label_ends(
     alloc: Global,
     package: &PackageName,
     on: bool,
     scope: &Option<Text>,
-    label: &Text,
+    label: &Option<Text>,
     path: &ParsedUsePath,
 ) -> Result<Option<(Text, Text)>, AllocError>
     ensures { IfOk result (λ named. named ≡ label_ends «package».now on scope.now label.now path.now) }
 {
     match scope {
         Some(world) if on => Ok(Some((
-            label_text(alloc, package, world, label)?,
+            label_text(alloc, package, world, label_or_none(label))?,
             path_text(alloc, package, path)?,
         ))),
         _ => Ok(None),
+    }
+}
+
+/// A label, or the empty one.
+fn label_or_none(label: &Option<Text>) -> &str
+    ensures { result.now ≡ label_or_none label.now }
+{
+    match label {
+        Some(label) => label.as_str(),
+        None => "",
     }
 }
 
@@ -64,8 +75,8 @@ pub fn included_ends(
     let renamings = Renamings::new(alloc, names)?;
     for label in labels {
         let new = renamings.rename(alloc, label.as_str())?;
-        let from = label_text(alloc, package, world, &new)?;
-        let to = path_label(alloc, package, path, label)?;
+        let from = label_text(alloc, package, world, new.as_str())?;
+        let to = path_label(alloc, package, path, label.as_str())?;
         named.push((from, to))?;
     }
     Ok(named)
@@ -76,7 +87,7 @@ fn path_label(
     alloc: Global,
     package: &PackageName,
     path: &ParsedUsePath,
-    label: &Text,
+    label: &str,
 ) -> Result<Text, AllocError>
     ensures { IfOk result (λ text. text ≡ path_label «package».now path.now label.now) }
 {

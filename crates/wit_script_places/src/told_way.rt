@@ -10,40 +10,41 @@ use crate::arrow::{Arrow, ArrowSort, coming_arrows, package_text};
 use crate::asked::{asked_graph, known_arrows, made_or_known, said_at};
 use crate::conflict::conflict_way;
 use crate::desk::TrackedGraph;
+use crate::graph_lines::GraphLines;
 use crate::lines::{CommandPlace, ScriptLines};
 use crate::type_arrow::{type_arrows, type_text};
 use crate::way::find_way;
 use std::alloc::{AllocError, Global};
 use wit_data::{Items, PackageName, Span, Text, TypeDef, TypeId};
 use wit_graph_data::Graph;
-use wit_resolve_graph::{Cause, ResolveErrorKind, ResolveResult};
+use wit_resolve_graph::{Cause, ResolveErrorKind};
 use wit_values::NameSet;
 
 /// The way of a refusal, or none: of a cycle (6, 22, 23) back to what it names, of exports in conflict (4) to what is exported.
-/// What leads where in a graph that was to come are the others. The only error is want of memory.
+/// The lines of a graph that was to come are the others. The only error is want of memory.
 pub fn way_of(
     alloc: Global,
     script: &ScriptLines,
     place: &CommandPlace,
     tracked: &TrackedGraph,
-    others: &[Arrow],
+    others: &GraphLines,
     kind: &ResolveErrorKind,
-) -> ResolveResult<Items<Arrow>>
+) -> Result<Items<Arrow>, AllocError>
     ensures { IfOk result (λ way. IsTold script.now place.now tracked.now others.now kind.now way) }
 {
+    let arrows = others.arrows.as_slice();
     match kind {
         ResolveErrorKind::PackageCycle { span, package } => {
-            package_round(alloc, script, place, tracked, others, *span, package)
+            package_round(alloc, script, place, tracked, arrows, *span, package)
         }
         ResolveErrorKind::InvalidTransitiveDependency { span, name } => {
-            let arrows = known_arrows(alloc, script, place, tracked, others)?;
-            conflict_way(alloc, script, place, tracked, arrows, *span, name)
+            conflict_way(alloc, script, place, tracked, others, *span, name)
         }
         ResolveErrorKind::Semantic {
             message,
             cause: Cause::InterfaceCycle,
             ..
-        } => interface_round(alloc, script, place, tracked, others, message.as_str()),
+        } => interface_round(alloc, script, place, tracked, arrows, message.as_str()),
         ResolveErrorKind::Semantic {
             message,
             cause: Cause::TypeCycle,
@@ -71,7 +72,7 @@ fn package_round(
     others: &[Arrow],
     span: Span,
     package: &PackageName,
-) -> ResolveResult<Items<Arrow>>
+) -> Result<Items<Arrow>, AllocError>
     ensures { IfOk result (λ way. IsPackageRound script.now place.now tracked.now others.now span «package».now way) }
 {
     let name = package_text(alloc, package)?;
@@ -81,7 +82,7 @@ fn package_round(
     } else {
         known_arrows(alloc, script, place, tracked, others)?
     };
-    Ok(round(alloc, arrows.as_slice(), &name)?)
+    round(alloc, arrows.as_slice(), &name)
 }
 
 /// A way from the interface that the message of a cycle names back to it.
@@ -92,7 +93,7 @@ fn interface_round(
     tracked: &TrackedGraph,
     others: &[Arrow],
     message: &str,
-) -> ResolveResult<Items<Arrow>>
+) -> Result<Items<Arrow>, AllocError>
     ensures { IfOk result (λ way. (name : List ℕ) → message.now ≡ interface_cycle_text name → IsRound (known_arrows script.now place.now tracked.now others.now) name way) }
 {
     let Some(name) = between(message, "interface `", "` would depend on itself") else {
@@ -100,7 +101,7 @@ fn interface_round(
     };
     let name = Text::try_from_str(alloc, name)?;
     let arrows = known_arrows(alloc, script, place, tracked, others)?;
-    Ok(round(alloc, arrows.as_slice(), &name)?)
+    round(alloc, arrows.as_slice(), &name)
 }
 
 /// A way from a type of the name that the message of a cycle tells back to it.
@@ -110,7 +111,7 @@ fn type_round(
     place: &CommandPlace,
     tracked: &TrackedGraph,
     message: &str,
-) -> ResolveResult<Items<Arrow>>
+) -> Result<Items<Arrow>, AllocError>
     ensures { IfOk result (λ way. (name : List ℕ) → message.now ≡ type_cycle_text name → IsTypeRound (asked_graph_at script.now place.now tracked.now) (type_arrows script.now tracked.now (asked_graph_at script.now place.now tracked.now)) name way) }
 {
     let Some(name) = between(message, "type `", "` would refer to itself") else {
@@ -129,7 +130,7 @@ fn first_round(
     graph: &Graph,
     arrows: &[Arrow],
     name: &str,
-) -> ResolveResult<Items<Arrow>>
+) -> Result<Items<Arrow>, AllocError>
     ensures { IfOk result (λ way. IsTypeRound graph.now arrows.now name.now way) }
 {
     for index in 0..graph.types.len() {
@@ -148,13 +149,13 @@ fn round_at(
     arrows: &[Arrow],
     name: &str,
     id: TypeId,
-) -> ResolveResult<Items<Arrow>>
+) -> Result<Items<Arrow>, AllocError>
     ensures { IfOk result (λ way. IsRoundAt graph.now arrows.now name.now id way) }
 {
     match graph.types.get(id.index()) {
         Some(def) if is_called(def, name) => {
             let from = type_text(alloc, graph, id)?;
-            Ok(round(alloc, arrows, &from)?)
+            round(alloc, arrows, &from)
         }
         _ => Ok(Items::new(alloc)),
     }

@@ -5,20 +5,20 @@ ghost use Rattle.wit_script_places.specs.TypeArrows.{member_text, reference_to, 
 
 use crate::arrow::Arrow;
 use crate::desk::TrackedGraph;
-use crate::graph_arrow::line_of;
+use crate::graph_arrow::{line_of, name_text};
 use crate::lines::ScriptLines;
 use std::alloc::{AllocError, Global};
 use wit_data::{InterfaceId, Items, Text, TypeDef, TypeId, TypeOwner, referred};
 use wit_graph_data::Graph;
-use wit_resolve_graph::ResolveResult;
 
-/// Which type of a graph that has the sources of a tracked one refers to which, by the lines of those that do.
+/// Which type of a graph that has the sources of a tracked one refers to which, by the lines of those that do. The only
+/// error is want of memory.
 pub fn type_arrows(
     alloc: Global,
     script: &ScriptLines,
     tracked: &TrackedGraph,
     graph: &Graph,
-) -> ResolveResult<Items<Arrow>>
+) -> Result<Items<Arrow>, AllocError>
     ensures { IfOk result (λ arrows. arrows ≡ type_arrows script.now tracked.now graph.now) }
 {
     let mut arrows = Items::new(alloc);
@@ -37,7 +37,7 @@ fn add_type(
     graph: &Graph,
     id: TypeId,
     arrows: &mut Items<Arrow>,
-) -> ResolveResult<()>
+) -> Result<(), AllocError>
     ensures { OnOk result (arrows.new ≡ arrows.old ++ references_of script.now tracked.now graph.now id) }
 {
     match graph.types.get(id.index()) {
@@ -55,7 +55,7 @@ fn add_references(
     id: TypeId,
     def: &TypeDef,
     arrows: &mut Items<Arrow>,
-) -> ResolveResult<()>
+) -> Result<(), AllocError>
     ensures { OnOk result (arrows.new ≡ arrows.old ++ map (reference_to script.now tracked.now graph.now id def.now) (referred def.now.kind)) }
 {
     let others = referred(alloc, &def.kind)?;
@@ -75,7 +75,7 @@ fn reference_to(
     id: TypeId,
     def: &TypeDef,
     other: TypeId,
-) -> ResolveResult<Arrow>
+) -> Result<Arrow, AllocError>
     ensures { IfOk result (λ arrow. arrow ≡ reference_to script.now tracked.now graph.now id def.now other) }
 {
     let from = type_text(alloc, graph, id)?;
@@ -85,7 +85,7 @@ fn reference_to(
 }
 
 /// A type: by its name in its interface, or else by its number.
-pub fn type_text(alloc: Global, graph: &Graph, id: TypeId) -> ResolveResult<Text>
+pub fn type_text(alloc: Global, graph: &Graph, id: TypeId) -> Result<Text, AllocError>
     ensures { IfOk result (λ text. text ≡ type_text graph.now id) }
 {
     let named = match graph.types.get(id.index()) {
@@ -113,7 +113,7 @@ fn member_text(
     graph: &Graph,
     name: &Text,
     id: InterfaceId,
-) -> ResolveResult<Option<Text>>
+) -> Result<Option<Text>, AllocError>
     ensures { IfOk result (λ text. text ≡ member_text graph.now name.now id) }
 {
     let Some(interface) = graph.interfaces.get(id.index()) else {
@@ -122,8 +122,7 @@ fn member_text(
     match (&interface.name, interface.package) {
         (Some(own), Some(home)) => {
             let joined = format!(in alloc; "{own}.{name}")?;
-            let text = graph.id_of_name(alloc, home, joined.as_str())?;
-            Ok(Some(Text::from_string(text)))
+            Ok(Some(name_text(alloc, graph, home, joined.as_str())?))
         }
         _ => Ok(None),
     }

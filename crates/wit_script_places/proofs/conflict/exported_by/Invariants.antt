@@ -4,4 +4,4 @@ use Rattle.wit_script_places.proofs.conflict.exported_by.Given as goal
 
 -- the names so far, and those that are left, are all
 abbrev pub invariant-loop-arrow : goal.invariant-loop-arrow
-invariant-loop-arrow l = with_names l.names (filter_map (export_of l.worlds) (drop l.arrow-index l.exports)) ≡ exported_by l.worlds l.exports
+invariant-loop-arrow l = with_names l.names (filter_map (export_of l.labels) (drop l.arrow-index l.arrows)) ≡ exported_by l.labels l.arrows

@@ -5,6 +5,7 @@ use Rattle.wit_script_places.specs.Asked.{known_arrows}
 use Rattle.wit_script_places.specs.Ways.{IsRound}
 use Rattle.wit_script_places.specs.declared.arrow.Arrow.{Arrow}
 use Rattle.wit_script_places.proofs.CycleNames.{one_name}
+use Rattle.wit_script_places.proofs.Outcomes.{if_ok}
 use Rattle.wit_script_places.proofs.told_way.interface_round.Goals as goal
 
 pub returns-in_default : goal.returns-in_default
@@ -14,8 +15,9 @@ returns-in_default c = λ name whole.
     absurd (none name whole)
 
 pub returns : goal.returns
-returns c = λ name whole.
-    let way = c.in_ok-round.field-0 in
+returns c =
+    if_ok c.round.result c.round.ensures
+    (λ way is name whole.
     let same : c.in-Some.name.now ≡ name = one_name (codes "interface `") (codes "` would depend on itself") c.in-Some.name.now name (sym c.in-Some.ensures ∙ whole) in
     subst (λ (n : List ℕ). IsRound (known_arrows c.args.script.now c.args.place.now c.args.tracked.now c.args.others.now) n way) (c.in_ok-name.ensures ∙ same)
-    (subst (λ (arrows : List Arrow). IsRound arrows c.in_ok-name.name way) (c.as_slice.ensures ∙ c.in_ok-arrows.ensures) c.in_ok-round.ensures)
+    (subst (λ (arrows : List Arrow). IsRound arrows c.in_ok-name.name way) (c.as_slice.ensures ∙ c.in_ok-arrows.ensures) is))
