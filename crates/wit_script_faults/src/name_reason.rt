@@ -149,6 +149,9 @@ fn missing_in(alloc: Global, draft: &Draft, ty: &TypeText) -> Result<Option<Stri
 }
 
 fn no_type(alloc: Global, name: &str) -> Result<String, AllocError> {
+    if name.is_empty() {
+        return String::from_str(alloc, "a TYPE is missing");
+    }
     format!(in alloc; "{name} is no type of an earlier line")
 }
 

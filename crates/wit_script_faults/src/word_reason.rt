@@ -1,6 +1,7 @@
 //! Why the words of a line are no statement: which of them isn't what is expected there.
 use crate::context::said_by;
 use std::alloc::{AllocError, Global};
+use wit_data::is_kebab_name;
 use wit_script_lines::{after_prefix, tokens};
 
 /// Why the words of a line are no statement.
@@ -18,12 +19,44 @@ pub fn word_reason(alloc: Global, line: &str) -> Result<String, AllocError> {
     for (index, argument) in arguments.iter().enumerate() {
         if let Some(kind) = kind_at(first, index) {
             if !fits(alloc, kind, argument)? {
-                let expected = kind.form();
-                return format!(in alloc; "{argument} is no {expected}");
+                return misfit(alloc, kind, argument);
             }
         }
     }
     format!(in alloc; "{form} is expected")
+}
+
+/// Why an argument isn't what it has to be: a part of a path that is no kebab name, or its form.
+fn misfit(alloc: Global, kind: Kind, argument: &str) -> Result<String, AllocError> {
+    if let Some(part) = odd_part(kind, argument) {
+        return format!(in alloc; "{part} is no kebab name");
+    }
+    let expected = kind.form();
+    format!(in alloc; "{argument} is no {expected}")
+}
+
+/// The first part of a path of another package that is no kebab name.
+fn odd_part(kind: Kind, argument: &str) -> Option<&str> {
+    let argument = match kind {
+        Kind::Path => argument,
+        Kind::Entry => match argument.split_once('=') {
+            Some((_, path)) => path,
+            None => argument,
+        },
+        _ => return None,
+    };
+    let (namespace, rest) = argument.split_once(':')?;
+    let (package, rest) = rest.split_once('/')?;
+    let item = match rest.split_once('@') {
+        Some((item, _)) => item,
+        None => rest,
+    };
+    for part in [namespace, package, item] {
+        if !part.is_empty() && !is_kebab_name(part) {
+            return Some(part);
+        }
+    }
+    None
 }
 
 /// The form of lines that begin with a word.
