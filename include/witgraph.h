@@ -66,7 +66,7 @@ uint32_t witgraph_execute(const uint8_t *input, size_t length, uint8_t *output, 
  * the name of a package, the line counted from the first of that package, and the column. Of `merge`, `select`,
  * `importize`, `exportize` and `semver` the line of the command stands below the lines that the refusal names; of `push`
  * where no other line is known. Of exports in conflict (4) and of circles (6, 22, 23) a line ` = way: a:b/i -> a:b/j -> a:b/i`
- * says on which way they lead, where one is known, with the lines of its steps. docs/REFUSALS.md says more of each number.
+ * says on which way they lead, where one is known, with the known lines of its steps. docs/REFUSALS.md says more of each number.
  * What isn't there is told so:
  *
  *     no world
