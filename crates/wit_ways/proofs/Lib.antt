@@ -1,0 +1,7 @@
+pub mod CycleNames
+pub mod Groups
+pub mod Outcomes
+pub mod PackageRounds
+pub mod Ranges
+pub mod Searching
+pub mod TypeRounds

@@ -1,0 +1,11 @@
+pub mod Arrows
+pub mod Asked
+pub mod Coming
+pub mod Conflicts
+pub mod Includes
+pub mod Packages
+pub mod Told
+pub mod TypeArrows
+pub mod Ways
+pub mod Worlds
+pub mod steps
