@@ -3,6 +3,7 @@ use Rattle.std.proofs.Common.{◌≡◌, ◌≤◌, ◌+◌, ℕ, List, [], ◌�
 use Rattle.std.specs.Prelude.{IfOk, IsUtf8, slice_get}
 use Rattle.std.specs.declared.alloc.Global.{Global}
 use Rattle.std.proofs.lemmas.List.{append-nil, take_all}
+use Rattle.wit_values.specs.facts.Lists.{take-next_at}
 use Rattle.wit_names.specs.declared.package_name.PackageName.{PackageName}
 use Rattle.wit_graph_data.specs.declared.error_kind.ResolveErrorKind.{ResolveErrorKind}
 use Rattle.wit_graph_data.specs.Named.{package_named}
@@ -14,18 +15,17 @@ use Rattle.wit_script.specs.declared.ready.ScriptCommand.TheVariants as asks
 use Rattle.wit_script.specs.Script.{IsNotUnderstood, IsUnderstood}
 use Rattle.wit_script_lines.specs.Line.{lines_of}
 use Rattle.wit_script_places.specs.Desk.{new_desk}
-use Rattle.wit_script_places.specs.GraphLines.{no_lines}
 use Rattle.wit_script_faults.specs.Explained.{ExplainsAction, ExplainsAll, ExplainsCommand, ExplainsMisread, ExplainsScript, ExplainsSelect, place_of, rest_of}
 use Rattle.wit_script_places.specs.Lines.{script_lines_of}
 use Rattle.wit_script_faults.specs.Misread.{IsMisreadText}
 use Rattle.wit_script_faults.specs.Refusals.{TellsRefusal, TellsReplies, TellsReply}
-use Rattle.wit_script_places.specs.declared.graph_lines.GraphLines.{GraphLines}
 use Rattle.wit_resolve_graph.specs.declared.command.Reply.{Reply}
 use Rattle.wit_script_places.specs.declared.desk.Desk.{Desk}
 use Rattle.wit_script_places.specs.declared.desk.TrackedGraph.{TrackedGraph}
 use Rattle.wit_script_places.specs.declared.lines.CommandPlace.{CommandPlace}
+use Rattle.wit_ways.specs.declared.asked.Asked.{Asked}
+use Rattle.wit_ways.specs.declared.asked.Asked.TheVariants.{Other}
 use Rattle.wit_script_places.specs.declared.lines.ScriptLines.{ScriptLines}
-use Rattle.wit_script_places.proofs.Arrows.{take_next}
 
 -- the places that are left after some commands
 abbrev pub rest_after : List CommandPlace → List ScriptCommand → List CommandPlace
@@ -68,37 +68,36 @@ module _ (script : ScriptLines) where
       (subst (λ (a : Action). IfOk told (λ text. ExplainsAction script place before a (string_bytes text) after)) is acts)
 
   -- a choice that is refused, of a package that is there
-  pub select-refused : {E : Type 0} (place : CommandPlace) (tracked : TrackedGraph) (owner : PackageName) (text : Option (List ℕ)) (id : ℕ) (kind : ResolveErrorKind) (others : GraphLines) (told : Result (String Global) E)
-      → others ≡ no_lines → package_named tracked.resolve.graph owner ≡ Some id → IsChoice tracked.resolve.graph id text (Err kind)
-      → IfOk told (λ out. TellsRefusal script place tracked others kind (string_bytes out)) → IfOk told (λ out. ExplainsSelect script place tracked owner text (string_bytes out))
-  select-refused place tracked owner text id kind others (Ok out) none there refused said =
-      rw there (Err kind, refused, subst (λ (lines : GraphLines). TellsRefusal script place tracked lines kind (string_bytes out)) none said)
-  select-refused place tracked owner text id kind others (Err e) none there refused said = tt
+  pub select-refused : {E : Type 0} (place : CommandPlace) (tracked : TrackedGraph) (owner : PackageName) (text : Option (List ℕ)) (id : ℕ) (kind : ResolveErrorKind) (told : Result (String Global) E)
+      → package_named tracked.resolve.graph owner ≡ Some id → IsChoice tracked.resolve.graph id text (Err kind)
+      → IfOk told (λ out. TellsRefusal script place tracked Other kind (string_bytes out)) → IfOk told (λ out. ExplainsSelect script place tracked owner text (string_bytes out))
+  select-refused place tracked owner text id kind (Ok out) there refused said = rw there (Err kind, refused, said)
+  select-refused place tracked owner text id kind (Err e) there refused said = tt
 
 -- one more reply
-pub TellsReplies-more : (script : ScriptLines) (place : CommandPlace) (after : TrackedGraph) (others : GraphLines) (answers : List Reply) (answer : Reply) (text more : List ℕ)
-    → TellsReplies script place after others answers text → TellsReply script place after others answer more → TellsReplies script place after others (answers ++ answer ∷ []) (text ++ more)
-TellsReplies-more script place after others [] answer text more all one = (more, [], one, refl, ap (λ (t : List ℕ). t ++ more) all ∙ sym (append-nil more))
-TellsReplies-more script place after others (first ∷ answers) answer text more all one = (
+pub TellsReplies-more : (script : ScriptLines) (place : CommandPlace) (after : TrackedGraph) (asked : Asked) (answers : List Reply) (answer : Reply) (text more : List ℕ)
+    → TellsReplies script place after asked answers text → TellsReply script place after asked answer more → TellsReplies script place after asked (answers ++ answer ∷ []) (text ++ more)
+TellsReplies-more script place after asked [] answer text more all one = (more, [], one, refl, ap (λ (t : List ℕ). t ++ more) all ∙ sym (append-nil more))
+TellsReplies-more script place after asked (first ∷ answers) answer text more all one = (
   all.0,
   all.1 ++ more,
   all.2,
-  TellsReplies-more script place after others answers answer all.1 more all.3 one,
+  TellsReplies-more script place after asked answers answer all.1 more all.3 one,
   ap (λ (t : List ℕ). t ++ more) all.4 ∙ append_assoc all.0 all.1 more,
 )
 
 -- of the replies up to one, and that one
-pub told_next : (script : ScriptLines) (place : CommandPlace) (after : TrackedGraph) (others : GraphLines) (replies : List Reply) (k : ℕ) (reply : Reply) (text more longer : List ℕ)
-    → slice_get replies k ≡ Some reply → TellsReplies script place after others (take k replies) text → TellsReply script place after others reply more
-    → longer ≡ text ++ more → TellsReplies script place after others (take (k + 1) replies) longer
-told_next script place after others replies k reply text more longer there so_far one is =
-    subst (λ (rs : List Reply). TellsReplies script place after others rs longer) (sym (take_next replies k reply there))
-    (subst (TellsReplies script place after others (take k replies ++ reply ∷ [])) (sym is) (TellsReplies-more script place after others (take k replies) reply text more so_far one))
+pub told_next : (script : ScriptLines) (place : CommandPlace) (after : TrackedGraph) (asked : Asked) (replies : List Reply) (k : ℕ) (reply : Reply) (text more longer : List ℕ)
+    → slice_get replies k ≡ Some reply → TellsReplies script place after asked (take k replies) text → TellsReply script place after asked reply more
+    → longer ≡ text ++ more → TellsReplies script place after asked (take (k + 1) replies) longer
+told_next script place after asked replies k reply text more longer there so_far one is =
+    subst (λ (rs : List Reply). TellsReplies script place after asked rs longer) (sym (take-next_at replies k reply there))
+    (subst (TellsReplies script place after asked (take k replies ++ reply ∷ [])) (sym is) (TellsReplies-more script place after asked (take k replies) reply text more so_far one))
 
 -- of all replies
-pub told_all : (script : ScriptLines) (place : CommandPlace) (after : TrackedGraph) (others : GraphLines) (replies : List Reply) (k : ℕ) (text : List ℕ)
-    → length replies ≤ k → TellsReplies script place after others (take k replies) text → TellsReplies script place after others replies text
-told_all script place after others replies k text past so_far = subst (λ (rs : List Reply). TellsReplies script place after others rs text) (take_all k replies past) so_far
+pub told_all : (script : ScriptLines) (place : CommandPlace) (after : TrackedGraph) (asked : Asked) (replies : List Reply) (k : ℕ) (text : List ℕ)
+    → length replies ≤ k → TellsReplies script place after asked (take k replies) text → TellsReplies script place after asked replies text
+told_all script place after asked replies k text past so_far = subst (λ (rs : List Reply). TellsReplies script place after asked rs text) (take_all k replies past) so_far
 
 -- what is told of a script that is understood, by its lines
 pub told_understood : (input text : List ℕ) (script : ScriptLines) (commands : List ScriptCommand) (after : Desk) → IsUtf8 input → script ≡ script_lines_of (lines_of input)

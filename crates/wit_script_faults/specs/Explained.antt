@@ -20,37 +20,37 @@ use Rattle.wit_script_lines.specs.Line.{lines_of}
 use Rattle.wit_script_places.specs.Desk.{coming_packages, new_desk, new_tracked, only_first, tracked_after, with_working, working}
 use Rattle.wit_script_places.specs.Lines.{script_lines_of}
 use Rattle.wit_script_faults.specs.Misread.{IsMisreadText}
-use Rattle.wit_script_places.specs.GraphLines.{graph_lines, no_lines}
 use Rattle.wit_script_faults.specs.Refusals.{TellsRefusal, TellsReplies, missing_text, unless_refused}
-use Rattle.wit_script_places.specs.declared.graph_lines.GraphLines.{GraphLines}
 use Rattle.wit_script_places.specs.declared.desk.Desk.{Desk}
 use Rattle.wit_script_places.specs.declared.desk.TrackedGraph.{TrackedGraph}
 use Rattle.wit_script_places.specs.declared.lines.CommandPlace.{CommandPlace}
 use Rattle.wit_script_places.specs.declared.lines.ScriptLines.{ScriptLines}
+use Rattle.wit_ways.specs.Asked.{asked_of}
+use Rattle.wit_ways.specs.declared.asked.Asked.TheVariants.{Other}
 
 -- a run of one command whose files, where it brings any, begin with these lines, and the packages that it brings with those;
--- and what is told of its replies, where these are the lines of a graph that it brings
-abbrev pub ExplainsRun : ScriptLines → CommandPlace → TrackedGraph → Command → List ℕ → List ℕ → GraphLines → List ℕ → TrackedGraph → Type 0
-ExplainsRun script place before command coming brought others text after =
+-- and what is told of its replies
+abbrev pub ExplainsRun : ScriptLines → CommandPlace → TrackedGraph → Command → List ℕ → List ℕ → List ℕ → TrackedGraph → Type 0
+ExplainsRun script place before command coming brought text after =
     (replies : List Reply) × (new : State) × Run before.resolve (command ∷ []) replies new
     × (after ≡ tracked_after before new coming (unless_refused replies brought))
-    × TellsReplies script place after others replies text
+    × TellsReplies script place after (asked_of before.resolve command) replies text
 
 -- a run of one command on the graph on which commands work
 abbrev pub ExplainsWork : ScriptLines → CommandPlace → Desk → Command → List ℕ → Desk → Type 0
 ExplainsWork script place before command text after =
-    (new : TrackedGraph) × ExplainsRun script place (working before) command (coming_packages script place) (coming_packages script place) no_lines text new × (after ≡ with_working before new)
+    (new : TrackedGraph) × ExplainsRun script place (working before) command (coming_packages script place) (coming_packages script place) text new × (after ≡ with_working before new)
 
 -- `merge`: the second graph goes into the first, and is no longer there
 abbrev pub ExplainsMerge : ScriptLines → CommandPlace → Desk → Option TrackedGraph → List ℕ → Desk → Type 0
 ExplainsMerge script place before None text after = (text ≡ []) × (after ≡ before)
 ExplainsMerge script place before (Some second) text after =
-    (new : TrackedGraph) × ExplainsRun script place before.first (Merge second.resolve) second.file_starts second.package_starts (graph_lines script second) text new × (after ≡ only_first new)
+    (new : TrackedGraph) × ExplainsRun script place before.first (Merge second.resolve) second.file_starts second.package_starts text new × (after ≡ only_first new)
 
 -- what is told of a choice of a world
 abbrev pub TellsChoice : ScriptLines → CommandPlace → TrackedGraph → Result ℕ ResolveErrorKind → List ℕ → Type 0
 TellsChoice script place tracked (Ok world) text = text ≡ []
-TellsChoice script place tracked (Err kind) text = TellsRefusal script place tracked no_lines kind text
+TellsChoice script place tracked (Err kind) text = TellsRefusal script place tracked Other kind text
 
 -- `print`: there is no such world
 abbrev pub print_text : ScriptLines → CommandPlace → TrackedGraph → PackageName → List ℕ → List ℕ

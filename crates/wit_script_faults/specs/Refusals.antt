@@ -13,13 +13,13 @@ use Rattle.wit_resolve_graph.specs.declared.command.Reply.{Reply}
 use Rattle.wit_resolve_graph.specs.declared.command.Reply.TheVariants as reply
 use Rattle.wit_script_places.specs.Places.{defined_line, span_place}
 use Rattle.wit_script_places.specs.Shown.{command_text, place_text}
-use Rattle.wit_script_places.specs.Told.{IsTold}
 use Rattle.wit_script_places.specs.Ways.{way_text}
-use Rattle.wit_script_places.specs.declared.arrow.Arrow.{Arrow}
 use Rattle.wit_script_places.specs.declared.desk.TrackedGraph.{TrackedGraph}
-use Rattle.wit_script_places.specs.declared.graph_lines.GraphLines.{GraphLines}
 use Rattle.wit_script_places.specs.declared.lines.CommandPlace.{CommandPlace}
 use Rattle.wit_script_places.specs.declared.lines.ScriptLines.{ScriptLines}
+use Rattle.wit_ways.specs.Told.{IsTold}
+use Rattle.wit_ways.specs.declared.arrow.Arrow.{Arrow}
+use Rattle.wit_ways.specs.declared.asked.Asked.{Asked}
 
 -- the line of a span, or nothing where it is unknown
 abbrev pub span_text : ScriptLines → TrackedGraph → Option (ℕ × ℕ) → List ℕ
@@ -51,26 +51,26 @@ told_text number text places way =
 
 -- what is told of a refusal with a way, N being its number
 abbrev pub refusal_text : ScriptLines → CommandPlace → TrackedGraph → List Arrow → ResolveErrorKind → List ℕ
-refusal_text script place tracked way kind = told_text (error_number kind) (kind_text kind) (places_text script place tracked kind) (way_text script way)
+refusal_text script place tracked way kind = told_text (error_number kind) (kind_text kind) (places_text script place tracked kind) (way_text script tracked way)
 
--- what is told of a refusal, where these are the lines of a graph that was to come
-abbrev pub TellsRefusal : ScriptLines → CommandPlace → TrackedGraph → GraphLines → ResolveErrorKind → List ℕ → Type 0
-TellsRefusal script place tracked others kind text = (way : List Arrow) × IsTold script place tracked others kind way × (text ≡ refusal_text script place tracked way kind)
+-- what is told of a refusal of what was asked
+abbrev pub TellsRefusal : ScriptLines → CommandPlace → TrackedGraph → Asked → ResolveErrorKind → List ℕ → Type 0
+TellsRefusal script place tracked asked kind text = (way : List Arrow) × IsTold tracked.resolve asked kind way × (text ≡ refusal_text script place tracked way kind)
 
 -- what is told of a command that names what isn't there: this, and its line
 abbrev pub missing_text : ScriptLines → CommandPlace → List ℕ → List ℕ
 missing_text script place missing = missing ++ (codes "\n" ++ command_text script place.line)
 
--- what is told of a reply, in the state after it
-abbrev pub TellsReply : ScriptLines → CommandPlace → TrackedGraph → GraphLines → Reply → List ℕ → Type 0
-TellsReply script place after others (reply.Refused kind) text = TellsRefusal script place after others kind text
-TellsReply script place after others reply.NoWorld text = text ≡ missing_text script place (codes "no world")
-TellsReply script place after others _ text = text ≡ []
+-- what is told of a reply to what was asked, in the state after it
+abbrev pub TellsReply : ScriptLines → CommandPlace → TrackedGraph → Asked → Reply → List ℕ → Type 0
+TellsReply script place after asked (reply.Refused kind) text = TellsRefusal script place after asked kind text
+TellsReply script place after asked reply.NoWorld text = text ≡ missing_text script place (codes "no world")
+TellsReply script place after asked _ text = text ≡ []
 
-abbrev pub TellsReplies : ScriptLines → CommandPlace → TrackedGraph → GraphLines → List Reply → List ℕ → Type 0
-TellsReplies script place after others [] text = text ≡ []
-TellsReplies script place after others (answer ∷ answers) text =
-    (first : List ℕ) × (rest : List ℕ) × TellsReply script place after others answer first × TellsReplies script place after others answers rest × (text ≡ first ++ rest)
+abbrev pub TellsReplies : ScriptLines → CommandPlace → TrackedGraph → Asked → List Reply → List ℕ → Type 0
+TellsReplies script place after asked [] text = text ≡ []
+TellsReplies script place after asked (answer ∷ answers) text =
+    (first : List ℕ) × (rest : List ℕ) × TellsReply script place after asked answer first × TellsReplies script place after asked answers rest × (text ≡ first ++ rest)
 
 abbrev pub is_refusal : Reply → Bool
 is_refusal (reply.Refused kind) = true

@@ -19,9 +19,10 @@ use wit_resolve_graph::{
 };
 use wit_script::{Action, ReadFault, ReadyCommand, ScriptCommand, action_of, read_script};
 use wit_script_places::{
-    CommandPlace, Desk, GraphLines, ScriptLines, TrackedGraph, coming_packages, command_text,
-    defined_line, place_text, script_lines, span_place, way_of, way_text,
+    CommandPlace, Desk, ScriptLines, TrackedGraph, coming_packages, command_text, defined_line,
+    place_text, script_lines, span_place, way_text,
 };
+use wit_ways::{Asked, way_of};
 
 /// What there is to say of a script: whether it is understood, and where it is its refusals and which commands name what
 /// isn't there, each with its lines, or else the line at which it isn't. The only error is want of memory outside a command.
@@ -148,11 +149,8 @@ fn work(
     ensures { IfOk result (λ text. ExplainsWork script.now place.now desk.old command (string_bytes text) desk.new) }
 {
     let coming = coming_packages(script, place);
-    let others = GraphLines::new(alloc);
     match &mut desk.second {
-        Some(second) => carry_out(
-            alloc, script, place, second, command, coming, coming, &others,
-        ),
+        Some(second) => carry_out(alloc, script, place, second, command, coming, coming),
         None => carry_out(
             alloc,
             script,
@@ -161,7 +159,6 @@ fn work(
             command,
             coming,
             coming,
-            &others,
         ),
     }
 }
@@ -178,7 +175,6 @@ fn merge(
     let Some(second) = desk.second.take() else {
         return Ok(String::new(alloc));
     };
-    let others = GraphLines::of(alloc, script, &second)?;
     let TrackedGraph {
         resolve,
         file_starts,
@@ -194,12 +190,11 @@ fn merge(
         command,
         file_starts,
         package_starts,
-        &others,
     )
 }
 
 /// Carries out a command, and answers its refusal, or an empty text. The files that come begin with these lines, and the
-/// packages that come with those; these are the lines of a graph that comes.
+/// packages that come with those.
 fn carry_out(
     alloc: Global,
     script: &ScriptLines,
@@ -208,16 +203,16 @@ fn carry_out(
     command: Command,
     coming: &[usize],
     brought: &[usize],
-    others: &GraphLines,
 ) -> ResolveResult<String>
     requires { IsCommandShaped command }
-    ensures { IfOk result (λ text. ExplainsRun script.now place.now tracked.old command coming.now brought.now others.now (string_bytes text) tracked.new) }
+    ensures { IfOk result (λ text. ExplainsRun script.now place.now tracked.old command coming.now brought.now (string_bytes text) tracked.new) }
 {
+    let asked = Asked::of(alloc, &tracked.resolve, &command)?;
     let mut commands = Items::new(alloc);
     commands.push(command)?;
     let replies = run(alloc, &mut tracked.resolve, commands.into_vec())?;
     tracked.track(coming, unless_refused(&replies, brought))?;
-    replies_text(alloc, script, place, tracked, others, &replies)
+    replies_text(alloc, script, place, tracked, &asked, &replies)
 }
 
 /// These, unless a reply is a refusal.
@@ -250,14 +245,14 @@ fn replies_text(
     script: &ScriptLines,
     place: &CommandPlace,
     tracked: &TrackedGraph,
-    others: &GraphLines,
+    asked: &Asked,
     replies: &[Reply],
 ) -> ResolveResult<String>
-    ensures { IfOk result (λ text. TellsReplies script.now place.now tracked.now others.now replies.now (string_bytes text)) }
+    ensures { IfOk result (λ text. TellsReplies script.now place.now tracked.now asked.now replies.now (string_bytes text)) }
 {
     let mut text = String::new(alloc);
     for reply in replies {
-        let shown = reply_text(alloc, script, place, tracked, others, reply)?;
+        let shown = reply_text(alloc, script, place, tracked, asked, reply)?;
         text.push_str(&shown)?;
     }
     Ok(text)
@@ -269,13 +264,13 @@ fn reply_text(
     script: &ScriptLines,
     place: &CommandPlace,
     tracked: &TrackedGraph,
-    others: &GraphLines,
+    asked: &Asked,
     reply: &Reply,
 ) -> ResolveResult<String>
-    ensures { IfOk result (λ text. TellsReply script.now place.now tracked.now others.now reply.now (string_bytes text)) }
+    ensures { IfOk result (λ text. TellsReply script.now place.now tracked.now asked.now reply.now (string_bytes text)) }
 {
     match reply {
-        Reply::Refused(refusal) => refusal_text(alloc, script, place, tracked, others, refusal),
+        Reply::Refused(refusal) => refusal_text(alloc, script, place, tracked, asked, refusal),
         Reply::NoWorld => Ok(missing_text(alloc, script, place, "no world")?),
         _ => Ok(String::new(alloc)),
     }
@@ -300,16 +295,16 @@ fn refusal_text(
     script: &ScriptLines,
     place: &CommandPlace,
     tracked: &TrackedGraph,
-    others: &GraphLines,
+    asked: &Asked,
     refusal: &ResolveError,
 ) -> ResolveResult<String>
-    ensures { IfOk result (λ text. TellsRefusal script.now place.now tracked.now others.now refusal.now (string_bytes text)) }
+    ensures { IfOk result (λ text. TellsRefusal script.now place.now tracked.now asked.now refusal.now (string_bytes text)) }
 {
     let number = refusal.number();
     let kind = refusal.kind();
     let places = places_text(alloc, script, place, tracked, kind)?;
-    let way = way_of(alloc, script, place, tracked, others, kind)?;
-    let shown = way_text(alloc, script, way.as_slice())?;
+    let way = way_of(alloc, &tracked.resolve, asked, kind)?;
+    let shown = way_text(alloc, script, tracked, way.as_slice())?;
     Ok(format!(in alloc;
         "refused {number} {refusal}\n{places}{shown}      = {number} in docs/REFUSALS.md\n"
     )?)
@@ -425,10 +420,7 @@ fn select(
     };
     match chosen(alloc, tracked, *id, text) {
         Ok(_) => Ok(String::new(alloc)),
-        Err(refusal) => {
-            let others = GraphLines::new(alloc);
-            refusal_text(alloc, script, place, tracked, &others, &refusal)
-        }
+        Err(refusal) => refusal_text(alloc, script, place, tracked, &Asked::Other, &refusal),
     }
 }
 

@@ -1,13 +1,6 @@
-pub mod Arrows
-pub mod Asked
-pub mod Conflicts
 pub mod Desk
-pub mod GraphLines
 pub mod Lines
 pub mod Places
 pub mod Shown
-pub mod Told
-pub mod TypeArrows
 pub mod Ways
 pub mod laws
-pub mod steps

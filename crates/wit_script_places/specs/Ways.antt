@@ -1,42 +1,18 @@
--- Ways along arrows, from a name to one of some goals.
-use Rattle.std.specs.Prelude.{◌≡◌, ◌↔◌, ℕ, ◌||◌, not, Bool, true, List, [], ◌∷◌, ◌++◌, Contains, codes, flat_map, bytes_eq}
-use Rattle.std.specs.List.{list_any}
+-- Ways of refusals with their lines.
+use Rattle.std.specs.Prelude.{ℕ, List, [], ◌∷◌, ◌++◌, codes, flat_map}
 use Rattle.std.specs.Option.{option_map_or}
+use Rattle.wit_ways.specs.Ways.{way_names}
+use Rattle.wit_ways.specs.declared.arrow.Arrow.{Arrow}
+use Rattle.wit_script_places.specs.Places.{span_place}
 use Rattle.wit_script_places.specs.Shown.{place_text}
-use Rattle.wit_script_places.specs.declared.arrow.Arrow.{Arrow}
+use Rattle.wit_script_places.specs.declared.desk.TrackedGraph.{TrackedGraph}
 use Rattle.wit_script_places.specs.declared.lines.ScriptLines.{ScriptLines}
 
-abbrev pub is_among : List (List ℕ) → List ℕ → Bool
-is_among names name = list_any (bytes_eq name) names
-
--- arrows lead from one name to another, each from where the one before it ends: whether something that is no goal was met
--- before them, and whether it was after them
-abbrev pub IsWay : List Arrow → List (List ℕ) → List ℕ → Bool → List Arrow → List ℕ → Bool → Type 0
-IsWay arrows goals name met [] end met_then = (name ≡ end) × (met ≡ met_then)
-IsWay arrows goals name met (a ∷ way) end met_then = Contains arrows a × (a.from ≡ name) × IsWay arrows goals a.to (met || not (is_among goals a.to)) way end met_then
-
--- a way of one arrow or more to a goal, past something that is none; no arrow where there is no such way
-abbrev pub IsChosen : List Arrow → List (List ℕ) → List ℕ → Bool → List Arrow → Type 0
-IsChosen arrows goals name met [] = (a : Arrow) (way : List Arrow) (end : List ℕ) → IsWay arrows goals name met (a ∷ way) end true → is_among goals end ≡ true → ⊥
-IsChosen arrows goals name met (a ∷ way) = (end : List ℕ) × IsWay arrows goals name met (a ∷ way) end true × (is_among goals end ≡ true)
-
--- a way that leads back to where it begins
-abbrev pub IsRound : List Arrow → List ℕ → List Arrow → Type 0
-IsRound arrows name way = IsChosen arrows (name ∷ []) name true way
-
--- these names are all to which a way of one arrow or more leads from one
-abbrev pub AreReached : List Arrow → List ℕ → List (List ℕ) → Type 0
-AreReached arrows from names = (name : List ℕ) → (is_among names name ≡ true) ↔ ((a : Arrow) × (way : List Arrow) × IsWay arrows [] from true (a ∷ way) name true)
-
 -- the line of an arrow
-abbrev pub line_text : ScriptLines → Arrow → List ℕ
-line_text script a = option_map_or (place_text script) a.line []
-
--- ` -> ` and where an arrow leads
-abbrev pub step_text : Arrow → List ℕ
-step_text a = codes " -> " ++ a.to
+abbrev pub line_text : ScriptLines → TrackedGraph → Arrow → List ℕ
+line_text script t a = option_map_or (place_text script) (span_place script t a.span) []
 
 -- `way: A -> B -> .. -> C`, and the line of each arrow
-abbrev pub way_text : ScriptLines → List Arrow → List ℕ
-way_text script [] = []
-way_text script (a ∷ way) = codes "      = way: " ++ (a.from ++ (flat_map step_text (a ∷ way) ++ (codes "\n" ++ flat_map (line_text script) (a ∷ way))))
+abbrev pub way_text : ScriptLines → TrackedGraph → List Arrow → List ℕ
+way_text script t [] = []
+way_text script t (a ∷ way) = codes "      = way: " ++ (way_names (a ∷ way) ++ (codes "\n" ++ flat_map (line_text script t) (a ∷ way)))
