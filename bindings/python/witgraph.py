@@ -679,7 +679,7 @@ class Merged:
 
 
 class Refusal(Exception):
-    """Why a command is refused: `number`, `cause`, `text`, `span`, and `rendered`, with the line where it is known, the command and the number."""
+    """Why a command is refused: `number`, `cause`, `text`, `span`, and `rendered`, with the line where it is known, the way, the command and the number."""
 
     def __init__(self, number: int, cause: str, text: str, span: Optional[Span], rendered: str):
         super().__init__(rendered)

@@ -82,17 +82,20 @@ pub record ExamplesOfAnswers : Type 0 where
   pub refused : answer_text (answer.Refused (record { error = kind.OutOfMemory; rendered = codes "out of memory" }))
       ≡ codes "{\"refused\":{\"error\":{\"number\":28,\"cause\":\"out-of-memory\",\"text\":\"out of memory\"},\"rendered\":\"out of memory\"}}"
   -- a refusal as it is told: its text, what was asked, and where more is said of its number
-  pub told : rendered new_state.graph new_state.source_map (codes "merge") kind.OffsetOverflow ≡ codes "source positions would pass 4294967295\n      = merge\n      = 27 in docs/REFUSALS.md"
-  pub not_alone : rendered new_state.graph new_state.source_map (codes "merge") kind.OffsetOverflow ≢ codes "source positions would pass 4294967295"
+  pub told : rendered new_state.graph new_state.source_map (codes "merge") [] kind.OffsetOverflow ≡ codes "source positions would pass 4294967295\n      = merge\n      = 27 in docs/REFUSALS.md"
+  pub not_alone : rendered new_state.graph new_state.source_map (codes "merge") [] kind.OffsetOverflow ≢ codes "source positions would pass 4294967295"
   -- with its line
-  pub with_line : rendered new_state.graph one_file (codes "push-groups a:b") (kind.PackageCycle (Some (12, 17)) a_name)
+  pub with_line : rendered new_state.graph one_file (codes "push-groups a:b") [] (kind.PackageCycle (Some (12, 17)) a_name)
       ≡ codes "package `a:b` creates a dependency cycle\n     --> f:2:1\n      |\n    2 | world\n      | ^----\n      = push-groups a:b\n      = 6 in docs/REFUSALS.md"
+  -- with its way and the line of each step
+  pub with_way : rendered new_state.graph one_file (codes "push-groups a:b") (record { from = codes "a:b"; to = codes "c:d"; span = None } ∷ record { from = codes "c:d"; to = codes "a:b"; span = Some (12, 17) } ∷ []) (kind.PackageCycle None a_name)
+      ≡ codes "package `a:b` creates a dependency cycle\n      = way: a:b -> c:d -> a:b\n     --> f:2:1\n      |\n    2 | world\n      | ^----\n      = push-groups a:b\n      = 6 in docs/REFUSALS.md"
   -- a package that is defined twice, with both places: those of the error, or that of what the graph has of the package
-  pub both_known : rendered new_state.graph two_lines (codes "merge") (kind.DuplicatePackage a_name (Some (20, 21)) (Some (8, 9)))
+  pub both_known : rendered new_state.graph two_lines (codes "merge") [] (kind.DuplicatePackage a_name (Some (20, 21)) (Some (8, 9)))
       ≡ codes "package `a:b` is defined in two different locations\n     --> g:1:2\n      |\n    1 | xyz\n      |  ^\n     --> f:1:9\n      |\n    1 | package a:b\n      |         ^\n      = merge\n      = 5 in docs/REFUSALS.md"
-  pub other_by_the_graph : rendered with_world two_lines (codes "push-groups a:b") (kind.DuplicatePackage a_name (Some (20, 21)) None)
+  pub other_by_the_graph : rendered with_world two_lines (codes "push-groups a:b") [] (kind.DuplicatePackage a_name (Some (20, 21)) None)
       ≡ codes "package `a:b` is defined in two different locations\n     --> g:1:2\n      |\n    1 | xyz\n      |  ^\n     --> f:2:1\n      |\n    2 | world\n      | ^----\n      = push-groups a:b\n      = 5 in docs/REFUSALS.md"
-  pub not_of_another : rendered with_world two_lines (codes "push-groups c:d") (kind.DuplicatePackage (record a_name { namespace = codes "c" }) None None)
+  pub not_of_another : rendered with_world two_lines (codes "push-groups c:d") [] (kind.DuplicatePackage (record a_name { namespace = codes "c" }) None None)
       ≡ codes "package `c:b` is defined in two different locations\n      = push-groups c:d\n      = 5 in docs/REFUSALS.md"
   -- a package without its shape: the path to it, and what it lacks
   pub main : unshaped_text None None

@@ -11,8 +11,9 @@ use Rattle.wit_json_commands.specs.declared.orders.Request.TheVariants as reques
 use Rattle.wit_json_graphs.specs.declared.resolves.ResolveParts.{ResolveParts}
 use Rattle.wit_json_replies.specs.declared.answers.Answer.TheVariants as answer
 use Rattle.wit_json_replies.specs.declared.answers.Response.TheVariants as response
+use Rattle.wit_ways.specs.declared.asked.Asked.TheVariants as asks
 use Rattle.wit_json_runs.specs.Documents.{first_state}
-use Rattle.wit_json_runs.specs.Runs.{Answers, RespondsEach, answer_of, command_of}
+use Rattle.wit_json_runs.specs.Runs.{AnswersReply, RespondsEach, command_of}
 use Rattle.examples_json_runs.specs.Questions.{foo_bar}
 
 -- an empty graph with a feature on, and the other rule of tracks
@@ -31,9 +32,9 @@ pub record ExamplesOfChanges : Type 0 where
   pub asked : change_text (change.Exportize foo_bar (codes "w") None None) ≡ codes "exportize foo:bar w"
   pub not_turned : change_text (change.Importize foo_bar (codes "w") None) ≢ codes "exportize foo:bar w"
   -- the answer that a reply is
-  pub done : answer_of new_state (codes "semver a:b w") reply.Done ≡ answer.Done
-  pub pushed : answer_of new_state (codes "push-groups a:b") (reply.Pushed 2) ≡ answer.Pushed 2
-  pub no_world : answer_of new_state (codes "semver a:b w") reply.NoWorld ≢ answer.Done
+  pub done : AnswersReply new_state (codes "semver a:b w") asks.Other reply.Done answer.Done
+  pub pushed : AnswersReply new_state (codes "push-groups a:b") asks.Other (reply.Pushed 2) (answer.Pushed 2)
+  pub no_world : AnswersReply new_state (codes "semver a:b w") asks.Other reply.NoWorld answer.Done → ⊥
   -- what a document begins with
   pub empty : first_state None ≡ new_state
   pub given : (first_state (Some begun)).features.all ≡ true

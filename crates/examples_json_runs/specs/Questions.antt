@@ -6,7 +6,6 @@ use Rattle.wit_data.specs.New.{new_function, new_interface, new_interface_entry,
 use Rattle.wit_data.specs.declared.function.Function.{Function}
 use Rattle.wit_data.specs.declared.function.FunctionKind.TheVariants as function
 use Rattle.wit_data.specs.declared.interface.Interface.{Interface}
-use Rattle.wit_data.specs.declared.types.TypeDef.{TypeDef}
 use Rattle.wit_data.specs.declared.types.TypeDefKind.TheVariants as kind
 use Rattle.wit_data.specs.declared.types.TypeOwner.TheVariants as owner
 use Rattle.wit_data.specs.declared.types.Type_.TheVariants as type
@@ -14,7 +13,6 @@ use Rattle.wit_data.specs.declared.world.World.{World}
 use Rattle.wit_data.specs.declared.world.WorldItem.TheVariants as item
 use Rattle.wit_data.specs.declared.world.WorldKey.TheVariants as key
 use Rattle.wit_graph_data.specs.declared.graph.Graph.{Graph}
-use Rattle.wit_graph_data.specs.declared.graph.Package.{Package}
 use Rattle.wit_json_commands.specs.declared.questions.FunctionPlace.{FunctionPlace}
 use Rattle.wit_json_commands.specs.declared.questions.FunctionSite.{FunctionSite}
 use Rattle.wit_json_commands.specs.declared.questions.FunctionSite.TheVariants as site

@@ -5,6 +5,7 @@
 ghost use Rattle.examples_json_runs.specs.Answers.{ExamplesOfAnswers, ExamplesOfDocuments};
 ghost use Rattle.examples_json_runs.specs.Changes.{ExamplesOfChanges};
 ghost use Rattle.examples_json_runs.specs.Questions.{ExamplesOfCoreNames, ExamplesOfQuestions};
+ghost use Rattle.examples_json_runs.specs.Ways.{ExamplesOfWays};
 
 /// Each sort of answer.
 pub fn examples_of_answers()
@@ -29,4 +30,9 @@ pub fn examples_of_core_names()
 /// What is done with changes, and what a document begins with.
 pub fn examples_of_changes()
     ensures { ExamplesOfChanges }
+{}
+
+/// What leads where, and ways.
+pub fn examples_of_ways()
+    ensures { ExamplesOfWays }
 {}

@@ -45,7 +45,7 @@ packages_named g (name ∷ names) = with_package (package_named g name) (package
 abbrev pub TellsChoice : Graph → Sources → List ℕ → Option (List ℕ) → Answer → Type 0
 TellsChoice g files mains text (answer.World id) = selected_world g mains text ≡ Ok id
 TellsChoice g files mains text (answer.Refused refusal) =
-    IsSelectionError (selected_world g mains text) refusal.error × (answer.Refused refusal ≡ refused g files (codes "select") refusal.error)
+    IsSelectionError (selected_world g mains text) refusal.error × (answer.Refused refusal ≡ refused g files (codes "select") [] refusal.error)
 TellsChoice g files mains text _ = ⊥
 
 abbrev pub TellsAmong : Graph → Sources → Option (List ℕ) → Option (List ℕ) → Answer → Type 0

@@ -59,6 +59,6 @@ fn choose(
     };
     match select_world(alloc, graph, mains, text) {
         Ok(id) => Ok(Answer::World(id)),
-        Err(error) => Ok(refused(alloc, graph, files, "select", error)?),
+        Err(error) => Ok(refused(alloc, graph, files, "select", &[], error)?),
     }
 }

@@ -1,28 +1,32 @@
 //! Refusals as they are told.
 ghost use Rattle.std.specs.Prelude.{◌≡◌, IfOk, string_bytes};
-ghost use Rattle.wit_json_replies.specs.Refusals.{place_text, places_text, refused};
+ghost use Rattle.std.specs.List.{flat_map};
+ghost use Rattle.wit_json_replies.specs.Refusals.{arrow_text, place_text, places_text, refused, way_text};
 
 use crate::answers::{Answer, Refusal};
 use crate::places::package_span;
 use std::alloc::{AllocError, Global};
 use wit_data::{SourceMap, Span, Text};
 use wit_graph_data::{Graph, ResolveError, ResolveErrorKind};
+use wit_ways::{Arrow, way_names};
 
-/// The refusal of what was asked of a graph: the error with its lines in these files, what was asked, and which document
-/// says more of its number. The only error is want of memory.
+/// The refusal of what was asked of a graph: the error with its lines in these files, its way, what was asked, and which
+/// document says more of its number. The only error is want of memory.
 pub fn refused(
     alloc: Global,
     graph: &Graph,
     files: &SourceMap,
     asked: &str,
+    way: &[Arrow],
     error: ResolveError,
 ) -> Result<Answer, AllocError>
-    ensures { IfOk result (λ answer. answer ≡ refused graph.now files.now asked.now error) }
+    ensures { IfOk result (λ answer. answer ≡ refused graph.now files.now asked.now way.now error) }
 {
     let places = places_text(alloc, graph, files, error.kind())?;
+    let shown = way_text(alloc, files, way)?;
     let number = error.number();
     let rendered = Text::from_string(format!(in alloc;
-        "{error}{places}\n      = {asked}\n      = {number} in docs/REFUSALS.md"
+        "{error}{places}{shown}\n      = {asked}\n      = {number} in docs/REFUSALS.md"
     )?);
     Ok(Answer::Refused(Refusal { error, rendered }))
 }
@@ -59,4 +63,28 @@ fn place_text(alloc: Global, files: &SourceMap, span: Span) -> Result<String, Al
         Some(shown) => format!(in alloc; "\n{shown}"),
         None => Ok(String::new(alloc)),
     }
+}
+
+/// `way: A -> B -> .. -> C` on a line of its own and the line of each step, or nothing where there is no way.
+fn way_text(alloc: Global, files: &SourceMap, way: &[Arrow]) -> Result<String, AllocError>
+    ensures { IfOk result (λ text. string_bytes text ≡ way_text files.now.files way.now) }
+{
+    if way.is_empty() {
+        return Ok(String::new(alloc));
+    }
+    let names = way_names(alloc, way)?;
+    let lines = lines_text(alloc, files, way)?;
+    format!(in alloc; "\n      = way: {names}{lines}")
+}
+
+/// The lines of the steps of a way.
+fn lines_text(alloc: Global, files: &SourceMap, way: &[Arrow]) -> Result<String, AllocError>
+    ensures { IfOk result (λ text. string_bytes text ≡ flat_map (arrow_text files.now.files) way.now) }
+{
+    let mut text = String::new(alloc);
+    for arrow in way {
+        let line = place_text(alloc, files, arrow.span)?;
+        text.push_str(&line)?;
+    }
+    Ok(text)
 }

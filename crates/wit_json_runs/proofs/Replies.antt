@@ -13,7 +13,8 @@ use Rattle.wit_json_commands.specs.declared.orders.Order.{Order}
 use Rattle.wit_json_commands.specs.declared.orders.Request.{Request}
 use Rattle.wit_json_replies.specs.declared.answers.Answer.{Answer}
 use Rattle.wit_json_replies.specs.declared.answers.Response.{Response}
-use Rattle.wit_json_runs.specs.Runs.{Answers, AnswersCommand, AnswersEach, Responds, RespondsEach, answer_of, command_of}
+use Rattle.wit_ways.specs.Asked.{asked_of}
+use Rattle.wit_json_runs.specs.Runs.{Answers, AnswersCommand, AnswersEach, AnswersReply, Responds, RespondsEach, command_of}
 use Rattle.wit_json_runs.specs.Unshaped.{IsChangeShaped}
 
 -- one more request
@@ -34,8 +35,8 @@ RespondsEach-more old mid new (first ∷ its) [] it told each one = absurd each
 
 -- the one reply to one command
 pub one_reply : (asked : List ℕ) (old new : State) (it : Command) (reply : Reply) → Run old (it ∷ []) (reply ∷ []) new → (told : Answer)
-    → told ≡ answer_of new asked reply → AnswersCommand asked old it told new
-one_reply asked old new it reply run told is = record { reply = reply; step = subst (λ (s : State). Step old it reply s) (sym run.2) run.1; told_is = is }
+    → AnswersReply new asked (asked_of old it) reply told → AnswersCommand asked old it told new
+one_reply asked old new it reply run told answers = record { reply = reply; step = subst (λ (s : State). Step old it reply s) (sym run.2) run.1; answers = answers }
 
 -- ---- shapes
 

@@ -20,23 +20,27 @@ use Rattle.wit_json_replies.specs.declared.answers.Answer.TheVariants as answer
 use Rattle.wit_json_replies.specs.declared.answers.Response.{Response}
 use Rattle.wit_json_replies.specs.declared.answers.Response.TheVariants as response
 use Rattle.wit_json_replies.specs.declared.unshaped.Unshaped.{Unshaped}
+use Rattle.wit_ways.specs.Asked.{asked_of}
+use Rattle.wit_ways.specs.Told.{IsTold}
+use Rattle.wit_ways.specs.declared.arrow.Arrow.{Arrow}
+use Rattle.wit_ways.specs.declared.asked.Asked.{Asked}
 use Rattle.wit_json_runs.specs.Unshaped.{IsChangeShaped, IsUnshaped}
 
 -- ---- commands
 
--- the answer that a reply to what was asked of a graph is
-abbrev pub answer_of : State → List ℕ → Reply → Answer
-answer_of state asked reply.Done = answer.Done
-answer_of state asked (reply.Pushed id) = answer.Pushed id
-answer_of state asked (reply.Merged remap) = answer.Merged remap
-answer_of state asked reply.NoWorld = answer.NoWorld
-answer_of state asked (reply.Refused error) = refused state.graph state.source_map asked error
+-- the answer that a reply is to what was asked of a graph, which in words is this: a refusal is told with its way
+abbrev pub AnswersReply : State → List ℕ → Asked → Reply → Answer → Type 0
+AnswersReply state asked brought reply.Done told = told ≡ answer.Done
+AnswersReply state asked brought (reply.Pushed id) told = told ≡ answer.Pushed id
+AnswersReply state asked brought (reply.Merged remap) told = told ≡ answer.Merged remap
+AnswersReply state asked brought reply.NoWorld told = told ≡ answer.NoWorld
+AnswersReply state asked brought (reply.Refused error) told = (way : List Arrow) × IsTold state brought error way × (told ≡ refused state.graph state.source_map asked way error)
 
 -- a command is carried out, which in words is this, and its reply is answered
 pub record AnswersCommand (asked : List ℕ) (old : State) (it : Command) (told : Answer) (new : State) : Type 0 where
   pub reply : Reply
   pub step : Step old it reply new
-  pub told_is : told ≡ answer_of new asked reply
+  pub answers : AnswersReply new asked (asked_of old it) reply told
 
 -- ---- changes
 

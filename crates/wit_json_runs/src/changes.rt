@@ -1,6 +1,6 @@
 //! Changes carried out.
 ghost use Rattle.std.specs.Prelude.{◌≡◌, IfOk};
-ghost use Rattle.wit_json_runs.specs.Runs.{AnswersChange, AnswersCommand, answer_of, command_of};
+ghost use Rattle.wit_json_runs.specs.Runs.{AnswersChange, AnswersCommand, AnswersReply, command_of};
 ghost use Rattle.wit_resolve_graph.specs.Step.{IsCommandShaped};
 
 use crate::shapes::find_unshaped;
@@ -8,6 +8,7 @@ use std::alloc::Global;
 use wit_json_commands::Change;
 use wit_json_replies::{Answer, refused};
 use wit_resolve_graph::{Command, Items, Reply, Resolve, ResolveResult, run};
+use wit_ways::{Asked, way_of};
 
 /// Carries out a change, and answers it. The only refusal is want of memory outside the command (28).
 pub fn answer_change(alloc: Global, resolve: &mut Resolve, change: Change) -> ResolveResult<Answer>
@@ -65,18 +66,25 @@ pub fn carry_out(
     requires { IsCommandShaped command }
     ensures { IfOk result (λ answer. AnswersCommand asked.now resolve.old command answer resolve.new) }
 {
+    let brought = Asked::of(alloc, resolve, &command)?;
     let mut commands = Items::new(alloc);
     commands.push(command)?;
     let mut replies = run(alloc, resolve, commands.into_vec())?;
     match replies.pop() {
-        Some(reply) => answer_of(alloc, resolve, asked, reply),
+        Some(reply) => answer_of(alloc, resolve, asked, &brought, reply),
         None => unreachable!(),
     }
 }
 
-/// The answer that a reply to what was asked is.
-fn answer_of(alloc: Global, resolve: &Resolve, asked: &str, reply: Reply) -> ResolveResult<Answer>
-    ensures { IfOk result (λ answer. answer ≡ answer_of resolve.now asked.now reply) }
+/// The answer that a reply is to what was asked, which in words is `asked`.
+fn answer_of(
+    alloc: Global,
+    resolve: &Resolve,
+    asked: &str,
+    brought: &Asked,
+    reply: Reply,
+) -> ResolveResult<Answer>
+    ensures { IfOk result (λ answer. AnswersReply resolve.now asked.now brought.now reply answer) }
 {
     match reply {
         Reply::Done => Ok(Answer::Done),
@@ -85,7 +93,8 @@ fn answer_of(alloc: Global, resolve: &Resolve, asked: &str, reply: Reply) -> Res
         Reply::NoWorld => Ok(Answer::NoWorld),
         Reply::Refused(error) => {
             let (graph, files) = (resolve.graph(), resolve.source_map());
-            Ok(refused(alloc, graph, files, asked, error)?)
+            let way = way_of(alloc, resolve, brought, error.kind())?;
+            Ok(refused(alloc, graph, files, asked, way.as_slice(), error)?)
         }
     }
 }

@@ -27,6 +27,7 @@ returns c = record {
   told = refl;
   not_alone = differ _ _ refl;
   with_line = refl;
+  with_way = refl;
   both_known = refl;
   other_by_the_graph = refl;
   not_of_another = refl;
