@@ -1,23 +1,28 @@
 #!/usr/bin/env python3
 """Asks whether refusals tell their ways.
 
-    python3 check/ways.py [PROGRAM] [--many N] [--first N]
+    python3 check/ways.py [PROGRAM] [--json WITGRAPH_JSON] [--many N] [--documents N] [--first N]
 
-makes random scripts and has PROGRAM explain them, which is `witgraph_explained` as `rt ci` leaves it in its folder
-`out`. The status is 1 where a refusal of 4, 6, 22 or 23 tells no way, or one that doesn't begin with what the refusal
-names (4), or doesn't lead back to it (6, 22), or to where it begins (23), or of which a step between interfaces is told by
-a line of a world. No clause says that there is a way.
+makes random scripts and has PROGRAM explain them, and the first ones as documents WITGRAPH_JSON, which are
+`witgraph_explained` and `witgraph_json` as `rt ci` leaves them in their folders `out`. The status is 1 where a refusal of
+4, 6, 22 or 23 tells no way, or one that doesn't begin with what the refusal names (4), or doesn't lead back to it (6, 22),
+or to where it begins (23), or of which a step between interfaces is told by a line of a world; or where a document's
+refusals tell other ways. No clause says that there is a way.
 """
 import argparse
 import collections
+import json
 import os
 import random
 import re
 import subprocess
 import sys
 
+from script_documents import document_of
+
 TOP = os.path.dirname(os.path.dirname(os.path.abspath(__file__)))
 PROGRAM = f"{TOP}/crates/witgraph_explained/out/witgraph_explained"
+JSON = f"{TOP}/crates/witgraph_json/out/witgraph_json"
 NAMED = re.compile(r"`([^`]*)`")
 LABEL = re.compile(r"/[^@.]+\.")
 LABELS = ["m", "n", "o", "q"]
@@ -187,21 +192,54 @@ def faults(told):
     return counts, wrong
 
 
+def rendered_in(value):
+    """The refusals that a document tells, in order."""
+    if isinstance(value, dict):
+        return [value["rendered"]] if "rendered" in value else [it for part in value.values() for it in rendered_in(part)]
+    return [it for part in value for it in rendered_in(part)] if isinstance(value, list) else []
+
+
+def ways_in(text):
+    """The ways of a text with the lines of their steps, without the numbers that these have in a script."""
+    ways = re.findall(r"^ +(= way: .*(?:\n +--> .*\n +\|\n.*\n +\|.*)*)", text, flags=re.M)
+    steps = [re.sub(r"--> line \d+ \((.*)\)", r"--> \1", way) for way in ways]
+    return [re.sub(r"^ *\d* \|", "|", way, flags=re.M) for way in steps]
+
+
+def differing(program, cases, told):
+    """Of how many cases a document tells ways, and the cases of which it tells others than these."""
+    told = dict(it.split("\n", 1) for it in told.split("=== ")[1:])
+    count, differ = 0, []
+    for case, lines in cases:
+        document = document_of("\n".join(lines))
+        if case not in told or document is None or "= way: " not in told[case]:
+            continue
+        run = subprocess.run([program], input=json.dumps(document), text=True, capture_output=True, check=False)
+        ways = ways_in("\n".join(rendered_in(json.loads(run.stdout)["replies"])))
+        count += 1
+        differ += [f"{case}: a document tells other ways"] if ways != ways_in(told[case]) else []
+    return count, differ
+
+
 def main():
     parser = argparse.ArgumentParser()
     parser.add_argument("program", nargs="?", default=PROGRAM)
+    parser.add_argument("--json", default=JSON)
     parser.add_argument("--many", type=int, default=10000)
+    parser.add_argument("--documents", type=int, default=2000)
     parser.add_argument("--first", type=int, default=0)
     asked = parser.parse_args()
-    cases = ""
+    cases = []
     for seed in range(asked.first, asked.first + asked.many):
         source = random.Random(seed)
-        lines = source.choice([two_graphs, same_twice])(source)
-        cases += "\n".join([f"=== {seed}", *lines, "---", ""])
-    told = subprocess.run([asked.program], input=cases, text=True, capture_output=True, check=False).stdout
+        cases.append((str(seed), source.choice([two_graphs, same_twice])(source)))
+    scripts = "".join("\n".join([f"=== {case}", *lines, "---", ""]) for case, lines in cases)
+    told = subprocess.run([asked.program], input=scripts, text=True, capture_output=True, check=False).stdout
     counts, wrong = faults(told)
-    print("\n".join(wrong[:20] + [f"{sum(counts.values())} ways of {dict(counts)}, {len(wrong)} wrong"]))
-    return 1 if wrong or not all(counts[it] for it in ["4", "6", "22"]) else 0
+    documents, differ = differing(asked.json, cases[: asked.documents], told)
+    wrong += differ
+    print("\n".join(wrong[:20] + [f"{sum(counts.values())} ways of {dict(counts)}, {documents} documents, {len(wrong)} wrong"]))
+    return 1 if wrong or not documents or not all(counts[it] for it in ["4", "6", "22"]) else 0
 
 
 if __name__ == "__main__":
