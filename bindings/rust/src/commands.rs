@@ -354,7 +354,7 @@ pub struct Refusal {
     pub text: String,
     /// Where, among the files of the graph.
     pub span: Span,
-    /// The sentence with the file, the line and a mark, where the place is known; the way of a circle; the command and the number.
+    /// The sentence with the file, the line and a mark, where the place is known; its way; the command and the number.
     pub rendered: String,
 }
 
