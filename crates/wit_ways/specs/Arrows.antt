@@ -133,12 +133,13 @@ world_dependencies offset g homes on =
     flat_map (λ (world : World). filter_map (λ (e : Entry). dependency_of offset g homes (home_text g.packages world.package) e.1) (listed_by on world)) g.worlds
 
 -- what the worlds of a graph have on a side
-abbrev pub entries_in : ℕ → Graph → List (Option (List ℕ)) → WorldSide → List Arrow
-entries_in offset g names on = flat_map (λ (world : World). option_map_or (λ home. world_arrows all_on offset names on home world) (home_of g.packages world.package) []) g.worlds
+abbrev pub entries_in : Features → ℕ → Graph → List (Option (List ℕ)) → WorldSide → List Arrow
+entries_in features offset g names on =
+    flat_map (λ (world : World). option_map_or (λ home. world_arrows features offset names on home world) (home_of g.packages world.package) []) g.worlds
 
 -- what leads where in a graph: which package depends on which, once more by entries of worlds and by types that are used,
 -- which interface uses which, and what worlds have on a side
 abbrev pub graph_arrows : ℕ → Graph → WorldSide → List Arrow
 graph_arrows offset g on =
     dependencies_in g ++ (world_dependencies offset g (home_texts g) side.Imports ++ (world_dependencies offset g (home_texts g) side.Exports
-    ++ (uses_in all_on offset g.types g.interfaces (home_texts g) ++ (uses_in all_on offset g.types g.interfaces (interface_texts g) ++ entries_in offset g (interface_texts g) on))))
+    ++ (uses_in all_on offset g.types g.interfaces (home_texts g) ++ (uses_in all_on offset g.types g.interfaces (interface_texts g) ++ entries_in all_on offset g (interface_texts g) on))))

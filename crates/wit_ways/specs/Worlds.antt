@@ -1,5 +1,6 @@
 -- Worlds by name, their labels, and where they stand.
 use Rattle.std.specs.Prelude.{ℕ, ◌==◌, ◌&&◌, Bool, false, List, ◌++◌, filter_map, find, Option, Some, option_map, codes}
+use Rattle.std.specs.Option.{option_or}
 use Rattle.wit_sources.specs.Span.{OptionalSpan}
 use Rattle.wit_data.specs.declared.world.World.{World}
 use Rattle.wit_graph_data.specs.declared.graph.Graph.{Graph}
@@ -34,4 +35,4 @@ find_world worlds span = option_map (λ (place : WorldPlace). place.world) (find
 
 -- the world that stands at a span: of a graph, or else of what comes
 abbrev pub world_at : Graph → List WorldPlace → OptionalSpan → Option WorldName
-world_at g coming span = find_world (graph_worlds 0 g ++ coming) span
+world_at g coming span = option_or (find_world (graph_worlds 0 g) span) (find_world coming span)

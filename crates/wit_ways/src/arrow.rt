@@ -5,7 +5,7 @@ ghost use Rattle.wit_ways.specs.Arrows.{arrow_between, called, item_text, placed
 
 use std::alloc::{AllocError, Global};
 use std::fmt;
-use wit_data::{InterfaceId, Items, PackageName, Span, Text, TryClone, Version};
+use wit_data::{InterfaceId, PackageName, Span, Text, TryClone, Version};
 use wit_values::try_clone_two;
 
 /// That one thing leads to another, each by its name, and where that stands, unknown where no line says it.
@@ -16,26 +16,12 @@ pub struct Arrow {
     pub span: Span,
 }
 
-impl Arrow {
-    /// The same arrow.
-    pub fn copy(&self) -> Result<Arrow, AllocError>
-        ensures { IfOk result (λ arrow. arrow ≡ self.now) }
-    {
+impl TryClone for Arrow {
+    fn try_clone(&self) -> Result<Arrow, AllocError> {
         let (from, to) = try_clone_two(&self.from, &self.to)?;
         let span = self.span;
         Ok(Arrow { from, to, span })
     }
-}
-
-/// The same arrows.
-pub fn copies(alloc: Global, arrows: &[Arrow]) -> Result<Items<Arrow>, AllocError>
-    ensures { IfOk result (λ copied. copied ≡ arrows.now) }
-{
-    let mut copied = Items::new(alloc);
-    for arrow in arrows {
-        copied.push(arrow.copy()?)?;
-    }
-    Ok(copied)
 }
 
 /// What leads from one name to another, where they differ.

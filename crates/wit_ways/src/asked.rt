@@ -2,7 +2,7 @@
 ghost use Rattle.std.specs.Prelude.{◌≡◌, IfOk, option_copied, unwrap_or};
 ghost use Rattle.wit_ways.specs.Asked.{asked_graph, asked_of, asked_side, chosen_keys, coming_arrows, coming_includes, coming_worlds, known_arrows};
 
-use crate::arrow::{Arrow, copies};
+use crate::arrow::Arrow;
 use crate::coming::Coming;
 use crate::entries::WorldSide;
 use crate::graph_arrow::graph_arrows;
@@ -67,7 +67,7 @@ impl Asked {
     }
 
     /// What worlds include that come.
-    pub fn includes(&self) -> &[Include]
+    pub(crate) fn includes(&self) -> &[Include]
         ensures { result.now ≡ coming_includes self.now }
     {
         match self {
@@ -77,7 +77,7 @@ impl Asked {
     }
 
     /// Where the worlds stand that come.
-    pub fn worlds(&self) -> &[WorldPlace]
+    pub(crate) fn worlds(&self) -> &[WorldPlace]
         ensures { result.now ≡ coming_worlds self.now }
     {
         match self {
@@ -98,7 +98,7 @@ impl Asked {
     }
 
     /// The keys that an `exportize` chooses.
-    pub fn keys(&self) -> Option<&Items<Text>>
+    pub(crate) fn keys(&self) -> Option<&Items<Text>>
         ensures { option_copied result ≡ chosen_keys self.now }
     {
         match self {
@@ -148,6 +148,8 @@ pub fn known_arrows(
     let made = asked_graph(alloc, resolve, asked)?;
     let graph = made_or_known(&made, resolve);
     let mut arrows = graph_arrows(alloc, 0, graph, asked.side())?;
-    arrows.append(copies(alloc, asked.arrows())?)?;
+    for arrow in asked.arrows() {
+        arrows.push(arrow.try_clone()?)?;
+    }
     Ok(arrows)
 }

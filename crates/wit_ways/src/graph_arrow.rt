@@ -36,7 +36,7 @@ pub fn graph_arrows(
     arrows.append(world_dependencies(alloc, offset, graph, homes, WorldSide::Exports)?)?;
     arrows.append(uses_in(alloc, &features, offset, types, interfaces, homes)?)?;
     arrows.append(uses_in(alloc, &features, offset, types, interfaces, names)?)?;
-    arrows.append(entries_in(alloc, offset, graph, names, side)?)?;
+    arrows.append(entries_in(alloc, &features, offset, graph, names, side)?)?;
     Ok(arrows)
 }
 
@@ -237,23 +237,23 @@ fn named_by(graph: &Graph, item: &WorldItem) -> Option<(InterfaceId, Span)>
     }
 }
 
-/// Which interfaces, by these names, the worlds of a graph have on a side.
+/// Which interfaces, by these names, the worlds of a graph have on a side, where they are active under these features.
 fn entries_in(
     alloc: Global,
+    features: &Features,
     offset: u32,
     graph: &Graph,
     names: &[Option<Text>],
     side: WorldSide,
 ) -> Result<Items<Arrow>, AllocError>
-    ensures { IfOk result (λ arrows. arrows ≡ entries_in offset graph.now names.now side) }
+    ensures { IfOk result (λ arrows. arrows ≡ entries_in features.now offset graph.now names.now side) }
 {
-    let features = all_on(alloc);
     let mut arrows = Items::new(alloc);
     for world in graph.worlds.as_slice() {
         if let Some(home) = home_of(graph, world.package) {
             add_entries(
                 alloc,
-                &features,
+                features,
                 offset,
                 names,
                 side,

@@ -203,7 +203,7 @@ impl Search {
         let mut next = Some(at);
         while let Some(place) = next {
             let reached = *self.reached.at(place);
-            way.push(arrows[reached.arrow].copy()?)?;
+            way.push(arrows[reached.arrow].try_clone()?)?;
             next = reached.before;
         }
         let mut way = way.into_vec();

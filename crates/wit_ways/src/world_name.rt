@@ -23,11 +23,8 @@ pub struct WorldPlace {
     pub world: WorldName,
 }
 
-impl WorldName {
-    /// The same name.
-    pub fn copy(&self) -> Result<WorldName, AllocError>
-        ensures { IfOk result (λ copied. copied ≡ self.now) }
-    {
+impl TryClone for WorldName {
+    fn try_clone(&self) -> Result<WorldName, AllocError> {
         let (package, name) = try_clone_two(&self.package, &self.name)?;
         Ok(WorldName { package, name })
     }
@@ -81,13 +78,9 @@ pub fn world_at(
 ) -> Result<Option<WorldName>, AllocError>
     ensures { IfOk result (λ world. world ≡ world_at graph.now coming.now span) }
 {
-    let mut worlds = graph_worlds(alloc, 0, graph)?;
-    for place in coming {
-        let (span, world) = (place.span, place.world.copy()?);
-        worlds.push(WorldPlace { span, world })?;
-    }
-    match find_world(worlds.as_slice(), span) {
-        Some(world) => Ok(Some(world.copy()?)),
+    let worlds = graph_worlds(alloc, 0, graph)?;
+    match find_world(worlds.as_slice(), span).or(find_world(coming, span)) {
+        Some(world) => Ok(Some(world.try_clone()?)),
         None => Ok(None),
     }
 }
