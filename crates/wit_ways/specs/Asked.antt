@@ -8,7 +8,7 @@ use Rattle.wit_resolve_graph.specs.declared.command.Command.{Command}
 use Rattle.wit_resolve_graph.specs.declared.command.Command.TheVariants as command
 use Rattle.wit_semver_spec.specs.SemverMerged.{with_new_entries}
 use Rattle.wit_ways.specs.Arrows.{graph_arrows}
-use Rattle.wit_ways.specs.Coming.{coming_graph, nothing, with_groups}
+use Rattle.wit_ways.specs.Coming.{coming_graph, coming_packages, placed_packages}
 use Rattle.wit_ways.specs.declared.arrow.Arrow.{Arrow}
 use Rattle.wit_ways.specs.declared.asked.Asked.{Asked}
 use Rattle.wit_ways.specs.declared.asked.Asked.TheVariants as asks
@@ -19,7 +19,7 @@ use Rattle.wit_ways.specs.declared.world_name.WorldPlace.{WorldPlace}
 
 -- what a command asks in a state and brings, its files behind those that are there
 abbrev pub asked_of : State → Command → Asked
-asked_of state (command.PushGroups main deps) = asks.Push (with_groups state.features nothing state.source_map.end (main ∷ deps))
+asked_of state (command.PushGroups main deps) = asks.Push (coming_packages state.features (placed_packages state.source_map.end (main ∷ deps)))
 asked_of state (command.Merge other) = asks.Merge (coming_graph state.source_map.end other.graph)
 asked_of state (command.Exportize home world out keys) = asks.Exportize keys
 asked_of state (command.Semver home world) = asks.Semver home world

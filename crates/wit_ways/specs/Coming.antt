@@ -1,5 +1,5 @@
 -- What comes with a command: packages, or a graph.
-use Rattle.std.specs.Prelude.{ℕ, ◌+◌, ◌^◌, nat_lt, List, [], ◌∷◌, ◌++◌, if◌then◌else◌}
+use Rattle.std.specs.Prelude.{ℕ, ◌+◌, ◌^◌, nat_lt, List, [], ◌∷◌, ◌++◌, map, flat_map, if◌then◌else◌}
 use Rattle.wit_data.specs.declared.unresolved.UnresolvedPackage.{UnresolvedPackage}
 use Rattle.wit_data.specs.declared.unresolved.UnresolvedPackageGroup.{UnresolvedPackageGroup}
 use Rattle.wit_graph_data.specs.declared.features.Features.{Features}
@@ -10,32 +10,34 @@ use Rattle.wit_ways.specs.Worlds.{graph_worlds}
 use Rattle.wit_ways.specs.declared.coming.Coming.{Coming}
 use Rattle.wit_ways.specs.declared.entries.WorldSide.TheVariants.{Exports}
 
-abbrev pub nothing : Coming
-nothing = record { dependencies = []; arrows = []; includes = []; worlds = [] }
-
 -- a graph, with spans so many positions further on
 abbrev pub coming_graph : ℕ → Graph → Coming
 coming_graph offset g = record { dependencies = []; arrows = graph_arrows offset g Exports; includes = []; worlds = graph_worlds offset g }
 
--- with one more package, under features
-abbrev pub with_package : Features → ℕ → Coming → UnresolvedPackage → Coming
-with_package features offset coming p = record {
-  dependencies = coming.dependencies ++ package_dependencies offset p;
-  arrows = coming.arrows ++ package_arrows features offset p;
-  includes = coming.includes ++ package_includes features offset p;
-  worlds = coming.worlds ++ package_worlds offset p;
+-- packages, each with the position at which its files begin, under features
+abbrev pub coming_packages : Features → List (ℕ × UnresolvedPackage) → Coming
+coming_packages features packages = record {
+  dependencies = flat_map (λ (x : ℕ × UnresolvedPackage). package_dependencies x.0 x.1) packages;
+  arrows = flat_map (λ (x : ℕ × UnresolvedPackage). package_arrows features x.0 x.1) packages;
+  includes = flat_map (λ (x : ℕ × UnresolvedPackage). package_includes features x.0 x.1) packages;
+  worlds = flat_map (λ (x : ℕ × UnresolvedPackage). package_worlds x.0 x.1) packages;
 }
 
-abbrev pub with_packages : Features → ℕ → Coming → List UnresolvedPackage → Coming
-with_packages features offset coming [] = coming
-with_packages features offset coming (p ∷ packages) = with_packages features offset (with_package features offset coming p) packages
+-- one, and then another
+abbrev pub joined : Coming → Coming → Coming
+joined a b = record {
+  dependencies = a.dependencies ++ b.dependencies;
+  arrows = a.arrows ++ b.arrows;
+  includes = a.includes ++ b.includes;
+  worlds = a.worlds ++ b.worlds;
+}
 
--- with those of a group, the nested ones before the main one
-abbrev pub with_group : Features → Coming → ℕ → UnresolvedPackageGroup → Coming
-with_group features coming offset group = with_package features offset (with_packages features offset coming group.nested) group.main
+-- the packages of a group, the nested ones before the main one, each with the position at which the group's files begin
+abbrev pub packages_at : ℕ → UnresolvedPackageGroup → List (ℕ × UnresolvedPackage)
+packages_at offset group = map (λ p. (offset, p)) (group.nested ++ group.main ∷ [])
 
--- with those of groups, where the files of the first begin at this position and those of the others follow. Groups whose files
--- begin past 4294967295 are left out
-abbrev pub with_groups : Features → Coming → ℕ → List UnresolvedPackageGroup → Coming
-with_groups features coming at [] = coming
-with_groups features coming at (group ∷ groups) = if nat_lt at (2 ^ 32) then with_groups features (with_group features coming at group) (at + group.source_map.end) groups else coming
+-- those of groups, where the files of the first begin at this position and those of the others follow. Groups whose files begin
+-- past 4294967295 are left out
+abbrev pub placed_packages : ℕ → List UnresolvedPackageGroup → List (ℕ × UnresolvedPackage)
+placed_packages at [] = []
+placed_packages at (group ∷ groups) = if nat_lt at (2 ^ 32) then packages_at at group ++ placed_packages (at + group.source_map.end) groups else []

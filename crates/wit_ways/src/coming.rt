@@ -1,6 +1,6 @@
 //! What comes with a command: packages, or a graph.
-ghost use Rattle.std.specs.Prelude.{◌≡◌, ◌∷◌, IfOk, OnOk};
-ghost use Rattle.wit_ways.specs.Coming.{coming_graph, nothing, with_group, with_groups, with_package, with_packages};
+ghost use Rattle.std.specs.Prelude.{◌≡◌, ◌∷◌, [], IfOk, OnOk};
+ghost use Rattle.wit_ways.specs.Coming.{coming_graph, coming_packages, joined, packages_at, placed_packages};
 
 use crate::arrow::Arrow;
 use crate::entries::WorldSide;
@@ -26,7 +26,7 @@ pub struct Coming {
 impl Coming {
     /// Nothing.
     fn new(alloc: Global) -> Coming
-        ensures { result ≡ nothing }
+        ensures { result ≡ record { dependencies = []; arrows = []; includes = []; worlds = [] } }
     {
         Coming {
             dependencies: Items::new(alloc),
@@ -55,7 +55,7 @@ impl Coming {
         main: &UnresolvedPackageGroup,
         deps: &[UnresolvedPackageGroup],
     ) -> Result<Coming, AllocError>
-        ensures { IfOk result (λ coming. coming ≡ with_groups features.now nothing offset (main.now ∷ deps.now)) }
+        ensures { IfOk result (λ coming. coming ≡ coming_packages features.now (placed_packages offset (main.now ∷ deps.now))) }
     {
         let mut coming = Coming::new(alloc);
         coming.add_group(alloc, features, offset, main)?;
@@ -78,7 +78,7 @@ impl Coming {
         offset: u32,
         group: &UnresolvedPackageGroup,
     ) -> Result<(), AllocError>
-        ensures { OnOk result (self.new ≡ with_group features.now self.old offset group.now) }
+        ensures { OnOk result (self.new ≡ joined self.old (coming_packages features.now (packages_at offset group.now))) }
     {
         for package in group.nested.as_slice() {
             self.add_package(alloc, features, offset, package)?;
@@ -94,7 +94,7 @@ impl Coming {
         offset: u32,
         package: &UnresolvedPackage,
     ) -> Result<(), AllocError>
-        ensures { OnOk result (self.new ≡ with_package features.now offset self.old «package».now) }
+        ensures { OnOk result (self.new ≡ joined self.old (coming_packages features.now ((offset, «package».now) ∷ []))) }
     {
         let dependencies = package_dependencies(alloc, offset, package)?;
         self.dependencies.append(dependencies)?;
