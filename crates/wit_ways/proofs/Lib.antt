@@ -1,4 +1,5 @@
 pub mod CycleNames
+pub mod ForeignHomes
 pub mod Groups
 pub mod Outcomes
 pub mod PackageRounds

@@ -45,8 +45,8 @@ abbrev pub interface_names : UnresolvedPackage → List (Option (List ℕ))
 interface_names p = map (interface_name p) (range_with_len 0 (length p.interfaces))
 
 -- where world w stands, by its package and its name
-abbrev pub world_place : ℕ → UnresolvedPackage → ℕ → Option WorldPlace
-world_place offset p w = option_map (λ (world : World). record { span = placed offset world.span; world = record { «package» = item_home p (item.World w); name = world.name } }) (slice_get p.worlds w)
+abbrev pub package_world : ℕ → UnresolvedPackage → ℕ → Option WorldPlace
+package_world offset p w = option_map (λ (world : World). record { span = placed offset world.span; world = record { «package» = item_home p (item.World w); name = world.name } }) (slice_get p.worlds w)
 
 -- ---- arrows
 
@@ -68,13 +68,13 @@ package_arrows features offset p =
 
 -- where the worlds stand that a package has or names
 abbrev pub package_worlds : ℕ → UnresolvedPackage → List WorldPlace
-package_worlds offset p = filter_map (world_place offset p) (range_with_len 0 (length p.worlds))
+package_worlds offset p = filter_map (package_world offset p) (range_with_len 0 (length p.worlds))
 
 -- that a world includes another, where the include is active
 abbrev pub include_of : Features → ℕ → UnresolvedPackage → World → WorldInclude → Option Include
 include_of features offset p world i =
     if is_active features i.stability
-    then option_map (λ (it : WorldPlace). record { world = record { «package» = p.name; name = world.name }; included = it.world; names = i.names; span = placed offset i.span }) (world_place offset p i.id)
+    then option_map (λ (it : WorldPlace). record { world = record { «package» = p.name; name = world.name }; included = it.world; names = i.names; span = placed offset i.span }) (package_world offset p i.id)
     else None
 
 -- what worlds include

@@ -1,1 +1,2 @@
+pub mod ForeignHomes
 pub mod Searching

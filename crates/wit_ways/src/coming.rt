@@ -4,6 +4,7 @@ ghost use Rattle.wit_ways.specs.Coming.{coming_graph, coming_packages, joined, p
 
 use crate::arrow::Arrow;
 use crate::entries::WorldSide;
+use crate::foreign_home::ForeignHomes;
 use crate::graph_arrow::graph_arrows;
 use crate::include::Include;
 use crate::package_arrow::{add_includes, add_worlds, package_arrows, package_dependencies};
@@ -98,9 +99,10 @@ impl Coming {
     {
         let dependencies = package_dependencies(alloc, offset, package)?;
         self.dependencies.append(dependencies)?;
-        let arrows = package_arrows(alloc, features, offset, package)?;
+        let homes = ForeignHomes::of(alloc, package)?;
+        let arrows = package_arrows(alloc, features, offset, package, &homes)?;
         self.arrows.append(arrows)?;
-        add_includes(features, offset, package, &mut self.includes)?;
-        add_worlds(offset, package, &mut self.worlds)
+        add_includes(features, offset, package, &homes, &mut self.includes)?;
+        add_worlds(offset, package, &homes, &mut self.worlds)
     }
 }

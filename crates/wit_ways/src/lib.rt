@@ -8,6 +8,7 @@ mod asked;
 mod coming;
 mod conflict;
 mod entries;
+mod foreign_home;
 mod graph_arrow;
 mod include;
 mod package_arrow;

@@ -1,18 +1,19 @@
 //! What leads where in a package that comes: which packages it names, which interface uses which, what worlds export, and what
 //! they include.
-ghost use Rattle.std.specs.Prelude.{◌≡◌, ◌++◌, IfOk, OnOk, filter_map, option_copied};
+ghost use Rattle.std.specs.Prelude.{◌≡◌, ◌++◌, IfOk, OnOk, filter_map};
 ghost use Rattle.std.specs.Option.{option_to_list};
-ghost use Rattle.wit_ways.specs.Packages.{dependencies_by, include_of, interface_name, interface_names, is_item, item_home, names_item, package_arrows, package_dependencies, package_includes, package_worlds, world_place};
+ghost use Rattle.wit_ways.specs.Packages.{dependencies_by, include_of, interface_name, interface_names, package_arrows, package_dependencies, package_includes, package_world, package_worlds};
+ghost use Rattle.wit_ways.specs.steps.ForeignHomes.{AreHomes};
 
 use crate::arrow::{Arrow, item_text, package_text, placed};
 use crate::entries::{WorldSide, add_entries};
+use crate::foreign_home::{ForeignHomes, item_home};
 use crate::include::Include;
 use crate::uses::uses_in;
 use crate::world_name::{WorldName, WorldPlace};
 use std::alloc::{AllocError, Global};
 use wit_data::{
-    AstItem, InterfaceId, Items, Names, PackageName, Stability, Text, TryClone, UnresolvedPackage,
-    World, WorldId, WorldInclude,
+    AstItem, InterfaceId, Items, Text, TryClone, UnresolvedPackage, World, WorldId, WorldInclude,
 };
 use wit_graph_data::Features;
 use wit_link_spec::is_active;
@@ -47,10 +48,12 @@ pub fn package_arrows(
     features: &Features,
     offset: u32,
     package: &UnresolvedPackage,
+    homes: &ForeignHomes,
 ) -> Result<Items<Arrow>, AllocError>
+    requires { AreHomes «package».now homes.now }
     ensures { IfOk result (λ arrows. arrows ≡ package_arrows features.now offset «package».now) }
 {
-    let names = interface_names(alloc, package)?;
+    let names = interface_names(alloc, package, homes)?;
     let names = names.as_slice();
     let (types, interfaces) = (package.types.as_slice(), &package.interfaces);
     let mut arrows = uses_in(alloc, features, offset, types, interfaces, names)?;
@@ -73,13 +76,15 @@ pub fn package_arrows(
 fn interface_names(
     alloc: Global,
     package: &UnresolvedPackage,
+    homes: &ForeignHomes,
 ) -> Result<Items<Option<Text>>, AllocError>
+    requires { AreHomes «package».now homes.now }
     ensures { IfOk result (λ names. names ≡ interface_names «package».now) }
 {
     let mut names = Items::new(alloc);
     for index in 0..package.interfaces.len() {
-        let name = interface_name(alloc, package, InterfaceId::from_index(index))?;
-        names.push(name)?;
+        let id = InterfaceId::from_index(index);
+        names.push(interface_name(alloc, package, homes, id)?)?;
     }
     Ok(names)
 }
@@ -88,8 +93,10 @@ fn interface_names(
 fn interface_name(
     alloc: Global,
     package: &UnresolvedPackage,
+    homes: &ForeignHomes,
     id: InterfaceId,
 ) -> Result<Option<Text>, AllocError>
+    requires { AreHomes «package».now homes.now }
     ensures { IfOk result (λ name. name ≡ interface_name «package».now id) }
 {
     let Some(interface) = package.interfaces.get(id.index()) else {
@@ -98,55 +105,22 @@ fn interface_name(
     let Some(name) = &interface.name else {
         return Ok(None);
     };
-    let home = item_home(package, &AstItem::Interface(id));
+    let home = item_home(package, homes, &AstItem::Interface(id));
     Ok(Some(item_text(alloc, home, name.as_str())?))
-}
-
-/// The name of the package of an interface or a world: the other one of which it is named, or else this one.
-fn item_home<'a>(package: &'a UnresolvedPackage, item: &AstItem) -> &'a PackageName
-    ensures { result.now ≡ item_home «package».now item.now }
-{
-    for (home, items) in package.foreign_deps.iter() {
-        if names_item(items, item) {
-            return home;
-        }
-    }
-    &package.name
-}
-
-/// Whether an interface or a world is among those that are named of another package.
-fn names_item(items: &Names<(AstItem, Items<Stability>)>, item: &AstItem) -> bool
-    ensures { result ≡ names_item item.now items.now }
-{
-    for (_, named) in items.iter() {
-        if is_item(item, &named.0) {
-            return true;
-        }
-    }
-    false
-}
-
-/// Whether two ids are those of one interface, or of one world.
-fn is_item(a: &AstItem, b: &AstItem) -> bool
-    ensures { result ≡ is_item a.now b.now }
-{
-    match (a, b) {
-        (AstItem::Interface(a), AstItem::Interface(b)) => *a == *b,
-        (AstItem::World(a), AstItem::World(b)) => *a == *b,
-        _ => false,
-    }
 }
 
 /// Notes where the worlds stand that a package has or names.
 pub fn add_worlds(
     offset: u32,
     package: &UnresolvedPackage,
+    homes: &ForeignHomes,
     places: &mut Items<WorldPlace>,
 ) -> Result<(), AllocError>
+    requires { AreHomes «package».now homes.now }
     ensures { OnOk result (places.new ≡ places.old ++ package_worlds offset «package».now) }
 {
     for index in 0..package.worlds.len() {
-        let place = world_place(offset, package, WorldId::from_index(index))?;
+        let place = package_world(offset, package, homes, WorldId::from_index(index))?;
         add_place(places, place)?;
     }
     Ok(())
@@ -163,17 +137,19 @@ fn add_place(places: &mut Items<WorldPlace>, place: Option<WorldPlace>) -> Resul
 }
 
 /// Where a world stands.
-fn world_place(
+fn package_world(
     offset: u32,
     package: &UnresolvedPackage,
+    homes: &ForeignHomes,
     id: WorldId,
 ) -> Result<Option<WorldPlace>, AllocError>
-    ensures { IfOk result (λ place. place ≡ world_place offset «package».now id) }
+    requires { AreHomes «package».now homes.now }
+    ensures { IfOk result (λ place. place ≡ package_world offset «package».now id) }
 {
     let Some(world) = package.worlds.get(id.index()) else {
         return Ok(None);
     };
-    let home = item_home(package, &AstItem::World(id));
+    let home = item_home(package, homes, &AstItem::World(id));
     let (package, name) = try_clone_two(home, &world.name)?;
     let span = placed(world.span, offset);
     let world = WorldName { package, name };
@@ -185,12 +161,14 @@ pub fn add_includes(
     features: &Features,
     offset: u32,
     package: &UnresolvedPackage,
+    homes: &ForeignHomes,
     includes: &mut Items<Include>,
 ) -> Result<(), AllocError>
+    requires { AreHomes «package».now homes.now }
     ensures { OnOk result (includes.new ≡ includes.old ++ package_includes features.now offset «package».now) }
 {
     for world in package.worlds.as_slice() {
-        add_own_includes(features, offset, package, world, includes)?;
+        add_own_includes(features, offset, package, homes, world, includes)?;
     }
     Ok(())
 }
@@ -200,13 +178,15 @@ fn add_own_includes(
     features: &Features,
     offset: u32,
     package: &UnresolvedPackage,
+    homes: &ForeignHomes,
     world: &World,
     includes: &mut Items<Include>,
 ) -> Result<(), AllocError>
+    requires { AreHomes «package».now homes.now }
     ensures { OnOk result (includes.new ≡ includes.old ++ filter_map (include_of features.now offset «package».now world.now) world.now.includes) }
 {
     for include in world.includes.as_slice() {
-        if let Some(include) = include_of(features, offset, package, world, include)? {
+        if let Some(include) = include_of(features, offset, package, homes, world, include)? {
             includes.push(include)?;
         }
     }
@@ -218,15 +198,17 @@ fn include_of(
     features: &Features,
     offset: u32,
     package: &UnresolvedPackage,
+    homes: &ForeignHomes,
     world: &World,
     include: &WorldInclude,
 ) -> Result<Option<Include>, AllocError>
+    requires { AreHomes «package».now homes.now }
     ensures { IfOk result (λ made. made ≡ include_of features.now offset «package».now world.now include.now) }
 {
     if !is_active(features, &include.stability) {
         return Ok(None);
     }
-    let Some(included) = world_place(offset, package, include.id)? else {
+    let Some(included) = package_world(offset, package, homes, include.id)? else {
         return Ok(None);
     };
     let included = included.world;
