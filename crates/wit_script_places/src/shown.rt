@@ -1,6 +1,6 @@
 //! A line of a script as it is shown: where it stands, its text, and a mark under what it says.
 ghost use Rattle.std.specs.Prelude.{◌≡◌, IfOk, string_bytes};
-ghost use Rattle.wit_script_places.specs.Shown.{command_text, place_text, snippet_text};
+ghost use Rattle.wit_script_places.specs.Shown.{command_text, noted_text, place_text, return_note, snippet_text};
 
 use crate::lines::ScriptLines;
 use std::alloc::{AllocError, Global};
@@ -29,8 +29,8 @@ pub fn place_text(
         line: own,
         column,
     };
-    let snippet = snippet(alloc, number, line)?;
-    format!(in alloc; "     --> line {number} ({location})\n{snippet}")
+    let shown = noted_snippet(alloc, number, line)?;
+    format!(in alloc; "     --> line {number} ({location})\n{shown}")
 }
 
 /// The line of a command, by its index in the script.
@@ -41,8 +41,29 @@ pub fn command_text(alloc: Global, script: &ScriptLines, index: usize) -> Result
         return Ok(String::new(alloc));
     };
     let number = index + 1;
-    let snippet = snippet(alloc, number, line)?;
-    format!(in alloc; "     --> line {number}\n{snippet}")
+    let shown = noted_snippet(alloc, number, line)?;
+    format!(in alloc; "     --> line {number}\n{shown}")
+}
+
+/// A line as it is shown, and under it that a carriage return ends it, where it does.
+fn noted_snippet(alloc: Global, number: usize, line: &str) -> Result<String, AllocError>
+    ensures { IfOk result (λ text. string_bytes text ≡ noted_text number line.now) }
+{
+    let mut text = snippet(alloc, number, line)?;
+    text.push_str(return_note(line))?;
+    Ok(text)
+}
+
+/// What is said under a line that a carriage return ends, which can't be seen there.
+fn return_note(line: &str) -> &'static str
+    ensures { result.now ≡ return_note line.now }
+{
+    match line.as_bytes().last() {
+        Some(b) if *b == b'\r' => {
+            "      = a carriage return ends it: lines end with a line feed alone\n"
+        }
+        _ => "",
+    }
 }
 
 /// A line with its number, and a mark under what it says; of a line over 500 bytes its beginning.
