@@ -1,8 +1,8 @@
 #!/bin/sh
 # check/bindings.sh [PROGRAM]: builds the static library, and builds and runs what stands on it: what is written in C
-# (check/c_example.sh), the Rust crate with its tests, its examples and its documentation, and the Python module with its
-# tests. With PROGRAM, which reads scripts as `witgraph` does, compares the two on the worked scripts. Needs rt, cc, cargo
-# and python3; Rust and Python are no part of the gate.
+# and the tests of the Python module (check/c_example.sh), the Rust crate with its tests, its examples and its
+# documentation, and an example in Python. With PROGRAM, which reads scripts as `witgraph` does, compares the two on the worked scripts. Needs rt, cc, cargo
+# and python3; Rust is no part of the gate.
 #
 # WITGRAPH_LIBRARY, the folder of a libwitgraph_c.a that is there (of tools/trial-build, say), spares the build of the
 # library. WITGRAPH_JSON, a build of `witgraph_json`, is tested, too. Debian's crates are taken where they are installed.
@@ -18,7 +18,7 @@ if [ -z "${WITGRAPH_LIBRARY:-}" ]; then
 fi
 export WITGRAPH_LIBRARY
 
-echo "bindings: C"
+echo "bindings: C, tests of Python"
 check/c_example.sh
 
 echo "bindings: Rust"
@@ -47,6 +47,5 @@ WITGRAPH_SHARED="$work/libwitgraph.so"
 export WITGRAPH_SHARED
 cc -shared -Wl,--whole-archive "$WITGRAPH_LIBRARY/libwitgraph_c.a" -Wl,--no-whole-archive \
     "$(dirname "$(rt doc)")/c/liblibc_c.a" -o "$WITGRAPH_SHARED"
-python3 bindings/python/test_witgraph.py
 python3 bindings/python/graph.py < "$work/wasi.json" | cmp - "$work/graph"
 echo "bindings: all built and run"

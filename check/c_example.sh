@@ -1,7 +1,9 @@
 #!/bin/sh
 # check/c_example.sh: builds what is written in C on the static library, with gcc or another C compiler and nothing else:
 # the example prints what each worked script is to print and ends with the status of `witgraph`, tells a script that isn't
-# UTF-8, a document is carried out, and its graph read again, and an allocation that is refused is told. `.ci/run` runs it after `rt ci`, over whose libraries it builds the static one.
+# UTF-8, a document is carried out, and its graph read again, and an allocation that is refused is told. Then come the tests
+# of Python's module, whose readme shows what is told. `.ci/run` runs it after `rt ci`, over whose libraries it builds the
+# static one.
 #
 # WITGRAPH_LIBRARY, the folder of a libwitgraph_c.a that is there, spares the build of the library.
 set -eu
@@ -51,3 +53,7 @@ echo "c_example: the document of witgraph_json comes out as stored, and its grap
 # Each allocation is refused in turn.
 "$compiler" $flags -Wl,--wrap=malloc,--wrap=realloc,--wrap=free bindings/c/no_memory.c $libraries -o "$work/no_memory"
 "$work/no_memory" < crates/witgraph/stdin
+
+"$compiler" -shared -Wl,--whole-archive "$WITGRAPH_LIBRARY/libwitgraph_c.a" -Wl,--no-whole-archive "$kit/c/liblibc_c.a" \
+    -o "$work/libwitgraph.so"
+WITGRAPH_SHARED="$work/libwitgraph.so" python3 bindings/python/test_witgraph.py
