@@ -1,8 +1,8 @@
 #!/bin/sh
 # check/bindings.sh [PROGRAM]: builds the static library, and builds and runs what stands on it: what is written in C
 # and the tests of the Python module (check/c_example.sh), the Rust crate with its tests, its examples and its
-# documentation, and an example in Python. With PROGRAM, which reads scripts as `witgraph` does, compares the two on the worked scripts. Needs rt, cc, cargo
-# and python3; Rust is no part of the gate.
+# documentation, and an example in Python. With PROGRAM, which reads scripts as `witgraph` does, compares the two on the
+# worked scripts. Needs rt, cc, cargo and python3; Rust is no part of the gate.
 #
 # WITGRAPH_LIBRARY, the folder of a libwitgraph_c.a that is there (of tools/trial-build, say), spares the build of the
 # library. WITGRAPH_JSON, a build of `witgraph_json`, is tested, too. Debian's crates are taken where they are installed.
