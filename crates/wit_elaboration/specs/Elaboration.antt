@@ -38,7 +38,7 @@ IsConflictError g world error =
 
 -- the exports of world id are in conflict, and the error says so
 abbrev pub IsElaborationError : Graph → ℕ → ResolveErrorKind → Type 0
-IsElaborationError g id error = ForSome (slice_get g.worlds id) (λ (world : World). IsConflictError g world error)
+IsElaborationError g id error = (world : World) × (slice_get g.worlds id ≡ Some world) × IsConflictError g world error
 
 -- a world can be elaborated: it is there, its keys and ids are in order, and uses are acyclic
 pub record CanElaborate (g : Graph) (id : ℕ) : Type 0 where

@@ -3,7 +3,8 @@
 //! The names are those of wit-parser 0.263.0; a name that a contract can't spell takes a `_`, as [`Type_`]. All of it
 //! is plain data: structs and enums with public fields, over [`Text`] (a `String`), [`Items`] (a `Vec`), [`Names`] (an
 //! `IndexMap<String, _>`), [`Table`] (an `IndexMap`) and [`Version`] (a `semver::Version`), each of which is made from
-//! its std type and gives it back without memory; a version alone, which lies on the heap, is made with memory.
+//! its std type and gives it back. Texts and lists do so without memory. A version lies on the heap, so it is made with
+//! memory; a table of few pairs keeps a list, so it may take memory to be made of an `IndexMap` or to become one.
 //!
 //! A reader of WIT makes an [`UnresolvedPackage`] or an [`UnresolvedPackageGroup`]. The calls that add one to a graph
 //! ask that it has its shape, which [`Shape::is_shaped`] tells:

@@ -137,7 +137,8 @@ pub record IsFirstOnCycle (uses : List (List ℕ)) (i : ℕ) : Type 0 where
 abbrev pub AtFirstOnCycle : {A : Type 0} → (ℕ → A) → List (List ℕ) → A → Type 0
 AtFirstOnCycle place uses at = (i : ℕ) × (IsFirstOnCycle uses i × (at ≡ place i))
 
--- the first thing that breaks a clause: what it is of, and of which it doesn't hold
+-- The first thing that breaks a clause: what it is of, and of which it doesn't hold. Uses have a place only where they
+-- close a cycle: that each is of an interface of the package, the clauses before have seen.
 abbrev pub BreaksAt : UnresolvedPackage → ShapeClause → ShapePlace → Type 0
 BreaksAt p clause.UnplacedInterfaces = AtFirst place.Interface (λ _ (interface : Interface). interface.package ≡ None) p.interfaces
 BreaksAt p clause.UnplacedWorlds = AtFirst place.World (λ _ (world : World). world.package ≡ None) p.worlds
