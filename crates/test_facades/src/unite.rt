@@ -5,7 +5,7 @@ use std::fmt::Write;
 use std::process::Abort;
 use wit_graph::{Graph, is_valid};
 use wit_items::{TrackRule, WorldId, WorldItem, WorldKey};
-use wit_unite::{exportize, importize, merge, merge_by_track};
+use wit_unite::{Remap, exportize, importize, merge_by_track, unite};
 
 /// How many packages, interfaces and worlds a graph has.
 fn counts(graph: &Graph) -> [usize; 3] {
@@ -26,7 +26,7 @@ fn merged(rt: &impl Abort, alloc: Global) -> String {
     );
     assert!(rt; is_valid(alloc, &first).expect(rt, "memory"));
     assert!(rt; is_valid(alloc, &other).expect(rt, "memory"));
-    let (whole, remap) = merge(alloc, &first, other, 0).expect(rt, "a graph");
+    let (whole, remap): (Graph, Remap) = unite(alloc, &first, other, 0).expect(rt, "a graph");
     assert!(rt; is_valid(alloc, &whole).expect(rt, "memory"));
     let [packages, interfaces, worlds] = counts(&whole);
     let mut out = format!(in alloc; "{packages} {interfaces} {worlds}:").expect(rt, "memory");

@@ -11,7 +11,7 @@ use wit_items::{
     Items, PackageName, Text, TrackRule, TryClone, UnresolvedPackage, WorldId, WorldItem, WorldKey,
 };
 use wit_link::{Remap, append, append_all, sort_groups};
-use wit_unite::{exportize, importize, merge, merge_by_track};
+use wit_unite::{exportize, importize, merge_by_track, unite};
 
 // ---- adding
 
@@ -163,7 +163,7 @@ pub fn unite_graphs(rt: &impl Print, alloc: Global, graph: &Graph, other: &Graph
 {
     let other = other.try_clone().ok()?;
     call(rt, "unite");
-    tell(rt, types_in(merge(alloc, graph, other, 0)))?;
+    tell(rt, types_in(unite(alloc, graph, other, 0)))?;
     graph_state(rt, graph)
 }
 

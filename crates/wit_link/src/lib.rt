@@ -39,4 +39,5 @@ pub use crate::caches::{CachesMark, GraphCaches};
 pub use crate::labels::rename;
 pub use crate::several::{append_all, append_all_with};
 pub use crate::sort::sort_groups;
+pub use wit_elaboration::Elaborator;
 pub use wit_remap::Remap;

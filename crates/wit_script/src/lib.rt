@@ -5,7 +5,7 @@
 //! understood, which is then all that it writes. It works on any reader and writer, each within a [`Watched`], which
 //! records whether one of its calls failed. [`execute_text`] does the same from a text to a text, and [`exit_status`] is
 //! what a program answers that executes a script. [`print_world`] gives the text of one world, [`read_script`] the commands of
-//! a script, and [`action_of`] what one of them does.
+//! a script, and [`action_of`] what the [`Request`] of one of them does.
 //!
 //! ```text
 //! let mut reader = Watched::new(script.as_bytes());
@@ -33,3 +33,4 @@ pub use crate::ready::{ReadyCommand, ScriptCommand};
 pub use crate::script::{execute, execute_text, exit_status};
 pub use crate::stream::{read_all, write_all};
 pub use crate::watched::Watched;
+pub use wit_script_lines::Request;
