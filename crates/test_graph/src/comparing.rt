@@ -208,7 +208,7 @@ fn gates(rt: &impl Abort, alloc: Global, ours: &Graph, other: &Graph) -> String 
         return String::new(alloc);
     }
     let found = find_matches(alloc, ours, other).expect(rt, "memory");
-    match find_stability_mismatch(alloc, ours, other, &found).expect(rt, "memory") {
+    match find_stability_mismatch(ours, other, &found).expect(rt, "memory") {
         Some(pair) => features(rt, alloc, &pair.from, &pair.into),
         None => string(rt, alloc, "-"),
     }

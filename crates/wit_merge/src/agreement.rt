@@ -34,7 +34,7 @@ pub(crate) fn check_agreement(
         }
         .into());
     }
-    if let Some(pair) = find_stability_mismatch(alloc, graph, other, matches)? {
+    if let Some(pair) = find_stability_mismatch(graph, other, matches)? {
         return Err(ResolveErrorKind::StabilityMismatch {
             span: Span::unknown(),
             from: pair.from,

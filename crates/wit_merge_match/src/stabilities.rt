@@ -9,7 +9,7 @@ ghost use Rattle.wit_merge_spec.specs.steps.Parts.{StabilitiesMismatch};
 
 use crate::matched_graphs::MatchedGraphs;
 use crate::matches::Matches;
-use std::alloc::{AllocError, Global};
+use std::alloc::AllocError;
 use wit_data::{Stability, Table, TryClone, World, WorldItem, WorldKey};
 use wit_graph_data::Graph;
 
@@ -35,7 +35,6 @@ struct Disagreement<'a> {
 ///
 /// Source: `update_stability` and `update_world_imports_stability` of wit-parser 0.263.0.
 pub fn find_stability_mismatch(
-    alloc: Global,
     graph: &Graph,
     other: &Graph,
     matches: &Matches,

@@ -10,7 +10,7 @@ ghost use Rattle.wit_data.specs.declared.types.TypeDef.{TypeDef};
 ghost use Rattle.wit_data.specs.declared.world.World.{World};
 
 use crate::names::{has_name, is_text};
-use std::alloc::{AllocError, Global};
+use std::alloc::AllocError;
 use wit_data::{
     Interface, InterfaceId, TypeDef, TypeId, TypeOwner, UnresolvedPackage, World, WorldId,
     WorldItem, WorldKey,
@@ -18,7 +18,7 @@ use wit_data::{
 use wit_values::{Names, Text, TryClone};
 
 /// Whether types, and what lists them, agree.
-pub(crate) fn has_owners(alloc: Global, unresolved: &UnresolvedPackage) -> Result<bool, AllocError>
+pub(crate) fn has_owners(unresolved: &UnresolvedPackage) -> Result<bool, AllocError>
     ensures { IfOk result (λ holds. IsTrue holds ↔ HasUnresolvedOwners unresolved.now) }
 {
     let interfaces = unresolved.interfaces.as_slice();

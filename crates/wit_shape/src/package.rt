@@ -39,7 +39,7 @@ pub fn is_shaped(alloc: Global, unresolved: &UnresolvedPackage) -> Result<bool, 
     if !knows_others(alloc, unresolved)? {
         return Ok(false);
     }
-    if !owners::has_owners(alloc, unresolved)? {
+    if !owners::has_owners(unresolved)? {
         return Ok(false);
     }
     if !references::has_references(alloc, unresolved)? {
