@@ -4,7 +4,7 @@ ghost use Rattle.wit_resolve_graph.specs.Step.{IsCommandShaped};
 
 use crate::states::{incoming, state, tell_state};
 use std::alloc::Global;
-use test_sweep_layers::marks::{call, copy_of, tell_refusal};
+use test_sweep_layers::marks::{call, copy_of, tell, tell_refusal};
 use test_sweep_layers::sources::one_file;
 use wit_resolve_graph::{
     Command, Remap, Reply, Resolve, ResolveResult, WorldId, WorldItem, WorldKey, run,
@@ -13,7 +13,29 @@ use wit_resolve_graph::{
 /// Changes that need no world.
 pub fn change(rt: &impl Print, alloc: Global, resolve: &Resolve) -> Option<()> {
     add_feature(rt, alloc, resolve)?;
-    push_source_map(rt, alloc, resolve)
+    push_source_map(rt, alloc, resolve)?;
+    of_graph(rt, alloc, resolve)
+}
+
+/// A `Resolve` of the graph with what stands beside it.
+fn of_graph(rt: &impl Print, alloc: Global, resolve: &Resolve) -> Option<()> {
+    let graph = copy_of(resolve.graph())?;
+    let features = copy_of(resolve.features())?;
+    let map = copy_of(resolve.source_map())?;
+    call(rt, "of_graph");
+    match Resolve::of_graph(alloc, graph, features, map, resolve.track_rule()) {
+        Ok(made) => tell_made_of(rt, &made?),
+        Err(refusal) => {
+            tell_refusal(rt, &refusal)?;
+            state(rt, resolve)
+        }
+    }
+}
+
+/// What was made of the graph is as what it was made of.
+fn tell_made_of(rt: &impl Print, made: &Resolve) -> Option<()> {
+    tell(rt, Ok("a Resolve"))?;
+    state(rt, made)
 }
 
 fn add_feature(rt: &impl Print, alloc: Global, resolve: &Resolve) -> Option<()> {

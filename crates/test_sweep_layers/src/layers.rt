@@ -10,7 +10,7 @@ use wit_graph::{Features, Graph, ResolveResult, elaborate, is_elaborable};
 use wit_items::{
     Items, PackageName, Text, TrackRule, TryClone, UnresolvedPackage, WorldId, WorldItem, WorldKey,
 };
-use wit_link::{Remap, append, append_all, sort_groups};
+use wit_link::{GraphCaches, Remap, append, append_all, append_all_with, append_with, sort_groups};
 use wit_unite::{exportize, importize, merge_by_track, unite};
 
 // ---- adding
@@ -28,7 +28,9 @@ pub fn link(
 {
     sort(rt, alloc, package)?;
     append_one(rt, alloc, graph, features, package)?;
-    append_list(rt, alloc, graph, features, package)
+    append_one_cached(rt, alloc, graph, features, package)?;
+    append_list(rt, alloc, graph, features, package)?;
+    append_list_cached(rt, alloc, graph, features, package)
 }
 
 /// A list of this package alone.
@@ -80,6 +82,24 @@ fn append_one(
     tell_graph(rt, answer, &copy)
 }
 
+fn append_one_cached(
+    rt: &impl Print,
+    alloc: Global,
+    graph: &Graph,
+    features: &Features,
+    package: &UnresolvedPackage,
+) -> Option<()>
+    requires valid { IsValid graph.now }
+    requires shaped { IsShaped «package».now }
+{
+    let mut copy = copy_of(graph)?;
+    let package = copy_of(package)?;
+    let mut caches = GraphCaches::of(alloc, &copy).ok()?;
+    call(rt, "append_with");
+    let answer = append_with(alloc, &mut copy, &mut caches, features, package, 0);
+    tell_graph(rt, answer, &copy)
+}
+
 fn append_list(
     rt: &impl Print,
     alloc: Global,
@@ -94,6 +114,24 @@ fn append_list(
     let list = alone(alloc, package)?;
     call(rt, "append_all");
     let answer = append_all(alloc, &mut copy, features, list);
+    tell_graph(rt, answer, &copy)
+}
+
+fn append_list_cached(
+    rt: &impl Print,
+    alloc: Global,
+    graph: &Graph,
+    features: &Features,
+    package: &UnresolvedPackage,
+) -> Option<()>
+    requires valid { IsValid graph.now }
+    requires shaped { IsShaped «package».now }
+{
+    let mut copy = copy_of(graph)?;
+    let list = alone(alloc, package)?;
+    let mut caches = GraphCaches::of(alloc, &copy).ok()?;
+    call(rt, "append_all_with");
+    let answer = append_all_with(alloc, &mut copy, &mut caches, features, list);
     tell_graph(rt, answer, &copy)
 }
 

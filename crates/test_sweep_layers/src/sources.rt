@@ -60,7 +60,9 @@ fn show_map(rt: &impl Print, alloc: Global) -> Option<()> {
     call(rt, "render_location of SourceMap");
     tell_made(rt, map.render_location(alloc, Span::new(13, 18)))?;
     call(rt, "highlight_span");
-    tell_made(rt, map.highlight_span(alloc, Span::new(13, 18), "bad"))
+    tell_made(rt, map.highlight_span(alloc, Span::new(13, 18), "bad"))?;
+    call(rt, "show_span");
+    tell_made(rt, map.show_span(alloc, Span::new(13, 18)))
 }
 
 // ---- the sources of packages

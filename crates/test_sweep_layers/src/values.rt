@@ -1,11 +1,13 @@
 //! Calls that need no graph: lists, texts, names, versions.
 use crate::marks::{bare, call, copied, tell, tell_made};
+use indexmap::IndexMap;
 use std::alloc::{AllocError, Global};
+use std::hash::Hash;
 use wit_graph::NameSet;
 use wit_items::{
     Case, Docs, EnumCase, Flag, IncludeName, Items, Names, PackageName, ParsedUsePath, Span,
-    Stability, Table, Text, TrackRule, Type_, TypeId, UsePathFault, Version, is_kebab_name,
-    parse_use_path,
+    Stability, Table, Text, TrackRule, TryClone, Type_, TypeId, UsePathFault, Version,
+    is_kebab_name, parse_use_path,
 };
 use wit_link::rename;
 
@@ -14,6 +16,8 @@ pub fn make_values(rt: &impl Print, alloc: Global) -> Option<()> {
     push_items(rt, alloc)?;
     append_items(rt, alloc)?;
     push_keys(rt, alloc)?;
+    convert_tables(rt, alloc)?;
+    convert_names(rt, alloc)?;
     copy_parts(rt, alloc)?;
     rename_label(rt, alloc)?;
     for path in ["kebab", "foo:bar/baz@1.2.3-rc.1+b", "foo bar"] {
@@ -58,6 +62,43 @@ fn push_keys(rt: &impl Print, alloc: Global) -> Option<()> {
     let mut set = NameSet::new(alloc);
     call(rt, "insert of NameSet");
     tell_made(rt, set.insert(alloc, "name"))
+}
+
+// ---- tables of an `IndexMap`, and given back as one
+
+fn convert_tables(rt: &impl Print, alloc: Global) -> Option<()> {
+    let mut map = IndexMap::new(alloc);
+    map.insert(TypeId::from_index(7), 7usize).ok()?;
+    call(rt, "from_map of Table");
+    tell_made(rt, Table::from_map(map))?;
+    let mut table: Table<TypeId, usize> = Table::new(alloc);
+    table.push(TypeId::from_index(7), 7).ok()?;
+    call(rt, "into_map of Table");
+    tell_length(rt, table.into_map())
+}
+
+fn convert_names(rt: &impl Print, alloc: Global) -> Option<()> {
+    let mut map = IndexMap::new(alloc);
+    let key = String::from_str(alloc, "key").ok()?;
+    map.insert(key, 7usize).ok()?;
+    call(rt, "from_map of Names");
+    tell_made(rt, Names::from_map(map))?;
+    let mut names: Names<usize> = Names::new(alloc);
+    let key = String::from_str(alloc, "key").ok()?;
+    names.push(key, 7).ok()?;
+    call(rt, "into_map of Names");
+    tell_length(rt, names.into_map())
+}
+
+/// How many pairs a map has.
+fn tell_length<K: Eq + Hash + Drop>(
+    rt: &impl Print,
+    answer: Result<IndexMap<K, usize>, AllocError>,
+) -> Option<()> {
+    match answer {
+        Ok(map) => tell(rt, Ok(map.len())),
+        Err(refusal) => tell_made(rt, Err::<usize, AllocError>(refusal)),
+    }
 }
 
 // ---- texts, and copies of what no script has
@@ -147,6 +188,9 @@ fn tell_version(rt: &impl Print, version: Result<Version, semver::Error>) -> Opt
 
 fn ask_version(rt: &impl Print, alloc: Global, version: &Version) -> Option<()> {
     copied(rt, "try_clone of Version", version)?;
+    let inner = version.try_clone().ok()?.into_version();
+    call(rt, "from_version");
+    tell_made(rt, Version::from_version(alloc, inner))?;
     call(rt, "version_compat_track");
     tell_made(rt, PackageName::version_compat_track(alloc, version))?;
     call(rt, "version_compat_track_string");
