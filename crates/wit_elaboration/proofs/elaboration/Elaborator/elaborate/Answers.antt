@@ -17,7 +17,7 @@ returns-in_err-lists-clause-cause c =
     let told : (c.in_err-lists.field-0.0 ≡ OutOfMemory) ⊎ IsElaborationError c.args.graph.now c.args.world c.in_err-lists.field-0.0 =
     elim c.in_err-lists.ensures.cause [
       | inl none ↦ inl none
-      | inr conflict ↦ inr (c.at.result.now , there , conflict)
+      | inr conflict ↦ inr (c.at.result.now, there, conflict)
     ] in
     residual_error c.from_residual.result c.from_residual.ensures.1
     (λ e is.
