@@ -48,6 +48,7 @@ fn laws_of_adding_can_be_named(_rt: HostRuntime) {
 fn laws_of_merging_can_be_named(_rt: HostRuntime) {
     of_merges::accepted_copies_change_nothing();
     of_merges::agreement_is_symmetric();
+    of_merges::copies_are_refused_for();
     of_merges::copies_go_to_themselves();
     of_merges::either_order_elaborates();
     of_merges::empty_becomes_alike();

@@ -2,6 +2,7 @@ pub mod AgreementBack
 pub mod BorrowsBack
 pub mod BothNames
 pub mod BothOrders
+pub mod CopyCauses
 pub mod Covering
 pub mod EmptyFacts
 pub mod ExportsLike

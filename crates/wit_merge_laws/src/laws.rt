@@ -1,6 +1,6 @@
 //! Laws of merging: the contract of each function is what is proved.
 ghost use Rattle.wit_merge_laws.specs.laws.BorrowLaws.{MergesMakeNoBorrow};
-ghost use Rattle.wit_merge_laws.specs.laws.CopyLaws.{AcceptedCopiesChangeNothing, CopiesGoToThemselves, EmptyBecomesAlike, EmptyKeepsIds};
+ghost use Rattle.wit_merge_laws.specs.laws.CopyLaws.{AcceptedCopiesChangeNothing, CopiesAreRefusedFor, CopiesGoToThemselves, EmptyBecomesAlike, EmptyKeepsIds};
 ghost use Rattle.wit_merge_laws.specs.laws.GrowingLaws.{BorrowsCome, FunctionsCome, GrowthIsAccepted, JoinedIsGrown, LeftByMatches, NewWorldsAreSound, NothingNewIsCyclic, OldWorldsStay, MergesGrow, UsesGrow};
 ghost use Rattle.wit_merge_laws.specs.laws.MergingLaws.{NothingComes, SharedWorldsKeepImports, MergesHaveBothNames, MergesStayValid};
 ghost use Rattle.wit_merge_laws.specs.laws.OrderLaws.{AgreementIsSymmetric, EitherOrderElaborates, MergesAreAlike, MergingIsOrderFree, ResourcesStay};
@@ -94,6 +94,13 @@ pub fn copies_go_to_themselves()
 /// Where no cause holds against the merge of a valid graph with a copy of it, the graph keeps its names and its worlds.
 pub fn accepted_copies_change_nothing()
     ensures { AcceptedCopiesChangeNothing }
+{
+    laws_of_elaboration();
+}
+
+/// Only a borrow in a result (15) and a position that is too large (27) refuse the merge of a valid graph with a copy of it.
+pub fn copies_are_refused_for()
+    ensures { CopiesAreRefusedFor }
 {
     laws_of_elaboration();
 }

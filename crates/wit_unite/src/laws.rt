@@ -1,11 +1,11 @@
 //! Laws of merging, of transformed worlds and of semver merging: functions that compute nothing, whose contracts are the
 //! laws.
 pub use wit_merge_laws::laws::{
-    accepted_copies_change_nothing, agreement_is_symmetric, copies_go_to_themselves,
-    either_order_elaborates, empty_becomes_alike, empty_keeps_ids, merges_are_alike, merges_grow,
-    merges_have_both_names, merges_make_no_borrow, merges_stay_valid, merging_is_order_free,
-    nothing_comes, nothing_new_is_cyclic, old_worlds_stay, resources_stay,
-    shared_worlds_keep_imports,
+    accepted_copies_change_nothing, agreement_is_symmetric, copies_are_refused_for,
+    copies_go_to_themselves, either_order_elaborates, empty_becomes_alike, empty_keeps_ids,
+    merges_are_alike, merges_grow, merges_have_both_names, merges_make_no_borrow,
+    merges_stay_valid, merging_is_order_free, nothing_comes, nothing_new_is_cyclic,
+    old_worlds_stay, resources_stay, shared_worlds_keep_imports,
 };
 pub use wit_merge_spec::laws::examples_of_structure;
 pub use wit_semver_spec::laws::{

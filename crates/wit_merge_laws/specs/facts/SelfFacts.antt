@@ -70,7 +70,7 @@ use Rattle.wit_merge_spec.specs.steps.Parts.{moved_interfaces, brought_types, wi
 
 -- ---- lists
 
-key_has : (k : WorldKey) (j : ℕ) → k ≡ key.Interface j → Contains (key_interface k) j
+pub key_has : (k : WorldKey) (j : ℕ) → k ≡ key.Interface j → Contains (key_interface k) j
 key_has (key.Name label) j is = cc
 key_has (key.Interface i) j is = let same : i ≡ j = cc in subst (λ (x : ℕ). Contains (x ∷ []) j) (sym same) (Contains-here j [])
 
@@ -136,7 +136,7 @@ module _ (g : Graph) (offset : ℕ) (valid : IsValid g) where
       (some_whole (counterpart_package m) home p p home_so (package_self p there at))
       (some_whole (λ (there : Package). lookup (bytes_eq name) (table there)) (slice_get g.packages p) there x at (lookup_finds_name (table there) distinct name x has))
 
-  world_self : (w : ℕ) (world : World) → slice_get g.worlds w ≡ Some world → counterpart_world m w ≡ Some w
+  pub world_self : (w : ℕ) (world : World) → slice_get g.worlds w ≡ Some world → counterpart_world m w ≡ Some w
   world_self w world at =
       let of = home_is _ world.package (valid.well_formed.tables.worlds_listed w world at) in
       let home = world_in_table g valid w world of.0 at of.1 in
@@ -146,7 +146,7 @@ module _ (g : Graph) (offset : ℕ) (valid : IsValid g) where
   world_there : (w : ℕ) (world : World) → slice_get g.worlds w ≡ Some world → matched_world m w ≡ Some world
   world_there w world at = some_whole (slice_get g.worlds) (counterpart_world m w) w world (world_self w world at) at
 
-  named_self : (i : ℕ) (interface : Interface) (name : List ℕ) → slice_get g.interfaces i ≡ Some interface → interface.name ≡ Some name → counterpart_interface m i ≡ Some i
+  pub named_self : (i : ℕ) (interface : Interface) (name : List ℕ) → slice_get g.interfaces i ≡ Some interface → interface.name ≡ Some name → counterpart_interface m i ≡ Some i
   named_self i interface name at called =
       let of = home_is _ interface.package (valid.well_formed.tables.interfaces_listed i interface at) in
       let home = in_own_table g valid i interface name of.0 at called of.1 in
@@ -154,7 +154,7 @@ module _ (g : Graph) (offset : ℕ) (valid : IsValid g) where
       (subst (λ (o : Option (List ℕ)). counterpart_interface_by m i interface.package o ≡ Some i) (sym called)
       (table_self (λ (there : Package). there.interfaces) interface.package name of.0 i home.0 of.1 home.1 (valid.well_formed.tables.distinct_interfaces of.0 home.0 home.1) home.2))
 
-  unnamed_self : (i : ℕ) (interface : Interface) → slice_get g.interfaces i ≡ Some interface → interface.name ≡ None → (w : ℕ) (exported : Bool) (label : List ℕ) (world : World) (held : WorldItem) → slice_get g.worlds w ≡ Some world
+  pub unnamed_self : (i : ℕ) (interface : Interface) → slice_get g.interfaces i ≡ Some interface → interface.name ≡ None → (w : ℕ) (exported : Bool) (label : List ℕ) (world : World) (held : WorldItem) → slice_get g.worlds w ≡ Some world
       → Contains (entries_of exported world) (entry (key.Name label) held) → item_interface held ≡ i ∷ [] → counterpart_interface m i ≡ Some i
   unnamed_self i interface at none w exported label world held there has is =
       let unnamed = unnamed_so g.interfaces i interface at none in
@@ -166,7 +166,7 @@ module _ (g : Graph) (offset : ℕ) (valid : IsValid g) where
       (unnamed_held g.interfaces held i is unnamed)))))
 
   -- what is matched is matched with itself
-  interface_own : (i i' : ℕ) → counterpart_interface m i ≡ Some i' → i ≡ i'
+  pub interface_own : (i i' : ℕ) → counterpart_interface m i ≡ Some i' → i ≡ i'
   interface_own i i' found =
       let one = some_parts (λ (interface : Interface). counterpart_interface_by m i interface.package interface.name) (slice_get g.interfaces i) i' found in
       by one.0 one.1 one.0.name refl one.2
@@ -180,7 +180,7 @@ module _ (g : Graph) (offset : ℕ) (valid : IsValid g) where
 
   -- ---- types
 
-  type_of_interface : (t : ℕ) (def : TypeDef) (name : List ℕ) (i : ℕ) → slice_get g.types t ≡ Some def → def.name ≡ Some name → def.owner ≡ owner.Interface i → counterpart_interface m i ≡ Some i → counterpart_type m t ≡ Some t
+  pub type_of_interface : (t : ℕ) (def : TypeDef) (name : List ℕ) (i : ℕ) → slice_get g.types t ≡ Some def → def.name ≡ Some name → def.owner ≡ owner.Interface i → counterpart_interface m i ≡ Some i → counterpart_type m t ≡ Some t
   type_of_interface t def name i at called owned found =
       let listed = subst (IsListed g.interfaces g.worlds t (Some name)) owned (subst (λ (o : Option (List ℕ)). IsListed g.interfaces g.worlds t o def.owner) called (valid.well_formed.owners.listed t def at)) in
       let home = found_at (λ (interface : Interface). Contains interface.types (name, t)) g.interfaces i listed in
@@ -189,7 +189,7 @@ module _ (g : Graph) (offset : ℕ) (valid : IsValid g) where
       ∙ some_whole (interface_type g name) (counterpart_interface m i) i t found
       (some_whole (λ (interface : Interface). lookup (bytes_eq name) interface.types) (slice_get g.interfaces i) home.0 t home.1 (lookup_finds_name home.0.types (valid.well_formed.owners.distinct_types i home.0 home.1) name t home.2)))
 
-  type_of_world : (t : ℕ) (def : TypeDef) (name : List ℕ) (w : ℕ) → slice_get g.types t ≡ Some def → def.name ≡ Some name → def.owner ≡ owner.World w → counterpart_type m t ≡ Some t
+  pub type_of_world : (t : ℕ) (def : TypeDef) (name : List ℕ) (w : ℕ) → slice_get g.types t ≡ Some def → def.name ≡ Some name → def.owner ≡ owner.World w → counterpart_type m t ≡ Some t
   type_of_world t def name w at called owned =
       let listed = subst (IsListed g.interfaces g.worlds t (Some name)) owned (subst (λ (o : Option (List ℕ)). IsListed g.interfaces g.worlds t o def.owner) called (valid.well_formed.owners.listed t def at)) in
       let home = found_at (λ (world : World). Contains (world_types world) (name, t)) g.worlds w listed in
@@ -197,7 +197,7 @@ module _ (g : Graph) (offset : ℕ) (valid : IsValid g) where
       ((λ k. counterpart_type_by m (called k) (owned k))
       ∙ some_whole (λ (there : World). lookup (bytes_eq name) (world_types there)) (matched_world m w) home.0 t (world_there w home.0 home.1) (lookup_finds_world_type g valid w home.0 home.1 name t home.2))
 
-  type_own : (t t' : ℕ) → counterpart_type m t ≡ Some t' → t ≡ t'
+  pub type_own : (t t' : ℕ) → counterpart_type m t ≡ Some t' → t ≡ t'
   type_own t t' found =
       let one = some_parts (λ (def : TypeDef). counterpart_type_by m def.name def.owner) (slice_get g.types t) t' found in
       by one.0 one.1 one.0.name one.0.owner refl refl one.2
@@ -225,7 +225,7 @@ module _ (g : Graph) (offset : ℕ) (valid : IsValid g) where
             let held : p.1 ≡ x = same_at xs p.0 k p.1 x place from.0 at in
             (λ j. join (place j, held j) x) ∙ same (ap found (sym place) ∙ from.1)
 
-  same_type : (t : ℕ) (def : TypeDef) → slice_get g.types t ≡ Some def → joined_type m (t, def) ≡ def
+  pub same_type : (t : ℕ) (def : TypeDef) → slice_get g.types t ≡ Some def → joined_type m (t, def) ≡ def
   same_type t def at = joins_same (counterpart_type m) g.types type_own (λ p into. with_type p.1 into) t def at (λ found. λ k. record def { stability = join_same def.stability k })
 
   none_brought : (i : ℕ) (interface : Interface) → slice_get g.interfaces i ≡ Some interface → counterpart_interface m i ≡ Some i → brought_types m interface ≡ []
@@ -239,7 +239,7 @@ module _ (g : Graph) (offset : ℕ) (valid : IsValid g) where
       none_pass (λ (e : List ℕ × Function). not (is_some (lookup (bytes_eq e.0) interface.functions))) interface.functions (λ k e on.
       ap (λ (o : Option Function). not (is_some o)) (lookup_finds_name interface.functions (valid.well_formed.owners.distinct_functions i interface at) e.0 e.1 (contained_at interface.functions k e on)))
 
-  same_interface : (i : ℕ) (interface : Interface) → slice_get g.interfaces i ≡ Some interface → joined_interface m (i, interface) ≡ interface
+  pub same_interface : (i : ℕ) (interface : Interface) → slice_get g.interfaces i ≡ Some interface → joined_interface m (i, interface) ≡ interface
   same_interface i interface at =
       joins_same (counterpart_interface m) g.interfaces interface_own (λ p into. with_interface m p.1 into) i interface at (λ found. λ k. record interface {
         types = nothing_behind (λ (e : List ℕ × ℕ). (e.0, merged_type m e.1)) interface.types (brought_types m interface) (none_brought i interface at found) k;
@@ -289,11 +289,23 @@ module _ (g : Graph) (offset : ℕ) (valid : IsValid g) where
     same_entries : with_entries m w es es ≡ es
     same_entries = map_same (joined_entry false brought) es same_entry
 
-  same_world : (w : ℕ) (world : World) → slice_get g.worlds w ≡ Some world → joined_world m (w, world) ≡ world
+  import_named : (w : ℕ) (k : WorldKey) (held : WorldItem) (j : ℕ) → k ≡ key.Interface j → IsImport g.interfaces g.types w k held → IsNamed g.interfaces j
+  import_named w (key.Name label) held j is import = cc
+  import_named w (key.Interface f) (item.Interface id stability docs span external_id) j is import = let same : f ≡ j = cc in subst (IsNamed g.interfaces) same import.1
+  import_named w (key.Interface f) (item.Function fn) j is import = absurd import
+  import_named w (key.Interface f) (item.Type_ t span) j is import = absurd import
+
+  -- the key of an interface is of one that has a name
+  pub key_named : (w : ℕ) (world : World) → slice_get g.worlds w ≡ Some world → (exported : Bool) (e : Entry) (j : ℕ) → Contains (entries_of exported world) e → e.0 ≡ key.Interface j → IsNamed g.interfaces j
+  key_named w world at false e j has is = let place = place_of world.imports e has in import_named w e.0 e.1 j is (valid.well_formed.worlds.imports w world at place.0 e place.1)
+  key_named w world at true e j has is =
+      let place = place_of world.exports e has in named_key g.interfaces e.0 e.1 j (key_has e.0 j is) (valid.well_formed.worlds.exports w world at place.0 e place.1)
+
+  pub same_world : (w : ℕ) (world : World) → slice_get g.worlds w ≡ Some world → joined_world m (w, world) ≡ world
   same_world w world at =
       joins_same (counterpart_world m) g.worlds world_own (with_world m) w world at (λ found. λ k. record world {
-        imports = same_entries w world.imports (valid.well_formed.worlds.distinct_imports w world at) imports_named k;
-        exports = same_entries w world.exports (valid.well_formed.worlds.distinct_exports w world at) exports_named k;
+        imports = same_entries w world.imports (valid.well_formed.worlds.distinct_imports w world at) (key_named w world at false) k;
+        exports = same_entries w world.exports (valid.well_formed.worlds.distinct_exports w world at) (key_named w world at true) k;
         stability = join_same world.stability k;
       })
     where
@@ -301,18 +313,6 @@ module _ (g : Graph) (offset : ℕ) (valid : IsValid g) where
       world_own x x' found =
           let one = some_parts (λ (world : World). named_in_counterpart (λ (there : Package). there.worlds) m world.package world.name) (slice_get g.worlds x) x' found in
           some_same x x' (sym (world_self x one.0 one.1) ∙ found)
-
-      import_named : (k : WorldKey) (held : WorldItem) (j : ℕ) → k ≡ key.Interface j → IsImport g.interfaces g.types w k held → IsNamed g.interfaces j
-      import_named (key.Name label) held j is import = cc
-      import_named (key.Interface f) (item.Interface id stability docs span external_id) j is import = let same : f ≡ j = cc in subst (IsNamed g.interfaces) same import.1
-      import_named (key.Interface f) (item.Function fn) j is import = absurd import
-      import_named (key.Interface f) (item.Type_ t span) j is import = absurd import
-
-      imports_named : (e : Entry) (j : ℕ) → Contains world.imports e → e.0 ≡ key.Interface j → IsNamed g.interfaces j
-      imports_named e j has is = let place = place_of world.imports e has in import_named e.0 e.1 j is (valid.well_formed.worlds.imports w world at place.0 e place.1)
-
-      exports_named : (e : Entry) (j : ℕ) → Contains world.exports e → e.0 ≡ key.Interface j → IsNamed g.interfaces j
-      exports_named e j has is = let place = place_of world.exports e has in named_key g.interfaces e.0 e.1 j (key_has e.0 j is) (valid.well_formed.worlds.exports w world at place.0 e place.1)
 
   -- ---- packages
 
@@ -326,7 +326,7 @@ module _ (g : Graph) (offset : ℕ) (valid : IsValid g) where
       let of = found_at (λ (world : World). (world.name ≡ e.0) × (world.package ≡ Some p)) g.worlds e.1 (valid.well_formed.tables.world_tables p home at k e on) in
       stays_put (counterpart_world m e.1) e.1 (world_self e.1 of.0 of.1)
 
-  same_package_there : (p : ℕ) (home : Package) → slice_get g.packages p ≡ Some home → joined_package m (p, home) ≡ home
+  pub same_package_there : (p : ℕ) (home : Package) → slice_get g.packages p ≡ Some home → joined_package m (p, home) ≡ home
   same_package_there p home at =
       joins_same (counterpart_package m) g.packages package_own (λ e into. with_package m e.1 into) p home at (λ found. λ k. record home {
         interfaces = nothing_behind (λ (e : List ℕ × ℕ). (e.0, merged_interface m e.1)) home.interfaces (filter (λ (e : List ℕ × ℕ). moves_interface m e.1) home.interfaces) (none_pass (λ (e : List ℕ × ℕ). moves_interface m e.1) home.interfaces (named_entry p home at)) k;
@@ -351,7 +351,7 @@ module _ (g : Graph) (offset : ℕ) (valid : IsValid g) where
       let home = found_at (λ (home : Package). home.name ≡ e.0) g.packages e.1 (valid.well_formed.package_names.own_name k e on) in
       stays_put (counterpart_package m e.1) e.1 (package_self e.1 home.0 home.1)))
 
-  no_worlds_move : moved_worlds m ≡ []
+  pub no_worlds_move : moved_worlds m ≡ []
   no_worlds_move = none_selected (moves_world m) g.worlds (λ w world at. stays_put (counterpart_world m w) w (world_self w world at))
 
   same_worlds : (joined_graph m).worlds ≡ g.worlds

@@ -1,5 +1,5 @@
 -- Laws of merging where the one graph is empty, or both are the same: nothing gets a new name, and ids stay.
-use Rattle.std.specs.Prelude.{◌≡◌, ℕ, Some, slice_get}
+use Rattle.std.specs.Prelude.{◌≡◌, ℕ, [], ◌∷◌, Contains, Some, slice_get}
 use Rattle.wit_data.specs.Each.{EachAt}
 use Rattle.wit_data.specs.declared.interface.Interface.{Interface}
 use Rattle.wit_data.specs.declared.types.TypeDef.{TypeDef}
@@ -8,9 +8,11 @@ use Rattle.wit_data.specs.declared.types.TypeOwner.TheVariants as owner
 use Rattle.wit_data.specs.declared.world.World.{World}
 use Rattle.wit_elaboration.specs.examples.Examples.{empty_graph}
 use Rattle.wit_elaboration.specs.Valid.{IsValid}
+use Rattle.wit_graph_data.specs.Error.{error_number}
+use Rattle.wit_graph_data.specs.declared.error_kind.ResolveErrorKind.{ResolveErrorKind}
 use Rattle.wit_graph_data.specs.declared.graph.Graph.{Graph}
 use Rattle.wit_graph_data.specs.declared.graph.Package.{Package}
-use Rattle.wit_merge_spec.specs.Cause.{MergeIsAccepted}
+use Rattle.wit_merge_spec.specs.Cause.{IsMergeCause, MergeIsAccepted}
 use Rattle.wit_merge_spec.specs.Matches.{GraphMerge}
 use Rattle.wit_merge_spec.specs.Merged.{joined_graph, merged_interface, merged_package, merged_type, merged_world, merged}
 use Rattle.wit_merge_laws.specs.laws.MergingLaws.{merge_of_graphs}
@@ -68,3 +70,9 @@ CopiesGoToThemselves = (g : Graph) (offset : ℕ) → IsValid g → StaysItself 
 -- where no cause holds against it, the graph keeps its names and its worlds, elaborated again
 abbrev pub AcceptedCopiesChangeNothing : Type 0
 AcceptedCopiesChangeNothing = (g : Graph) (offset : ℕ) → IsValid g → MergeIsAccepted (merge_of_graphs g g offset) → HaveSameNames g (merged (merge_of_graphs g g offset)) × ((merged (merge_of_graphs g g offset)).worlds ≡ g.worlds)
+
+-- it is refused for a borrow in a result (15) or for a position that is too large (27) alone
+abbrev pub CopiesAreRefusedFor : Type 0
+CopiesAreRefusedFor =
+    (g : Graph) (offset : ℕ) (error : ResolveErrorKind) → IsValid g
+    → IsMergeCause (merge_of_graphs g g offset) error → Contains (15 ∷ 27 ∷ []) (error_number error)
