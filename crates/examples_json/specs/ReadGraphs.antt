@@ -41,6 +41,9 @@ pub record ExamplesOfReadGraphs : Type 0 where
   pub same_package : graph (codes "{\"worlds\":[],\"interfaces\":[],\"types\":[],\"packages\":[{\"name\":\"foo:bar\",\"interfaces\":{},\"worlds\":{}},{\"name\":\"foo:bar\",\"interfaces\":{},\"worlds\":{}}]}")
       ≡ fault_at (to (codes "name") ∷ step.Item 1 ∷ to (codes "packages") ∷ []) expected.NewName
   pub no_types : graph (codes "{\"worlds\":[],\"interfaces\":[],\"packages\":[]}") ≡ fault_at (to (codes "types") ∷ []) expected.Member
+  -- what a world included stands in it
+  pub with_includes : graph (codes "{\"worlds\":[{\"name\":\"w\",\"imports\":{},\"exports\":{},\"package\":null,\"includes\":[]}]}")
+      ≡ fault_at (to (codes "includes") ∷ step.Item 0 ∷ to (codes "worlds") ∷ []) expected.NoMember
   -- a name that is listed twice counts once
   pub features : reading_of features_of (codes "{\"names\":[\"fast\",\"new\",\"fast\"],\"all\":false}") ≡ Ok two_features
   pub all : reading_of features_of (codes "{\"all\":true,\"names\":[]}") ≡ Ok all_features

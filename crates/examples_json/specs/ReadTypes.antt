@@ -37,7 +37,8 @@ pub record ExamplesOfReadTypes : Type 0 where
   pub no_word : type_ (codes "\"u17\"") ≡ instead_of expected.Type
   pub not_upper : type_ (codes "\"U16\"") ≡ instead_of expected.Type
   pub id : type_ (codes "7") ≡ Ok (type.Id 7)
-  pub no_half : type_ (codes "7.5") ≡ instead_of expected.Number
+  pub no_half : type_ (codes "7.5") ≡ instead_of expected.Type
+  pub no_object : type_ (codes "{\"type\":7}") ≡ instead_of expected.Type
   -- parts, in whatever order; an unknown member is refused
   pub field : reading_of field_of (codes "{\"docs\":{\"contents\":\"X.\"},\"type\":\"u32\",\"name\":\"x\"}") ≡ Ok a_field
   pub no_type : reading_of field_of (codes "{\"name\":\"x\"}") ≡ fault_at (to (codes "type") ∷ []) expected.Member
@@ -103,5 +104,5 @@ pub record ExamplesOfReadFunctions : Type 0 where
   pub whole : function_ (codes "{\"name\":\"f\",\"kind\":\"freestanding\",\"params\":[],\"result\":\"u8\"}") ≡ Ok (new_function (codes "f") function.Freestanding [] (Some type.U8))
   -- no result is left out, and not null
   pub no_result : function_ (codes "{\"name\":\"f\",\"kind\":\"freestanding\",\"params\":[]}") ≡ Ok (new_function (codes "f") function.Freestanding [] None)
-  pub null_result : function_ (codes "{\"name\":\"f\",\"kind\":\"freestanding\",\"params\":[],\"result\":null}") ≡ fault_at (to (codes "result") ∷ []) expected.Number
+  pub null_result : function_ (codes "{\"name\":\"f\",\"kind\":\"freestanding\",\"params\":[],\"result\":null}") ≡ fault_at (to (codes "result") ∷ []) expected.Type
   pub no_params : function_ (codes "{\"name\":\"f\",\"kind\":\"freestanding\"}") ≡ fault_at (to (codes "params") ∷ []) expected.Member

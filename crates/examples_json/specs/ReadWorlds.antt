@@ -45,6 +45,14 @@ pub record ExamplesOfReadWorlds : Type 0 where
   pub own_key : entries (codes "{\"interface-3\":{\"interface\":{\"id\":3}}}") ≡ Ok ((key.Interface 3, item.Interface 3 Unknown (docs_of None) None None) ∷ [])
   pub label : entries (codes "{\"l\":{\"interface\":{\"id\":3}}}") ≡ Ok ((key.Name (codes "l"), item.Interface 3 Unknown (docs_of None) None None) ∷ [])
   pub other_key : entries (codes "{\"interface-4\":{\"interface\":{\"id\":3}}}") ≡ Ok ((key.Name (codes "interface-4"), item.Interface 3 Unknown (docs_of None) None None) ∷ [])
+  -- behind a mark stands a label
+  pub marked : entries (codes "{\"%interface-3\":{\"type\":7},\"interface-3\":{\"interface\":{\"id\":3}}}")
+      ≡ Ok ((key.Name (codes "interface-3"), item.Type_ 7 None) ∷ (key.Interface 3, item.Interface 3 Unknown (docs_of None) None None) ∷ [])
+  pub own_label : entries (codes "{\"%interface-3\":{\"interface\":{\"id\":3}}}")
+      ≡ Ok ((key.Name (codes "interface-3"), item.Interface 3 Unknown (docs_of None) None None) ∷ [])
+  pub same_key : entries (codes "{\"l\":{\"type\":7},\"%l\":{\"type\":8}}") ≡ fault_at (to (codes "%l") ∷ []) expected.NoSecondMember
+  pub other_sort : entries (codes "{\"interface-3\":{\"interface\":{\"id\":3}},\"interface-3\":{\"type\":7}}")
+      ≡ fault_at (to (codes "interface-3") ∷ []) expected.NoSecondMember
   -- a type by its id, or with a span
   pub held_type : entries (codes "{\"t\":{\"type\":7}}") ≡ Ok ((key.Name (codes "t"), item.Type_ 7 None) ∷ [])
   pub placed_type : entries (codes "{\"t\":{\"type\":{\"id\":7,\"span\":[4,5]}}}") ≡ Ok ((key.Name (codes "t"), item.Type_ 7 (Some (4, 5))) ∷ [])
@@ -94,6 +102,11 @@ pub record ExamplesOfReadPackages : Type 0 where
   pub empty : reading_of package_of (codes "{\"name\":\"foo:bar\",\"worlds\":[],\"interfaces\":[],\"types\":[],\"foreign-deps\":{},\"foreign-dep-spans\":[],\"unknown-type-spans\":[],\"required-resources\":[]}")
       ≡ Ok empty_package
   pub no_lists : reading_of package_of (codes "{\"name\":\"foo:bar\"}") ≡ fault_at (to (codes "worlds") ∷ []) expected.Member
+  -- a world of a package names no package
+  pub with_package : reading_of package_of (codes "{\"name\":\"foo:bar\",\"worlds\":[{\"name\":\"w\",\"imports\":{},\"exports\":{},\"package\":null}]}")
+      ≡ fault_at (to (codes "package") ∷ step.Item 0 ∷ to (codes "worlds") ∷ []) expected.NoMember
+  pub in_package : reading_of package_of (codes "{\"name\":\"foo:bar\",\"worlds\":[],\"interfaces\":[{\"name\":\"i\",\"types\":{},\"functions\":{},\"package\":0}]}")
+      ≡ fault_at (to (codes "package") ∷ step.Item 0 ∷ to (codes "interfaces") ∷ []) expected.NoMember
   -- files: each begins behind the one before it
   pub files : reading_of sources_of (codes "[{\"path\":\"a.wit\",\"text\":\"A\"},{\"path\":\"b.wit\",\"text\":\"\"}]") ≡ Ok two_files
   pub no_text : reading_of sources_of (codes "[{\"path\":\"a.wit\"}]") ≡ fault_at (to (codes "text") ∷ step.Item 0 ∷ []) expected.Member

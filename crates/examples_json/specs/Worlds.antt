@@ -32,6 +32,10 @@ pub record ExamplesOfInterfaces : Type 0 where
 abbrev pub entry_text : WorldKey → WorldItem → List ℕ
 entry_text k i = compact (json_of_entries ((k, i) ∷ []))
 
+-- interface i of a world, of which nothing else is said
+abbrev pub an_entry : ℕ → WorldItem
+an_entry i = item.Interface i Unknown (docs_of None) None None
+
 pub record ExamplesOfWorlds : Type 0 where
   -- an interface under its own key; its docs and its external id aren't in the layout
   pub own_key : entry_text (key.Interface 3) (item.Interface 3 Unknown (docs_of (Some (codes "I."))) None (Some (codes "x"))) ≡ codes "{\"interface-3\":{\"interface\":{\"id\":3}}}"
@@ -42,6 +46,12 @@ pub record ExamplesOfWorlds : Type 0 where
   pub no_gate_dropped : entry_text (key.Interface 3) (item.Interface 3 (Stable (release 0 2 0) None) (docs_of None) None None) ≢ codes "{\"interface-3\":{\"interface\":{\"id\":3}}}"
   -- a label stands as it is
   pub labelled : entry_text (key.Name (codes "l")) (item.Interface 3 Unknown (docs_of None) None None) ≡ codes "{\"l\":{\"interface\":{\"id\":3}}}"
+  -- one that could be taken for a key has a mark, as has one with a mark
+  pub marked : entry_text (key.Name (codes "interface-5")) (an_entry 3) ≡ codes "{\"%interface-5\":{\"interface\":{\"id\":3}}}"
+  pub own_label : entry_text (key.Name (codes "interface-3")) (an_entry 3) ≢ codes "{\"interface-3\":{\"interface\":{\"id\":3}}}"
+  pub with_zeros : entry_text (key.Name (codes "interface-03")) (an_entry 3) ≡ codes "{\"%interface-03\":{\"interface\":{\"id\":3}}}"
+  pub no_number : entry_text (key.Name (codes "interface-3a")) (an_entry 3) ≡ codes "{\"interface-3a\":{\"interface\":{\"id\":3}}}"
+  pub two_marks : entry_text (key.Name (codes "%a")) (an_entry 3) ≡ codes "{\"%%a\":{\"interface\":{\"id\":3}}}"
   pub held_type : entry_text (key.Name (codes "t")) (item.Type_ 7 None) ≡ codes "{\"t\":{\"type\":7}}"
   pub not_object : entry_text (key.Name (codes "t")) (item.Type_ 7 None) ≢ codes "{\"t\":{\"type\":{\"id\":7}}}"
   pub with_function : entry_text (key.Name (codes "f")) (item.Function (new_function (codes "f") function.Freestanding [] None)) ≡ codes "{\"f\":{\"function\":{\"name\":\"f\",\"kind\":\"freestanding\",\"params\":[]}}}"

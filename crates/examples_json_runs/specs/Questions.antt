@@ -12,13 +12,18 @@ use Rattle.wit_data.specs.declared.types.Type_.TheVariants as type
 use Rattle.wit_data.specs.declared.world.World.{World}
 use Rattle.wit_data.specs.declared.world.WorldItem.TheVariants as item
 use Rattle.wit_data.specs.declared.world.WorldKey.TheVariants as key
+use Rattle.wit_graph_data.specs.declared.error_kind.ResolveErrorKind.TheVariants.{OutOfMemory}
 use Rattle.wit_graph_data.specs.declared.graph.Graph.{Graph}
+use Rattle.wit_sources.specs.SourceMap.{Sources}
 use Rattle.wit_json_commands.specs.declared.questions.FunctionPlace.{FunctionPlace}
 use Rattle.wit_json_commands.specs.declared.questions.FunctionSite.{FunctionSite}
 use Rattle.wit_json_commands.specs.declared.questions.FunctionSite.TheVariants as site
 use Rattle.wit_json_commands.specs.declared.questions.Mangling.TheVariants as asked
 use Rattle.wit_json_questions.specs.CoreNames.{core_exports, core_imports, mangling_of}
-use Rattle.wit_json_questions.specs.Tells.{canonical_id, core_names, futures_and_streams, interface_dependencies, package_dependencies, package_order, packages_named}
+use Rattle.wit_json_commands.specs.declared.questions.Question.TheVariants as question
+use Rattle.wit_json_questions.specs.Tells.{AnswersQuestion, canonical_id, core_names, futures_and_streams, interface_dependencies, package_dependencies, package_order, packages_named}
+use Rattle.wit_json_replies.specs.Refusals.{refused, rendered}
+use Rattle.wit_json_replies.specs.declared.answers.Answer.{Answer}
 use Rattle.wit_json_replies.specs.declared.answers.Answer.TheVariants as answer
 use Rattle.wit_json_replies.specs.declared.core_names.CoreExport.{CoreExport}
 use Rattle.wit_json_replies.specs.declared.core_names.CoreImport.{CoreImport}
@@ -105,6 +110,22 @@ pub record ExamplesOfQuestions : Type 0 where
   pub of_export : futures_and_streams asked_graph (placed site.Export foo_bar (codes "w") (codes "run")) ≡ answer.Types []
   pub not_imported : futures_and_streams asked_graph (placed site.Import foo_bar (codes "w") (codes "run")) ≡ answer.NotFound
   pub not_of_interface : futures_and_streams asked_graph (placed site.Interface foo_bar (codes "w") (codes "run")) ≡ answer.NotFound
+
+abbrev pub no_files : Sources
+no_files = record { files = []; end = 0 }
+
+-- the refusal of memory for what was asked, in this word
+abbrev pub refused_28 : List ℕ → Answer
+refused_28 asked = refused asked_graph no_files asked [] OutOfMemory
+
+pub record ExamplesOfRefusedQuestions : Type 0 where
+  -- what is asked, or that memory was refused for it, by its word
+  pub told : AnswersQuestion asked_graph no_files question.PackageOrder (answer.Packages (1 ∷ 0 ∷ []))
+  pub refused_ : AnswersQuestion asked_graph no_files question.PackageOrder (refused_28 (codes "package-order"))
+  pub no_other_word : AnswersQuestion asked_graph no_files question.PackageOrder (refused_28 (codes "select")) → ⊥
+  pub not_nothing : AnswersQuestion asked_graph no_files question.PackageOrder answer.NotFound → ⊥
+  pub rendered_ : rendered asked_graph no_files (codes "package-order") [] OutOfMemory
+      ≡ codes "out of memory\n      = package-order\n      = 28 in docs/REFUSALS.md"
 
 abbrev pub imported : ℕ → List ℕ → List ℕ → List ℕ → CoreImport
 imported i f module_name field = record { interface = Some (key.Interface i); function = f; «module» = module_name; field = field }

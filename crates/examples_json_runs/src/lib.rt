@@ -4,7 +4,7 @@
 
 ghost use Rattle.examples_json_runs.specs.Answers.{ExamplesOfAnswers, ExamplesOfDocuments};
 ghost use Rattle.examples_json_runs.specs.Changes.{ExamplesOfChanges};
-ghost use Rattle.examples_json_runs.specs.Questions.{ExamplesOfCoreNames, ExamplesOfQuestions};
+ghost use Rattle.examples_json_runs.specs.Questions.{ExamplesOfCoreNames, ExamplesOfQuestions, ExamplesOfRefusedQuestions};
 ghost use Rattle.examples_json_runs.specs.Ways.{ExamplesOfWays};
 
 /// Each sort of answer.
@@ -20,6 +20,11 @@ pub fn examples_of_documents()
 /// What is answered to questions.
 pub fn examples_of_questions()
     ensures { ExamplesOfQuestions }
+{}
+
+/// What is answered to a question for which memory was refused.
+pub fn examples_of_refused_questions()
+    ensures { ExamplesOfRefusedQuestions }
 {}
 
 /// The names of the functions of a world.

@@ -71,7 +71,7 @@ fn placed_world(rt: &impl Abort, alloc: Global) -> World {
         id: TypeId::from_index(0),
         span: Span::unknown(),
     };
-    let label = WorldKey::Name(text(rt, alloc, "t"));
+    let label = WorldKey::Name(text(rt, alloc, "interface-0"));
     let mut made = World::new(alloc, text(rt, alloc, "w"));
     made.imports = table(rt, alloc, [(WorldKey::Interface(id), entry), (label, held)]);
     made.span = Span::new(30, 40);
@@ -119,7 +119,7 @@ fn what_is_beside_the_layout_is_written(rt: HostRuntime) {
     assert_eq!(&rt;
         written.as_str(),
         "\"details\":{\"worlds\":[{\"span\":[30,40],\"imports\":{\
-        \"interface-0\":{\"docs\":{\"contents\":\"E.\"},\"span\":[31,32],\"external-id\":\"e\"},\"t\":{}},\"exports\":{}}],\
+        \"interface-0\":{\"docs\":{\"contents\":\"E.\"},\"span\":[31,32],\"external-id\":\"e\"},\"%interface-0\":{}},\"exports\":{}}],\
         \"interfaces\":[{\"span\":[10,21],\"functions\":{\"f\":{\"span\":[11,20],\"params\":[[12,13]]}}}],\
         \"types\":[{\"span\":[3,9],\"external-id\":\"rec\",\"parts\":[[5,6],null]}]},\
         \"features\":{\"all\":false,\"names\":[\"fast\",\"new\"]},\"track-rule\":\"with-prereleases\",\

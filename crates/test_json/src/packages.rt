@@ -12,7 +12,8 @@ const EVERYTHING: &str =
     \"imports\":{\"interface-0\":{\"interface\":{\"id\":0,\"stability\":{\"unstable\":{\"feature\":\"f\"}},\
     \"docs\":{\"contents\":\"I.\"},\"span\":[50,51],\"external-id\":\"i\"}},\"l\":{\"interface\":{\"id\":2}},\
     \"h\":{\"function\":{\"name\":\"h\",\"kind\":\"freestanding\",\"params\":[]}},\"al\":{\"type\":16},\
-    \"t\":{\"type\":{\"id\":16,\"span\":[52,53]}}},\"exports\":{\"interface-1\":{\"interface\":{\"id\":1}}},\
+    \"t\":{\"type\":{\"id\":16,\"span\":[52,53]}}},\"exports\":{\"interface-1\":{\"interface\":{\"id\":1}},\
+    \"%interface-1\":{\"interface\":{\"id\":2}},\"interface-1a\":{\"interface\":{\"id\":2}}},\
     \"includes\":[{\"id\":0,\"names\":[{\"name\":\"a\",\"as\":\"b\"},{\"name\":\"c\",\"as\":\"d\"}],\
     \"stability\":{\"stable\":{\"since\":\"1.0.0\"}},\"span\":[54,55]},{\"id\":0,\"names\":[]}],\
     \"docs\":{\"contents\":\"W.\"},\"stability\":{\"unstable\":{\"feature\":\"f\",\"deprecated\":\"1.1.0\"}},\
@@ -98,6 +99,18 @@ fn faults_of_packages_are_told(rt: HostRuntime) {
         (
             "\"name\":\"a:b\",\"worlds\":[],\"interfaces\":[{\"name\":null,\"types\":{},\"functions\":{\"f\":{\"name\":\"f\",\"kind\":{\"methods\":0},\"params\":[]}}}],\"types\":[],",
             "$.interfaces[0].functions.f.kind.methods: expected a kind of function",
+        ),
+        (
+            "\"name\":\"a:b\",\"worlds\":[{\"name\":\"w\",\"imports\":{\"interface-0\":{\"interface\":{\"id\":0}},\"interface-0\":{\"type\":0}},\"exports\":{}}],",
+            "$.worlds[0].imports.interface-0: expected no second member of this name",
+        ),
+        (
+            "\"name\":\"a:b\",\"worlds\":[{\"name\":\"w\",\"imports\":{},\"exports\":{},\"package\":null}],",
+            "$.worlds[0].package: expected no member of this name",
+        ),
+        (
+            "\"name\":\"a:b\",\"worlds\":[],\"interfaces\":[{\"name\":\"i\",\"types\":{},\"functions\":{},\"package\":0}],",
+            "$.interfaces[0].package: expected no member of this name",
         ),
         (
             "\"name\":\"a:b\",\"package\":1,",

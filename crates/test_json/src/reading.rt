@@ -89,19 +89,23 @@ fn faults_of_types_are_told(rt: HostRuntime) {
         ),
         (
             "{\"name\":null,\"kind\":{\"record\":{\"fields\":[{\"name\":\"x\",\"type\":\"u8\"},{\"name\":\"y\",\"type\":\"u9\"}]}},\"owner\":null}",
-            "$.kind.record.fields[1].type: expected a type",
+            "$.kind.record.fields[1].type: expected the name of a primitive type, or the index of a type",
         ),
         (
             "{\"name\":null,\"kind\":{\"list\":18446744073709551616},\"owner\":null}",
-            "$.kind.list: expected a number in digits alone, below 18446744073709551616",
+            "$.kind.list: expected the name of a primitive type, or the index of a type",
         ),
         (
             "{\"name\":null,\"kind\":{\"list\":1.0},\"owner\":null}",
-            "$.kind.list: expected a number in digits alone",
+            "$.kind.list: expected the name of a primitive type, or the index of a type",
         ),
         (
             "{\"name\":null,\"kind\":{\"list\":-1},\"owner\":null}",
-            "$.kind.list: expected a number in digits alone",
+            "$.kind.list: expected the name of a primitive type, or the index of a type",
+        ),
+        (
+            "{\"name\":null,\"kind\":{\"handle\":{\"own\":18446744073709551616}},\"owner\":null}",
+            "$.kind.handle.own: expected a number in digits alone, below 18446744073709551616",
         ),
         (
             "{\"name\":null,\"kind\":{\"fixed-length-list\":[\"u8\",4294967296]},\"owner\":null}",

@@ -1,5 +1,7 @@
 -- Interfaces and worlds as JSON.
-use Rattle.std.specs.Prelude.{ℕ, List, ◌++◌, codes, decimal, map}
+use Rattle.std.specs.Prelude.{ℕ, Bool, ◌&&◌, ◌||◌, List, ◌∷◌, ◌++◌, codes, decimal, drop, if◌then◌else◌, map, nat_eq}
+use Rattle.std.specs.Char.{is_ascii_digit}
+use Rattle.std.specs.List.{list_all, starts_with}
 use Rattle.json.specs.Json.{Json}
 use Rattle.wit_data.specs.declared.interface.Interface.{Interface}
 use Rattle.wit_data.specs.declared.stability.Stability.{Stability}
@@ -18,9 +20,18 @@ json_of_interface interface =
     ++ member (codes "functions") (object_under_names json_of_function interface.functions) ++ docs_member interface.docs ++ stability_member interface.stability
     ++ member (codes "package") (null_or json_of_number interface.«package»))
 
--- the name of an entry of a world: a label as it is, an interface by its id
+-- `interface-` and digits alone, as in the name of an interface's key
+abbrev pub is_like_key : List ℕ → Bool
+is_like_key label =
+    starts_with nat_eq label (codes "interface-") && list_all is_ascii_digit (drop 10 label)
+
+-- a label that could be taken for a key, or for a label with a mark
+abbrev pub wants_mark : List ℕ → Bool
+wants_mark label = starts_with nat_eq label (codes "%") || is_like_key label
+
+-- the name of an entry of a world: a label as it is, or behind a `%` where it wants that mark; an interface by its id
 abbrev pub entry_name : WorldKey → List ℕ
-entry_name (key.Name label) = label
+entry_name (key.Name label) = if wants_mark label then codes "%" ++ label else label
 entry_name (key.Interface id) = codes "interface-" ++ decimal id
 
 -- an interface that a world imports or exports

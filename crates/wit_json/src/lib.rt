@@ -7,6 +7,7 @@ mod functions;
 mod gates;
 mod graph;
 mod groups;
+mod names;
 mod refusals;
 mod types;
 mod unresolved;
@@ -17,6 +18,7 @@ mod writer;
 
 pub use crate::graph::graph_to_json;
 pub use crate::groups::group_to_json;
+pub use crate::names::EntryName;
 pub use crate::refusals::refusal_to_json;
 pub use crate::unresolved::package_to_json;
 pub use crate::whole::whole_to_json;

@@ -5,6 +5,7 @@ ghost use Rattle.json.specs.Tree.{json_tokens};
 ghost use Rattle.wit_json.specs.Values.{tagged};
 ghost use Rattle.wit_json.specs.Worlds.{entry_name, json_of_entries, json_of_interface, json_of_interface_entry, json_of_item, json_of_world};
 
+use crate::names::EntryName;
 use crate::writer::{JsonText, WriteJson};
 use std::alloc::AllocError;
 use wit_data::{Interface, InterfaceId, Stability, Table, World, WorldItem, WorldKey};
@@ -29,14 +30,9 @@ impl JsonText {
     pub fn entry_name(&mut self, key: &WorldKey) -> Result<(), AllocError>
         ensures { OnOk result (self.new ≡ self.old ++ key_token (entry_name key.now) ∷ []) }
     {
-        match key {
-            WorldKey::Name(label) => self.key(label.as_str()),
-            WorldKey::Interface(id) => {
-                let (alloc, index) = (self.allocator(), id.index());
-                let name = format!(in alloc; "interface-{index}")?;
-                self.key(name.as_str())
-            }
-        }
+        let (alloc, name) = (self.allocator(), EntryName(key));
+        let name = format!(in alloc; "{name}")?;
+        self.key(name.as_str())
     }
 
     /// Writes an interface that a world imports or exports.

@@ -1,5 +1,7 @@
 //! Questions about a graph.
+ghost use Rattle.std.specs.Prelude.{◌≡◌};
 ghost use Rattle.json.specs.Value.{value_view};
+ghost use Rattle.wit_json_commands.specs.Asked.{question_word};
 ghost use Rattle.wit_json_commands.specs.Questions.{canonical_id_of, core_names_of, function_by, function_of, interface_of, mangling_in, mangling_of, place_of, question_by, select_of};
 ghost use Rattle.wit_json_reading.specs.Reading.{Reads};
 
@@ -70,6 +72,23 @@ pub enum Question {
     },
     /// Which futures and streams the values of a function hold.
     FuturesAndStreams(FunctionPlace),
+}
+
+impl Question {
+    /// The word of the question.
+    pub fn word(&self) -> &'static str
+        ensures { result.now ≡ question_word self.now }
+    {
+        match self {
+            Question::Select { .. } => "select",
+            Question::PackageDependencies(_) => "package-dependencies",
+            Question::InterfaceDependencies { .. } => "interface-dependencies",
+            Question::PackageOrder => "package-order",
+            Question::CanonicalId { .. } => "canonical-id",
+            Question::CoreNames { .. } => "core-names",
+            Question::FuturesAndStreams(_) => "futures-and-streams",
+        }
+    }
 }
 
 #[tactic(auto, unfolding(crate::specs::Questions::select_of))]

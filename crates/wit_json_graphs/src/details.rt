@@ -12,6 +12,7 @@ ghost use Rattle.wit_json_graphs.specs.steps.Parts.{with_entry, with_item, with_
 use json::Value;
 use std::alloc::{AllocError, Global};
 use wit_data::{Items, Names, Table, WorldItem, WorldKey};
+use wit_json::EntryName;
 use wit_json_reading::{Expected, ReadError, in_item, in_member, instead_of};
 
 /// What takes details that stand beside the layout.
@@ -196,12 +197,7 @@ impl<'a> Row<(&'a str, Value<'a>)> for Table<WorldKey, WorldItem> {
 fn is_name_of(alloc: Global, name: &str, key: &WorldKey) -> Result<bool, AllocError>
     ensures { IfOk result (λ is. is ≡ bytes_eq name.now (entry_name key.now)) }
 {
-    match key {
-        WorldKey::Name(label) => Ok(name == label.as_str()),
-        WorldKey::Interface(id) => {
-            let index = id.index();
-            let key = format!(in alloc; "interface-{index}")?;
-            Ok(name == key.as_str())
-        }
-    }
+    let key = EntryName(key);
+    let own = format!(in alloc; "{key}")?;
+    Ok(name == own.as_str())
 }

@@ -31,7 +31,7 @@ use Rattle.wit_json_laws.specs.Writable.{AreWritableEntries, FitsKey, IsWritable
 use Rattle.wit_json_reading.specs.Functions.{function_of}
 use Rattle.wit_json_reading.specs.Graphs.{graph_package_of, homes_from, homes_of, with_home}
 use Rattle.wit_json_reading.specs.Packages.{package_name_of}
-use Rattle.wit_json_reading.specs.Reading.{instead_of, list_of, optional, under}
+use Rattle.wit_json_reading.specs.Reading.{instead_of, list_of, optional, under, without}
 use Rattle.wit_json_reading.specs.Tables.{named_of}
 use Rattle.wit_json_reading.specs.Values.{nullable, number_of, text_of}
 use Rattle.wit_json_reading.specs.Worlds.{entries_of, include_of, includes_of, interface_names, interface_of, world_names, world_of}
@@ -42,7 +42,7 @@ use Rattle.wit_json_laws.proofs.Functions.{reads_function}
 use Rattle.wit_json_laws.proofs.Packages.{reads_name_value}
 use Rattle.wit_json_laws.proofs.Slots.{Slot, get_slot, only_slots, slots}
 use Rattle.wit_json_laws.proofs.Small.{reads_docs, reads_number, reads_span_member, reads_stability}
-use Rattle.wit_json_laws.proofs.Steps.{all_5, all_8, all_9, is_new, reads_named, reads_optional, reads_required, followed}
+use Rattle.wit_json_laws.proofs.Steps.{all_5, all_8, all_9, is_new, reads_named, reads_optional, reads_required, reads_without, followed}
 use Rattle.wit_json_laws.proofs.Types.{reads_name}
 use Rattle.wit_json_laws.proofs.Worlds.{reads_home, reads_world_entries}
 
@@ -108,9 +108,7 @@ item_is (item.Function f) = ap (tagged (codes "function")) (function_is f)
 item_is (item.Type_ id span) = refl
 
 fits_key : (k : WorldKey) (it : WorldItem) → FitsKey k it → FitsKey k (bare_item it)
-fits_key (key.Name label) (item.Interface id stability docs span external_id) fits = fits
-fits_key (key.Name label) (item.Function f) fits = fits
-fits_key (key.Name label) (item.Type_ id span) fits = fits
+fits_key (key.Name label) it fits = fits
 fits_key (key.Interface id) (item.Interface other stability docs span external_id) fits = fits
 fits_key (key.Interface id) (item.Function f) fits = fits
 fits_key (key.Interface id) (item.Type_ other span) fits = fits
@@ -148,9 +146,9 @@ unfolding includes_of
 reads_no_includes j there =
     followed (optional (list_of include_of) (codes "includes") j) _ None (Ok []) (reads_optional (list_of include_of) (λ (is : List WorldInclude). json_of_text []) (codes "includes") j None there tt) refl
 
-pub reads_bare_world : (world : World) → IsWritableWorld world → IfSome world.«package» IsWritableId → world_of (json_of_world world) ≡ Ok (bare_world world)
+reads_placed_world : (world : World) → IsWritableWorld world → IfSome world.«package» IsWritableId → world_of (json_of_world world) ≡ Ok (bare_world world)
 unfolding world_of
-reads_bare_world w fits placed =
+reads_placed_world w fits placed =
     let ss : List Slot =
     (codes "name", Some (json_of_text w.name)) ∷ (codes "imports", Some (json_of_entries w.imports)) ∷ (codes "exports", Some (json_of_entries w.exports))
     ∷ (codes "package", Some (null_or json_of_number w.«package»)) ∷ (codes "docs", json_of_docs w.docs) ∷ (codes "stability", json_of_stability w.stability) ∷ [] in
@@ -167,6 +165,17 @@ reads_bare_world w fits placed =
     (reads_stability w.stability j fits.gate (get_slot (codes "stability") ss))
     (reads_home w.«package» j placed (get_slot (codes "package") ss))
     (reads_span_member None j tt (get_slot (codes "span") ss))
+
+-- it includes nothing
+includes_nothing : (world : World) → get (codes "includes") (json_of_world world) ≡ None
+includes_nothing w =
+    get_slot (codes "includes") ((codes "name", Some (json_of_text w.name)) ∷ (codes "imports", Some (json_of_entries w.imports)) ∷ (codes "exports", Some (json_of_entries w.exports))
+    ∷ (codes "package", Some (null_or json_of_number w.«package»)) ∷ (codes "docs", json_of_docs w.docs) ∷ (codes "stability", json_of_stability w.stability) ∷ [])
+
+pub reads_bare_world : (world : World) → IsWritableWorld world → IfSome world.«package» IsWritableId
+    → without (codes "includes") world_of (json_of_world world) ≡ Ok (bare_world world)
+reads_bare_world world fits placed =
+    reads_without world_of (codes "includes") (json_of_world world) (bare_world world) (includes_nothing world) (reads_placed_world world fits placed)
 
 -- ---- packages
 

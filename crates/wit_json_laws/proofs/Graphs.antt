@@ -34,7 +34,7 @@ use Rattle.wit_json_laws.specs.laws.ReadBack.{ResolvesReadBack}
 use Rattle.wit_json_reading.specs.Features.{features_of, names_of, rule_of, with_name, with_names}
 use Rattle.wit_json_reading.specs.Graphs.{graph_of, graph_package_of, homes_of}
 use Rattle.wit_json_reading.specs.Groups.{sources_of}
-use Rattle.wit_json_reading.specs.Reading.{Reading, ◌>>=◌, list_of, only, optional, required, under}
+use Rattle.wit_json_reading.specs.Reading.{Reading, ◌>>=◌, list_of, only, optional, required, under, without}
 use Rattle.wit_json_reading.specs.Types.{type_def_of}
 use Rattle.wit_json_reading.specs.Values.{boolean_of, text_of}
 use Rattle.wit_json_reading.specs.Worlds.{interface_of, world_of}
@@ -73,7 +73,7 @@ abbrev behind_worlds : Json → List World → Reading Graph
 behind_worlds j worlds = required (list_of interface_of) (codes "interfaces") j >>= λ interfaces. behind_interfaces j worlds interfaces
 
 abbrev behind_names : Json → Reading Graph
-behind_names j = required (list_of world_of) (codes "worlds") j >>= λ worlds. behind_worlds j worlds
+behind_names j = required (list_of (without (codes "includes") world_of)) (codes "worlds") j >>= λ worlds. behind_worlds j worlds
 
 reads_bare_graph : (g : Graph) → IsWritableGraph g → graph_of (json_of_graph g) ≡ Ok (bare_graph g)
 unfolding graph_of
@@ -87,9 +87,9 @@ reads_bare_graph g fits =
     let ts : List TypeDef = map bare_type g.types in
     followed (only (codes "worlds" ∷ codes "interfaces" ∷ codes "types" ∷ codes "packages" ∷ []) j) (λ _. behind_names j) tt (Ok (bare_graph g))
     (only_slots (codes "worlds" ∷ codes "interfaces" ∷ codes "types" ∷ codes "packages" ∷ []) ss refl)
-    (followed (required (list_of world_of) (codes "worlds") j) (behind_worlds j) ws (Ok (bare_graph g))
-    (reads_required (list_of world_of) (codes "worlds") j (written.list_of json_of_world g.worlds) ws (get_slot (codes "worlds") ss)
-    (reads_list_as world_of bare_world json_of_world g.worlds (λ i w at. reads_bare_world w (fits.worlds i w at) (fits.world_homes i w at))))
+    (followed (required (list_of (without (codes "includes") world_of)) (codes "worlds") j) (behind_worlds j) ws (Ok (bare_graph g))
+    (reads_required (list_of (without (codes "includes") world_of)) (codes "worlds") j (written.list_of json_of_world g.worlds) ws (get_slot (codes "worlds") ss)
+    (reads_list_as (without (codes "includes") world_of) bare_world json_of_world g.worlds (λ i w at. reads_bare_world w (fits.worlds i w at) (fits.world_homes i w at))))
     (followed (required (list_of interface_of) (codes "interfaces") j) (behind_interfaces j ws) is (Ok (bare_graph g))
     (reads_required (list_of interface_of) (codes "interfaces") j (written.list_of json_of_interface g.interfaces) is (get_slot (codes "interfaces") ss)
     (reads_list_as interface_of bare_interface json_of_interface g.interfaces (λ n i at. reads_bare_interface i (fits.interfaces n i at) (fits.interface_homes n i at))))

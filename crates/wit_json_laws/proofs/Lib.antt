@@ -1,6 +1,7 @@
 mod Slots
 mod Steps
 mod Small
+mod Keys
 mod Types
 mod Functions
 mod Worlds

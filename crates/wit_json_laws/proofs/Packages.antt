@@ -35,7 +35,7 @@ use Rattle.wit_json_laws.specs.laws.ReadBack.{PackagesReadBack}
 use Rattle.wit_json_reading.specs.Gates.{gate_of, place_of}
 use Rattle.wit_json_reading.specs.Objects.{pair_of}
 use Rattle.wit_json_reading.specs.Packages.{ast_item_by, ast_item_of, dep_of, deps_from, deps_of, foreign_item_of, name_in, package_name_in, package_name_of, package_names, package_of, version_behind}
-use Rattle.wit_json_reading.specs.Reading.{◌>>=◌, instead_of, list_of, under}
+use Rattle.wit_json_reading.specs.Reading.{◌>>=◌, instead_of, list_of, under, without}
 use Rattle.wit_json_reading.specs.Tables.{named_of}
 use Rattle.wit_json_reading.specs.Types.{type_def_of}
 use Rattle.wit_json_reading.specs.Values.{number_of, version_in}
@@ -219,10 +219,11 @@ packages_read_back p fits =
     (reads_required package_name_of (codes "name") j (json_of_package_name p.name) p.name (get_slot (codes "name") ss) (reads_name_value p.name fits.name))
     (reads_span_member p.package_name_span j fits.span (get_slot (codes "span") ss))
     (reads_docs p.docs j (get_slot (codes "docs") ss))
-    (reads_required (list_of world_of) (codes "worlds") j (written.list_of whole_world p.worlds) p.worlds (get_slot (codes "worlds") ss)
-    (reads_list world_of whole_world p.worlds (λ i w at. reads_world w (fits.worlds i w at) (fits.worlds_alone i w at))))
-    (reads_required (list_of interface_of) (codes "interfaces") j (written.list_of whole_interface p.interfaces) p.interfaces (get_slot (codes "interfaces") ss)
-    (reads_list interface_of whole_interface p.interfaces (λ n i at. reads_interface i (fits.interfaces n i at) (fits.interfaces_alone n i at))))
+    (reads_required (list_of (without (codes "package") world_of)) (codes "worlds") j (written.list_of whole_world p.worlds) p.worlds (get_slot (codes "worlds") ss)
+    (reads_list (without (codes "package") world_of) whole_world p.worlds (λ i w at. reads_world w (fits.worlds i w at) (fits.worlds_alone i w at))))
+    (reads_required (list_of (without (codes "package") interface_of)) (codes "interfaces") j (written.list_of whole_interface p.interfaces) p.interfaces
+    (get_slot (codes "interfaces") ss)
+    (reads_list (without (codes "package") interface_of) whole_interface p.interfaces (λ n i at. reads_interface i (fits.interfaces n i at) (fits.interfaces_alone n i at))))
     (reads_required (list_of type_def_of) (codes "types") j (written.list_of whole_type p.types) p.types (get_slot (codes "types") ss)
     (reads_list type_def_of whole_type p.types (λ i def at. reads_type_def def (fits.types i def at))))
     (reads_required deps_of (codes "foreign-deps") j (json_of_deps p.foreign_deps) p.foreign_deps (get_slot (codes "foreign-deps") ss)

@@ -50,7 +50,8 @@ one_digit n small = digit_behind 0 [] n 0 small refl ∙ ap Some (omega arith)
 next_digit : (n : ℕ) (ds : List ℕ) → 10 ≤ n → decimal_after 0 ds ≡ Some (n / 10) → decimal_after 0 (ds ++ (48 + n % 10) ∷ []) ≡ Some n
 next_digit n ds large read = digit_behind 0 ds (n % 10) (n / 10) (omega arith) read ∙ ap Some (omega arith)
 
-number_read : (n : ℕ) → n < 2 ^ 64 → decimal_after 0 (decimal n) ≡ Some n
+-- a number reads back
+pub number_read : (n : ℕ) → n < 2 ^ 64 → decimal_after 0 (decimal n) ≡ Some n
 number_read n fits = decimal_by_steps (λ m ds. decimal_after 0 ds ≡ Some m) one_digit next_digit n fits
 
 is_below : (n limit : ℕ) → n < limit → nat_lt n limit ≡ true

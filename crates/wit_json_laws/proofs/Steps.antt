@@ -1,5 +1,5 @@
 -- Readings that succeed, one step after another.
-use Rattle.std.proofs.Common.{◌≡◌, ◌∙◌, ℕ, suc, Bool, true, false, cond, List, [], ◌∷◌, ◌++◌, map, length, Option, Some, None, Ok, refl, sym, ap, subst, bytes_eq, append_assoc, slice_get, arith, append-nil}
+use Rattle.std.proofs.Common.{◌≡◌, ◌∙◌, ℕ, suc, Bool, true, false, cond, List, [], ◌∷◌, ◌++◌, map, length, Option, Some, None, Ok, refl, sym, ap, subst, bytes_eq, append_assoc, slice_get, arith, append-nil, if◌then◌else◌}
 use Rattle.std.proofs.lemmas.Option.{slice_get_within}
 use Rattle.std.proofs.lemmas.Slice.Eq.{bytes_eq-Decides}
 use Rattle.std.specs.Option.{option_map}
@@ -14,9 +14,10 @@ use Rattle.wit_data.specs.Each.{Each}
 use Rattle.wit_json.specs.Values.{members_of, object_under_names, pair, tagged}
 use Rattle.wit_json.specs.Values as written
 use Rattle.wit_json_reading.specs.Objects.{alone, pair_of, variant_of}
-use Rattle.wit_json_reading.specs.Reading.{Reading, ◌>>=◌, has_to_be_there, if_there, items_from, list_of, only, optional, required, under}
+use Rattle.wit_json_reading.specs.Reading.{Reading, ◌>>=◌, has_to_be_there, if_there, instead_of, items_from, list_of, only, optional, required, under, without}
 use Rattle.wit_json_reading.specs.Tables.{named_from, named_of}
 use Rattle.wit_json_reading.specs.declared.fault.Expected.{Expected}
+use Rattle.wit_json_reading.specs.declared.fault.Expected.TheVariants as expected
 use Rattle.wit_json_reading.specs.declared.fault.Step.TheVariants as step
 
 -- ---- steps
@@ -96,6 +97,10 @@ module _ {A : Type 0} where
   pub reads_alone : (f : Json → Reading A) (name : List ℕ) (j : Json) (x : A) → only (name ∷ []) (tagged name j) ≡ Ok tt → get name (tagged name j) ≡ Some j → f j ≡ Ok x
       → alone f name (tagged name j) ≡ Ok x
   reads_alone f name j x known there reads = followed (only (name ∷ []) (tagged name j)) (λ _. required f name (tagged name j)) tt (Ok x) known (reads_required f name (tagged name j) j x there reads)
+
+  pub reads_without : (f : Json → Reading A) (name : List ℕ) (j : Json) (x : A) → get name j ≡ None → f j ≡ Ok x → without name f j ≡ Ok x
+  reads_without f name j x none reads =
+      ap (λ (o : Option Json). if is_some o then under (step.Member name) (instead_of expected.NoMember) else f j) none ∙ reads
 
   pub reads_variant : (f : List ℕ → Json → Reading A) (e : Expected) (name : List ℕ) (j : Json) (x : A) → f name j ≡ Ok x → variant_of f e (tagged name j) ≡ Ok x
   reads_variant f e name j x reads = ap (under (step.Member name)) reads

@@ -1,5 +1,5 @@
 -- Types read back.
-use Rattle.std.proofs.Common.{◌≡◌, ℕ, List, [], ◌∷◌, Option, Some, None, Ok, refl, codes, ◌∙◌}
+use Rattle.std.proofs.Common.{◌≡◌, ℕ, List, [], ◌∷◌, Option, Some, None, Ok, refl, ap, codes, ◌∙◌}
 use Rattle.std.specs.Option.{option_map}
 use Rattle.std.specs.Prelude.{IfSome}
 use Rattle.json.specs.Json.{Json}
@@ -26,7 +26,7 @@ use Rattle.wit_json.specs.Values as written
 use Rattle.wit_json.specs.Values.{json_of_number, json_of_text, null_or, pair, tagged}
 use Rattle.wit_json_laws.specs.Writable.{IsWritableCase, IsWritableField, IsWritableHandle, IsWritableKind, IsWritableOwner, IsWritableSpan, IsWritableType, IsWritableTypeDef}
 use Rattle.wit_json_reading.specs.Reading.{◌>>=◌, list_of}
-use Rattle.wit_json_reading.specs.Types.{case_of, enum_case_of, field_of, fixed_length_list_of, flag_of, handle_by, handle_of, kind_by, kind_of, map_of, owner_by, owner_of, result_of, type_def_of, type_names, type_of}
+use Rattle.wit_json_reading.specs.Types.{by_id, case_of, enum_case_of, field_of, fixed_length_list_of, flag_of, handle_by, handle_of, kind_by, kind_of, map_of, owner_by, owner_of, result_of, type_def_of, type_names, type_of}
 use Rattle.wit_json_reading.specs.Values.{nullable, number_of, small_number_of, text_of}
 use Rattle.wit_json_reading.specs.declared.fault.Expected.TheVariants as expected
 use Rattle.wit_json_laws.proofs.Slots.{Slot, get_slot, only_slots, slots}
@@ -49,7 +49,7 @@ reads_type type.F64 fits = refl
 reads_type type.Char fits = refl
 reads_type type.String fits = refl
 reads_type type.ErrorContext fits = refl
-reads_type (type.Id id) fits = followed (number_of (json_of_number id)) _ id (Ok (type.Id id)) (reads_number id fits) refl
+reads_type (type.Id id) fits = ap by_id (reads_number id fits)
 
 -- no type is written as null
 not_null : (ty : Type_) → nullable type_of (json_of_type ty) ≡ (type_of (json_of_type ty) >>= λ x. Ok (Some x))

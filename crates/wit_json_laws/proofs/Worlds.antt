@@ -28,16 +28,17 @@ use Rattle.wit_json.specs.Values.{json_of_number, json_of_text, members_of, null
 use Rattle.wit_json.specs.Worlds.{entry_name}
 use Rattle.wit_json_laws.specs.Writable.{AreWritableEntries, FitsKey, IsWritableGate, IsWritableId, IsWritableInclude, IsWritableInterface, IsWritableItem, IsWritableSpan, IsWritableWorld}
 use Rattle.wit_json_reading.specs.Functions.{function_of}
-use Rattle.wit_json_reading.specs.Reading.{instead_of, list_of, optional, under}
+use Rattle.wit_json_reading.specs.Reading.{instead_of, list_of, optional, under, without}
 use Rattle.wit_json_reading.specs.Tables.{named_of}
 use Rattle.wit_json_reading.specs.Values.{nullable, number_of, text_of}
-use Rattle.wit_json_reading.specs.Worlds.{entries_from, entries_of, home_of, include_name_of, include_of, includes_of, interface_entry_of, interface_names, interface_of, item_by, item_of, key_of, placed_type_of, with_entry, with_member, world_names, world_of}
+use Rattle.wit_json_reading.specs.Worlds.{entries_from, entries_of, home_of, include_name_of, include_of, includes_of, interface_entry_of, interface_names, interface_of, item_by, item_of, key_of, names_differ, placed_type_of, with_entry, with_member, world_names, world_of}
 use Rattle.wit_json_reading.specs.declared.fault.Expected.TheVariants as expected
 use Rattle.wit_json_reading.specs.declared.fault.Step.TheVariants as step
 use Rattle.wit_json_laws.proofs.Functions.{reads_function}
+use Rattle.wit_json_laws.proofs.Keys.{reads_differ, reads_key, writable_key}
 use Rattle.wit_json_laws.proofs.Slots.{Slot, get_slot, only_slots, slots}
 use Rattle.wit_json_laws.proofs.Small.{reads_docs, reads_number, reads_span_member, reads_stability, reads_texts}
-use Rattle.wit_json_laws.proofs.Steps.{all_3, all_5, all_6, all_8, all_9, is_new, reads_list, reads_named, reads_optional, reads_required, reads_variant, followed}
+use Rattle.wit_json_laws.proofs.Steps.{all_3, all_5, all_6, all_8, all_9, is_new, reads_list, reads_named, reads_optional, reads_required, reads_variant, reads_without, followed}
 use Rattle.wit_json_laws.proofs.Types.{reads_name}
 
 -- ---- the package that something belongs to
@@ -88,8 +89,18 @@ reads_alone_interface i fits =
     (reads_no_home j (get_slot (codes "package") ss))
     (reads_span_member i.span j fits.span (get_slot (codes "span") ss))
 
-pub reads_interface : (interface : Interface) → IsWritableInterface interface → interface.«package» ≡ None → interface_of (whole_interface interface) ≡ Ok interface
-reads_interface interface fits unplaced = reads_alone_interface interface fits ∙ ap Ok (is_alone interface unplaced)
+-- it names no package
+unplaced_interface : (interface : Interface) → get (codes "package") (whole_interface interface) ≡ None
+unplaced_interface i =
+    get_slot (codes "package") ((codes "name", Some (null_or json_of_text i.name)) ∷ (codes "types", Some (object_under_names json_of_number i.types))
+    ∷ (codes "functions", Some (object_under_names whole_function i.functions)) ∷ (codes "docs", json_of_docs i.docs) ∷ (codes "stability", json_of_stability i.stability)
+    ∷ (codes "span", option_map json_of_range i.span) ∷ [])
+
+pub reads_interface : (interface : Interface) → IsWritableInterface interface → interface.«package» ≡ None
+    → without (codes "package") interface_of (whole_interface interface) ≡ Ok interface
+reads_interface interface fits unplaced =
+    reads_without interface_of (codes "package") (whole_interface interface) interface (unplaced_interface interface)
+    (reads_alone_interface interface fits ∙ ap Ok (is_alone interface unplaced))
 
 -- ---- entries
 
@@ -130,27 +141,6 @@ reads_item (item.Type_ id None) fits =
     reads_variant item_by expected.Entry (codes "type") (json_of_number id) (item.Type_ id None) (followed (number_of (json_of_number id)) _ id (Ok (item.Type_ id None)) (reads_number id fits.0) refl)
 reads_item (item.Type_ id (Some range)) fits = reads_variant item_by expected.Entry (codes "type") (whole_type_entry id (Some range)) (item.Type_ id (Some range)) (reads_placed_type id range fits.0 fits.1)
 
--- ---- keys
-
-other_label : (label : List ℕ) (id : ℕ) → (label ≡ entry_name (key.Interface id) → ⊥) → bytes_eq label (codes "interface-" ++ decimal id) ≡ false
-other_label label id differs = by (bytes_eq label (codes "interface-" ++ decimal id)) refl
-  where
-    by : (b : Bool) → bytes_eq label (codes "interface-" ++ decimal id) ≡ b → b ≡ false
-    by true same = absurd (differs ((bytes_eq-Decides label (codes "interface-" ++ decimal id)).0 same))
-    by false other = refl
-
--- a key is told by its name
-reads_key : (k : WorldKey) (it : WorldItem) → FitsKey k it → key_of (entry_name k) it ≡ k
-reads_key (key.Name label) (item.Interface id stability docs span external_id) fits =
-    ap (λ (b : Bool). if b then key.Interface id else key.Name label) (other_label label id fits)
-reads_key (key.Name label) (item.Function f) fits = refl
-reads_key (key.Name label) (item.Type_ id span) fits = refl
-reads_key (key.Interface id) (item.Interface other stability docs span external_id) fits =
-    ap (λ (b : Bool). if b then key.Interface other else key.Name (codes "interface-" ++ decimal id))
-    ((bytes_eq-Decides (codes "interface-" ++ decimal id) (codes "interface-" ++ decimal other)).1 (ap (λ (n : ℕ). codes "interface-" ++ decimal n) fits)) ∙ ap key.Interface (sym fits)
-reads_key (key.Interface id) (item.Function f) fits = absurd fits
-reads_key (key.Interface id) (item.Type_ other span) fits = absurd fits
-
 abbrev member_of : WorldKey × WorldItem → List ℕ × Json
 member_of e = (entry_name e.0, whole_item e.1)
 
@@ -166,7 +156,7 @@ reads_entries before [] distinct fit items = ap Ok (sym (append-nil before))
 reads_entries before (e ∷ es) distinct fit items =
     let new : is_some (lookup (same_key e.0) before) ≡ false = is_new (λ a b. (key_is a b).0) before es e distinct in
     let longer : (before ++ e ∷ []) ++ es ≡ before ++ e ∷ es = append_assoc before (e ∷ []) es in
-    let named : key_of (entry_name e.0) e.1 ≡ e.0 = reads_key e.0 e.1 (fit 0 e refl) in
+    let named : key_of (entry_name e.0) e.1 ≡ e.0 = reads_key e.0 e.1 (fit 0 e refl) (items 0 e refl) in
     followed (with_member (entry_name e.0) (whole_item e.1) before) (λ more. entries_from more (members_of (map member_of es))) (before ++ e ∷ []) (Ok (before ++ e ∷ es))
     (followed (under (step.Member (entry_name e.0)) (item_of (whole_item e.1))) _ e.1 (Ok (before ++ e ∷ [])) (ap (under (step.Member (entry_name e.0))) (reads_item e.1 (items 0 e refl)))
     (one_entry (entry_name e.0) e.1 e.0 before named new))
@@ -174,7 +164,10 @@ reads_entries before (e ∷ es) distinct fit items =
     ∙ ap Ok longer)
 
 pub reads_world_entries : (es : List (WorldKey × WorldItem)) → AreWritableEntries es → entries_of (whole_entries es) ≡ Ok es
-reads_world_entries es fits = reads_entries [] es fits.differ fits.fit fits.items
+reads_world_entries es fits =
+    followed (names_differ [] (members_of (map member_of es))) (λ _. entries_from [] (members_of (map member_of es))) tt (Ok es)
+    (reads_differ whole_item [] es fits.differ (λ i e at. writable_key e.0 e.1 (fits.fit i e at) (fits.items i e at)))
+    (reads_entries [] es fits.differ fits.fit fits.items)
 
 -- ---- worlds
 
@@ -239,5 +232,14 @@ reads_alone_world w fits =
     (reads_no_home j (get_slot (codes "package") ss))
     (reads_span_member w.span j fits.span (get_slot (codes "span") ss))
 
-pub reads_world : (world : World) → IsWritableWorld world → world.«package» ≡ None → world_of (whole_world world) ≡ Ok world
-reads_world world fits unplaced = reads_alone_world world fits ∙ ap Ok (is_alone_world world unplaced)
+-- it names no package
+unplaced_world : (world : World) → get (codes "package") (whole_world world) ≡ None
+unplaced_world w =
+    get_slot (codes "package") ((codes "name", Some (json_of_text w.name)) ∷ (codes "imports", Some (whole_entries w.imports)) ∷ (codes "exports", Some (whole_entries w.exports))
+    ∷ (codes "includes", Some (written.list_of json_of_include w.includes)) ∷ (codes "docs", json_of_docs w.docs) ∷ (codes "stability", json_of_stability w.stability)
+    ∷ (codes "span", option_map json_of_range w.span) ∷ [])
+
+pub reads_world : (world : World) → IsWritableWorld world → world.«package» ≡ None → without (codes "package") world_of (whole_world world) ≡ Ok world
+reads_world world fits unplaced =
+    reads_without world_of (codes "package") (whole_world world) world (unplaced_world world)
+    (reads_alone_world world fits ∙ ap Ok (is_alone_world world unplaced))

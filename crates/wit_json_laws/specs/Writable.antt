@@ -1,6 +1,5 @@
 -- Of what JSON says all, so that it reads back: numbers have the bits of their types, versions are of SemVer 2.0.0, keys
--- differ, and no name of a package holds the mark that ends it. An interface under a label that is the name of its own key
--- reads as one under that key.
+-- differ, and no name of a package holds the mark that ends it.
 use Rattle.std.specs.Prelude.{◌≡◌, ℕ, suc, ◌<◌, ◌≤◌, ◌^◌, ◌==◌, List, [], ◌∷◌, Option, None, Some, IfSome, false, ⊤, slice_get}
 use Rattle.std.specs.List.{list_any}
 use Rattle.semver.specs.Grammar.{IsValid}
@@ -43,7 +42,6 @@ use Rattle.wit_graph_data.specs.declared.graph.Graph.{Graph}
 use Rattle.wit_graph_data.specs.declared.graph.Package.{Package}
 use Rattle.wit_sources.specs.SourceMap.{Sources, end_after}
 use Rattle.wit_sources.specs.declared.source_map.SourceFile.{SourceFile}
-use Rattle.wit_json.specs.Worlds.{entry_name}
 use Rattle.wit_json_graphs.specs.declared.resolves.ResolveParts.{ResolveParts}
 
 -- an id has 64 bits
@@ -133,6 +131,10 @@ pub record IsWritableFunction (f : Function) : Type 0 where
 
 -- ---- interfaces and worlds
 
+abbrev pub IsWritableKey : WorldKey → Type 0
+IsWritableKey (key.Name label) = ⊤
+IsWritableKey (key.Interface id) = IsWritableId id
+
 pub record IsWritableInterface (interface : Interface) : Type 0 where
   pub types_differ : HasDistinctKeys interface.types
   pub types : Each (λ (e : List ℕ × ℕ). IsWritableId e.1) interface.types
@@ -141,11 +143,9 @@ pub record IsWritableInterface (interface : Interface) : Type 0 where
   pub gate : IsWritableGate interface.stability
   pub span : IsWritableSpan interface.span
 
--- an interface stands under its own key, or under a label that isn't the name of that key; all else under a label
+-- an interface stands under its own key, or under a label; all else under a label
 abbrev pub FitsKey : WorldKey → WorldItem → Type 0
-FitsKey (key.Name label) (item.Interface id stability docs span external_id) = label ≡ entry_name (key.Interface id) → ⊥
-FitsKey (key.Name label) (item.Function f) = ⊤
-FitsKey (key.Name label) (item.Type_ id span) = ⊤
+FitsKey (key.Name label) it = ⊤
 FitsKey (key.Interface id) (item.Interface other stability docs span external_id) = id ≡ other
 FitsKey (key.Interface id) (item.Function f) = ⊥
 FitsKey (key.Interface id) (item.Type_ other span) = ⊥
@@ -236,8 +236,8 @@ abbrev pub in_order : ℕ → List Package → List (PackageName × ℕ)
 in_order n [] = []
 in_order n (home ∷ homes) = (home.name, n) ∷ in_order (suc n) homes
 
--- a graph whose worlds include nothing and whose names stand in the order of its packages, as pushing, merging and
--- transforming leave it
+-- a graph whose worlds include nothing (as in all valid ones) and whose names stand in the order of its packages, as each
+-- call of a `Resolve` leaves them (`calls_stay_in_order`)
 pub record IsWritableGraph (graph : Graph) : Type 0 where
   pub worlds : Each IsWritableWorld graph.worlds
   pub interfaces : Each IsWritableInterface graph.interfaces

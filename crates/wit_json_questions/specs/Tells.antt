@@ -1,5 +1,5 @@
 -- What is answered to questions about a graph.
-use Rattle.std.specs.Prelude.{◌≡◌, ℕ, List, [], ◌∷◌, Option, None, Some, Ok, option_and_then, slice_get, codes, bytes_eq, if◌then◌else◌}
+use Rattle.std.specs.Prelude.{◌≡◌, ◌⊎◌, ℕ, List, [], ◌∷◌, Option, None, Some, Ok, option_and_then, slice_get, codes, bytes_eq, if◌then◌else◌}
 use Rattle.std.specs.Map.{lookup}
 use Rattle.wit_names.specs.declared.package_name.PackageName.{PackageName}
 use Rattle.wit_sources.specs.SourceMap.{Sources}
@@ -12,8 +12,10 @@ use Rattle.wit_data.specs.declared.world.WorldKey.{WorldKey}
 use Rattle.wit_data.specs.declared.world.WorldKey.TheVariants as key
 use Rattle.wit_graph_data.specs.Named.{interface_in, package_named, world_named}
 use Rattle.wit_graph_data.specs.Queries.{canonical_id_text, futures_and_streams as function_futures, interface_direct_deps, package_direct_deps, topological_packages}
+use Rattle.wit_graph_data.specs.declared.error_kind.ResolveErrorKind.TheVariants.{OutOfMemory}
 use Rattle.wit_graph_data.specs.declared.graph.Graph.{Graph}
 use Rattle.wit_queries.specs.Selection.{IsSelectionError, selected_world}
+use Rattle.wit_json_commands.specs.Asked.{question_word}
 use Rattle.wit_json_commands.specs.declared.questions.FunctionPlace.{FunctionPlace}
 use Rattle.wit_json_commands.specs.declared.questions.FunctionSite.{FunctionSite}
 use Rattle.wit_json_commands.specs.declared.questions.FunctionSite.TheVariants as site
@@ -116,7 +118,7 @@ futures_and_streams g place = found (λ f. answer.Types (function_futures g.type
 
 -- ---- all questions
 
--- this may be answered to a question about a graph whose spans stand in these files
+-- this is what a question asks about a graph whose spans stand in these files
 abbrev pub Tells : Graph → Sources → Question → Answer → Type 0
 Tells g files (question.Select names text) told = TellsSelect g files names text told
 Tells g files (question.PackageDependencies home) told = told ≡ package_dependencies g home
@@ -125,3 +127,8 @@ Tells g files question.PackageOrder told = told ≡ package_order g
 Tells g files (question.CanonicalId home name) told = told ≡ canonical_id g home name
 Tells g files (question.CoreNames home world mangling) told = told ≡ core_names g home world mangling
 Tells g files (question.FuturesAndStreams place) told = told ≡ futures_and_streams g place
+
+-- this may be answered: what is asked, or the refusal of memory for it
+abbrev pub AnswersQuestion : Graph → Sources → Question → Answer → Type 0
+AnswersQuestion g files it told =
+    Tells g files it told ⊎ (told ≡ refused g files (question_word it) [] OutOfMemory)

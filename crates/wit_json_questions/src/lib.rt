@@ -8,4 +8,4 @@ mod names;
 mod question;
 mod selection;
 
-pub use crate::question::tell;
+pub use crate::question::answer_question;

@@ -1,22 +1,42 @@
 //! Questions and their answers.
 ghost use Rattle.std.specs.Prelude.{◌≡◌, IfOk};
 ghost use Rattle.wit_elaboration.specs.Valid.{IsValid};
-ghost use Rattle.wit_json_questions.specs.Tells.{Tells, canonical_id};
+ghost use Rattle.wit_json_questions.specs.Tells.{AnswersQuestion, Tells, canonical_id};
 
 use crate::core_names::core_names;
 use crate::dependencies::{interface_dependencies, package_dependencies, package_order};
 use crate::functions::futures_and_streams;
 use crate::selection::select;
-use std::alloc::Global;
+use std::alloc::{AllocError, Global};
 use wit_data::{PackageName, SourceMap, Text};
-use wit_graph_data::{Graph, ResolveResult};
+use wit_graph_data::{Graph, ResolveError, ResolveResult};
 use wit_json_commands::Question;
-use wit_json_replies::Answer;
+use wit_json_replies::{Answer, refused};
 use wit_queries::canonical::canonicalized_id_of_name;
 
-/// The answer to a question about a valid graph, whose spans stand in these files. A choice of a world may be refused, and
-/// that is its answer; else the only refusal is want of memory (28).
-pub fn tell(
+/// Answers a question about a valid graph, whose spans stand in these files. Where memory is refused for it, the answer is
+/// that refusal (28); the only error is that there is no memory for that answer either.
+pub fn answer_question(
+    alloc: Global,
+    graph: &Graph,
+    files: &SourceMap,
+    question: &Question,
+) -> Result<Answer, AllocError>
+    requires { IsValid graph.now }
+    ensures { IfOk result (λ answer. AnswersQuestion graph.now files.now question.now answer) }
+{
+    match tell(alloc, graph, files, question) {
+        Ok(answer) => Ok(answer),
+        Err(_) => {
+            let error = ResolveError::from(AllocError);
+            refused(alloc, graph, files, question.word(), &[], error)
+        }
+    }
+}
+
+/// What a question asks. A choice of a world may be refused, and that is its answer; else the only refusal is want of
+/// memory (28).
+fn tell(
     alloc: Global,
     graph: &Graph,
     files: &SourceMap,

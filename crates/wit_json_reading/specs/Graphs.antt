@@ -9,7 +9,7 @@ use Rattle.wit_graph_data.specs.declared.graph.Graph.{Graph}
 use Rattle.wit_graph_data.specs.declared.graph.Package.{Package}
 use Rattle.wit_json_reading.specs.Gates.{docs_of}
 use Rattle.wit_json_reading.specs.Packages.{package_name_of}
-use Rattle.wit_json_reading.specs.Reading.{Reading, ◌>>=◌, instead_of, list_of, only, required, under}
+use Rattle.wit_json_reading.specs.Reading.{Reading, ◌>>=◌, instead_of, list_of, only, required, under, without}
 use Rattle.wit_json_reading.specs.Tables.{named_of}
 use Rattle.wit_json_reading.specs.Types.{type_def_of}
 use Rattle.wit_json_reading.specs.Values.{number_of}
@@ -47,11 +47,11 @@ homes_of homes = homes_from [] homes
 
 -- ---- graphs
 
--- each thing stands in its list at the index that is its id
+-- each thing stands in its list at the index that is its id; what worlds included stands in them
 unfoldable pub graph_of : Json → Reading Graph
 graph_of j = do
   _ ← only (codes "worlds" ∷ codes "interfaces" ∷ codes "types" ∷ codes "packages" ∷ []) j
-  worlds ← required (list_of world_of) (codes "worlds") j
+  worlds ← required (list_of (without (codes "includes") world_of)) (codes "worlds") j
   interfaces ← required (list_of interface_of) (codes "interfaces") j
   types ← required (list_of type_def_of) (codes "types") j
   packages ← required (list_of graph_package_of) (codes "packages") j

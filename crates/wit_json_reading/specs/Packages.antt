@@ -15,7 +15,7 @@ use Rattle.wit_data.specs.declared.unresolved.AstItem.TheVariants as item
 use Rattle.wit_data.specs.declared.unresolved.UnresolvedPackage.{UnresolvedPackage}
 use Rattle.wit_json_reading.specs.Gates.{docs_of, gate_of, place_of, span_of}
 use Rattle.wit_json_reading.specs.Objects.{pair_of, variant_of}
-use Rattle.wit_json_reading.specs.Reading.{Reading, ◌>>=◌, instead_of, list_of, only, optional, required, under}
+use Rattle.wit_json_reading.specs.Reading.{Reading, ◌>>=◌, instead_of, list_of, only, optional, required, under, without}
 use Rattle.wit_json_reading.specs.Tables.{named_of}
 use Rattle.wit_json_reading.specs.Types.{type_def_of}
 use Rattle.wit_json_reading.specs.Values.{number_of, text_of, version_in}
@@ -91,14 +91,15 @@ package_names =
     codes "name" ∷ codes "span" ∷ codes "docs" ∷ codes "worlds" ∷ codes "interfaces" ∷ codes "types" ∷ codes "foreign-deps" ∷ codes "foreign-dep-spans"
     ∷ codes "unknown-type-spans" ∷ codes "required-resources" ∷ []
 
+-- its worlds and interfaces belong to it, and name no package
 unfoldable pub package_of : Json → Reading UnresolvedPackage
 package_of j = do
   _ ← only package_names j
   name ← required package_name_of (codes "name") j
   span ← span_of j
   docs ← docs_of j
-  worlds ← required (list_of world_of) (codes "worlds") j
-  interfaces ← required (list_of interface_of) (codes "interfaces") j
+  worlds ← required (list_of (without (codes "package") world_of)) (codes "worlds") j
+  interfaces ← required (list_of (without (codes "package") interface_of)) (codes "interfaces") j
   types ← required (list_of type_def_of) (codes "types") j
   deps ← required deps_of (codes "foreign-deps") j
   dep_spans ← required (list_of place_of) (codes "foreign-dep-spans") j

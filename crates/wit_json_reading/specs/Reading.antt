@@ -1,5 +1,5 @@
 -- What a JSON value reads as: the thing that it says, or the first fault in it.
-use Rattle.std.specs.Prelude.{◌≡◌, ℕ, suc, Bool, true, false, List, [], ◌∷◌, ◌++◌, Option, Some, None, Result, Ok, Err, if◌then◌else◌, bytes_eq}
+use Rattle.std.specs.Prelude.{◌≡◌, ℕ, suc, Bool, true, false, List, [], ◌∷◌, ◌++◌, Option, Some, None, Result, Ok, Err, if◌then◌else◌, bytes_eq, is_some}
 use Rattle.std.specs.List.{list_any}
 use Rattle.json.specs.Json.{Json, Items, Members}
 use Rattle.json.specs.Json as json
@@ -69,6 +69,11 @@ has_to_be_there f name (Some j) = under (step.Member name) (f j)
 -- the member of a name
 abbrev pub required : {A : Type 0} → (Json → Reading A) → List ℕ → Json → Reading A
 required f name j = has_to_be_there f name (get name j)
+
+-- a value that has no member of this name
+abbrev pub without : {A : Type 0} → List ℕ → (Json → Reading A) → Json → Reading A
+without name f j =
+    if is_some (get name j) then under (step.Member name) (instead_of expected.NoMember) else f j
 
 -- ---- lists
 

@@ -40,10 +40,14 @@ primitive_of word =
     else if bytes_eq word (codes "error-context") then Ok type.ErrorContext
     else instead_of expected.Type
 
+abbrev pub by_id : Reading ℕ → Reading Type_
+by_id (Ok id) = Ok (type.Id id)
+by_id (Err fault) = instead_of expected.Type
+
 -- a primitive by its name, or a type by its id
 unfoldable pub type_of : Json → Reading Type_
 type_of (json.string word) = primitive_of word
-type_of j = number_of j >>= λ id. Ok (type.Id id)
+type_of j = by_id (number_of j)
 
 unfoldable pub field_of : Json → Reading Field
 field_of j = do

@@ -1,6 +1,9 @@
--- What interfaces and worlds are read from, of graphs and of unresolved packages.
-use Rattle.std.specs.Prelude.{ℕ, List, [], ◌∷◌, ◌++◌, Option, Some, None, Result, Ok, Err, codes, decimal, if◌then◌else◌, bytes_eq, is_some, unwrap_or}
+-- What interfaces and worlds are read from, of graphs (which have no `includes`) and of unresolved packages (which have no
+-- `package`).
+use Rattle.std.specs.Prelude.{ℕ, List, [], ◌∷◌, ◌++◌, Option, Some, None, Result, Ok, Err, codes, decimal, drop, if◌then◌else◌, bytes_eq, is_some, nat_eq, unwrap_or}
+use Rattle.std.specs.List.{list_any, starts_with}
 use Rattle.std.specs.Map.{lookup}
+use Rattle.std.specs.Option.{option_map_or}
 use Rattle.json.specs.Find.{get}
 use Rattle.json.specs.Json.{Json, Members}
 use Rattle.json.specs.Json as json
@@ -79,11 +82,20 @@ item_by name j =
 unfoldable pub item_of : Json → Reading WorldItem
 item_of j = variant_of item_by expected.Entry j
 
--- the key of an entry under a name: its interface where the name is that of its id, else the name as a label
+-- a name without a mark: the key of an interface where it is `interface-` and its id, else a label
+abbrev pub plain_key : List ℕ → WorldItem → WorldKey
+plain_key name (item.Interface id stability docs span external_id) =
+    if bytes_eq name (codes "interface-" ++ decimal id) then key.Interface id else key.Name name
+plain_key name (item.Function f) = key.Name name
+plain_key name (item.Type_ id span) = key.Name name
+
+-- the label behind the mark `%`, where a name begins with that
+abbrev pub marked_label : List ℕ → Option (List ℕ)
+marked_label name = if starts_with nat_eq name (codes "%") then Some (drop 1 name) else None
+
+-- the key of an entry under a name: the label that is marked, or what the name says without a mark
 abbrev pub key_of : List ℕ → WorldItem → WorldKey
-key_of name (item.Interface id stability docs span external_id) = if bytes_eq name (codes "interface-" ++ decimal id) then key.Interface id else key.Name name
-key_of name (item.Function f) = key.Name name
-key_of name (item.Type_ id span) = key.Name name
+key_of name entry = option_map_or key.Name (marked_label name) (plain_key name entry)
 
 -- an entry behind those that are there, under a key that isn't there yet
 abbrev pub with_entry : List ℕ → WorldItem → List (WorldKey × WorldItem) → Reading (List (WorldKey × WorldItem))
@@ -100,9 +112,16 @@ abbrev pub entries_from : List (WorldKey × WorldItem) → Members → Reading (
 entries_from entries json.no_members = Ok entries
 entries_from entries (json.member name j ms) = with_member name j entries >>= λ more. entries_from more ms
 
--- the entries of a world
+-- no name is one of the earlier ones, or stands twice
+abbrev pub names_differ : List (List ℕ) → Members → Reading (Unit {0})
+names_differ earlier json.no_members = Ok tt
+names_differ earlier (json.member name j ms) =
+    if list_any (bytes_eq name) earlier then under (step.Member name) (instead_of expected.NoSecondMember)
+    else names_differ (earlier ++ name ∷ []) ms
+
+-- the entries of a world, whose names and keys differ
 abbrev pub entries_of : Json → Reading (List (WorldKey × WorldItem))
-entries_of (json.object ms) = entries_from [] ms
+entries_of (json.object ms) = names_differ [] ms >>= λ _. entries_from [] ms
 entries_of _ = instead_of expected.Object
 
 -- ---- worlds

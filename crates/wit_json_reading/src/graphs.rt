@@ -4,6 +4,7 @@ ghost use Rattle.wit_json_reading.specs.Reading.{Reads};
 
 use crate::fault::{Expected, ReadError, in_item, in_member, instead_of};
 use crate::gates::docs;
+use crate::lists::required_without;
 use crate::reader::{ReadJson, only, required};
 use json::Value;
 use std::alloc::Global;
@@ -63,7 +64,7 @@ impl ReadJson for Graph {
     #[tactic(auto, unfolding(crate::specs::Graphs::graph_of))]
     fn read_json(alloc: Global, value: &Value<'_>) -> Result<Graph, ReadError> {
         only(alloc, value, &["worlds", "interfaces", "types", "packages"])?;
-        let worlds = required(alloc, value, "worlds")?;
+        let worlds = required_without(alloc, value, "worlds", "includes")?;
         let interfaces = required(alloc, value, "interfaces")?;
         let types = required(alloc, value, "types")?;
         let packages = required(alloc, value, "packages")?;

@@ -8,6 +8,7 @@ mod functions;
 mod gates;
 mod graphs;
 mod groups;
+mod lists;
 mod messages;
 mod objects;
 mod packages;

@@ -23,7 +23,7 @@ impl fmt::Display for Expected {
             Expected::Member => "a member of this name",
             Expected::NoMember => "no member of this name",
             Expected::NoSecondMember => "no second member of this name",
-            Expected::Type => "a type",
+            Expected::Type => "the name of a primitive type, or the index of a type",
             Expected::TypeKind => "a kind of type",
             Expected::FunctionKind => "a kind of function",
             Expected::Gate => "a gate",

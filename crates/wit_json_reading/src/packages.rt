@@ -7,6 +7,7 @@ ghost use Rattle.wit_json_reading.specs.Reading.{Reads};
 
 use crate::fault::{Expected, ReadError, in_member, instead_of};
 use crate::gates::{docs, span};
+use crate::lists::required_without;
 use crate::objects::{one_member, pair};
 use crate::reader::{ReadJson, only, required};
 use crate::values::version;
@@ -167,8 +168,8 @@ impl ReadJson for UnresolvedPackage {
         let name = required(alloc, value, "name")?;
         let package_name_span = span(alloc, value)?;
         let docs = docs(alloc, value)?;
-        let worlds = required(alloc, value, "worlds")?;
-        let interfaces = required(alloc, value, "interfaces")?;
+        let worlds = required_without(alloc, value, "worlds", "package")?;
+        let interfaces = required_without(alloc, value, "interfaces", "package")?;
         let types = required(alloc, value, "types")?;
         let foreign_deps = required(alloc, value, "foreign-deps")?;
         let foreign_dep_spans = required(alloc, value, "foreign-dep-spans")?;

@@ -2,7 +2,8 @@
 ghost use Rattle.std.specs.Prelude.{◌≡◌};
 ghost use Rattle.json.specs.Value.{value_view};
 ghost use Rattle.wit_json_reading.specs.Reading.{Reads};
-ghost use Rattle.wit_json_reading.specs.Types.{case_of, enum_case_of, field_of, fixed_length_list_of, flag_of, handle_by, handle_of, kind_by, kind_of, map_of, owner_by, owner_of, plain_kind_of, primitive_of, result_of, type_def_of, type_of};
+ghost use Rattle.wit_json_reading.specs.Values.{number_of};
+ghost use Rattle.wit_json_reading.specs.Types.{by_id, case_of, enum_case_of, field_of, fixed_length_list_of, flag_of, handle_by, handle_of, kind_by, kind_of, map_of, owner_by, owner_of, plain_kind_of, primitive_of, result_of, type_def_of, type_of};
 
 use crate::fault::{Expected, ReadError, in_member, instead_of};
 use crate::gates::{docs, span, stability};
@@ -21,8 +22,19 @@ impl ReadJson for Type_ {
     fn read_json(alloc: Global, value: &Value<'_>) -> Result<Type_, ReadError> {
         match value.as_str() {
             Some(word) => primitive(alloc, word),
-            None => Ok(Type_::Id(TypeId::read_json(alloc, value)?)),
+            None => by_id(alloc, value),
         }
+    }
+}
+
+/// A type by its id.
+fn by_id(alloc: Global, value: &Value<'_>) -> Result<Type_, ReadError>
+    ensures { Reads result (by_id (number_of (value_view value.now))) }
+{
+    match TypeId::read_json(alloc, value) {
+        Ok(id) => Ok(Type_::Id(id)),
+        Err(ReadError::Fault(_)) => instead_of(alloc, Expected::Type),
+        Err(ReadError::OutOfMemory) => Err(ReadError::OutOfMemory),
     }
 }
 

@@ -1,8 +1,9 @@
 //! Interfaces and worlds.
-ghost use Rattle.std.specs.Prelude.{◌≡◌, ◌++◌, IfOk, codes, decimal, bytes_eq};
-ghost use Rattle.json.specs.Value.{value_view};
+ghost use Rattle.std.specs.Prelude.{◌≡◌, ◌++◌, [], IfOk, codes, decimal, bytes_eq};
+ghost use Rattle.std.specs.Option.{option_copied};
+ghost use Rattle.json.specs.Value.{members_view, value_view};
 ghost use Rattle.wit_json_reading.specs.Reading.{Reads};
-ghost use Rattle.wit_json_reading.specs.Worlds.{entries_of, home_of, include_name_of, include_of, includes_of, interface_entry_of, interface_of, item_by, item_of, key_of, placed_type_of, type_entry_of, with_entry, with_member, world_of};
+ghost use Rattle.wit_json_reading.specs.Worlds.{entries_of, home_of, include_name_of, include_of, includes_of, interface_entry_of, interface_of, item_by, item_of, key_of, marked_label, names_differ, placed_type_of, plain_key, type_entry_of, with_entry, with_member, world_of};
 
 use crate::fault::{Expected, ReadError, in_member, instead_of};
 use crate::gates::{docs, span, stability};
@@ -13,7 +14,7 @@ use std::alloc::{AllocError, Global};
 use wit_data::{
     IncludeName, Interface, InterfaceId, PackageId, Span, World, WorldInclude, WorldItem, WorldKey,
 };
-use wit_values::{Items, Table, Text};
+use wit_values::{Items, NameSet, Table, Text};
 
 /// The package that something belongs to, none where it is left out.
 #[tactic(auto, unfolding(crate::specs::Worlds::home_of))]
@@ -136,6 +137,23 @@ fn placed_type(alloc: Global, value: &Value<'_>) -> Result<WorldItem, ReadError>
 fn key(alloc: Global, name: &str, entry: &WorldItem) -> Result<WorldKey, AllocError>
     ensures { IfOk result (λ key. key ≡ key_of name.now entry.now) }
 {
+    match marked_label(name) {
+        Some(label) => Ok(WorldKey::Name(Text::try_from_str(alloc, label)?)),
+        None => plain_key(alloc, name, entry),
+    }
+}
+
+/// The label that stands behind a mark, where there is one.
+fn marked_label(name: &str) -> Option<&str>
+    ensures { option_copied result ≡ marked_label name.now }
+{
+    name.strip_prefix("%")
+}
+
+/// The key of an entry under a name without a mark.
+fn plain_key(alloc: Global, name: &str, entry: &WorldItem) -> Result<WorldKey, AllocError>
+    ensures { IfOk result (λ key. key ≡ plain_key name.now entry.now) }
+{
     if let WorldItem::Interface { id, .. } = entry {
         if is_key_of(alloc, name, *id)? {
             return Ok(WorldKey::Interface(*id));
@@ -163,12 +181,28 @@ impl ReadJson for Table<WorldKey, WorldItem> {
         let Value::Object(members) = value else {
             return instead_of(alloc, Expected::Object);
         };
+        names_differ(alloc, members)?;
         let mut entries = Table::new(alloc);
         for member in members {
             entries = with_member(alloc, member.0, &member.1, entries)?;
         }
         Ok(entries)
     }
+}
+
+/// Finds the first member whose name stands for the second time.
+fn names_differ(alloc: Global, members: &[(&str, Value<'_>)]) -> Result<(), ReadError>
+    ensures { Reads result (names_differ [] (members_view members.now)) }
+{
+    let mut names = NameSet::new(alloc);
+    for member in members {
+        let name = member.0;
+        if names.contains(name) {
+            return in_member(alloc, instead_of(alloc, Expected::NoSecondMember), name);
+        }
+        names.insert(alloc, name)?;
+    }
+    Ok(())
 }
 
 /// The entries with that of one member more.

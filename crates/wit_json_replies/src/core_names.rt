@@ -6,7 +6,7 @@ ghost use Rattle.wit_json_replies.specs.CoreNames.{interface_member, json_of_cor
 
 use std::alloc::AllocError;
 use wit_data::{Items, Text, WorldKey};
-use wit_json::{JsonText, WriteJson};
+use wit_json::{EntryName, JsonText, WriteJson};
 
 /// A function that a world imports, with its names.
 #[derive(Drop)]
@@ -38,14 +38,9 @@ pub struct CoreNames {
 fn write_key(out: &mut JsonText, key: &WorldKey) -> Result<(), AllocError>
     ensures { OnOk result (out.new ≡ out.old ++ json_tokens (json_of_key key.now)) }
 {
-    match key {
-        WorldKey::Name(label) => out.string(label.as_str()),
-        WorldKey::Interface(id) => {
-            let (alloc, index) = (out.allocator(), id.index());
-            let name = format!(in alloc; "interface-{index}")?;
-            out.string(name.as_str())
-        }
-    }
+    let (alloc, name) = (out.allocator(), EntryName(key));
+    let name = format!(in alloc; "{name}")?;
+    out.string(name.as_str())
 }
 
 /// Writes the member that tells in which interface a function stands.

@@ -13,7 +13,7 @@ use Rattle.wit_json_commands.specs.declared.orders.Order.{Order}
 use Rattle.wit_json_commands.specs.declared.orders.Order.TheVariants as order
 use Rattle.wit_json_commands.specs.declared.orders.Request.{Request}
 use Rattle.wit_json_commands.specs.declared.orders.Request.TheVariants as request
-use Rattle.wit_json_questions.specs.Tells.{Tells}
+use Rattle.wit_json_questions.specs.Tells.{AnswersQuestion}
 use Rattle.wit_json_replies.specs.Refusals.{refused}
 use Rattle.wit_json_replies.specs.declared.answers.Answer.{Answer}
 use Rattle.wit_json_replies.specs.declared.answers.Answer.TheVariants as answer
@@ -75,7 +75,8 @@ AnswersChange old it told new = AnswersShaped old it told new ⊎ TellsShape old
 -- a change is carried out; a question changes nothing
 abbrev pub Answers : State → Request → Answer → State → Type 0
 Answers old (request.Change it) told new = AnswersChange old it told new
-Answers old (request.Ask it) told new = Tells old.graph old.source_map it told × (new ≡ old)
+Answers old (request.Ask it) told new =
+    AnswersQuestion old.graph old.source_map it told × (new ≡ old)
 
 -- one after another, with one answer to each
 abbrev pub AnswersEach : State → List Request → List Answer → State → Type 0

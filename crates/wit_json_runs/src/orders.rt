@@ -6,7 +6,7 @@ ghost use Rattle.wit_json_runs.specs.Runs.{Answers, AnswersEach, Responds, Respo
 use crate::changes::{answer_change, carry_out};
 use std::alloc::Global;
 use wit_json_commands::{Order, Request};
-use wit_json_questions::tell;
+use wit_json_questions::answer_question;
 use wit_json_replies::{Answer, Response};
 use wit_resolve_graph::{Command, Items, Resolve, ResolveResult};
 
@@ -68,6 +68,9 @@ fn answer_to(alloc: Global, resolve: &mut Resolve, request: Request) -> ResolveR
 {
     match request {
         Request::Change(change) => answer_change(alloc, resolve, change),
-        Request::Ask(question) => { tell(alloc, resolve.graph(), resolve.source_map(), &question) }
+        Request::Ask(question) => {
+            let (graph, files) = (resolve.graph(), resolve.source_map());
+            Ok(answer_question(alloc, graph, files, &question)?)
+        }
     }
 }

@@ -20,6 +20,7 @@ returns c = record {
   small = refl;
   same_package = refl;
   no_types = refl;
+  with_includes = refl;
   features = refl;
   all = refl;
   no_names = refl;

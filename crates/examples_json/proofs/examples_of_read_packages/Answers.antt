@@ -25,6 +25,8 @@ returns c = record {
   no_type = refl;
   empty = refl;
   no_lists = refl;
+  with_package = refl;
+  in_package = refl;
   files = refl;
   no_text = refl;
 }

@@ -18,6 +18,7 @@ returns c = record {
   not_upper = refl;
   id = refl;
   no_half = refl;
+  no_object = refl;
   field = refl;
   no_type = refl;
   unknown_member = refl;

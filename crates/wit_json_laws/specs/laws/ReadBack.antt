@@ -1,17 +1,24 @@
 -- What is written reads back.
 use Rattle.std.specs.Prelude.{◌≡◌, Ok}
+use Rattle.wit_data.specs.declared.world.WorldKey.{WorldKey}
 use Rattle.wit_data.specs.declared.unresolved.UnresolvedPackage.{UnresolvedPackage}
 use Rattle.wit_data.specs.declared.unresolved.UnresolvedPackageGroup.{UnresolvedPackageGroup}
 use Rattle.wit_json.specs.Graph.{compact}
 use Rattle.wit_json.specs.Groups.{json_of_group}
 use Rattle.wit_json.specs.Unresolved.{json_of_unresolved}
 use Rattle.wit_json.specs.Whole.{json_of_whole}
+use Rattle.wit_json.specs.Worlds.{entry_name}
 use Rattle.wit_json_graphs.specs.Resolves.{resolve_of}
 use Rattle.wit_json_graphs.specs.declared.resolves.ResolveParts.{ResolveParts}
-use Rattle.wit_json_laws.specs.Writable.{AreWritableParts, IsWritableGroup, IsWritablePackage}
+use Rattle.wit_json_laws.specs.Writable.{AreWritableParts, IsWritableGroup, IsWritableKey, IsWritablePackage}
 use Rattle.wit_json_reading.specs.Documents.{reading_of}
 use Rattle.wit_json_reading.specs.Groups.{group_of}
 use Rattle.wit_json_reading.specs.Packages.{package_of}
+
+-- two entries of a world have two names, so no object has one name twice
+abbrev pub EntryNamesDiffer : Type 0
+EntryNamesDiffer =
+    (k l : WorldKey) → IsWritableKey k → IsWritableKey l → entry_name k ≡ entry_name l → k ≡ l
 
 -- the value that is written of an unresolved package reads as that package
 abbrev pub PackagesReadBack : Type 0

@@ -1,0 +1,35 @@
+use Rattle.std.proofs.Common.{◌≡◌, ℕ, List, [], ap, codes, inl, inr, refl}
+use Rattle.std.specs.Fmt.{digits}
+use Rattle.wit_digraph.specs.PostOrder.{post_order, post_order_within}
+use Rattle.wit_values.specs.facts.Lists.{differ}
+use Rattle.wit_graph_data.specs.declared.error_kind.ResolveErrorKind.TheVariants.{OutOfMemory}
+use Rattle.wit_json_commands.specs.declared.questions.Question.TheVariants as question
+use Rattle.wit_json_questions.specs.Tells.{AnswersQuestion}
+use Rattle.wit_json_replies.specs.declared.answers.Answer.{Answer}
+use Rattle.wit_json_replies.specs.declared.answers.Answer.TheVariants as answer
+use Rattle.examples_json_runs.specs.Questions.{asked_graph, no_files, refused_28}
+use Rattle.examples_json_runs.proofs.examples_of_refused_questions.Goals as goal
+
+-- what a refusal shows, nothing of another answer
+shown : Answer → List ℕ
+shown (answer.Refused refusal) = refusal.rendered
+shown _ = []
+
+no_other : AnswersQuestion asked_graph no_files question.PackageOrder (refused_28 (codes "select")) → ⊥
+unfolding digits
+no_other (inl same) = cc
+no_other (inr same) = differ _ _ refl (ap shown same)
+
+nothing : AnswersQuestion asked_graph no_files question.PackageOrder answer.NotFound → ⊥
+nothing (inl same) = cc
+nothing (inr same) = cc
+
+pub returns : goal.returns
+unfolding digits post_order post_order_within
+returns c = record {
+  told = inl refl;
+  refused_ = inr refl;
+  no_other_word = no_other;
+  not_nothing = nothing;
+  rendered_ = refl;
+}
