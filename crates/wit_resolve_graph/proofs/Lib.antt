@@ -3,6 +3,7 @@ mod FilesAfter
 mod Grouped
 mod KeptRows
 mod Merged
+mod NamesInOrder
 mod OneOrder
 mod Runs
 mod RunsKeep

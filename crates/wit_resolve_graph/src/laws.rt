@@ -3,7 +3,7 @@ ghost use Rattle.wit_resolve_graph.specs.examples.Examples.{ExamplesOfRuns, Exam
 ghost use Rattle.wit_resolve_graph.specs.examples.FilesExamples.{ExamplesOfFiles};
 ghost use Rattle.wit_resolve_graph.specs.examples.SourceNamesExamples.{ExamplesOfNames};
 ghost use Rattle.wit_resolve_graph.specs.examples.SourcesExamples.{ExamplesOfSources};
-ghost use Rattle.wit_resolve_graph.specs.laws.RunLaws.{AdditionsKeep, GroupsKeep, MergesKeep, RunsKeep, SemverMergesKeep, SourcesKeep, TransformationsKeep};
+ghost use Rattle.wit_resolve_graph.specs.laws.RunLaws.{AdditionsKeep, AdditionsStayInOrder, GroupsKeep, GroupsStayInOrder, MergesKeep, MergesStayInOrder, RunsKeep, RunsStayInOrder, SemverMergesKeep, SemverMergesStayInOrder, SourcesKeep, SourcesStayInOrder, TransformationsKeep, TransformationsStayInOrder};
 ghost use Rattle.wit_resolve_graph.specs.laws.SemverLaws.{CallIsExact, CommandIsExact};
 
 use crate::resolve::Resolve;
@@ -26,6 +26,26 @@ pub fn calls_keep()
     ensures transformations { TransformationsKeep }
     ensures merges { MergesKeep }
     ensures semver_merges { SemverMergesKeep }
+{
+    semver_merges_keep();
+}
+
+/// Where the names of packages stand in the order of the packages, as in a new graph, and in those that are merged into
+/// it, a run leaves them so.
+pub fn runs_stay_in_order()
+    ensures { RunsStayInOrder }
+{
+    semver_merges_keep();
+}
+
+/// So does each call that changes the graph.
+pub fn calls_stay_in_order()
+    ensures additions { AdditionsStayInOrder }
+    ensures groups { GroupsStayInOrder }
+    ensures sources { SourcesStayInOrder }
+    ensures transformations { TransformationsStayInOrder }
+    ensures merges { MergesStayInOrder }
+    ensures semver_merges { SemverMergesStayInOrder }
 {
     semver_merges_keep();
 }

@@ -1,6 +1,6 @@
 -- What every run keeps.
-use Rattle.std.specs.Prelude.{◌≡◌, ℕ, List, ◌++◌}
-use Rattle.wit_data.specs.Each.{EachAt, SomeAt}
+use Rattle.std.specs.Prelude.{◌≡◌, ℕ, suc, List, [], ◌∷◌, ◌++◌}
+use Rattle.wit_data.specs.Each.{Each, EachAt, SomeAt}
 use Rattle.wit_data.specs.declared.interface.Interface.{Interface}
 use Rattle.wit_names.specs.declared.package_name.PackageName.{PackageName}
 use Rattle.wit_names.specs.declared.track.TrackRule.{TrackRule}
@@ -21,6 +21,7 @@ use Rattle.wit_resolve_graph.specs.Sources.{PushesAnswer}
 use Rattle.wit_resolve_graph.specs.State.{State}
 use Rattle.wit_resolve_graph.specs.Step.{PushesGroups, Run}
 use Rattle.wit_resolve_graph.specs.declared.command.Command.{Command}
+use Rattle.wit_resolve_graph.specs.declared.command.Command.TheVariants.{Merge}
 use Rattle.wit_resolve_graph.specs.declared.command.Reply.{Reply}
 
 -- all of a type but its stability, which a merge joins, and what it names as an alias, which semver merging changes
@@ -63,3 +64,51 @@ MergesKeep = (m : GraphMerge) → Keeps m.graph (merged m)
 
 abbrev pub SemverMergesKeep : Type 0
 SemverMergesKeep = (rule : TrackRule) (g : Graph) (w : ℕ) → Keeps g (semver_merged rule g w)
+
+-- ---- the order of the names of packages
+
+-- packages under their names, with the ids from n on
+abbrev pub numbered : ℕ → List Package → List (PackageName × ℕ)
+numbered n [] = []
+numbered n (home ∷ homes) = (home.name, n) ∷ numbered (suc n) homes
+
+-- the names stand in the order of the packages
+abbrev pub HasNamesInOrder : Graph → Type 0
+HasNamesInOrder g = g.package_names ≡ numbered 0 g.packages
+
+abbrev pub StaysInOrder : Graph → Graph → Type 0
+StaysInOrder old new = HasNamesInOrder old → HasNamesInOrder new
+
+-- so does another graph that a command brings
+abbrev pub BringsOrder : Command → Type 0
+BringsOrder (Merge other) = HasNamesInOrder other.graph
+BringsOrder _ = Unit {0}
+
+-- a run leaves the names in order
+abbrev pub RunsStayInOrder : Type 0
+RunsStayInOrder =
+    (old new : State) (commands : List Command) (replies : List Reply) → Each BringsOrder commands
+    → Run old commands replies new → StaysInOrder old.graph new.graph
+
+-- so do single calls
+abbrev pub AdditionsStayInOrder : Type 0
+AdditionsStayInOrder = (a : Addition) (new : Graph) (id : ℕ) → IsAdded a new id → StaysInOrder a.graph new
+
+abbrev pub GroupsStayInOrder : Type 0
+GroupsStayInOrder =
+    (old new : State) (main : UnresolvedPackageGroup) (deps : List UnresolvedPackageGroup) (id : ℕ)
+    → PushesGroups old main deps id new → StaysInOrder old.graph new.graph
+
+abbrev pub SourcesStayInOrder : Type 0
+SourcesStayInOrder =
+    (old new : State) (group : UnresolvedPackageGroup) (id : ℕ)
+    → PushesAnswer old group id new → StaysInOrder old.graph new.graph
+
+abbrev pub TransformationsStayInOrder : Type 0
+TransformationsStayInOrder = (g : Graph) (w : ℕ) (change : World → WorldLists) → StaysInOrder g (transformed g w change)
+
+abbrev pub MergesStayInOrder : Type 0
+MergesStayInOrder = (m : GraphMerge) → HasNamesInOrder m.other → StaysInOrder m.graph (merged m)
+
+abbrev pub SemverMergesStayInOrder : Type 0
+SemverMergesStayInOrder = (rule : TrackRule) (g : Graph) (w : ℕ) → StaysInOrder g (semver_merged rule g w)
