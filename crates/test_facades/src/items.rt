@@ -141,7 +141,7 @@ fn given_back(rt: &impl Abort, alloc: Global) -> String {
         .push(InterfaceId::from_index(4), 5)
         .expect(rt, "memory");
     let map = table.into_map().expect(rt, "memory");
-    let table = Table::from_map(map).expect(rt, "memory");
+    let table: Table<InterfaceId, usize> = Table::from_map(map).expect(rt, "memory");
     let mut names: Names<usize> = Names::new(alloc);
     let name = String::from_str(alloc, "n").expect(rt, "memory");
     names.push(name, 6).expect(rt, "memory");

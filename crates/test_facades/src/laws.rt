@@ -91,7 +91,9 @@ fn laws_of_changed_worlds_can_be_named(_rt: HostRuntime) {
 #[test]
 fn laws_of_runs_can_be_named(rt: HostRuntime) {
     of_runs::calls_keep();
+    of_runs::calls_stay_in_order();
     of_runs::runs_keep();
+    of_runs::runs_stay_in_order();
     of_runs::semver_is_exact(&Resolve::new(rt.alloc()));
     of_scripts::scripts_have_one_outcome();
 }

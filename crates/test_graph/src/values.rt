@@ -4,7 +4,7 @@ use std::alloc::Global;
 use std::cmp::Ordering;
 use std::process::Abort;
 use wit_values::{
-    Items, NameSet, Names, Table, TryClone, Version, try_clone_four, try_clone_six,
+    Items, NameSet, Names, Table, Text, TryClone, Version, try_clone_four, try_clone_six,
     try_clone_three, try_clone_two,
 };
 
@@ -42,7 +42,7 @@ fn lists_grow_and_are_copied(rt: HostRuntime) {
 
 /// A table of one text, copied.
 fn shown_table(rt: &impl Abort, alloc: Global) -> String {
-    let mut table = Table::new(alloc);
+    let mut table: Table<Text, usize> = Table::new(alloc);
     table.push(text(rt, alloc, "b"), 1).expect(rt, "memory");
     let copy = table.try_clone().expect(rt, "memory");
     format!(in alloc; "{copy:?}").expect(rt, "memory")

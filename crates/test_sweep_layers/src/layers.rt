@@ -2,6 +2,7 @@
 ghost use Rattle.std.specs.Prelude.{◌≡◌, ◌<◌, ◌∷◌, [], IfSome, length};
 ghost use Rattle.wit_data.specs.Shape.{IsShaped};
 ghost use Rattle.wit_elaboration.specs.Valid.{IsValid};
+ghost use Rattle.wit_link.specs.Caches.{AreCachesOf};
 
 use crate::marks::{call, copy_of, done, tell, tell_made};
 use crate::states::{graph_state, tell_graph};
@@ -82,6 +83,14 @@ fn append_one(
     tell_graph(rt, answer, &copy)
 }
 
+/// Caches of a graph.
+fn caches_of(alloc: Global, graph: &Graph) -> Option<GraphCaches>
+    requires { IsValid graph.now }
+    ensures { IfSome result (AreCachesOf graph.now) }
+{
+    GraphCaches::of(alloc, graph).ok()
+}
+
 fn append_one_cached(
     rt: &impl Print,
     alloc: Global,
@@ -94,7 +103,7 @@ fn append_one_cached(
 {
     let mut copy = copy_of(graph)?;
     let package = copy_of(package)?;
-    let mut caches = GraphCaches::of(alloc, &copy).ok()?;
+    let mut caches = caches_of(alloc, &copy)?;
     call(rt, "append_with");
     let answer = append_with(alloc, &mut copy, &mut caches, features, package, 0);
     tell_graph(rt, answer, &copy)
@@ -129,7 +138,7 @@ fn append_list_cached(
 {
     let mut copy = copy_of(graph)?;
     let list = alone(alloc, package)?;
-    let mut caches = GraphCaches::of(alloc, &copy).ok()?;
+    let mut caches = caches_of(alloc, &copy)?;
     call(rt, "append_all_with");
     let answer = append_all_with(alloc, &mut copy, &mut caches, features, list);
     tell_graph(rt, answer, &copy)

@@ -70,7 +70,8 @@ fn convert_tables(rt: &impl Print, alloc: Global) -> Option<()> {
     let mut map = IndexMap::new(alloc);
     map.insert(TypeId::from_index(7), 7usize).ok()?;
     call(rt, "from_map of Table");
-    tell_made(rt, Table::from_map(map))?;
+    let made: Result<Table<TypeId, usize>, AllocError> = Table::from_map(map);
+    tell_made(rt, made)?;
     let mut table: Table<TypeId, usize> = Table::new(alloc);
     table.push(TypeId::from_index(7), 7).ok()?;
     call(rt, "into_map of Table");
@@ -82,7 +83,8 @@ fn convert_names(rt: &impl Print, alloc: Global) -> Option<()> {
     let key = String::from_str(alloc, "key").ok()?;
     map.insert(key, 7usize).ok()?;
     call(rt, "from_map of Names");
-    tell_made(rt, Names::from_map(map))?;
+    let made: Result<Names<usize>, AllocError> = Names::from_map(map);
+    tell_made(rt, made)?;
     let mut names: Names<usize> = Names::new(alloc);
     let key = String::from_str(alloc, "key").ok()?;
     names.push(key, 7).ok()?;

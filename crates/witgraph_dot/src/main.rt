@@ -4,10 +4,10 @@
 //! A package is a frame with its name, which holds its interfaces, round, and its worlds, with the functions and types
 //! that they import and export under their names. An arrow leads from an interface to each that it uses, and from a world
 //! to the interfaces that it imports and exports; its colour tells which, as the line below the picture says. An import
-//! that elaboration added has a colour of its own: see `Listing` for what that is. Below stands what `witgraph_explain`
+//! that elaboration added has a colour of its own: see `Listing` for what that is. Below stands what `explain_text`
 //! tells of the script: its refusals, and what isn't there, each with its lines.
 //!
-//! Of a script that isn't understood there is no picture, but what `witgraph_explain` tells.
+//! Of a script that isn't understood there is no picture, but what `explain_text` tells.
 #![tactic(auto)]
 
 ghost use Rattle.std.specs.Prelude.{IfOk, string_bytes};
