@@ -9,14 +9,16 @@
 
 Names are followed through the files of specs: from a definition to each definition that its text names, and on from
 there. What the code declares, and what the toolchain and its kit define, ends the way. A line is one of the definition
-itself that isn't empty and no comment. A public contract is one of a function that a crate for users has or re-exports,
-or of a method of a type that it does; laws aren't asked.
+itself that isn't empty and no comment. A public contract is one that users have (tools/offered.py); what laws alone rest on
+may stand at the top.
 """
 import pathlib
 import re
 import sys
 from collections import defaultdict
 from dataclasses import dataclass, field
+
+from offered import Offer, is_of_laws
 
 CRATES = pathlib.Path(__file__).resolve().parent.parent / "crates"
 # not a value `record x { field = ..` at the head of a line
@@ -37,10 +39,6 @@ SUBJECTS = [
     ("Step, Run", ["Step", "Run"]),
     ("questions, core names, selection", ["Queries/*", "Names/import_names", "Names/export_name", "selected_world"]),
 ]
-
-
-# the crates that users name
-USERS = ["wit_items", "wit_graph", "wit_link", "wit_unite", "wit_resolve_graph", "wit_script"]
 
 
 @dataclass
@@ -131,11 +129,13 @@ class Specs:
         """The places of what the text of a definition names."""
         file, text = self.files[definition.path], "\n".join(definition.lines)
         text = re.sub(r'"(?:[^"\\]|\\.)*"', '""', text)
+        # the name of a field to which a value is given
+        text = re.sub(r"([{;]\s*)[\w«»]+(?= =)", r"\1", text)
         bound = {word for match in BOUND.finditer(text) for word in re.findall(r"[\w']+", match[1] or match[2])}
         bound |= self.parameters(definition, text)
-        cited = set()
+        cited, operators = set(), {name.strip("◌"): name for name in [*file.definitions, *file.names] if "◌" in name}
         for word in WORD.findall(text):
-            head, _, rest = word.partition(".")
+            head, _, rest = operators.get(word, word).partition(".")
             made = None
             if head in file.aliases and rest:
                 made = self.found(file.aliases[head], rest.split(".")[0])
@@ -153,7 +153,6 @@ class Specs:
                 bound |= set(re.findall(r"(?<![.\w])[a-z_]\w*", line.split("=")[0])) - {definition.name}
             elif match := re.match(r"\s+(?:pub )?([\w«»]+) :", line):
                 bound.add(match[1])
-        bound |= set(re.findall(r"[{;]\s*([\w«»]+) =", text))
         return bound
 
     def behind(self, places):
@@ -206,69 +205,44 @@ def by_citations(specs, places):
         print(f"{len(citing[place]):4} {len(specs.at[place].lines):4}  {place:64} {by}")
 
 
-def offered():
-    """What users have, by crate: the names that are re-exported, with `*` where all of the crate is."""
-    names = defaultdict(set, {user: {"*"} for user in USERS})
-    for user in USERS + ["wit_data", "wit_graph_data"]:
-        text = (CRATES / user / "src" / "lib.rt").read_text(encoding="utf-8")
-        for crate, some in re.findall(r"pub use (wit_\w+)(?:::)?([^;]*);", text):
-            found = re.findall(r"\w+", some)
-            names[crate] |= {"*"} if some.startswith(" as ") or not found else set(found)
-    return names
-
-
-def seen(line, head, names):
-    """Whether a line says what contracts see of a type that users have, or what it prints."""
-    return re.match(r"\s+ghost \w+ =", line) and ("*" in names or names & set(re.findall(r"\w+", head)))
-
-
-def clauses(path, names):
-    """The `ghost use` lines of a source, and the contracts of its functions that users have."""
-    uses, head, contract, made = [], "", "", []
-    for line in path.read_text(encoding="utf-8").splitlines():
-        if line.strip().startswith("ghost use "):
-            uses.append(line.strip()[6:].rstrip(";"))
-        elif re.match(r"(pub )?(impl|trait)\b", line):
-            head = line
-        elif match := re.match(r"(    )?(?:pub )?(?:const )?fn (\w+)", line):
-            is_public = "pub " in line or " for " in head
-            of_users = "*" in names or path.stem in names or names & set(re.findall(r"\w+", head if match[1] else match[2]))
-            contract = "." if is_public and of_users else ""
-        elif contract and re.match(r"\s+(requires|ensures)\b", line) or seen(line, head, names):
-            made.append(without_comment(line))
-        elif line in ("{", "    {"):
-            contract = ""
-        elif contract and made and line.startswith("  "):
-            made.append(without_comment(line))
-    return uses, "\n".join(made)
+def cited(specs, path, lines):
+    """The places that some lines of a source name."""
+    text = "\n".join(map(without_comment, lines))
+    for line in re.findall(r"^ *ghost (use .*);", path.read_text(encoding="utf-8"), re.M):
+        _, module, some, _ = USE.match(line).groups()
+        for name in filter(None, map(str.strip, (some or "").split(","))):
+            found = specs.found(module, name)
+            if found and re.search(rf"(?<![\w.]){re.escape(name)}(?!\w)", text):
+                yield found.place
 
 
 def under_contracts(specs):
     """The places on which public contracts rest."""
-    cited = set()
-    for crate, names in offered().items():
-        for path in (CRATES / crate / "src").rglob("*.rt"):
-            if path.stem == "laws" or "laws" in path.parts:
-                continue
-            uses, text = clauses(path, names)
-            for line in uses:
-                _, module, some, _ = USE.match(line).groups()
-                for name in filter(None, map(str.strip, (some or "").split(","))):
-                    found = specs.found(module, name)
-                    if found and re.search(rf"(?<![\w.]){re.escape(name)}(?!\w)", text):
-                        cited.add(found.place)
-    return specs.behind(cited)
+    offer = Offer()
+    lines = {path: [line for _, line, _ in offer.clauses(path)] for path in offer.sources()}
+    return specs.behind({place for path, some in lines.items() for place in cited(specs, path, some)})
+
+
+def under_laws(specs):
+    """The places on which laws rest."""
+    sources = [it for it in CRATES.glob("*/src/**/*.rt") if is_of_laws(it)]
+    return specs.behind({place for it in sources for place in cited(specs, it, it.read_text(encoding="utf-8").splitlines())})
 
 
 def misplaced(specs):
-    """Prints what public contracts rest on and stands in a folder of specs, and what stands at the top and none does."""
+    """What public contracts rest on and stands in a folder of specs; and what stands at the top beside such definitions,
+    though no contract and no law rests on it."""
     under = under_contracts(specs)
-    crates = {specs.at[place].path.parent for place in under if specs.at[place].path.parent.name == "specs"}
-    for it in specs.all:
-        if it.place in under and it.path.parent.name != "specs":
-            print("believed, not at the top:", it.place)
-        if it.place not in under and it.path.parent in crates:
-            print("at the top, under no public contract:", it.place)
+    either = under | under_laws(specs)
+    tops = {specs.at[place].path.parent for place in under if specs.at[place].path.parent.name == "specs"}
+    believed = [it.place for it in specs.all if it.place in under and it.path.parent.name != "specs"]
+    return believed, [it.place for it in specs.all if it.place not in either and it.path.parent in tops], under
+
+
+def print_misplaced(specs):
+    believed, at_top, under = misplaced(specs)
+    print(*(f"believed, not at the top: {it}" for it in believed), sep="\n")
+    print(*(f"at the top, under no public contract: {it}" for it in at_top), sep="\n")
     print("{} definitions, {} lines, {} files under public contracts".format(*sums(specs, under)))
 
 
@@ -280,7 +254,7 @@ def main(words):
     if "--cited" in flags:
         by_citations(specs, places)
     elif "--misplaced" in flags:
-        misplaced(specs)
+        print_misplaced(specs)
     elif names:
         print(*sorted(places), sep="\n")
         print("{} definitions, {} lines, {} files".format(*sums(specs, places)))
