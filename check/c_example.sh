@@ -5,7 +5,8 @@
 # of Python's module, whose readme shows what is told. `.ci/run` runs it after `rt ci`, over whose libraries it builds the
 # static one.
 #
-# WITGRAPH_LIBRARY, the folder of a libwitgraph_c.a that is there, spares the build of the library.
+# WITGRAPH_LIBRARY, the folder of a libwitgraph_c.a that is there, spares the build of the library. WITGRAPH_SHARED is where
+# the shared library is left that the tests of Python's module load.
 set -eu
 cd "$(dirname "$0")/.."
 kit=$(dirname "$(rt doc)")
@@ -48,12 +49,28 @@ P
 "$work/json" < crates/witgraph_json/stdin | cmp - crates/witgraph_json/stdout
 sed 's/^.*,"resolve":/{"replies":[],"resolve":/' crates/witgraph_json/stdout > "$work/again"
 sed 's/^.*,"resolve":/{"commands":[],"resolve":/' crates/witgraph_json/stdout | "$work/json" | cmp - "$work/again"
+told=$(printf '{"commands":["\377"]}' | "$work/json" 2>&1) && exit 1
+[ "$told" = "the document isn't UTF-8" ] || { echo "of a document that isn't UTF-8 the C example tells $told" >&2; exit 1; }
 echo "c_example: the document of witgraph_json comes out as stored, and its graph again"
 
 # Each allocation is refused in turn.
 "$compiler" $flags -Wl,--wrap=malloc,--wrap=realloc,--wrap=free bindings/c/no_memory.c $libraries -o "$work/no_memory"
 "$work/no_memory" < crates/witgraph/stdin
 
+WITGRAPH_SHARED=${WITGRAPH_SHARED:-$work/libwitgraph.so}
+export WITGRAPH_SHARED
 "$compiler" -shared -Wl,--whole-archive "$WITGRAPH_LIBRARY/libwitgraph_c.a" -Wl,--no-whole-archive "$kit/c/liblibc_c.a" \
-    -o "$work/libwitgraph.so"
-WITGRAPH_SHARED="$work/libwitgraph.so" python3 bindings/python/test_witgraph.py
+    -o "$WITGRAPH_SHARED"
+python3 bindings/python/test_witgraph.py
+
+# What isn't UTF-8 is told of each call alike.
+python3 - << 'P'
+import ctypes, os, sys
+
+library, size, output = ctypes.CDLL(os.environ["WITGRAPH_SHARED"]), ctypes.c_size_t, ctypes.create_string_buffer(8)
+for call in library.witgraph_execute, library.witgraph_explain, library.witgraph_json:
+    needed = size(1)
+    status = call(b"push\xff", size(5), output, size(8), ctypes.byref(needed))
+    if (status, needed.value) != (3, 0):
+        sys.exit(f"of an input that isn't UTF-8 a call tells {status}, {needed.value}")
+P

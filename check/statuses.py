@@ -1,0 +1,85 @@
+#!/usr/bin/env python3
+"""Asks with which status programs end, and what they write, where their input or output isn't what it has to be.
+
+    python3 check/statuses.py [--witgraph PROGRAM] [--json PROGRAM] [--dot PROGRAM]
+
+The programs are those that `rt ci` leaves. What docs/SCRIPT.md, docs/JSON.md and docs/PICTURES.md say of each: an input that
+isn't UTF-8, a read or a write that fails, a script that isn't understood, arguments. Ends with status 1 where one does
+otherwise.
+"""
+import argparse
+import os
+import shutil
+import subprocess
+import sys
+import tempfile
+
+TOP = os.path.dirname(os.path.dirname(os.path.abspath(__file__)))
+SCRIPT, NO_SCRIPT, NO_UTF8 = b"package a:b\npush\n", b"package a:b\ninterface i_i\npush\n", b"package a:b\xff\npush\n"
+DOCUMENT = b'{"commands":["package-order"]}'
+OUT = (b'{"replies":[{"packages":[]}],"resolve":{"graph":{"worlds":[],"interfaces":[],"types":[],"packages":[]},'
+       b'"details":{"worlds":[],"interfaces":[],"types":[]},"features":{"all":false,"names":[]},"track-rule":"published","sources":[]}}')
+REASON = b"line 2: i_i is no kebab name\n      |\n    2 | interface i_i\n      | ^------------\n"
+# Of each program: arguments, input (None: one that can't be read), whether it can be written; the status, and what is written.
+RUNS = {
+    "witgraph": [
+        ([], SCRIPT, True, 0, b"pushed a:b\n"),
+        (["--help"], SCRIPT, True, 0, b"pushed a:b\n"),
+        ([], NO_SCRIPT, True, 1, b"line 3: not understood\n"),
+        ([], NO_UTF8, True, 1, b""),
+        ([], None, True, 1, b""),
+        ([], SCRIPT, False, 1, b""),
+    ],
+    "witgraph_json": [
+        ([], DOCUMENT, True, 0, OUT),
+        ([], b"[]", True, 1, b'{"fault":{"path":[],"offset":0,"expected":"an object"}}'),
+        ([], b'{"commands":["\xff"]}', True, 1, b""),
+        ([], None, True, 1, b""),
+        ([], DOCUMENT, False, 1, b""),
+        (["--help"], DOCUMENT, True, 2, b""),
+    ],
+    "witgraph_dot": [([], NO_SCRIPT, True, 1, REASON), ([], NO_UTF8, True, 1, b""), ([], None, True, 1, b""), ([], SCRIPT, False, 1, b"")],
+}
+
+
+def ran(program, words, given, is_written, **environment):
+    """The status of a run, what it writes, and what it tells. Of a folder nothing can be read, and /dev/full takes nothing."""
+    with tempfile.TemporaryFile() as file:
+        file.write(given or b"")
+        file.seek(0)
+        source = os.open(TOP, os.O_RDONLY) if given is None else os.dup(file.fileno())
+        with open("/dev/full", "wb") as full:
+            out = subprocess.PIPE if is_written else full
+            done = subprocess.run([program, *words], stdin=source, stdout=out, stderr=subprocess.PIPE, timeout=60, **environment)
+        os.close(source)
+    return done.returncode, done.stdout or b"", done.stderr
+
+
+def faults(name, program):
+    """What a program does otherwise."""
+    for words, given, is_written, status, expected in RUNS[name]:
+        ended, written, told = ran(program, words, given, is_written)
+        is_right = (ended, written) == (status, expected) and (b"usage: " in told) == (status == 2)
+        if not is_right:
+            yield f"{name} {words} of {given}: status {ended}, {written}, {told}; {status}, {expected} are expected"
+
+
+def main():
+    parser = argparse.ArgumentParser()
+    for name, option in zip(RUNS, ("--witgraph", "--json", "--dot")):
+        parser.add_argument(option, dest=name, default=f"{TOP}/crates/{name}/out/{name}")
+    wrong, asked = [], vars(parser.parse_args())
+    with tempfile.TemporaryDirectory() as folder:
+        for name, path in asked.items():
+            if not os.path.isfile(path):
+                sys.exit(f"statuses: {path} isn't there: run rt ci first")
+            # `rt ci` leaves programs without leave to run
+            copy = shutil.copyfile(path, f"{folder}/{name}")
+            os.chmod(copy, 0o755)
+            wrong += faults(name, copy)
+    print("\n".join([*wrong, f"statuses: {sum(map(len, RUNS.values()))} runs, {len(wrong)} wrong"]))
+    return 1 if wrong else 0
+
+
+if __name__ == "__main__":
+    sys.exit(main())
