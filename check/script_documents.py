@@ -14,6 +14,7 @@ with status 1 where they differ.
 """
 import argparse
 import json
+import re
 import subprocess
 import sys
 
@@ -38,7 +39,8 @@ class Spans:
 
         def init(self, *parts, **named):
             made(self, *parts, **named)
-            self.span = Spans.now
+            if Spans.now:
+                self.span = Spans.now
 
         sort.__init__ = init
 
@@ -52,15 +54,15 @@ class Reader(reader.Reader):
 
     def read(self, line, words):
         model.names.need(self.package or words[0] == "package")
-        at = 0 if words[0] == "package" else len(self.package.file)
-        size = len(line.encode())
-        Spans.now = [at, at + size]
+        at = 0 if words[0] == "package" else len(self.package.file.text)
+        Spans.now = [at, at + len(line.encode())]
         self.line(words)
         if words[0] == "package":
-            self.package.file, self.package.required_spans = b"", []
-        self.package.file += line.encode() + b"\n"
+            self.package.file, self.package.required_spans = data.File(str(self.package.name)), []
+        self.package.file.text += line.encode() + b"\n"
         while len(self.package.required_spans) < len(self.package.required):
             self.package.required_spans.append(Spans.now)
+        Spans.now = None
 
 
 def gate(note):
@@ -140,7 +142,7 @@ class Written:
         return {self.key(it): self.entry(it) for it in entries}
 
     def key(self, it):
-        return f"interface-{self.id(it.item)}" if it.label is None else it.label
+        return f"interface-{self.id(it.item)}" if it.label is None else marked(it.label)
 
     def entry(self, it):
         if isinstance(it.item, data.Type):
@@ -171,7 +173,7 @@ class Written:
         package = self.package
         main = {
             "name": str(package.name),
-            "span": [0, package.file.index(b"\n")],
+            "span": [0, package.file.text.index(b"\n")],
             "worlds": [self.world(it) for it in self.worlds],
             "interfaces": [self.interface(it) for it in self.interfaces],
             "types": [self.written_type(it) for it in self.types],
@@ -180,16 +182,16 @@ class Written:
             "unknown-type-spans": [it.span for it in self.unknown],
             "required-resources": [[self.id(t), s] for t, s in zip(package.required, package.required_spans)],
         }
-        sources = [{"path": str(package.name), "text": package.file.decode()}]
+        sources = [{"path": package.file.path, "text": package.file.text.decode()}]
         return {"main": main, "nested": [], "sources": sources}
 
 
 class Document(Commands):
-    """The commands of a script as those of a document."""
+    """The commands of a script as those of a document; `read_commands` has them as the model's session takes them."""
 
     def __init__(self):
         super().__init__()
-        self.reader, self.commands, self.other = Reader(), [], None
+        self.reader, self.commands, self.other, self.read_commands = Reader(), [], None, []
 
     def add(self, line, words):
         command = words[0] in model.scripts.COMMANDS
@@ -198,6 +200,7 @@ class Document(Commands):
             return
         read, packages = self.read(words)
         self.reader = Reader()
+        self.read_commands.append((read, packages))
         match read:
             case ["other"]:
                 self.other, self.commands = self.commands, []
@@ -231,8 +234,8 @@ def written(command, packages):
     raise ValueError(command)
 
 
-def document_of(script):
-    """The document of a script that is understood, None for another."""
+def read_document(script):
+    """What a script that is understood says, None for another."""
     document = Document()
     try:
         for line in script.split("\n"):
@@ -240,8 +243,15 @@ def document_of(script):
             if words and words[0] not in PRINTS:
                 document.add(line, words)
     except model.NotUnderstood:
+        Spans.now = None
         return None
-    return None if document.are_open() else {"commands": document.commands}
+    return None if document.are_open() else document
+
+
+def document_of(script):
+    """The document of a script that is understood, None for another."""
+    document = read_document(script)
+    return document and {"commands": document.commands}
 
 
 # ---- what a document answers, as a script does
@@ -250,6 +260,11 @@ def document_of(script):
 def id_text(graph, package, name):
     home, at, version = graph["packages"][package]["name"].partition("@")
     return f"{home}/{name}{at}{version}"
+
+
+def marked(label):
+    """The name of an entry under a label: behind a `%` where it could be taken for a key, or for such a name."""
+    return "%" + label if re.match(r"%|interface-[0-9]*\Z", label) else label
 
 
 def interface_text(graph, number):
@@ -262,8 +277,9 @@ def entry_text(graph, key, item):
         text = interface_text(graph, item["interface"]["id"])
         if key == f"interface-{item['interface']['id']}":
             return text
-        return f"{key} = {text}" if text else key
-    return f"{'func' if 'function' in item else 'type'} {key}"
+        label = key.removeprefix("%")
+        return f"{label} = {text}" if text else label
+    return f"{'func' if 'function' in item else 'type'} {key.removeprefix('%')}"
 
 
 def world_lines(graph, world):

@@ -1,8 +1,8 @@
 """Adds a package to a graph."""
 from .causes import defined_twice, excluded, returns_borrow
-from .data import Entry, Foreign, Function, Interface, Package, Type, World, with_values
+from .data import Entry, Foreign, Function, Interface, Owns, Package, Type, World
 from .elaboration import Conflict, elaborate
-from .including import include
+from .including import Copier, include
 from .labels import label_causes, place_setters
 from .names import version_key
 
@@ -16,12 +16,14 @@ class Addition:
     """A package that is added to a graph: what takes part, the causes to refuse it, and what comes of it.
 
     `active` tells of each thing whether it takes part, `found` has the graph's thing for each that is foreign,
-    `images` what the package's own things become, and `made` is the package that is added.
+    `images` what the package's own things become, and `made` is the package that is added. Behind the images of types
+    come the `owns` of values and then the `copies` of includes.
     """
 
     def __init__(self, graph, package):
         self.graph, self.package, self.causes = graph, package, set()
         self.active, self.found, self.images = {}, {}, {}
+        self.owns, self.copies, self.interfaces = Owns(), [], []
         self.look_up()
         self.ask_package()
         self.has_image = not any(number in WITHOUT_IMAGE for number, _ in self.causes)
@@ -165,26 +167,37 @@ class Addition:
             return self.seen_as(thing)
         return self.images[thing]
 
+    def span(self, thing):
+        return thing.span and (self.package.file, *thing.span)
+
     def moved(self, function):
         made = function.moved(function.name, self.image)
-        made.take_values()
+        made.take_values(self.owns)
+        made.span = self.span(function)
         return made
+
+    def all_types(self):
+        """The types of the graph and behind them what comes, in the order of ids."""
+        images = [self.images[it] for it in self.package.types if it in self.images]
+        unknown = [self.seen_as(it) for it in self.package.types if isinstance(it.owner, Foreign)]
+        return [*self.graph.types, *images, *self.owns.of([*unknown, *images]), *self.copies]
 
     def move(self):
         """Makes the images of what takes part; worlds stay empty."""
         own = [it for it in self.package.types if self.active[it] and not isinstance(it.owner, Foreign)]
         for it in own:
-            self.images[it] = Type(it.name, None, None, it.note, it.fields)
+            self.images[it] = Type(it.name, None, None, it.note, it.fields, self.span(it))
         for it in [*self.package.all_interfaces(), *self.package.worlds.values()]:
             if self.active[it]:
-                self.images[it] = type(it)(it.name, it.note, self.package.name)
+                self.images[it] = type(it)(it.name, it.note, self.package.name, span=self.span(it))
         for it in own:
             # (a type is after those that it names)
-            self.images[it].kind = with_values((it.kind[0], *(self.image(part) for part in it.kind[1:])))
+            self.images[it].kind = self.owns.with_values((it.kind[0], *(self.image(part) for part in it.kind[1:])))
             self.images[it].owner = self.image(it.owner)
         for interface in self.package.all_interfaces():
             if self.active[interface]:
                 made = self.images[interface]
+                self.interfaces.append(made)
                 if interface.name:
                     self.made.interfaces[interface.name] = made
                 made.types = {n: self.image(it) for n, it in interface.types.items() if self.active[it]}
@@ -221,7 +234,8 @@ class Addition:
             for it in listed:
                 if self.active[it]:
                     item = self.moved(it.item) if isinstance(it.item, Function) else self.image(it.item)
-                    entries.append(Entry(it.label, item, it.item.note if isinstance(item, Type) else it.note))
+                    note = it.item.note if isinstance(item, Type) else it.note
+                    entries.append(Entry(it.label, item, note, self.span(it)))
 
     def include_all(self, made, world):
         """Includes what the world includes, and answers whether all of it went in."""
@@ -230,8 +244,11 @@ class Addition:
                 of = self.found[it.world] if it.world in self.found else self.made.worlds.get(it.world.name)
                 if of is None:
                     return False
-                cause = include(made, of, it.names)
+                copier = Copier(of, made)
+                cause = include(made, of, it.names, copier)
                 if cause:
                     self.refuse(*cause, it)
                     return False
+                self.copies += [copier.copies[ty] for ty in self.all_types() if ty in copier.copies]
+                self.interfaces += [copier.owners[i] for i in [*self.graph.interfaces, *self.interfaces] if i in copier.owners]
         return True

@@ -1,7 +1,9 @@
 """What packages are made of, handed in or of the graph: types, functions, interfaces and worlds with their entries.
 
 A reference is a type, or the text of a primitive. A note tells when something takes part: `UNKNOWN` where the script
-has none, or ("stable", version) or ("unstable", feature). Things are the same only where they are one object.
+has none, or ("stable", version) or ("unstable", feature). A span of what is handed in is a pair of positions in the file
+of its package, one of the graph has that file before them; what has none has `None`. Things are the same only where they
+are one object.
 """
 from dataclasses import dataclass, field
 
@@ -16,12 +18,23 @@ def as_it_is(ty):
 
 
 @dataclass(eq=False)
+class File:
+    path: str
+    text: bytes = b""
+
+    def __deepcopy__(self, memo):
+        """A copy of a graph is of the same files."""
+        return self
+
+
+@dataclass(eq=False)
 class Type:
     name: str  # None where it is written in place
     kind: tuple  # its word and what it names; what is named of another package is of the kind ("unknown",)
     owner: object  # an interface, a world or something foreign, None where it is written in place
     note: tuple
     fields: tuple = None  # the names of its parts, or the length of a list
+    span: tuple = None
 
     def references(self):
         return [it for it in self.kind[1:] if isinstance(it, Type)]
@@ -48,15 +61,24 @@ class Type:
         return of if isinstance(of, Interface) else None
 
 
-def value(reference):
-    """What stands at the place of a value: of a type that leads to a resource an `own` of it."""
-    is_resource = isinstance(reference, Type) and reference.end().kind[0] == "resource"
-    return Type(None, ("own", reference), None, UNKNOWN) if is_resource else reference
+class Owns(dict):
+    """What comes into a graph at one time has one `own` for each type that values need one of: here by that type."""
 
+    def value(self, reference):
+        """What stands at the place of a value: of a type that leads to a resource an `own` of it."""
+        if not isinstance(reference, Type) or reference.end().kind[0] != "resource":
+            return reference
+        if reference not in self:
+            self[reference] = Type(None, ("own", reference), None, UNKNOWN)
+        return self[reference]
 
-def with_values(kind):
-    """A kind, at whose places for values stand values."""
-    return kind if kind[0] in ("alias", "own", "borrow") else (kind[0], *map(value, kind[1:]))
+    def with_values(self, kind):
+        """A kind, at whose places for values stand values."""
+        return kind if kind[0] in ("alias", "own", "borrow") else (kind[0], *map(self.value, kind[1:]))
+
+    def of(self, types):
+        """Those of some types, in the order of these."""
+        return [self[it] for it in types if it in self]
 
 
 @dataclass(eq=False)
@@ -68,6 +90,7 @@ class Function:
     result: object  # a reference, or None
     note: tuple
     kind: str = None  # where its name doesn't tell it
+    span: tuple = None
 
     def references(self):
         return [it for it in [*self.parts, self.result, self.resource] if isinstance(it, Type)]
@@ -75,11 +98,11 @@ class Function:
     def moved(self, name, image):
         """The function under a name, what it refers to being what `image` makes of it."""
         parts = [image(it) for it in self.parts]
-        return Function(name, image(self.resource), self.names, parts, image(self.result), self.note, self.kind)
+        return Function(name, image(self.resource), self.names, parts, image(self.result), self.note, self.kind, self.span)
 
-    def take_values(self):
+    def take_values(self, owns):
         """Puts values at the places of its parameters and its result."""
-        self.parts, self.result = [value(it) for it in self.parts], value(self.result)
+        self.parts, self.result = [owns.value(it) for it in self.parts], owns.value(self.result)
 
 
 @dataclass(eq=False)
@@ -89,6 +112,7 @@ class Interface:
     package: PackageName = None
     types: dict = field(default_factory=dict)
     functions: dict = field(default_factory=dict)
+    span: tuple = None
 
     def shown_types(self):
         """Its types, and those that its functions refer to."""
@@ -109,6 +133,7 @@ class World:
     imports: list = field(default_factory=list)
     exports: list = field(default_factory=list)
     includes: list = field(default_factory=list)
+    span: tuple = None
 
     def unnamed(self):
         """The interfaces that are written in place."""
@@ -139,6 +164,7 @@ class Entry:
     label: str
     item: object  # an interface, a function or a type
     note: tuple
+    span: tuple = None
 
     @property
     def key(self):
@@ -186,6 +212,7 @@ class Package:
     worlds: dict = field(default_factory=dict)
     foreign: dict = field(default_factory=dict)
     required: list = field(default_factory=list)  # foreign types that have to be resources
+    file: File = None  # the one that it was read from, where that is kept
 
     def all_interfaces(self):
         """Its interfaces, and those that are written in place."""

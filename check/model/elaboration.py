@@ -63,7 +63,8 @@ def imported(imports):
         for use in uses:
             for far in walk(use):
                 bring(found, far, note)
-        found.setdefault(it.key, it)
+        # (an imported interface keeps no span)
+        found.setdefault(it.key, Entry(it.label, it.item, it.note) if isinstance(it.item, Interface) else it)
     return found
 
 

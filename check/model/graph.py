@@ -8,24 +8,34 @@ from .walks import in_cycles, in_order
 
 
 class Graph:
-    """The packages in the order in which they were added, the features that are on, and the rule of tracks."""
+    """The packages in the order in which they were added, the features that are on, the rule of tracks, and the files.
+
+    All that was added stands in `types`, `interfaces` and `worlds`, in the order of ids.
+    """
 
     def __init__(self):
-        self.packages, self.features, self.all_features, self.tracks = [], set(), False, "published"
+        self.packages, self.features, self.all_features, self.tracks = [], {}, False, "published"
+        self.types, self.interfaces, self.worlds, self.files = [], [], [], []
 
     def find(self, name):
         return next((it for it in self.packages if it.name.key == name.key), None)
 
     def push(self, packages):
         """The causes of a refusal; none where the packages are added."""
+        self.files += [it.file for it in packages if it.file]
         causes, ordered = sort(packages)
-        before = len(self.packages)
+        lists = self.packages, self.types, self.interfaces, self.worlds
+        before = [len(it) for it in lists]
         for package in ordered:
             added = Addition(self, package)
             if added.causes:
-                del self.packages[before:]
+                for of, count in zip(lists, before):
+                    del of[count:]
                 return added.causes
             self.packages.append(added.made)
+            self.types += added.all_types()[len(self.types) :]
+            self.interfaces += added.interfaces
+            self.worlds += added.made.worlds.values()
         return causes
 
     def turn(self, package, world, new, exports, keys):

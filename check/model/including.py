@@ -11,7 +11,7 @@ class Copier:
     """
 
     def __init__(self, of, to):
-        self.owners = {of: to} | {it: Interface(None, it.note, to.package) for it in of.unnamed()}
+        self.owners = {of: to} | {it: Interface(None, it.note, to.package, span=it.span) for it in of.unnamed()}
         self.copies = {}
 
     def belongs(self, ty):
@@ -21,7 +21,8 @@ class Copier:
         if not isinstance(ty, Type) or not self.belongs(ty):
             return ty
         if ty not in self.copies:
-            copy = self.copies[ty] = Type(ty.name, None, ty.owner and self.owners[ty.owner], ty.note, ty.fields)
+            owner = ty.owner and self.owners[ty.owner]
+            copy = self.copies[ty] = Type(ty.name, None, owner, ty.note, ty.fields, ty.span)
             copy.kind = ty.kind[0], *(self.type(it) for it in ty.kind[1:])
         return self.copies[ty]
 
@@ -38,13 +39,13 @@ class Copier:
         return item.moved(label, self.type) if isinstance(item, Function) else item
 
 
-def include(world, of, names):
+def include(world, of, names, copier):
     """Adds the entries of an included world, and answers the cause that stops it."""
     labels = [it.label for it in of.entries() if it.label is not None]
     for old, new in names:
         if all(renamed(it, old, new) is None for it in labels):
             return 16, f"no import or export kebab-name `{old}`. Note that an ID does not support renaming"
-    copier, is_external = Copier(of, world), of.package.key != world.package.key
+    is_external = of.package.key != world.package.key
     for (word, entries), (_, added) in zip(world.lists(), of.lists()):
         for it in added:
             if it.label is None:
@@ -56,19 +57,20 @@ def include(world, of, names):
             label = next((new for new in news if new is not None), it.label)
             if any(other.label == label for other in entries):
                 return 7, f"{word} of `{label}` shadows previously {word}ed items"
-            entries.append(Entry(label, copier.item(it.item, label), it.note))
+            entries.append(Entry(label, copier.item(it.item, label), it.note, it.span))
     return None
 
 
 def include_interface(entries, added, is_external):
     """Adds an interface under its own key, and answers the cause that stops it."""
     at = next((n for n, it in enumerate(entries) if it.key == added.key), len(entries))
-    note = entries[at].note if at < len(entries) else added.note
+    there = entries[at] if at < len(entries) else added
+    note = there.note
     if is_external and added.note[0] == "stable":
         note = UNKNOWN
     elif added.note != UNKNOWN and note == UNKNOWN:
         note = added.note
     elif added.note not in (UNKNOWN, note):
         return note_mismatch(note, added.note)
-    entries[at : at + 1] = [Entry(None, added.item, note)]
+    entries[at : at + 1] = [Entry(None, added.item, note, there.span)]
     return None

@@ -2,8 +2,8 @@
 import copy
 
 from .causes import note_mismatch, returns_borrow
-from .data import UNKNOWN, Entry, Function, Interface, Package, Type, with_values
-from .finishing import all_types, finish, interfaces_of
+from .data import UNKNOWN, Entry, Function, Interface, Owns, Package, Type
+from .finishing import finish, interfaces_of
 from .mismatches import function_mismatches, type_mismatch
 
 
@@ -121,13 +121,13 @@ class Merge:
 
     def unite(self):
         """Puts what the other graph alone has into the graph."""
-        new = [it for it in all_types(self.other) if id(it) not in self.partner]
+        owns, new = Owns(), self.new(self.other.types)
         for ty in new:
             ty.kind = ty.kind[0], *(self.at(it) for it in ty.kind[1:])
             ty.owner = self.at(ty.owner)
         # (what leads to a resource is told once all are in place)
         for ty in new:
-            ty.kind = with_values(ty.kind)
+            ty.kind = owns.with_values(ty.kind)
         functions = []
         for package in self.other.packages:
             into = self.graph.find(package.name)
@@ -144,11 +144,18 @@ class Merge:
         for it in functions:
             it.parts = [self.at(part) for part in it.parts]
             it.result, it.resource = self.at(it.result), self.at(it.resource)
-            it.take_values()
+            it.take_values(owns)
             if isinstance(it.result, Type) and it.result.holds_borrow():
                 self.causes.add(returns_borrow(it.name))
         for it in interfaces_of(self.graph):
             it.types = {name: self.at(ty) for name, ty in it.types.items()}
+        self.graph.types += [*new, *owns.of(self.at(it) for it in self.other.types)]
+        self.graph.interfaces += self.new(self.other.interfaces)
+        self.graph.worlds += self.new(self.other.worlds)
+
+    def new(self, things):
+        """Those that aren't to be one with things of the graph."""
+        return [it for it in things if id(it) not in self.partner]
 
     def unite_interface(self, package, interface):
         """Puts an interface into a package, and answers the functions that are new there."""
@@ -166,5 +173,5 @@ class Merge:
         """Puts a world into a package, and answers its functions."""
         package.worlds[world.name] = world
         for _, entries in world.lists():
-            entries[:] = [Entry(it.label, self.at(it.item), it.note) for it in entries]
+            entries[:] = [Entry(it.label, self.at(it.item), it.note, it.span) for it in entries]
         return [it.item for it in world.entries() if isinstance(it.item, Function)]

@@ -103,7 +103,7 @@ class Session:
         graph = self.graphs[-1]
         match words:
             case ["feature", name]:
-                graph.features.add(name)
+                graph.features[name] = True
             case ["all-features"]:
                 graph.all_features = True
             case ["tracks", rule]:
@@ -114,6 +114,8 @@ class Session:
                 return told(graph.push(packages), f"pushed {packages[0].name}")
             case ["merge"]:
                 other = self.graphs.pop()
+                # (the files are there after a refusal, too)
+                self.graphs[-1].files += other.files
                 return self.merged(merge(self.graphs[-1], other, self.rules.by_structure), "merged")
             case ["select", name, *path]:
                 package = graph.find(name)
