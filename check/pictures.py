@@ -243,6 +243,11 @@ class Picture:
         return made
 
 
+def unquoted(label):
+    """What the labels of a box say, one behind the other."""
+    return re.sub(r"\\(.)|&amp;", lambda it: {"n": " ", None: "&"}.get(it[1], it[1]), label)
+
+
 def arrows_of_dot(text):
     """The arrows of a picture, by names."""
     names, frame, middle = {}, "", {}
@@ -252,7 +257,7 @@ def arrows_of_dot(text):
         elif found := re.match(r'\s+([iw]\d+) \[.*?label="(.*?)(?:\\n.*)?"\];', line):
             names[found[1]] = (frame, found[2])
         elif found := re.match(r'  ([mx]\d+_\d+) \[.*label="(.*)"\];', line):
-            middle[found[1]] = found[2].replace("\\n", " ")
+            middle[found[1]] = unquoted(found[2])
     made = []
     for line in text.split("\n"):
         if found := re.match(r'  (\w+) -> (\w+) \[color="(#\w+)"(.*)\];', line):
