@@ -1,0 +1,46 @@
+//! Maps in the order of their keys.
+use crate::shim::alloc::{AllocError, AllocFailed};
+use std::fmt;
+
+/// Rust's `BTreeMap`. (Its growth cannot be asked for first, so it aborts where memory is wanting.)
+pub struct BTreeMap<K, V>(std::collections::BTreeMap<K, V>);
+
+impl<K: Ord, V> BTreeMap<K, V> {
+    pub fn new() -> BTreeMap<K, V> {
+        BTreeMap(std::collections::BTreeMap::new())
+    }
+
+    pub fn insert(&mut self, key: K, value: V) -> Result<Option<V>, AllocFailed<(K, V)>> {
+        Ok(self.0.insert(key, value))
+    }
+
+    pub fn get(&self, key: &K) -> Option<&V> {
+        self.0.get(key)
+    }
+
+    pub fn contains_key(&self, key: &K) -> bool {
+        self.0.contains_key(key)
+    }
+
+    pub fn clone(&self) -> Result<BTreeMap<K, V>, AllocError>
+    where
+        K: Clone,
+        V: Clone,
+    {
+        Ok(BTreeMap(self.0.clone()))
+    }
+
+    pub fn len(&self) -> usize {
+        self.0.len()
+    }
+
+    pub fn is_empty(&self) -> bool {
+        self.0.is_empty()
+    }
+}
+
+impl<K: fmt::Debug, V: fmt::Debug> fmt::Debug for BTreeMap<K, V> {
+    fn fmt(&self, f: &mut fmt::Formatter<'_>) -> fmt::Result {
+        self.0.fmt(f)
+    }
+}

@@ -1,0 +1,67 @@
+"""Debian's packages of the crates that the made crate stands on, and whether cargo gets them from a registry."""
+import os
+import pathlib
+import shutil
+import subprocess
+import sys
+
+REGISTRY = pathlib.Path("/usr/share/cargo/registry")
+# the folders that a package puts into REGISTRY begin with the crate's name
+PACKAGES = {
+    "indexmap": "librust-indexmap-dev",
+    "semver": "librust-semver-dev",
+    "serde": "librust-serde-dev",
+    "serde_json": "librust-serde-json-dev",
+}
+CONFIG = f"""[source.crates-io]
+replace-with = "debian"
+
+[source.debian]
+directory = "{REGISTRY}"
+
+[net]
+offline = true
+"""
+# how long cargo may look for crates, in seconds
+PATIENCE = 60
+
+
+def missing():
+    """The packages that aren't installed."""
+    return [package for crate, package in PACKAGES.items() if not list(REGISTRY.glob(f"{crate}-[0-9]*"))]
+
+
+def can_install():
+    return shutil.which("apt-get") is not None and (os.geteuid() == 0 or shutil.which("sudo") is not None)
+
+
+def install(names):
+    words = ["apt-get", "install", "-y", "-q", *names]
+    if os.geteuid() != 0:
+        words = ["sudo", *words]
+    if not can_install() or subprocess.run(words, stdout=sys.stderr).returncode != 0:
+        sys.exit(f"plain-rust: these packages of Debian are missing: {' '.join(names)}")
+
+
+def take(out):
+    """Installs what is missing, and points the crate's cargo at Debian's packages."""
+    if names := missing():
+        install(names)
+    path = out / ".cargo" / "config.toml"
+    path.parent.mkdir(parents=True, exist_ok=True)
+    path.write_text(CONFIG, encoding="utf-8")
+
+
+def are_fetched(out):
+    """Whether cargo gets the crates for the one in a folder: from where it is told to take them, else from its registry."""
+    try:
+        done = subprocess.run(["cargo", "fetch", "--quiet"], cwd=out, capture_output=True, timeout=PATIENCE)
+    except (OSError, subprocess.TimeoutExpired):
+        return False
+    return done.returncode == 0
+
+
+def tell_of_registry(out):
+    """Says what to do where cargo gets no crates."""
+    if not are_fetched(out):
+        print("plain-rust: cargo gets no crates here: take --debian, or name a registry of your own", file=sys.stderr)
