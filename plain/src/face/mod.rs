@@ -1,0 +1,13 @@
+//! What users name, over what is made: `Resolve`, and calls of wit-parser on its data.
+
+mod data;
+mod errors;
+#[cfg(feature = "serde")]
+mod hand_on;
+pub mod json;
+mod questions;
+mod resolve;
+#[cfg(feature = "serde")]
+mod serde;
+
+pub use resolve::Resolve;

@@ -1,0 +1,4 @@
+//! What the programs of this crate do.
+pub use crate::made::witgraph::main as witgraph;
+pub use crate::made::witgraph_dot::main as witgraph_dot;
+pub use crate::made::witgraph_json::main as witgraph_json;
