@@ -86,12 +86,13 @@ class Graph:
 
     def entry(self, key, item, more):
         [(sort, of)] = item.items()
+        label = key.removeprefix("%")
         if sort == "function":
-            return key, self.function(of, more)
+            return label, self.function(of, more)
         if sort == "type":
-            return key, ("type", of), beside({}, more)
+            return label, ("type", of), beside({}, more)
         named = ("interface", of["id"])
-        return named if key == f"interface-{of['id']}" else key, named, beside(of, more)
+        return named if key == f"interface-{of['id']}" else label, named, beside(of, more)
 
     def package(self, it):
         sorts = ("interface", "world")

@@ -121,13 +121,14 @@ class Read:
 
     def entry(self, key, item):
         [(sort, of)] = item.items()
+        label = key.removeprefix("%")
         if sort == "function":
             made = self.function(of)
-            return self.at(of, data.Entry(key, made, made.note))
+            return self.at(of, data.Entry(label, made, made.note))
         if sort == "type":
             ty = self.types[of["id"]]
-            return self.at(of, data.Entry(key, ty, ty.note))
-        label = None if key == f"interface-{of['id']}" else key
+            return self.at(of, data.Entry(label, ty, ty.note))
+        label = None if key == f"interface-{of['id']}" else label
         return self.at(of, data.Entry(label, self.interfaces[of["id"]], note(of.get("stability"))))
 
 

@@ -160,7 +160,7 @@ class Text:
         """A `use` of a type of an interface, under a name that isn't there yet."""
         if not of.types:
             return ""
-        old, new = self.r.choice(list(of.types)), self.fresh("u")
+        old, new = self.r.choice(list(of.types)), self.fresh("v")
         types[new] = of.types[old]
         return f"{self.gate()}use {self.path(of)}.{{{old} as {new}}};"
 
@@ -178,7 +178,7 @@ class Text:
     def interface_body(self, types):
         lines = [self.use(it, types) for it in self.some_interfaces(2)]
         lines += [self.definition(types) for _ in range(self.r.randint(0, 4))]
-        functions = [self.gate() + self.external_id() + self.function(self.fresh("f"), types) for _ in range(self.r.randint(0, 3))]
+        functions = [self.gate() + self.external_id() + self.function(self.fresh("g"), types) for _ in range(self.r.randint(0, 3))]
         return "\n".join([*lines, *functions])
 
     def interface(self):
@@ -240,10 +240,11 @@ class TextGroup:
     def document(self):
         report, packages = wit.Report(), []
         files = [wit.File(f"{it.full_name}.wit", it.text) for it in self.texts]
+        places = wit.Places(files)
         for file in files:
-            packages.append(wit.Package())
-            wit.Parser(file, report).read_file(packages[-1])
-        made = wit2json.group_of(wit.Group(packages[0], packages[1:], files, ""), report)
+            reader = wit.GroupReader([file], places, report)
+            reader.read()
+            packages.append(reader.main)
         if report.problems:
             raise ValueError("\n".join(report.lines()))
-        return made
+        return wit2json.group_of(wit.Group(packages[0], packages[1:], files, ""))

@@ -11,21 +11,20 @@
 //! - After a refusal or a panic all but the source map is as before the command; wit-parser leaves what it had begun.
 //! - `set-track-rule` does nothing: wit-parser has the rule `published` alone.
 
-mod from_original;
-mod ids;
-mod into_original;
 mod questions;
 mod texts;
 
-use serde_json::{json, Value};
+use serde_json::{Value, json};
 use std::collections::HashSet;
 use std::error::Error;
 use std::io;
-use std::panic::{catch_unwind, set_hook, AssertUnwindSafe};
+use std::panic::{AssertUnwindSafe, catch_unwind, set_hook};
 use std::sync::Mutex;
 use texts::Texts;
 use wit_parser::*;
-use witgraph::{Command, Document};
+use wit_resolve_graph::Items;
+use wit_resolve_graph::json::{Change, Document, Order, Request, ResolveParts};
+use wit_resolve_graph_parser::{from_parser, into_parser};
 
 /// What the last panic told.
 static TOLD: Mutex<String> = Mutex::new(String::new());
@@ -35,15 +34,23 @@ fn main() -> Result<(), Box<dyn Error>> {
     set_hook(Box::new(|it| tell(it.to_string())));
     let (mut resolve, mut texts) = (Resolve::new(), Texts::default());
     if let Some(begin) = document.resolve {
-        resolve = into_original::resolve(&begin);
+        resolve = begun(&begin);
         texts = Texts::of(begin.source_map);
     }
-    let replies = run(&mut resolve, &mut texts, &document.commands, "");
+    let replies = run(&mut resolve, &mut texts, document.commands);
     let replies = serde_json::to_string(&replies)?;
-    let resolve = from_original::resolve(&resolve, texts.into_sources());
-    let resolve = serde_json::to_string(&resolve)?;
+    let resolve = from_parser::parts(&resolve, texts.into_sources()).to_json();
     println!("{{\"replies\":{replies},\"resolve\":{resolve}}}");
     Ok(())
+}
+
+/// The graph with which a document begins.
+fn begun(parts: &ResolveParts) -> Resolve {
+    let mut made = into_parser::graph(&parts.graph);
+    made.features.extend(parts.features.names.iter().cloned());
+    made.all_features = parts.features.all;
+    made.source_map = into_parser::source_map(&parts.source_map);
+    made
 }
 
 /// Keeps what a panic told, which is also written to standard error.
@@ -55,89 +62,95 @@ fn tell(text: String) {
 
 /// The replies to commands. Each is told on standard error before it is begun, so that a reader knows which one ends
 /// the process, or doesn't end.
-fn run(resolve: &mut Resolve, texts: &mut Texts, commands: &[Command], above: &str) -> Vec<Value> {
+fn run(resolve: &mut Resolve, texts: &mut Texts, orders: Items<Order>) -> Vec<Value> {
     let mut replies = Vec::new();
-    for (number, command) in commands.iter().enumerate() {
-        let place = format!("{above}{number}");
-        eprintln!("{place}");
-        replies.push(reply(resolve, texts, command, &place));
+    for (number, order) in Vec::from(orders).into_iter().enumerate() {
+        eprintln!("{number}");
+        replies.push(match order {
+            Order::Request(request) => reply(resolve, texts, &request),
+            Order::Merge(requests) => merge(resolve, texts, requests, number),
+        });
     }
     replies
 }
 
-fn reply(resolve: &mut Resolve, texts: &mut Texts, command: &Command, place: &str) -> Value {
-    let Command::Merge(commands) = command else {
-        let answer = guarded(resolve, |it| step(it, command));
-        texts.follow(&resolve.source_map, texts::of_command(command));
-        return answer;
-    };
+fn reply(resolve: &mut Resolve, texts: &mut Texts, request: &Request) -> Value {
+    let answer = guarded(resolve, |it| step(it, request));
+    texts.follow(&resolve.source_map, texts::of_request(request));
+    answer
+}
+
+/// Carries out requests on an empty graph, and merges that into this one.
+fn merge(resolve: &mut Resolve, texts: &mut Texts, requests: Items<Request>, number: usize) -> Value {
     let (mut other, mut other_texts) = (Resolve::new(), Texts::default());
-    let replies = run(&mut other, &mut other_texts, commands, &format!("{place}."));
-    eprintln!("{place}");
-    let last = guarded(resolve, |it| {
-        Ok(json!({ "merged": remap(&it.merge(other)?) }))
-    });
-    texts.follow(&resolve.source_map, other_texts.into_sources().sources());
+    let mut replies = Vec::new();
+    for (inner, request) in Vec::from(requests).iter().enumerate() {
+        eprintln!("{number}.{inner}");
+        replies.push(reply(&mut other, &mut other_texts, request));
+    }
+    eprintln!("{number}");
+    let last = guarded(resolve, |it| Ok(json!({ "merged": remap(&it.merge(other)?) })));
+    texts.follow(&resolve.source_map, texts::of_map(&other_texts.into_sources()));
     json!({ "merge": { "replies": replies, "reply": last } })
 }
 
 /// What a call answers. After a refusal and a panic all but the source map is as before it.
-fn guarded(
-    resolve: &mut Resolve,
-    call: impl FnOnce(&mut Resolve) -> anyhow::Result<Value>,
-) -> Value {
+fn guarded(resolve: &mut Resolve, call: impl FnOnce(&mut Resolve) -> anyhow::Result<Value>) -> Value {
     let before = resolve.clone();
     let answered = catch_unwind(AssertUnwindSafe(|| call(resolve)));
     if let Ok(Ok(value)) = answered {
         return value;
     }
     let source_map = std::mem::take(&mut resolve.source_map);
-    *resolve = Resolve {
-        source_map,
-        ..before
-    };
+    *resolve = Resolve { source_map, ..before };
     match answered {
         Ok(Err(error)) => json!({ "refused": refusal(resolve, &error) }),
         _ => json!({ "panic": *TOLD.lock().expect("no panic holds it") }),
     }
 }
 
-/// A command that isn't a merge.
-fn step(resolve: &mut Resolve, command: &Command) -> anyhow::Result<Value> {
-    match command {
-        Command::AddFeature(name) => {
+/// A change or a question.
+fn step(resolve: &mut Resolve, request: &Request) -> anyhow::Result<Value> {
+    match request {
+        Request::Change(change) => step_of_change(resolve, change),
+        Request::Ask(question) => questions::answer(resolve, question).unwrap_or(Ok("not-found".into())),
+    }
+}
+
+fn step_of_change(resolve: &mut Resolve, change: &Change) -> anyhow::Result<Value> {
+    match change {
+        Change::AddFeature(name) => {
             resolve.features.insert(name.clone());
         }
-        Command::SetAllFeatures(all) => resolve.all_features = *all,
+        Change::SetAllFeatures(all) => resolve.all_features = *all,
         // there is one rule of tracks
-        Command::SetTrackRule(_) => {}
-        Command::PushGroups { main, deps } => {
-            let deps = deps.iter().map(into_original::group).collect();
-            let main = resolve.push_groups(into_original::group(main), deps)?;
+        Change::SetTrackRule(_) => {}
+        Change::PushGroups { main, deps } => {
+            let deps = deps.iter().map(into_parser::group).collect();
+            let main = resolve.push_groups(into_parser::group(main), deps)?;
             return Ok(json!({ "pushed": main.index() }));
         }
-        Command::Importize { .. } | Command::Exportize { .. } | Command::Semver { .. } => {
-            return turn(resolve, command);
+        Change::Importize { .. } | Change::Exportize { .. } | Change::Semver { .. } => {
+            return turn(resolve, change);
         }
-        question => return questions::answer(resolve, question).unwrap_or(Ok("not-found".into())),
     }
     Ok("done".into())
 }
 
 /// A command that changes a world.
-fn turn(resolve: &mut Resolve, command: &Command) -> anyhow::Result<Value> {
-    let (Command::Importize { package, world, .. }
-    | Command::Exportize { package, world, .. }
-    | Command::Semver { package, world }) = command
+fn turn(resolve: &mut Resolve, change: &Change) -> anyhow::Result<Value> {
+    let (Change::Importize { package, world, .. }
+    | Change::Exportize { package, world, .. }
+    | Change::Semver { package, world }) = change
     else {
         unreachable!("it names a world")
     };
     let Some(id) = questions::world(resolve, package, world) else {
         return Ok("no-world".into());
     };
-    match command {
-        Command::Importize { out, .. } => resolve.importize(id, out.clone())?,
-        Command::Exportize { out, keys, .. } => exportize(resolve, id, out.clone(), keys)?,
+    match change {
+        Change::Importize { out, .. } => resolve.importize(id, out.clone())?,
+        Change::Exportize { out, keys, .. } => exportize(resolve, id, out.clone(), keys)?,
         _ => resolve.merge_world_imports_based_on_semver(id)?,
     }
     Ok("done".into())
@@ -147,7 +160,7 @@ fn exportize(
     resolve: &mut Resolve,
     world: WorldId,
     out: Option<String>,
-    keys: &Option<Vec<String>>,
+    keys: &Option<Items<String>>,
 ) -> anyhow::Result<()> {
     let Some(keys) = keys else {
         return resolve.exportize(world, out, None);

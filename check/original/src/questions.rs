@@ -1,17 +1,18 @@
 //! Questions of a graph.
 
-use crate::into_original::package_name;
-use serde_json::{json, Value};
+use serde_json::{Value, json};
 use wit_parser::*;
-use witgraph as wg;
+use wit_resolve_graph as wr;
+use wit_resolve_graph::json::{FunctionPlace, FunctionSite, Mangling, Question};
+use wit_resolve_graph_parser::into_parser::package_name;
 
 /// The answer to a question, None where what it names isn't there.
-pub fn answer(resolve: &Resolve, question: &wg::Command) -> Option<anyhow::Result<Value>> {
-    use wg::Command::*;
+pub fn answer(resolve: &Resolve, question: &Question) -> Option<anyhow::Result<Value>> {
+    use Question::*;
     Some(Ok(match question {
         Select { packages, world } => return select(resolve, packages, world.as_deref()),
         PackageOrder => json!({ "packages": indices(resolve.topological_packages()) }),
-        PackageDependencies { package: name } => {
+        PackageDependencies(name) => {
             json!({ "packages": indices(resolve.package_direct_deps(package(resolve, name)?)) })
         }
         InterfaceDependencies {
@@ -22,9 +23,7 @@ pub fn answer(resolve: &Resolve, question: &wg::Command) -> Option<anyhow::Resul
             let id = *package.interfaces.get(interface)?;
             json!({ "interfaces": indices(resolve.interface_direct_deps(id)) })
         }
-        CanonicalId {
-            package: of, name, ..
-        } => {
+        CanonicalId { package: of, name } => {
             json!({ "text": resolve.canonicalized_id_of_name(package(resolve, of)?, name) })
         }
         CoreNames {
@@ -36,17 +35,16 @@ pub fn answer(resolve: &Resolve, question: &wg::Command) -> Option<anyhow::Resul
             let function = function(resolve, place)?;
             json!({ "types": indices(function.find_futures_and_streams(resolve)) })
         }
-        other => panic!("no question: {other:?}"),
     }))
 }
 
 /// The world that a command names.
-pub fn world(resolve: &Resolve, package_name: &wg::PackageName, world: &str) -> Option<WorldId> {
+pub fn world(resolve: &Resolve, package_name: &wr::PackageName, world: &str) -> Option<WorldId> {
     let package = &resolve.packages[package(resolve, package_name)?];
     package.worlds.get(world).copied()
 }
 
-fn package(resolve: &Resolve, name: &wg::PackageName) -> Option<PackageId> {
+fn package(resolve: &Resolve, name: &wr::PackageName) -> Option<PackageId> {
     resolve.package_names.get(&package_name(name)).copied()
 }
 
@@ -54,41 +52,34 @@ fn indices<T>(ids: impl IntoIterator<Item = Id<T>>) -> Vec<usize> {
     ids.into_iter().map(Id::index).collect()
 }
 
-fn select(
-    resolve: &Resolve,
-    packages: &[wg::PackageName],
-    world: Option<&str>,
-) -> Option<anyhow::Result<Value>> {
+fn select(resolve: &Resolve, packages: &[wr::PackageName], world: Option<&str>) -> Option<anyhow::Result<Value>> {
     let mains: Option<Vec<_>> = packages.iter().map(|it| package(resolve, it)).collect();
     let chosen = resolve.select_world(&mains?, world);
     Some(chosen.map(|id| json!({ "world": id.index() })))
 }
 
-fn function<'a>(resolve: &'a Resolve, place: &wg::FunctionPlace) -> Option<&'a Function> {
-    use wg::FunctionPlace::{Export, Import, Interface};
-    let (Interface(it) | Import(it) | Export(it)) = place;
-    let package = &resolve.packages[package(resolve, &it.package)?];
-    if let Interface(_) = place {
-        let interface = &resolve.interfaces[*package.interfaces.get(&it.name)?];
-        return interface.functions.get(&it.function);
-    }
-    let world = &resolve.worlds[*package.worlds.get(&it.name)?];
-    let entries = match place {
-        Import(_) => &world.imports,
-        _ => &world.exports,
+fn function<'a>(resolve: &'a Resolve, place: &FunctionPlace) -> Option<&'a Function> {
+    let package = &resolve.packages[package(resolve, &place.package)?];
+    let entries = match place.site {
+        FunctionSite::Interface => {
+            let interface = &resolve.interfaces[*package.interfaces.get(&place.name)?];
+            return interface.functions.get(&place.function);
+        }
+        FunctionSite::Import => &resolve.worlds[*package.worlds.get(&place.name)?].imports,
+        FunctionSite::Export => &resolve.worlds[*package.worlds.get(&place.name)?].exports,
     };
-    match entries.get(&WorldKey::Name(it.function.clone()))? {
+    match entries.get(&WorldKey::Name(place.function.clone()))? {
         WorldItem::Function(found) => Some(found),
         _ => None,
     }
 }
 
-fn core_names(resolve: &Resolve, world: WorldId, mangling: wg::Mangling) -> Value {
+fn core_names(resolve: &Resolve, world: WorldId, mangling: Mangling) -> Value {
     let mangling = match mangling {
-        wg::Mangling::Standard32 => ManglingAndAbi::Standard32,
-        wg::Mangling::LegacySync => ManglingAndAbi::Legacy(LiftLowerAbi::Sync),
-        wg::Mangling::LegacyAsyncCallback => ManglingAndAbi::Legacy(LiftLowerAbi::AsyncCallback),
-        wg::Mangling::LegacyAsyncStackful => ManglingAndAbi::Legacy(LiftLowerAbi::AsyncStackful),
+        Mangling::Standard32 => ManglingAndAbi::Standard32,
+        Mangling::LegacySync => ManglingAndAbi::Legacy(LiftLowerAbi::Sync),
+        Mangling::LegacyAsyncCallback => ManglingAndAbi::Legacy(LiftLowerAbi::AsyncCallback),
+        Mangling::LegacyAsyncStackful => ManglingAndAbi::Legacy(LiftLowerAbi::AsyncStackful),
     };
     let world = &resolve.worlds[world];
     let import = |(interface, func): (Option<&WorldKey>, &Function)| {
