@@ -1,24 +1,33 @@
 #!/usr/bin/env python3
-"""Tests of witgraph.py: `python3 bindings/python/test_witgraph.py`.
+"""Tests of the package witgraph: `python3 bindings/python/test_witgraph.py`.
 
 What needs no library is always tested, over the stored documents of examples/kinds. WITGRAPH_SHARED, the path of a
 libwitgraph.so, adds scripts and commands; WITGRAPH_JSON, the path of a build of the program `witgraph_json`, adds commands
-carried out by that.
+carried out by that. With WITGRAPH_INSTALLED the package that is installed is tested, with its own library, and not the one
+beside this file. Where mypy is installed, the types of the package and of graph.py are checked.
 """
+import concurrent.futures
 import doctest
+import importlib.util
 import json
+import multiprocessing
 import os
+import pickle
+import subprocess
 import sys
+import tempfile
 import unittest
 
 HERE = os.path.dirname(os.path.abspath(__file__))
 TOP = os.path.dirname(os.path.dirname(HERE))
+INSTALLED = bool(os.environ.get("WITGRAPH_INSTALLED"))
 sys.dont_write_bytecode = True
-sys.path.insert(0, HERE)
+sys.path = [it for it in sys.path if os.path.abspath(it) != HERE] if INSTALLED else [HERE, *sys.path]
 
 import witgraph as wg  # noqa: E402
 
-SHARED, PROGRAM = os.environ.get("WITGRAPH_SHARED"), os.environ.get("WITGRAPH_JSON")
+PROGRAM = os.environ.get("WITGRAPH_JSON")
+SHARED = INSTALLED or os.environ.get("WITGRAPH_SHARED")
 
 
 def stored(name):
@@ -34,6 +43,43 @@ def runners():
 def push(package, *deps):
     """The command that pushes packages, each a group of its own."""
     return wg.PushGroups(wg.UnresolvedPackageGroup(package), [wg.UnresolvedPackageGroup(it) for it in deps])
+
+
+def one_of_each_error():
+    """An error of each class, and its text."""
+    return [
+        (wg.Fault(["commands", 0], 13, "a command"), "expected a command at byte 13, at commands[0]"),
+        (wg.NotUnderstood(2, "line 2: not understood"), "line 2: not understood"),
+        (wg.ProgramFailed("./p", 1, "no memory\n"), "./p ended with status 1: no memory"),
+        (wg.ProgramFailed("./p", -9, ""), "./p was ended by signal 9: nothing on standard error"),
+        (wg.Refusal(26, "world-selection", "no", (1, 2), "no at 1"), "no at 1"),
+        (wg.ShapeFault(["main"], "lengths", "types", "so many"), "main: types breaks lengths: so many"),
+        (wg.Unreadable("expected str, found 1"), "expected str, found 1"),
+    ]
+
+
+def raise_the(number):
+    """What a process of a pool does."""
+    raise one_of_each_error()[number][0]
+
+
+class Errors(unittest.TestCase):
+    def test_texts(self):
+        for error, text in one_of_each_error():
+            self.assertEqual(str(error), text)
+            self.assertIsInstance(error, wg.Error)
+
+    def test_each_is_pickled(self):
+        for error, text in one_of_each_error():
+            again = pickle.loads(pickle.dumps(error))
+            self.assertEqual((type(again), str(again), vars(again)), (type(error), text, vars(error)))
+
+    def test_each_comes_out_of_a_pool(self):
+        with concurrent.futures.ProcessPoolExecutor(1, multiprocessing.get_context("spawn")) as pool:
+            for number, (error, text) in enumerate(one_of_each_error()):
+                with self.assertRaises(type(error)) as raised:
+                    pool.submit(raise_the, number).result()
+                self.assertEqual(str(raised.exception), text)
 
 
 class Documents(unittest.TestCase):
@@ -89,6 +135,14 @@ class Documents(unittest.TestCase):
         self.assertEqual((str(raised.exception), raised.exception.number), ("no at 1", 26))
         self.assertEqual(raised.exception.span, (1, 2))
 
+    def test_a_reply_of_another_kind(self):
+        merged = wg.Merge([wg.Done()], wg.Merged([], [], [], []))
+        self.assertEqual(wg.accepted(wg.Pushed(3), wg.Pushed).id, 3)
+        self.assertEqual(wg.accepted(merged, wg.Merged).packages, [])
+        with self.assertRaises(TypeError) as raised:
+            wg.accepted(wg.NoWorld(), wg.WorldReply)
+        self.assertEqual(str(raised.exception), "expected WorldReply, found NoWorld()")
+
     def test_a_fault_is_raised(self):
         with self.assertRaises(wg.Fault) as raised:
             wg.run_of('{"fault": {"path": ["commands", 0], "offset": 13, "expected": "a command"}}')
@@ -142,6 +196,22 @@ class Graphs(unittest.TestCase):
         self.assertEqual(self.graph.package_names["other:things@0.1.0"], 0)
         self.assertEqual(self.graph.id_of(package.interfaces["all"]), "example:kinds/all@1.2.0")
 
+    def test_names_of_packages_are_kept(self):
+        names = self.graph.package_names
+        self.assertEqual(list(names), [it.name for it in self.graph.packages])
+        self.assertIs(self.graph.package_names, names)
+        self.graph.packages.append(wg.Package("a:b"))
+        del self.graph.package_names
+        self.assertEqual(self.graph.package_names["a:b"], len(names))
+
+    def test_places(self):
+        files = [wg.Source("a.wit", "é: x\nb\n"), wg.Source("b.wit", "c")]
+        graph = wg.Graph(sources=files)
+        # of `é` the two bytes are positions 0 and 1; the end of a file is its own
+        expected = {0: "a.wit:1:1", 2: "a.wit:1:2", 4: "a.wit:1:4", 6: "a.wit:2:1", 8: "a.wit:3:1", 9: "b.wit:1:1", 10: "b.wit:1:2"}
+        self.assertEqual({it: str(graph.place_of((it, it + 1))) for it in expected}, expected)
+        self.assertIsNone(graph.place_of((11, 12)))
+
     def test_types(self):
         types = {name: self.graph.types[id] for name, id in self.interface("all").types.items()}
         self.assertEqual(types["item"].kind.fields[0].docs, "Its name.")
@@ -174,8 +244,60 @@ class Graphs(unittest.TestCase):
         self.assertIsInstance(world.imports["session"], wg.TypeItem)
 
 
-class Calls(unittest.TestCase):
-    @unittest.skipUnless(SHARED, "no libwitgraph.so")
+# What graph.py tells of the interface `all` of examples/kinds/wit/kinds.wit, whose function `read` is gated, and of `small`.
+SHOWN = """\
+interface example:kinds/all@1.2.0
+  type file: file
+  type length: size
+  type part: part
+  type tool-of: tool
+  type item: record { name: string, parts: list<part> }
+  type shape: variant { none, circle(f64), polygon(list<tuple<f32, f32>>) }
+  type color: enum { red, green, blue }
+  type rights: flags { read, write }
+  type pair: tuple<u8, s16>
+  type maybe: option<color>
+  type outcome: result<item, string>
+  type failure: result<_, error-context>
+  type table: map<string, u32>
+  type key: list<u8, 32>
+  type later: future<item>
+  type bytes: stream<u8>
+  type signal: future<_>
+  type opened: file
+  type cursor: resource
+  [constructor]cursor: func(of: borrow<file>) -> cursor
+  [method]cursor.next: func(self: borrow<cursor>) -> option<item>
+  [method]cursor.wait: func(self: borrow<cursor>, last: later)
+  [static]cursor.open: func(name: string) -> result<cursor, shape>
+  [static]cursor.close: func(it: cursor)
+  count: func(of: borrow<tool-of>, rights: rights) -> length
+  same: func(a: bool, b: s8, c: u16, d: s32, e: u32, f: s64, g: pair, h: key, i: table) -> bool
+interface""", """\
+world example:kinds/small@1.2.0
+  import log
+  export run
+world"""
+
+
+class Example(unittest.TestCase):
+    def test_what_graph_tells(self):
+        loader = importlib.util.spec_from_file_location("graph", os.path.join(HERE, "graph.py"))
+        graph = importlib.util.module_from_spec(loader)
+        loader.loader.exec_module(graph)
+        shown = "\n".join(graph.Shown(wg.run_of(stored("kinds.out.json")).graph).lines())
+        for part in SHOWN:
+            self.assertIn(part, shown)
+
+
+def pushes(count):
+    """A script that adds packages, and its answers."""
+    names = [f"a:b{number}" for number in range(count)]
+    return "".join(f"package {it}\npush\n" for it in names), "".join(f"pushed {it}\n" for it in names)
+
+
+@unittest.skipUnless(SHARED, "no libwitgraph.so")
+class Scripts(unittest.TestCase):
     def test_scripts(self):
         self.assertEqual(wg.execute("package a:b\npush\n"), "pushed a:b\n")
         self.assertEqual(wg.explain("package a:b\npush\n"), "")
@@ -190,9 +312,45 @@ class Calls(unittest.TestCase):
         with self.assertRaises(wg.NotUnderstood) as raised:
             wg.execute("package a:b\npush\nhello\n")
         self.assertEqual(raised.exception.line, 3)
-        many = "".join(f"package a:b{n}\npush\n" for n in range(2000))
-        self.assertEqual(wg.execute(many).count("pushed"), 2000)
+        script, answers = pushes(2000)
+        self.assertEqual(wg.execute(script), answers)
 
+    def test_calls_in_eight_threads(self):
+        scripts = [pushes(100 + number) for number in range(8)]
+
+        def work(script, answers):
+            return all(wg.execute(script) == answers and wg.explain(script) == "" for _ in range(20))
+
+        with concurrent.futures.ThreadPoolExecutor(8) as pool:
+            self.assertEqual(list(pool.map(work, *zip(*scripts))), [True] * 8)
+
+    def test_a_script_that_is_not_understood_comes_out_of_a_pool(self):
+        with concurrent.futures.ProcessPoolExecutor(1, multiprocessing.get_context("spawn")) as pool:
+            with self.assertRaises(wg.NotUnderstood) as raised:
+                pool.submit(wg.execute, "package a:b\npush\nhello\n").result()
+            self.assertEqual(raised.exception.line, 3)
+            self.assertEqual(pool.submit(wg.execute, "package a:b\npush\n").result(), "pushed a:b\n")
+
+    def test_the_room_for_an_output_is_kept(self):
+        labels = "".join(f"import-func label-{number}()\n" for number in range(200))
+        script = f"package a:b\nworld w\n{labels}push\n" + 200 * "print a:b w\n"
+        library, lengths = wg.Library(), []
+        execute = library._library.witgraph_execute
+
+        def counted(*arguments):
+            lengths.append(arguments[3])
+            return execute(*arguments)
+
+        library._library.witgraph_execute = counted
+        answers = library.execute(script)
+        self.assertGreater(len(answers), max(4 * len(script), 1 << 16))
+        self.assertEqual(len(lengths), 2)
+        self.assertEqual(library.execute(script), answers)
+        self.assertEqual(len(lengths), 3)
+
+
+@unittest.skipUnless(runners(), "nothing that carries out commands")
+class Calls(unittest.TestCase):
     def test_the_stored_graph_is_what_comes_out(self):
         for run in runners():
             self.assertEqual(run(json.loads(stored("kinds.json"))["commands"]), wg.run_of(stored("kinds.out.json")))
@@ -232,7 +390,7 @@ class Calls(unittest.TestCase):
             self.assertEqual((last.graph.track_rule, len(last.graph.sources)), ("with-prereleases", 2))
 
     def test_a_graph_that_is_not_valid_is_a_fault(self):
-        graph = wg.Resolve(packages=[wg.Package("a:b", interfaces={"i": 0})])
+        graph = wg.Graph(packages=[wg.Package("a:b", interfaces={"i": 0})])
         for run in runners():
             with self.assertRaises(wg.Fault) as raised:
                 run([], graph)
@@ -244,15 +402,88 @@ class Calls(unittest.TestCase):
         expected = (["deps", 0, "main"], "owners.functions", "interfaces[1].functions[0]", "a function stands under its name")
         for run in runners():
             made = run([push(wg.UnresolvedPackage("a:c"), other)])
-            self.assertEqual(made, wg.Run([wg.NotShaped(*expected)], wg.Resolve()))
+            self.assertEqual(made, wg.Run([wg.NotShaped(*expected)], wg.Graph()))
+
+
+@unittest.skipUnless(SHARED, "no libwitgraph.so")
+class Resolves(unittest.TestCase):
+    """Graphs that stay."""
+
+    def test_one_by_one_as_in_one_document(self):
+        commands = [wg.AddFeature("é"), *json.loads(stored("kinds.json"))["commands"]]
+        commands += [push(wg.UnresolvedPackage("a:b", worlds=[wg.World("w")])), push(wg.UnresolvedPackage("a:b")), wg.Select(["a:b"])]
+        resolve, whole = wg.Resolve(), wg.run(commands)
+        replies = [reply for command in commands for reply in resolve.apply([command])]
+        self.assertEqual(wg.Run(replies, resolve.graph), whole)
+        self.assertEqual([type(it) for it in replies[-3:]], [wg.Pushed, wg.Refused, wg.WorldReply])
+        self.assertEqual(wg.Resolve(whole.graph).graph, whole.graph)
+
+    def test_data_are_kept_until_something_changes(self):
+        resolve = wg.Resolve()
+        self.assertEqual(resolve.graph, wg.Graph())
+        resolve.apply([push(wg.UnresolvedPackage("a:b"))])
+        graph = resolve.graph
+        self.assertEqual(resolve.apply([wg.PackageOrder()]), [wg.Packages([0])])
+        self.assertIs(resolve.graph, graph)
+        graph.packages.clear()
+        resolve.apply([push(wg.UnresolvedPackage("c:d"))])
+        self.assertEqual([it.name for it in resolve.graph.packages], ["a:b", "c:d"])
+
+    def test_a_fault_leaves_it(self):
+        resolve = wg.Resolve()
+        resolve.apply([push(wg.UnresolvedPackage("a:b"))])
+        graph = resolve.graph
+        with self.assertRaises(wg.Fault) as raised:
+            resolve.apply([wg.AddFeature("f"), {"no": "command"}])
+        self.assertEqual(raised.exception.path[:2], ["commands", 1])
+        self.assertIs(resolve.graph, graph)
+        self.assertEqual(resolve.apply([]), [])
+        self.assertEqual(resolve.graph.features, [])
+
+    def test_a_graph_that_is_not_valid_is_a_fault(self):
+        with self.assertRaises(wg.Fault) as raised:
+            wg.Resolve(wg.Graph(packages=[wg.Package("a:b", interfaces={"i": 0})]))
+        self.assertEqual(raised.exception.path, ["resolve", "graph"])
+
+
+class Programs(unittest.TestCase):
+    """Programs in the place of `witgraph_json` that don't write a document."""
+
+    def failed(self, ending):
+        """What is told of a program that reads all and then does so."""
+        with tempfile.TemporaryDirectory() as folder:
+            program = os.path.join(folder, "program")
+            with open(program, "w", encoding="utf-8") as file:
+                file.write(f"#!/bin/sh\ncat > {folder}/document\n{ending}\n")
+            os.chmod(program, 0o700)
+            with self.assertRaises(wg.ProgramFailed) as raised:
+                wg.run_by(program, [])
+            with open(f"{folder}/document", encoding="utf-8") as file:
+                self.assertEqual(json.load(file), {"commands": []})
+            return raised.exception.status, raised.exception.stderr
+
+    def test_status_and_standard_error_are_told(self):
+        self.assertEqual(self.failed("echo no memory >&2; exit 1"), (1, "no memory\n"))
+        self.assertEqual(self.failed("kill -9 $$"), (-9, ""))
+
+    def test_a_part_of_a_document_is_none(self):
+        self.assertEqual(self.failed("printf '{\"replies\":[],'; exit 1"), (1, ""))
+        self.assertEqual(self.failed("printf '{\"replies\":[\"\\303'; exit 0"), (0, ""))
+
+
+class Checked(unittest.TestCase):
+    @unittest.skipUnless(importlib.util.find_spec("mypy"), "no mypy")
+    def test_types(self):
+        with tempfile.TemporaryDirectory() as cache:
+            words = [sys.executable, "-m", "mypy", "--strict", "--cache-dir", cache, *([] if INSTALLED else ["witgraph"]), "graph.py"]
+            ran = subprocess.run(words, cwd=HERE, capture_output=True, text=True, check=False)
+        self.assertEqual((ran.returncode, ran.stderr), (0, ""), ran.stdout)
 
 
 class Walk(unittest.TestCase):
-    @unittest.skipUnless(runners(), "nothing that carries out commands")
+    @unittest.skipUnless(SHARED, "no libwitgraph.so")
     def test_readme(self):
         """The walk through in README.md prints what stands there."""
-        if not SHARED:
-            wg.run = lambda *asked: wg.run_by(PROGRAM, *asked)
         at = os.getcwd()
         os.chdir(TOP)
         self.addCleanup(os.chdir, at)

@@ -1,0 +1,135 @@
+"""The calls: of the shared library of `witgraph_c`, and of the program `witgraph_json`."""
+from __future__ import annotations
+
+import ctypes
+import functools
+import json
+import mmap
+import os
+import subprocess
+from collections.abc import Iterable
+from typing import Optional
+
+from .commands import AnyCommand
+from .data import Graph
+from .documents import document_of, run_of
+from .errors import NotUnderstood, ProgramFailed
+from .replies import Run
+
+__all__ = ["Library", "execute", "explain", "library", "run", "run_by"]
+
+UNDERSTOOD, NOT_UNDERSTOOD, OUTPUT_TOO_SMALL, INPUT_NOT_UTF8, NO_MEMORY = range(5)
+SMALLEST_ROOM = 1 << 16
+
+
+class Rooms:
+    """Memory for outputs, which is kept. Each room serves one call at a time, and none is shared with a forked process. Of a
+    room that is never written to the system keeps no page, so it may be larger than what is mostly needed."""
+
+    def __init__(self) -> None:
+        self._free: list[mmap.mmap] = []
+
+    def take(self, least: int) -> mmap.mmap:
+        """A room of so many bytes at the least."""
+        try:
+            room = self._free.pop()
+        except IndexError:
+            room = None
+        if room is not None and len(room) >= least:
+            return room
+        return mmap.mmap(-1, max(least, SMALLEST_ROOM), flags=mmap.MAP_PRIVATE | mmap.MAP_ANONYMOUS)
+
+    def give_back(self, room: mmap.mmap) -> None:
+        self._free.append(room)
+
+
+class Library:
+    """A shared library with the functions of include/witgraph.h: the one at a path, or that which WITGRAPH_SHARED names, or
+    `libwitgraph.so` beside this file, or else the system's."""
+
+    def __init__(self, path: Optional[str] = None):
+        beside = os.path.join(os.path.dirname(os.path.abspath(__file__)), "libwitgraph.so")
+        installed = beside if os.path.exists(beside) else "libwitgraph.so.0"
+        try:
+            self._library = ctypes.CDLL(path or os.environ.get("WITGRAPH_SHARED") or installed)
+        except OSError as error:
+            raise OSError(f"{error} (the wheel of a release has the library, and WITGRAPH_SHARED may name it)") from None
+        self._rooms = Rooms()
+        size = ctypes.c_size_t
+        for name in ("witgraph_json", "witgraph_execute", "witgraph_explain"):
+            function = getattr(self._library, name)
+            function.argtypes = [ctypes.c_char_p, size, ctypes.c_void_p, size, ctypes.POINTER(size)]
+            function.restype = ctypes.c_uint32
+
+    def _call(self, name: str, text: bytes) -> tuple[int, bytes]:
+        """The status of a call and what it writes. The call is made twice only where its output is over four times as long as
+        the text, and longer than the room that is kept."""
+        function, needed = getattr(self._library, name), ctypes.c_size_t()
+        room = self._rooms.take(4 * len(text))
+        while True:
+            output = ctypes.byref(ctypes.c_char.from_buffer(room))
+            status = function(text, len(text), output, len(room), ctypes.byref(needed))
+            if status != OUTPUT_TOO_SMALL:
+                break
+            room = self._rooms.take(needed.value)
+        written = room[: needed.value]
+        self._rooms.give_back(room)
+        if status == NO_MEMORY:
+            raise MemoryError("witgraph: memory was refused")
+        return status, written
+
+    def carry_out(self, document: bytes) -> bytes:
+        """What comes out of a document."""
+        return self._call("witgraph_json", document)[1]
+
+    def run(self, commands: Iterable[AnyCommand], graph: Optional[Graph] = None) -> Run:
+        """Carries out commands on a graph that came out before, or an empty one. Raises a `Fault` where one isn't a command,
+        or the graph isn't valid."""
+        return run_of(self.carry_out(document_of(commands, graph)))
+
+    def _script(self, name: str, script: str) -> str:
+        status, output = self._call(name, script.encode())
+        if status == NOT_UNDERSTOOD:
+            told = output.decode().rstrip()
+            raise NotUnderstood(int(told.split()[1].rstrip(":")), told)
+        return output.decode()
+
+    def execute(self, script: str) -> str:
+        """The answers of a script. Raises `NotUnderstood`."""
+        return self._script("witgraph_execute", script)
+
+    def explain(self, script: str) -> str:
+        """The refusals of a script, and what its commands don't find, with the lines. Raises `NotUnderstood` with the
+        reason."""
+        return self._script("witgraph_explain", script)
+
+
+@functools.cache
+def library() -> Library:
+    """The library, loaded at the first call."""
+    return Library()
+
+
+def run(commands: Iterable[AnyCommand], graph: Optional[Graph] = None) -> Run:
+    """Carries out commands on a graph that came out before, or an empty one. Raises a `Fault` where one isn't a command, or
+    the graph isn't valid."""
+    return library().run(commands, graph)
+
+
+def execute(script: str) -> str:
+    """The answers of a script. Raises `NotUnderstood`."""
+    return library().execute(script)
+
+
+def explain(script: str) -> str:
+    """The refusals of a script, and what its commands don't find, with the lines. Raises `NotUnderstood` with the reason."""
+    return library().explain(script)
+
+
+def run_by(program: str, commands: Iterable[AnyCommand], graph: Optional[Graph] = None) -> Run:
+    """As `run`, by a build of the program `witgraph_json`. Raises `ProgramFailed` where that doesn't write a whole document."""
+    ran = subprocess.run([program], input=document_of(commands, graph), capture_output=True, check=False)
+    try:
+        return run_of(ran.stdout)
+    except (json.JSONDecodeError, UnicodeDecodeError):
+        raise ProgramFailed(program, ran.returncode, ran.stderr.decode(errors="replace")) from None

@@ -1,0 +1,86 @@
+"""What is raised. Each error can be pickled, and so leaves a process of a pool as it was raised there."""
+from __future__ import annotations
+
+from typing import Optional, Union
+
+from .data import Span
+
+__all__ = ["Error", "Fault", "NotUnderstood", "ProgramFailed", "Refusal", "ShapeFault", "Unreadable"]
+
+# the names and the numbers that lead to a value
+Path = list[Union[str, int]]
+
+
+def path_text(path: Path) -> str:
+    """A path as a text: `commands[0].select`, say."""
+    return "".join(f"[{it}]" if isinstance(it, int) else f".{it}" for it in path).removeprefix(".")
+
+
+class Error(Exception):
+    """The errors of this package. Want of memory is a `MemoryError`.
+
+    Each hands the arguments of its `__init__` on, since pickle makes it of these again, and has its text from `__str__`.
+    """
+
+
+class Fault(Error):
+    """A document of commands that can't be read: `path`, `offset` and what was `expected` there."""
+
+    def __init__(self, path: Path, offset: int, expected: str):
+        super().__init__(path, offset, expected)
+        self.path, self.offset, self.expected = path, offset, expected
+
+    def __str__(self) -> str:
+        return f"expected {self.expected} at byte {self.offset}, at {path_text(self.path)}"
+
+
+class NotUnderstood(Error):
+    """A script of which a line isn't understood: its number, and what is told of it. Nothing of it was run."""
+
+    def __init__(self, line: int, text: str):
+        super().__init__(line, text)
+        self.line, self.text = line, text
+
+    def __str__(self) -> str:
+        return self.text
+
+
+class ProgramFailed(Error):
+    """A program that ended without what it was to write: its `status`, negative where a signal ended it, and what it wrote to
+    standard error."""
+
+    def __init__(self, program: str, status: int, stderr: str):
+        super().__init__(program, status, stderr)
+        self.program, self.status, self.stderr = program, status, stderr
+
+    def __str__(self) -> str:
+        ended = f"was ended by signal {-self.status}" if self.status < 0 else f"ended with status {self.status}"
+        return f"{self.program} {ended}: {self.stderr.strip() or 'nothing on standard error'}"
+
+
+class Refusal(Error):
+    """Why a command is refused: `number`, `cause`, `text`, `span`, and `rendered`, with the line where it is known, the way,
+    the command and the number."""
+
+    def __init__(self, number: int, cause: str, text: str, span: Optional[Span], rendered: str):
+        super().__init__(number, cause, text, span, rendered)
+        self.number, self.cause, self.text, self.span, self.rendered = number, cause, text, span, rendered
+
+    def __str__(self) -> str:
+        return self.rendered
+
+
+class ShapeFault(Error):
+    """A pushed package hasn't the shape that it must have: `path` leads to it from the push, `place` in it to what breaks
+    the `clause`, of which `text` says what it asks."""
+
+    def __init__(self, path: Path, clause: str, place: str, text: str):
+        super().__init__(path, clause, place, text)
+        self.path, self.clause, self.place, self.text = path, clause, place, text
+
+    def __str__(self) -> str:
+        return f"{path_text(self.path)}: {self.place} breaks {self.clause}: {self.text}"
+
+
+class Unreadable(Error, ValueError):
+    """A value that isn't of the form that is expected."""

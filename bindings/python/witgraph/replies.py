@@ -1,0 +1,193 @@
+"""The replies to commands, and what comes out of a run."""
+from __future__ import annotations
+
+from dataclasses import dataclass
+from typing import Any, Optional, TypeVar, Union, overload
+
+from .data import InterfaceId, PackageId, Graph, Span, Tagged, TypeId, WorldId
+from .errors import Refusal, ShapeFault
+
+__all__ = [
+    "CoreExport", "CoreImport", "CoreNames", "Done", "Interfaces", "Merge", "Merged", "NotFound", "NotShaped", "NoWorld",
+    "Packages", "Plain", "Pushed", "Refused", "RefusedError", "Reply", "Run", "Text", "Types", "WorldReply", "accepted",
+]  # fmt: skip
+
+
+@dataclass
+class Done(Tagged, tag="done", form="alone-tag"):
+    """It is carried out."""
+
+
+@dataclass
+class NoWorld(Tagged, tag="no-world", form="alone-tag"):
+    """The package has no such world."""
+
+
+@dataclass
+class NotFound(Tagged, tag="not-found", form="alone-tag"):
+    """What a question names isn't there."""
+
+
+@dataclass
+class NotShaped(Tagged, tag="not-shaped"):
+    """A package hasn't its shape, and nothing is added: the first such package, and what it lacks first."""
+
+    path: list[Union[str, int]]
+    clause: str
+    place: str
+    text: str
+
+    @property
+    def fault(self) -> ShapeFault:
+        return ShapeFault(self.path, self.clause, self.place, self.text)
+
+
+@dataclass
+class Pushed(Tagged, tag="pushed", form="field"):
+    """The main package that was added."""
+
+    id: PackageId
+
+
+@dataclass
+class Merged(Tagged, tag="merged"):
+    """Where each thing of the other graph stands: at its old place is its new id."""
+
+    types: list[Optional[TypeId]]
+    interfaces: list[Optional[InterfaceId]]
+    worlds: list[Optional[WorldId]]
+    packages: list[PackageId]
+
+
+@dataclass
+class RefusedError:
+    """Why a command is refused."""
+
+    number: int
+    cause: str
+    text: str
+    span: Optional[Span] = None
+
+
+@dataclass
+class Refused(Tagged, tag="refused"):
+    """Nothing but the list of files has changed."""
+
+    error: RefusedError
+    rendered: str
+
+    @property
+    def refusal(self) -> Refusal:
+        it = self.error
+        return Refusal(it.number, it.cause, it.text, it.span, self.rendered)
+
+
+@dataclass
+class WorldReply(Tagged, tag="world", form="field"):
+    """A world."""
+
+    id: WorldId
+
+
+@dataclass
+class Packages(Tagged, tag="packages", form="field"):
+    """Packages."""
+
+    ids: list[PackageId]
+
+
+@dataclass
+class Interfaces(Tagged, tag="interfaces", form="field"):
+    """Interfaces."""
+
+    ids: list[InterfaceId]
+
+
+@dataclass
+class Types(Tagged, tag="types", form="field"):
+    """Types."""
+
+    ids: list[TypeId]
+
+
+@dataclass
+class Text(Tagged, tag="text", form="field"):
+    """A text."""
+
+    text: str
+
+
+@dataclass
+class CoreImport:
+    """A function that a world imports, with the module and the name under which core wasm imports it."""
+
+    interface: Optional[str]
+    function: str
+    module: str
+    field: str
+
+
+@dataclass
+class CoreExport:
+    """A function that a world exports, with the name under which core wasm exports it."""
+
+    interface: Optional[str]
+    function: str
+    name: str
+
+
+@dataclass
+class CoreNames(Tagged, tag="core-names"):
+    """The functions that a world imports and exports, with their names in core wasm."""
+
+    imports: list[CoreImport]
+    exports: list[CoreExport]
+
+
+Plain = Union[
+    Done, NoWorld, NotFound, NotShaped, Pushed, Merged, Refused, WorldReply, Packages, Interfaces, Types, Text, CoreNames
+]
+
+
+@dataclass
+class Merge(Tagged, tag="merge"):
+    """The replies to the commands of another graph, and the one to its merge."""
+
+    replies: list[Plain]
+    reply: Plain
+
+
+Reply = Union[Plain, Merge]
+
+
+T = TypeVar("T")
+
+
+@overload
+def accepted(reply: Reply) -> Plain: ...
+
+
+@overload
+def accepted(reply: Reply, kind: type[T]) -> T: ...
+
+
+def accepted(reply: Reply, kind: Optional[type[Any]] = None) -> Any:
+    """The reply; of a merge its own. Raises the `Refusal` or the `ShapeFault` that it is, and a `TypeError` where a kind of
+    reply is given and it is of another one."""
+    if isinstance(reply, Merge):
+        reply = reply.reply
+    if isinstance(reply, Refused):
+        raise reply.refusal
+    if isinstance(reply, NotShaped):
+        raise reply.fault
+    if kind is not None and not isinstance(reply, kind):
+        raise TypeError(f"expected {kind.__name__}, found {reply}")
+    return reply
+
+
+@dataclass
+class Run:
+    """What comes out of commands: a reply for each, and the graph."""
+
+    replies: list[Reply]
+    graph: Graph
