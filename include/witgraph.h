@@ -1,8 +1,9 @@
 /* witgraph: scripts of WIT packages and of what to do with them, or JSON documents of the same, are run, and answered.
  *
- * docs/SCRIPT.md has the language of the scripts and of their answers, docs/JSON.md the documents. The functions are those of the static library
- * libwitgraph_c.a, which `rt lib` builds in crates/witgraph_c; a program links it, and after it the toolchain's
- * liblibc_c.a, by which the library calls the program's malloc, realloc and free. bindings/README.md has the commands.
+ * SCRIPT.md has the language of the scripts and of their answers, JSON.md the documents; they stand in docs, and in a release
+ * in share/doc/witgraph. A program that takes a release is compiled with what `pkg-config --cflags --libs witgraph` tells.
+ * From the repository it links libwitgraph_c.a, which `rt lib` builds in crates/witgraph_c, and after it the toolchain's
+ * liblibc_c.a: bindings/README.md has the commands. Memory is taken from the program's malloc, realloc and free.
  *
  * No function keeps anything between calls: it takes no handle, gives none, and calls in different threads don't
  * disturb each other. What it allocates it frees before it returns. It opens no file, and neither reads nor writes
@@ -13,6 +14,12 @@
 
 #include <stddef.h>
 #include <stdint.h>
+
+/* The version of this header, and of the library that comes with it. */
+#define WITGRAPH_VERSION "0.1.0"
+#define WITGRAPH_VERSION_MAJOR 0
+#define WITGRAPH_VERSION_MINOR 1
+#define WITGRAPH_VERSION_PATCH 0
 
 #ifdef __cplusplus
 extern "C" {

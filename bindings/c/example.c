@@ -5,7 +5,7 @@
 #include "witgraph.h"
 
 int main(void) {
-  uint8_t *script = malloc(1), *answers = malloc(1);
+  uint8_t *script = malloc(1), *answers = NULL;
   size_t length = 0, room = 1, capacity = 0, needed = 0;
   while (script && !feof(stdin) && !ferror(stdin)) {
     length += fread(script + length, 1, room - length, stdin);
@@ -13,10 +13,10 @@ int main(void) {
     if (!more) free(script);
     script = more;
   }
-  if (!script || !answers || ferror(stdin)) return fputs("the script can't be read\n", stderr), 1;
-  /* The first call tells how much room the answers need, unless there are none. */
-  uint32_t status = witgraph_execute(script, length, answers, capacity, &needed);
-  if (status == WITGRAPH_OUTPUT_TOO_SMALL) {
+  if (!script || ferror(stdin)) return fputs("the script can't be read\n", stderr), 1;
+  /* Four times the input is room enough for almost all. Where it isn't, the call tells how much is needed. */
+  uint32_t status = WITGRAPH_OUTPUT_TOO_SMALL;
+  for (needed = 4 * length + 1; status == WITGRAPH_OUTPUT_TOO_SMALL;) {
     free(answers);
     answers = calloc(capacity = needed, 1);
     if (!answers) return fputs("there is no memory\n", stderr), 1;

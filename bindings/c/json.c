@@ -5,7 +5,7 @@
 #include "witgraph.h"
 
 int main(void) {
-  uint8_t *document = malloc(1), *output = malloc(1);
+  uint8_t *document = malloc(1), *output = NULL;
   size_t length = 0, room = 1, capacity = 0, needed = 0;
   while (document && !feof(stdin) && !ferror(stdin)) {
     length += fread(document + length, 1, room - length, stdin);
@@ -13,10 +13,10 @@ int main(void) {
     if (!more) free(document);
     document = more;
   }
-  if (!document || !output || ferror(stdin)) return fputs("the document can't be read\n", stderr), 1;
-  /* The first call tells how much room the output needs: there always is some, but for the statuses below. */
-  uint32_t status = witgraph_json(document, length, output, capacity, &needed);
-  if (status == WITGRAPH_OUTPUT_TOO_SMALL) {
+  if (!document || ferror(stdin)) return fputs("the document can't be read\n", stderr), 1;
+  /* Four times the input is room enough for almost all. Where it isn't, the call tells how much is needed. */
+  uint32_t status = WITGRAPH_OUTPUT_TOO_SMALL;
+  for (needed = 4 * length + 1; status == WITGRAPH_OUTPUT_TOO_SMALL;) {
     free(output);
     output = calloc(capacity = needed, 1);
     if (!output) return fputs("there is no memory\n", stderr), 1;
