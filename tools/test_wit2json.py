@@ -7,6 +7,7 @@ import contextlib
 import io
 import json
 import os
+import re
 import subprocess
 import sys
 import tempfile
@@ -41,6 +42,11 @@ def texts_at(value, text):
     elif isinstance(value, list):
         for it in value:
             yield from texts_at(it, text)
+
+
+def faults_in(told):
+    """The faults that are told, as FILE:LINE:COLUMN: WHAT."""
+    return [f"{place}: {what}" for what, place in re.findall(r"(?m)^(\S.*)\n     --> (\S+)$", told)]
 
 
 def replies_to(document):
@@ -86,9 +92,11 @@ class Case(unittest.TestCase):
         return without_spans(self.pushed("p.wit")["main"]["main"])
 
     def refused(self, text, *told):
-        """Asks that a file can't be written, and that this is told."""
+        """Asks that a file can't be written, and that this is told of it, as LINE:COLUMN: WHAT."""
         self.write("p.wit", text)
-        self.assertEqual(self.run_tool("p.wit"), (1, "", "".join(f"p.wit:{it}\n" for it in told)))
+        status, document, faults = self.run_tool("p.wit")
+        self.assertEqual((status, document), (1, ""))
+        self.assertEqual(faults_in(faults), [f"p.wit:{it}" for it in told])
 
 
 class Types(Case):
@@ -139,7 +147,7 @@ class Types(Case):
         body = "resource r; type a = r; type b = own<a>; type c = borrow<r>;"
         handles = [("a", {"type": 0}), ("b", {"handle": {"own": 1}}), ("c", {"handle": {"borrow": 0}})]
         self.assertEqual(self.kinds(body), [("r", "resource"), *handles])
-        self.refused("package a:b; interface i { type t = u8;\ntype h = own<t>; }", "2: `t` is no resource")
+        self.refused("package a:b; interface i { type t = u8;\ntype h = own<t>; }", "2:14: type `t` used in a handle must be a resource")
 
     def test_a_type_without_a_name_is_there_once(self):
         body = "type a = list<option<u8>>; f: func(x: option<u8>, y: list<option<u8>>) -> list<option<u8>>;"
@@ -149,9 +157,9 @@ class Types(Case):
     def test_a_type_comes_behind_what_it_names(self):
         body = "record a { x: d } type b = u8; type d = b;"
         self.assertEqual([name for name, _ in self.kinds(body)], ["b", "d", "a"])
-        cycle = "2: type `a` names itself, through whatever others"
+        cycle = "2:10: type `b` depends on itself"
         self.refused("package a:b; interface i {\ntype a = b; type b = list<a>; }", cycle)
-        self.refused("package a:b; interface i {\nf: func(x: t); }", "2: interface `i` has no type `t`")
+        self.refused("package a:b; interface i {\nf: func(x: t); }", "2:12: name `t` does not exist")
 
     def test_names_may_be_words(self):
         kinds = self.kinds("type %string = u8; type a = %string;")
@@ -195,8 +203,9 @@ class Functions(Case):
     def test_a_constructor_that_may_fail(self):
         made = self.functions("resource r { constructor() -> result<r, u8>; }")
         self.assertEqual(made["[constructor]r"]["result"], 1)
-        told = "2: a constructor of `r` answers that or a result of it"
+        told = "2:1: if a constructor return type is declared it must be a `result`"
         self.refused("package a:b; interface i { resource r { constructor() ->\nu8; } }", told)
+        told = "2:8: the `ok` type must be the resource being constructed"
         self.refused("package a:b; interface i { resource r { constructor() ->\nresult<u8>; } }", told)
 
 
@@ -257,7 +266,7 @@ class Notes(Case):
         self.assertEqual(made["interfaces"][0]["functions"]["[method]r.m"]["external-id"], "m")
         self.assertEqual(made["worlds"][0]["imports"]["interface-0"]["interface"]["external-id"], "i")
         self.assertEqual(made["worlds"][0]["exports"]["f"]["function"]["external-id"], "f")
-        told = "2: an interface has no external id"
+        told = "2:2: `@external-id` not allowed here"
         self.refused('package a:b;\n@external-id("x") interface i {}', told)
 
     def test_places(self):
@@ -286,8 +295,10 @@ class Worlds(Case):
               import l: i;
               import c:d/e@1.0.0;
               import m: interface { type u = u8; }
+              import interface-0: i;
+              import interface-7: func();
               export g: func(x: t);
-              include v with { f as h };
+              include v with { f as h }
             }"""
         made = self.read(body)
         world = made["worlds"][1]
@@ -296,6 +307,8 @@ class Worlds(Case):
             "l": {"interface": {"id": 1}},
             "interface-0": {"interface": {"id": 0}},
             "m": {"interface": {"id": 2}},
+            "%interface-0": {"interface": {"id": 1}},
+            "%interface-7": {"function": {"name": "interface-7", "kind": "freestanding", "params": []}},
         }
         self.assertEqual(world["imports"], imports)
         self.assertEqual(list(world["exports"]), ["interface-1", "g"])
@@ -333,18 +346,18 @@ class Worlds(Case):
 
     def test_what_is_there_twice(self):
         text = "package a:b; interface i {}\nworld w { import i; import\ni; }"
-        self.refused(text, "2: world `w` has `interface i` already")
+        self.refused(text, "3:1: interface cannot be imported more than once")
         text = "package a:b;\nworld w { import l: func();\nimport l: interface {} }"
-        self.refused(text, "3: world `w` has `l` already")
+        self.refused(text, "3:8: import `l` conflicts with prior func of same name")
         text = "package a:b; interface i { type t = u8;\nf: func();\nt: func(); }"
-        self.refused(text, "3: interface `i` has `t` already")
-        self.refused("package a:b; interface i {}\nworld i {}", "2: the package has `i` already")
+        self.refused(text, "3:1: name `t` is defined more than once")
+        self.refused("package a:b; interface i {}\nworld i {}", "2:7: duplicate item named `i`")
 
     def test_what_is_not_there(self):
-        self.refused("package a:b;\nworld w { import i; }", "2: the package has no interface `i`")
-        self.refused("package a:b; interface i {}\ninterface j { use i.{t}; }", "2: interface `i` has no type `t`")
+        self.refused("package a:b;\nworld w { import i; }", "2:18: interface or world `i` does not exist")
+        self.refused("package a:b; interface i {}\ninterface j { use i.{t}; }", "2:22: name `t` does not exist")
         sort = "package a:b;\nworld w { import c:d/e;\ninclude c:d/e; }"
-        self.refused(sort, "2: `c:d/e` is a world")
+        self.refused(sort, "2:22: name `e` is defined as a world, not an interface")
 
 
 class Files(Case):
@@ -352,7 +365,7 @@ class Files(Case):
         self.write("p/a.wit", "package a:b;\nworld w { import c:d/i; }")
         self.write("p/deps/x.wit", "package c:d;\ninterface i {}")
         self.write("p/deps/y/j.wit", "package e:f;\ninterface j {}")
-        self.write("q.wit", "package g:h { interface i {} }\npackage k:l { interface i {} }")
+        self.write("q.wit", "package g:h; interface i {}\npackage k:l { interface i {} }")
         push = self.pushed("p", "q.wit", "p/deps/x.wit")
         self.assertEqual(push["main"]["main"]["name"], "a:b")
         self.assertEqual([it["main"]["name"] for it in push["deps"]], ["g:h", "c:d", "e:f"])
@@ -360,11 +373,12 @@ class Files(Case):
 
     def test_each_nested_package_has_its_own_names(self):
         text = """
+            package e:f;
             package a:b { use x:y/i as z; interface j { use z.{t}; } }
             package c:d { use x:y/k as z; interface j { use z.{t}; } }"""
         self.write("p.wit", text)
         group = self.pushed("p.wit")["main"]
-        named = [list(it["foreign-deps"]["x:y"]) for it in (group["main"], *group["nested"])]
+        named = [list(it["foreign-deps"]["x:y"]) for it in group["nested"]]
         self.assertEqual(named, [["i"], ["k"]])
 
     def test_commands_behind_the_push(self):
@@ -401,10 +415,15 @@ class Files(Case):
 
     def test_what_cannot_be_read(self):
         self.assertEqual(self.run_tool("nowhere.wit")[:2], (1, ""))
-        self.refused("interface i {}", "1: no line says which package it is")
-        deep = "list<" * 100_000 + "u8" + ">" * 100_000
+        self.refused("interface i {}", " no `package` header was found in any WIT file for this package")
+
+    def test_deep_types(self):
+        deep = "list<" * 20_000 + "u8" + ">" * 20_000
         self.write("p.wit", f"package a:b; interface i {{ type t = {deep}; }}")
-        self.assertEqual(self.run_tool("p.wit"), (1, "", "wit2json.py: a type nests too deep to be read\n"))
+        status, document, told = self.run_tool("p.wit")
+        self.assertEqual((status, told), (0, ""))
+        types = json.loads(document)["commands"][0]["push-groups"]["main"]["main"]["types"]
+        self.assertEqual([it["kind"] for it in types], [{"list": "u8"}] + [{"list": n} for n in range(19_999)])
 
 
 class Wasi(Case):

@@ -27,7 +27,8 @@ error, as FILE:LINE: WHAT:
 A record that stands for a result or a tuple is a type of the interface or world that writes it. In a world its name
 ends with `@WORLD`. A feature that gates a type of its parts, or the whole interface or world, gates the record, too.
 
-Where something can't be written, each such place is told in the same way, there is no script, and the status is 1.
+Where something can't be read or written, each such place is told with FILE:LINE:COLUMN and its line, there is no script,
+and the status is 1.
 """
 import argparse
 import os
@@ -36,10 +37,30 @@ import sys
 sys.path.insert(0, os.path.dirname(os.path.abspath(__file__)))
 
 import wit  # noqa: E402
-from wit import PRIMITIVES, Definition, Entry, Function, Include, Path, Problem, Scope, Type, Use  # noqa: E402
+from wit import PRIMITIVES, Definition, Entry, Fault, Function, Include, Path, Scope, Type, Use  # noqa: E402
 
 # what a script reads as a type of its own, wherever it stands
 TAKEN = PRIMITIVES | {"future", "stream"}
+
+
+class InterfaceTaken(Fault):
+    text = "the interface here would be called `{name}`, which the package has already"
+
+
+class NameTaken(Fault):
+    text = "a type of a script can't have the name `{name}`, which is that of one of its own"
+
+
+class NoParts(Fault):
+    text = "a {word} of a script has parts, and `{name}` has none"
+
+
+class StandInTaken(Fault):
+    text = "`{name}` is a type already, and can't stand for `{type}`"
+
+
+class TwoFeatures(Fault):
+    text = "a record in place of `{type}` would be gated by two features"
 
 
 class Writer:
@@ -50,19 +71,21 @@ class Writer:
 
     def package(self, package):
         self.lines.append(f"package {package.name}")
-        scopes = [it for scope in package.scopes for it in [*self.within(scope), scope]]
-        # its interfaces and worlds by their names, and those that are written or begun, by theirs
-        self.scopes, self.written = wit.by_name(scopes), {}
-        for scope in wit.in_order(scopes, self.needs, lambda it, what: self.report.note(it.file, it.line, what)):
+        taken = {it.name for it in package.scopes}
+        scopes = [it for scope in package.scopes for it in [*self.within(scope, taken), scope]]
+        for scope in wit.told_order(scopes, self.needs, lambda it, what: self.report.note(it.file, it.line, what)):
             ScopeWriter(self, scope).write()
 
-    def within(self, world):
+    def within(self, world, taken):
         """The interfaces that a world writes in place. Each gets a name, by which the world then names it."""
         made = []
         for entry in world.of(Entry):
             if isinstance(entry.item, Scope):
                 inner = entry.item
                 inner.name = f"{world.name}-{inner.name}"
+                if inner.name in taken:
+                    self.report.problem(InterfaceTaken(world.file, inner.span, name=inner.name))
+                taken.add(inner.name)
                 what = f"the interface under `{entry.label}` becomes the interface `{inner.name}`"
                 self.report.note(world.file, entry.line, what)
                 entry.item = Path(inner.name, entry.line, inner.span)
@@ -71,11 +94,7 @@ class Writer:
 
     def needs(self, scope):
         """The names in the package that a scope needs."""
-        return [it.name for it in (self.found(scope.file, path) for path in scope.paths()) if not it.package]
-
-    def found(self, file, path):
-        """A path in place of the name that its file has for it."""
-        return wit.resolved(path, file, self.scopes)
+        return [it.name for it in (wit.resolved(path, scope.file) for path in scope.paths()) if not it.package]
 
 
 class ScopeWriter:
@@ -84,9 +103,8 @@ class ScopeWriter:
     def __init__(self, writer, scope):
         self.writer, self.scope, self.file = writer, scope, scope.file
         self.is_world = scope.word == "world"
-        # its types, each with the feature that gates it; those that may be resources; its records in place of results
-        # and tuples; all its names
-        self.types, self.resources, self.stand_ins, self.names = {}, set(), set(), set()
+        # its types, each with the feature that gates it; its records in place of results and tuples
+        self.types, self.stand_ins = {}, set()
 
     def note(self, line, what):
         self.writer.report.note(self.file, line, what)
@@ -106,13 +124,8 @@ class ScopeWriter:
         scope = self.scope
         self.writer.lines.append("")
         self.line(f"{scope.word} {scope.name}", self.gate(scope.gate))
-        self.writer.written[scope.name] = self
         self.each(self.use, scope.of(Use))
-        try:
-            definitions = wit.in_order(scope.of(Definition), Definition.names, lambda it, what: self.note(it.line, what))
-        except Problem as problem:
-            self.writer.report.problem(self.file, problem)
-            return
+        definitions = wit.told_order(scope.of(Definition), Definition.names, lambda it, what: self.note(it.line, what))
         self.each(self.definition, definitions)
         self.each(self.other, scope.statements)
 
@@ -121,8 +134,8 @@ class ScopeWriter:
         for statement in statements:
             try:
                 write(statement)
-            except Problem as problem:
-                self.writer.report.problem(self.file, problem)
+            except Fault as fault:
+                self.writer.report.problem(fault)
 
     def other(self, statement):
         """Writes what is no type."""
@@ -134,60 +147,42 @@ class ScopeWriter:
             self.entry(statement)
         elif isinstance(statement, Include):
             renamings = [f"{it.name}={it.new}" for it in statement.names]
-            line = " ".join(["include", self.path(statement.path, "world"), *renamings])
+            line = " ".join(["include", self.path(statement.path), *renamings])
             self.line(line, self.gate(statement.gate))
 
     # names
 
-    def add_name(self, line, name, of="import"):
-        """Takes a name of the interface, or of the imports or the exports of the world."""
-        if (of, name) in self.names:
-            raise Problem(line, f"{self.scope.word} `{self.scope.name}` has `{name}` already")
-        self.names.add((of, name))
-
-    def add_type(self, line, name, gate):
-        self.add_name(line, name)
+    def add_type(self, span, name, gate):
         self.types[name] = gate.feature
         if name in TAKEN:
-            raise Problem(line, f"a type of a script can't have the name `{name}`, which is that of one of its own")
+            raise NameTaken(self.file, span, name=name)
 
-    def path(self, path, word):
-        """The text of a path, which names such a thing; where that is in the package, it is there."""
-        found = self.writer.found(self.file, path)
-        if not found.package:
-            scope = self.writer.scopes.get(found.name)
-            if scope is None or scope.word != word:
-                raise Problem(path.line, f"the package has no {word} `{path.name}`")
-        return str(found)
+    def path(self, path):
+        """The text of a path."""
+        return str(wit.resolved(path, self.file))
 
     # statements
 
     def use(self, use):
         for it in use.names:
-            self.add_type(use.line, it.new.text, use.gate)
-        path, gate = self.path(use.path, "interface"), self.gate(use.gate)
-        of = self.writer.written.get(path)
+            self.add_type(it.new.span, it.new.text, use.gate)
+        path, gate = self.path(use.path), self.gate(use.gate)
         for old, new in ((it.name.text, it.new.text) for it in use.names):
-            if of and old not in of.types:
-                raise Problem(use.line, f"interface `{path}` has no type `{old}`")
-            if not of or old in of.resources:
-                self.resources.add(new)
             self.line(f"use {path} {old}" + (f" {new}" if new != old else ""), gate)
 
     def definition(self, definition):
         word, name, line = definition.word, definition.name, definition.line
-        self.add_type(line, name, definition.gate)
+        self.add_type(definition.span, name, definition.gate)
         gate = self.gate(definition.gate)
         if definition.gate.external_id is not None:
             self.note(line, f"the external id of `{name}` is left out")
         if word == "resource":
-            self.resources.add(name)
             self.line(f"resource {name}", gate)
         elif word == "type":
             self.alias(name, definition.type, gate)
         else:
             if not definition.parts:
-                raise Problem(line, f"a {word} of a script has parts, and `{name}` has none")
+                raise NoParts(self.file, definition.span, word=word, name=name)
             if word == "variant":
                 self.note(line, f"variant `{name}` becomes a record, with a field for each case")
             elif word != "record":
@@ -196,8 +191,6 @@ class ScopeWriter:
 
     def alias(self, name, ty, gate):
         fields = self.fields(ty)
-        if ty.name in self.resources:
-            self.resources.add(name)
         if fields:
             self.note(ty.line, f"`{ty}` becomes a record, named `{name}`")
             self.record(name, fields, gate)
@@ -208,7 +201,6 @@ class ScopeWriter:
         self.line(f"record {name} " + " ".join(f"{it}:{ty}" for it, ty in fields), gate)
 
     def function(self, function, of="import"):
-        self.add_name(function.line, function.name, of)
         if function.is_async:
             self.note(function.line, f"`{function.name}` is async in WIT, not in the script")
         if function.gate.external_id is not None:
@@ -227,9 +219,8 @@ class ScopeWriter:
         if isinstance(entry.item, Function):
             self.function(entry.item, entry.word)
             return
-        path = self.path(entry.item, "interface")
+        path = self.path(entry.item)
         label = entry.label and entry.label.text
-        self.add_name(entry.line, label or f"interface {path}", entry.word)
         if entry.gate.external_id is not None:
             self.note(entry.line, f"the external id of `{label or path}` is left out")
         self.line(f"{entry.word} {label}={path}" if label else f"{entry.word} {path}", self.gate(entry.gate))
@@ -239,8 +230,6 @@ class ScopeWriter:
     def type(self, ty):
         """The text of a type. The records that stand for its parts are written first."""
         if not ty.is_form:
-            if ty.name not in PRIMITIVES and ty.name not in self.types:
-                raise Problem(ty.line, f"{self.scope.word} `{self.scope.name}` has no type `{ty.name}`")
             return ty.name
         fields = self.fields(ty)
         if fields:
@@ -250,10 +239,7 @@ class ScopeWriter:
             return f"list<{self.type(Type('tuple', ty.line, ty.span, True, ty.parts))}>"
         if ty.name == "list" and len(ty.parts) == 2:
             self.note(ty.line, f"`{ty}` becomes a list of any length")
-        text = f"{ty.name}<{self.type(ty.parts[0])}>" if ty.parts else ty.name
-        if ty.name in ("own", "borrow") and ty.parts[0].name not in self.resources:
-            raise Problem(ty.line, f"`{text}` is no type, since `{ty.parts[0].name}` is no resource")
-        return text
+        return f"{ty.name}<{self.type(ty.parts[0])}>" if ty.parts else ty.name
 
     def fields(self, ty):
         """The fields of a record that stands for a tuple or a result, None for another type."""
@@ -270,10 +256,10 @@ class ScopeWriter:
         name = (f"{ty.name}<{parts}>" if parts else ty.name) + (f"@{self.scope.name}" if self.is_world else "")
         if name not in self.stand_ins:
             if name in self.types:
-                raise Problem(ty.line, f"`{name}` is a type already, and can't stand for `{ty}`")
+                raise StandInTaken(self.file, ty.span, name=name, type=ty)
             features = {self.types[it] for it in ty.names()} - {None} or {self.scope.gate.feature}
             if len(features) > 1:
-                raise Problem(ty.line, f"a record in place of `{ty}` would be gated by two features")
+                raise TwoFeatures(self.file, ty.span, type=ty)
             (feature,) = features
             self.types[name] = feature
             self.stand_ins.add(name)
@@ -292,10 +278,7 @@ def script_of(paths, report):
         return None
     writer = Writer(report)
     for package in packages:
-        try:
-            writer.package(package)
-        except Problem as problem:
-            report.problem(problem.file, problem)
+        writer.package(package)
     return None if report.problems else "\n".join([*writer.lines, "push", ""])
 
 
@@ -320,7 +303,7 @@ def main(arguments=None):
         print(f"wit2script.py: {fault}", file=sys.stderr)
         return 1
     except RecursionError:
-        print("wit2script.py: a type nests too deep to be read", file=sys.stderr)
+        print("wit2script.py: a type nests too deep for a script", file=sys.stderr)
         return 1
     return 0
 

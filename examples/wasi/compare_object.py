@@ -138,7 +138,7 @@ def lines_of(package, scope):
         return str(path) if path.package else f"{before}/{path.name}@{version}"
 
     uses = [f"type {it.new} = {full(use.path)}.{{{it.name}}}" for use in active(scope.of(wit.Use)) for it in use.names]
-    definitions = active(wit.in_order(scope.of(wit.Definition), wit.Definition.names, lambda *_: None))
+    definitions = active(wit.told_order(scope.of(wit.Definition), wit.Definition.names, lambda *_: None))
     functions = [it for definition in definitions for it in definition.functions] + scope.of(wit.Function)
     return [*uses, *map(definition_text, definitions), *map(function_text, active(functions))]
 
