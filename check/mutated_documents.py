@@ -267,21 +267,6 @@ def document_text(documents, number):
 # ---- what is answered
 
 
-class Members(list):
-    """The members of an object, of which two may have one name: in a world a label `interface-1` and interface 1 have."""
-
-
-def text_of(value):
-    """A value as compact JSON, with all members."""
-    if isinstance(value, Members):
-        return "{" + ",".join(f"{encoded(name)}:{text_of(it)}" for name, it in value) + "}"
-    return "[" + ",".join(map(text_of, value)) + "]" if isinstance(value, list) else encoded(value)
-
-
-def is_compact(out, output):
-    return compact(output) == out or text_of(json.loads(out, object_pairs_hook=Members)).encode() == out
-
-
 def resolve_of(out):
     """The graph that came out, as text."""
     return out[out.index(b',"resolve":') + 11 : -1]
@@ -298,8 +283,8 @@ def wrong(text, status, out):
     if status > 1:
         return f"status {status}"
     output = json.loads(out)
-    if not is_compact(out, output):
-        return "not compact"
+    if compact(output) != out:
+        return "not compact, or a name stands twice in an object"
     if status == 1:
         fault = output["fault"]
         return None if set(output) == {"fault"} and set(fault) == {"path", "offset", "expected"} and fault["offset"] <= len(text) else "fault"
@@ -308,23 +293,10 @@ def wrong(text, status, out):
 
 
 def is_read_again(library, out):
-    """Whether the graph that came out comes out again, or has two members of one name, which can't be read."""
+    """Whether the graph that came out comes out again."""
     resolve = resolve_of(out)
     answer = library.answer(b'{"resolve":%s,"commands":[]}' % resolve)
-    return answer == (0, b'{"replies":[],"resolve":%s}' % resolve) or answer[0] == 1 and has_one_name_twice(out)
-
-
-def has_one_name_twice(out):
-    """Whether an interface stands in a world under its own key and under a label of the same name."""
-    worlds = dict(dict(dict(json.loads(out, object_pairs_hook=Members))["resolve"])["graph"])["worlds"]
-    sides = (dict(it)[side] for it in worlds for side in ("imports", "exports"))
-    return any(repeated(side) for side in sides)
-
-
-def repeated(members):
-    """Whether a name stands twice, each time with the interface of that number."""
-    own = [name for name, ((_, of),) in members if isinstance(of, Members) and name == f"interface-{dict(of).get('id')}"]
-    return len(set(own)) < len(own)
+    return answer == (0, b'{"replies":[],"resolve":%s}' % resolve)
 
 
 def look(library, documents, number, counts):

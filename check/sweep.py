@@ -334,7 +334,7 @@ def wants(replies):
 
 
 def document_of(commands, resolve):
-    """A document of commands, which begins with a graph where there is one. That is a text: two of its members may have one name."""
+    """A document of commands, which begins with a graph where there is one, given as a text."""
     return (f'{{"resolve":{resolve},' if resolve else "{") + f'"commands":{json.dumps(commands)}}}'
 
 
