@@ -5,20 +5,23 @@ use Rattle.wit_values.specs.facts.Lists.{differ}
 use Rattle.wit_graph_data.specs.declared.error_kind.ResolveErrorKind.TheVariants.{OutOfMemory}
 use Rattle.wit_json_commands.specs.declared.questions.Question.TheVariants as question
 use Rattle.wit_json_questions.specs.Tells.{AnswersQuestion}
+use Rattle.wit_json_replies.specs.Refusals.{rendered}
 use Rattle.wit_json_replies.specs.declared.answers.Answer.{Answer}
 use Rattle.wit_json_replies.specs.declared.answers.Answer.TheVariants as answer
 use Rattle.examples_json_runs.specs.Questions.{asked_graph, no_files, refused_28}
 use Rattle.examples_json_runs.proofs.examples_of_refused_questions.Goals as goal
 
 -- what a refusal shows, nothing of another answer
-shown : Answer → List ℕ
+abbrev shown : Answer → List ℕ
 shown (answer.Refused refusal) = refusal.rendered
 shown _ = []
 
 no_other : AnswersQuestion asked_graph no_files question.PackageOrder (refused_28 (codes "select")) → ⊥
-unfolding digits
+unfolding digits post_order post_order_within
 no_other (inl same) = cc
-no_other (inr same) = differ _ _ refl (ap shown same)
+no_other (inr same) =
+    differ (rendered asked_graph no_files (codes "select") [] OutOfMemory)
+    (rendered asked_graph no_files (codes "package-order") [] OutOfMemory) refl (ap shown same)
 
 nothing : AnswersQuestion asked_graph no_files question.PackageOrder answer.NotFound → ⊥
 nothing (inl same) = cc
