@@ -4,8 +4,8 @@ use Rattle.wit_names.specs.declared.track.TrackRule.TheVariants.{WithPrereleases
 use Rattle.wit_json_commands.specs.Changes.{change_by}
 use Rattle.wit_json_commands.specs.Orders.{document_of}
 use Rattle.wit_json_commands.specs.Questions.{mangling_of, question_by}
-use Rattle.wit_json_commands.specs.declared.changes.Change.{Change}
-use Rattle.wit_json_commands.specs.declared.changes.Change.TheVariants as change
+use Rattle.wit_commands.specs.declared.change.Change.{Change}
+use Rattle.wit_commands.specs.declared.change.Change.TheVariants as change
 use Rattle.wit_json_commands.specs.declared.questions.FunctionSite.TheVariants as site
 use Rattle.wit_json_commands.specs.declared.questions.Mangling.TheVariants.{LegacyAsyncCallback, LegacyAsyncStackful, LegacySync, Standard32}
 use Rattle.wit_json_commands.specs.declared.questions.Question.{Question}

@@ -7,8 +7,8 @@ use Rattle.wit_json_reading.specs.Packages.{package_name_of}
 use Rattle.wit_json_reading.specs.Reading.{Reading, ◌>>=◌, instead_of, list_of, only, optional, required}
 use Rattle.wit_json_reading.specs.Values.{boolean_of, text_of}
 use Rattle.wit_json_reading.specs.declared.fault.Expected.TheVariants as expected
-use Rattle.wit_json_commands.specs.declared.changes.Change.{Change}
-use Rattle.wit_json_commands.specs.declared.changes.Change.TheVariants as change
+use Rattle.wit_commands.specs.declared.change.Change.{Change}
+use Rattle.wit_commands.specs.declared.change.Change.TheVariants as change
 
 -- the group whose main package is answered, and those that come with it
 unfoldable pub push_of : Json → Reading Change

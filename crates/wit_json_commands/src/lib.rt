@@ -6,6 +6,6 @@ mod changes;
 mod orders;
 mod questions;
 
-pub use crate::changes::Change;
 pub use crate::orders::{Document, Order, Request};
 pub use crate::questions::{FunctionPlace, FunctionSite, Mangling, Question};
+pub use wit_commands::Change;

@@ -4,10 +4,11 @@ ghost use Rattle.json.specs.Value.{value_view};
 ghost use Rattle.wit_json_commands.specs.Orders.{document_of, is_change, order_by, order_of, plain_request_of, request_by, request_of};
 ghost use Rattle.wit_json_reading.specs.Reading.{Reads};
 
-use crate::changes::{Change, change_by};
+use crate::changes::change_by;
 use crate::questions::{Question, question_by};
 use json::Value;
 use std::alloc::Global;
+use wit_commands::Change;
 use wit_data::Items;
 use wit_json_graphs::ResolveParts;
 use wit_json_reading::{

@@ -4,17 +4,14 @@ use Rattle.std.specs.List.{AllByRecursion}
 use Rattle.wit_data.specs.Each.{Each}
 use Rattle.wit_data.specs.Shape.{IsGroupShaped}
 use Rattle.wit_resolve_graph.specs.State.{State}
-use Rattle.wit_resolve_graph.specs.Step.{IsCommandShaped, Run, Step}
-use Rattle.wit_resolve_graph.specs.declared.command.Command.{Command}
-use Rattle.wit_resolve_graph.specs.declared.command.Reply.{Reply}
-use Rattle.wit_json_commands.specs.declared.changes.Change.{Change}
-use Rattle.wit_json_commands.specs.declared.changes.Change.TheVariants as change
+use Rattle.wit_resolve_graph.specs.Step.{IsCommandShaped, command_of}
+use Rattle.wit_commands.specs.declared.change.Change.{Change}
+use Rattle.wit_commands.specs.declared.change.Change.TheVariants as change
 use Rattle.wit_json_commands.specs.declared.orders.Order.{Order}
 use Rattle.wit_json_commands.specs.declared.orders.Request.{Request}
 use Rattle.wit_json_replies.specs.declared.answers.Answer.{Answer}
 use Rattle.wit_json_replies.specs.declared.answers.Response.{Response}
-use Rattle.wit_ways.specs.Asked.{asked_of}
-use Rattle.wit_json_runs.specs.Runs.{Answers, AnswersCommand, AnswersEach, AnswersReply, Responds, RespondsEach, command_of}
+use Rattle.wit_json_runs.specs.Runs.{Answers, AnswersEach, Responds, RespondsEach}
 use Rattle.wit_json_runs.specs.Unshaped.{IsChangeShaped}
 
 -- one more request
@@ -32,11 +29,6 @@ RespondsEach-more old mid new [] [] it told each one = (new, subst (λ (s : Stat
 RespondsEach-more old mid new (first ∷ its) (reply ∷ replies) it told each one = (each.0, each.1, RespondsEach-more each.0 mid new its replies it told each.2 one)
 RespondsEach-more old mid new [] (reply ∷ replies) it told each one = absurd each
 RespondsEach-more old mid new (first ∷ its) [] it told each one = absurd each
-
--- the one reply to one command
-pub one_reply : (asked : List ℕ) (old new : State) (it : Command) (reply : Reply) → Run old (it ∷ []) (reply ∷ []) new → (told : Answer)
-    → AnswersReply new asked (asked_of old it) reply told → AnswersCommand asked old it told new
-one_reply asked old new it reply run told answers = record { reply = reply; step = subst (λ (s : State). Step old it reply s) (sym run.2) run.1; answers = answers }
 
 -- ---- shapes
 

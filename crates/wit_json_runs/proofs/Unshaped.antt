@@ -9,7 +9,7 @@ use Rattle.wit_data.specs.facts.EachFacts.{EachBelow, SomeAt-is, SomeAt-of, one_
 use Rattle.wit_shape_faults.specs.Faults.{IsFirstFault}
 use Rattle.wit_shape_faults.specs.First.{IsFirstWithout}
 use Rattle.wit_shape_faults.specs.declared.fault.ShapeFault.{ShapeFault}
-use Rattle.wit_json_commands.specs.declared.changes.Change.{Change}
+use Rattle.wit_commands.specs.declared.change.Change.{Change}
 use Rattle.wit_json_replies.specs.declared.unshaped.Unshaped.{Unshaped}
 use Rattle.wit_json_replies.specs.declared.answers.Answer.TheVariants as answer
 use Rattle.wit_json_runs.specs.Runs.{AnswersChange}

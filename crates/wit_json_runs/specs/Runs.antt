@@ -1,14 +1,13 @@
 -- What a document's commands do, and what is answered to each.
 use Rattle.std.specs.Prelude.{◌≡◌, ◌⊎◌, ℕ, List, [], ◌∷◌, codes}
 use Rattle.wit_resolve_graph.specs.State.{State, new_state}
-use Rattle.wit_resolve_graph.specs.Step.{Step}
+use Rattle.wit_resolve_graph.specs.Step.{Step, command_of}
 use Rattle.wit_resolve_graph.specs.declared.command.Command.{Command}
 use Rattle.wit_resolve_graph.specs.declared.command.Command.TheVariants as command
 use Rattle.wit_resolve_graph.specs.declared.command.Reply.{Reply}
 use Rattle.wit_resolve_graph.specs.declared.command.Reply.TheVariants as reply
-use Rattle.wit_json_commands.specs.Asked.{change_text}
-use Rattle.wit_json_commands.specs.declared.changes.Change.{Change}
-use Rattle.wit_json_commands.specs.declared.changes.Change.TheVariants as change
+use Rattle.wit_commands.specs.Change.{change_text}
+use Rattle.wit_commands.specs.declared.change.Change.{Change}
 use Rattle.wit_json_commands.specs.declared.orders.Order.{Order}
 use Rattle.wit_json_commands.specs.declared.orders.Order.TheVariants as order
 use Rattle.wit_json_commands.specs.declared.orders.Request.{Request}
@@ -43,16 +42,6 @@ pub record AnswersCommand (asked : List ℕ) (old : State) (it : Command) (told 
   pub answers : AnswersReply new asked (asked_of old it) reply told
 
 -- ---- changes
-
--- the command that a change is
-abbrev pub command_of : Change → Command
-command_of (change.AddFeature name) = command.AddFeature name
-command_of (change.SetAllFeatures all) = command.SetAllFeatures all
-command_of (change.SetTrackRule rule) = command.SetTrackRule rule
-command_of (change.PushGroups main deps) = command.PushGroups main deps
-command_of (change.Importize home world out) = command.Importize home world out
-command_of (change.Exportize home world out keys) = command.Exportize home world out keys
-command_of (change.Semver home world) = command.Semver home world
 
 -- a change whose groups have their shape is carried out
 pub record AnswersShaped (old : State) (it : Change) (told : Answer) (new : State) : Type 0 where

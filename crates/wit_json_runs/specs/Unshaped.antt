@@ -7,8 +7,8 @@ use Rattle.wit_data.specs.declared.unresolved.UnresolvedPackageGroup.{Unresolved
 use Rattle.wit_shape_faults.specs.Faults.{IsFirstFault}
 use Rattle.wit_shape_faults.specs.First.{IsFirstWithout}
 use Rattle.wit_shape_faults.specs.declared.fault.ShapeFault.{ShapeFault}
-use Rattle.wit_json_commands.specs.declared.changes.Change.{Change}
-use Rattle.wit_json_commands.specs.declared.changes.Change.TheVariants as change
+use Rattle.wit_commands.specs.declared.change.Change.{Change}
+use Rattle.wit_commands.specs.declared.change.Change.TheVariants as change
 use Rattle.wit_json_replies.specs.declared.unshaped.Unshaped.{Unshaped}
 
 -- the first fault of a group: of its main package; or, where that has its shape, of the first nested one that lacks it

@@ -3,7 +3,7 @@ ghost use Rattle.std.specs.Prelude.{IfOk};
 ghost use Rattle.wit_json_commands.specs.declared.orders.Order.TheVariants as order;
 ghost use Rattle.wit_json_runs.specs.Runs.{Answers, AnswersEach, Responds, RespondsEach};
 
-use crate::changes::{answer_change, carry_out};
+use crate::changes::{answer_change, answer_command};
 use std::alloc::Global;
 use wit_json_commands::{Order, Request};
 use wit_json_questions::answer_question;
@@ -42,7 +42,7 @@ fn merge(alloc: Global, resolve: &mut Resolve, requests: Items<Request>) -> Reso
 {
     let mut other = Resolve::new(alloc);
     let replies = answers_to(alloc, &mut other, requests)?;
-    let reply = carry_out(alloc, resolve, Command::Merge(other), "merge")?;
+    let reply = answer_command(alloc, resolve, Command::Merge(other), "merge")?;
     Ok(Response::Merge { replies, reply })
 }
 

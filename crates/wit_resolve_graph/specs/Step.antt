@@ -9,6 +9,8 @@ use Rattle.wit_data.specs.Shape.{IsGroupShaped}
 use Rattle.wit_names.specs.PackageName.{same_package}
 use Rattle.wit_names.specs.declared.package_name.PackageName.{PackageName}
 use Rattle.wit_data.specs.declared.unresolved.UnresolvedPackageGroup.{UnresolvedPackageGroup}
+use Rattle.wit_commands.specs.declared.change.Change.{Change}
+use Rattle.wit_commands.specs.declared.change.Change.TheVariants as change
 use Rattle.wit_graph_data.specs.Error.{NoCause}
 use Rattle.wit_graph_data.specs.declared.features.Features.{Features}
 use Rattle.wit_graph_data.specs.declared.graph.Graph.{Graph}
@@ -132,3 +134,13 @@ Run old (command ∷ commands) [] new = ⊥
 abbrev pub IsCommandShaped : Command → Type 0
 IsCommandShaped (PushGroups main deps) = AllByRecursion IsGroupShaped (main ∷ deps)
 IsCommandShaped _ = Unit {0}
+
+-- the command that a change is
+abbrev pub command_of : Change → Command
+command_of (change.AddFeature name) = AddFeature name
+command_of (change.SetAllFeatures all) = SetAllFeatures all
+command_of (change.SetTrackRule rule) = SetTrackRule rule
+command_of (change.PushGroups main deps) = PushGroups main deps
+command_of (change.Importize home world out) = Importize home world out
+command_of (change.Exportize home world out keys) = Exportize home world out keys
+command_of (change.Semver home world) = Semver home world

@@ -2,17 +2,18 @@
 ghost use Rattle.std.specs.Prelude.{◌≡◌, IfErr, IfOk, OnErr};
 ghost use Rattle.std.specs.List.{AllByRecursion};
 ghost use Rattle.wit_graph_data.specs.declared.error_kind.ResolveErrorKind.TheVariants.{OutOfMemory};
-ghost use Rattle.wit_resolve_graph.specs.Step.{IsCommandShaped, Run, Step};
+ghost use Rattle.wit_resolve_graph.specs.Step.{IsCommandShaped, Run, Step, command_of};
 ghost use Rattle.wit_resolve_graph.specs.declared.command.Command.TheVariants.{AddFeature};
 
 use crate::resolve::Resolve;
 use crate::transformations::{exportize, importize, merge_world_imports};
 use std::alloc::Global;
+use wit_commands::Change;
 use wit_data::{Items, PackageId, PackageName, Text, TrackRule, UnresolvedPackageGroup};
 use wit_graph_data::{ResolveError, ResolveResult};
 use wit_link::Remap;
 
-/// A change of a `Resolve`. A world is named by its package's name and its own.
+/// A change of a `Resolve`, or the merge of a second one. A world is named by its package's name and its own.
 #[derive(Drop)]
 pub enum Command {
     /// Turns a feature on: see `Resolve::add_feature`.
@@ -81,14 +82,16 @@ pub fn run(
 {
     let mut replies = Vec::with_capacity(alloc, commands.len())?;
     for command in commands {
-        let reply = step(alloc, resolve, command);
+        let reply = carry_out(alloc, resolve, command);
         replies.push(reply).unwrap();
     }
     Ok(replies)
 }
 
-/// The reply to one command.
-fn step(alloc: Global, resolve: &mut Resolve, command: Command) -> Reply
+/// Carries out one command, and answers its reply.
+///
+/// The packages of a `PushGroups` have their shape, as `Resolve::push_groups` asks.
+pub fn carry_out(alloc: Global, resolve: &mut Resolve, command: Command) -> Reply
     requires { IsCommandShaped command }
     ensures { Step resolve.old command result resolve.new }
 {
@@ -134,5 +137,38 @@ fn add_feature(alloc: Global, resolve: &mut Resolve, name: Text) -> Reply
     match resolve.add_feature(alloc, name.as_str()) {
         Ok(()) => Reply::Done,
         Err(refusal) => Reply::Refused(refusal),
+    }
+}
+
+/// The command that a change is.
+pub fn command_of(change: Change) -> Command
+    ensures { result ≡ command_of change }
+{
+    match change {
+        Change::AddFeature(name) => Command::AddFeature(name),
+        Change::SetAllFeatures(all) => Command::SetAllFeatures(all),
+        Change::SetTrackRule(rule) => Command::SetTrackRule(rule),
+        Change::PushGroups { main, deps } => Command::PushGroups { main, deps },
+        Change::Importize {
+            package,
+            world,
+            out,
+        } => Command::Importize {
+            package,
+            world,
+            out,
+        },
+        Change::Exportize {
+            package,
+            world,
+            out,
+            keys,
+        } => Command::Exportize {
+            package,
+            world,
+            out,
+            keys,
+        },
+        Change::Semver { package, world } => Command::Semver { package, world },
     }
 }

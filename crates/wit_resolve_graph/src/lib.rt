@@ -33,10 +33,11 @@ mod source_names;
 mod sources;
 mod transformations;
 
-pub use crate::command::{Command, Reply, run};
+pub use crate::command::{Command, Reply, carry_out, command_of, run};
 pub use crate::package_sources::{PackageSourceNames, PackageSources};
 pub use crate::resolve::Resolve;
 pub use crate::sources::{ParseFault, SourceFault};
+pub use wit_commands::Change;
 pub use wit_graph::{
     Cause, Features, FutureIntrinsic, Graph, GraphQueries, InterfaceDirectDeps, NameSet, Package,
     PackageDirectDeps, ResolveError, ResolveErrorKind, ResolveResult, ResourceIntrinsic,

@@ -5,8 +5,8 @@ use Rattle.wit_json_runs.proofs.Replies.{shaped_command}
 use Rattle.wit_json_runs.proofs.Unshaped.{change_shaped, lack_answered}
 use Rattle.wit_json_runs.proofs.changes.answer_change.Goals as goal
 
-pub carry_out-requires : goal.carry_out-requires
-carry_out-requires c =
+pub answer_command-requires : goal.answer_command-requires
+answer_command-requires c =
     let shaped = change_shaped c.args.change _ c.in_ok-unshaped.ensures c.in-None.is in
     subst (λ (it : Command). IsCommandShaped it) (sym c.command_of.ensures) (shaped_command c.args.change shaped)
 
