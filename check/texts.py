@@ -16,7 +16,7 @@ import sys
 
 FILES = """
 wit_graph_data/specs/ErrorText wit_link_spec/specs/CauseText wit_remap_spec/specs/Borrows wit_remap_spec/specs/FunctionMismatch
-wit_merge_spec/specs/MismatchText wit_merge_spec/specs/Structure wit_semver_spec/specs/SemverMerged
+wit_merge_spec/specs/MismatchText wit_merge_spec/specs/Structure wit_semver/specs/SemverMerged
 wit_elaboration/specs/AllElaborated wit_transform/specs/Transformed wit_queries/specs/Selection
 """.split()
 CASES = "crates/test_cases/stdin"

@@ -12,7 +12,7 @@ NUMBERS, KINDS = "crates/wit_graph_data/specs/Error.antt", "crates/wit_graph_dat
 TEXTS = """
 wit_graph_data/specs/ErrorText wit_link_spec/specs/CauseText wit_link_spec/specs/Reasons wit_link_spec/specs/WorldReasons
 wit_remap_spec/specs/Borrows wit_remap_spec/specs/FunctionMismatch wit_merge_spec/specs/MismatchText
-wit_merge_spec/specs/Matches wit_merge_spec/specs/Structure wit_merge_spec/specs/Cause wit_semver_spec/specs/SemverMerged
+wit_merge_spec/specs/Matches wit_merge_spec/specs/Structure wit_merge_spec/specs/Cause wit_semver/specs/SemverMerged
 wit_elaboration/specs/AllElaborated wit_transform/specs/Transformed wit_queries/specs/Selection wit_data/specs/Kind
 """.split()
 PLACEHOLDER = r"\b(?:[A-Z]{2,}|[AB])\b"

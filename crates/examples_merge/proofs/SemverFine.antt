@@ -16,10 +16,10 @@ use Rattle.wit_graph_data.specs.declared.error_kind.ResolveErrorKind.{ResolveErr
 use Rattle.wit_graph_theory.specs.facts.ListFacts.{contained_at}
 use Rattle.wit_graph_theory.specs.facts.OptionFacts.{some_same}
 use Rattle.wit_graph_theory.specs.examples.TestFacts.{all_are, all_uses, falls, is_empty, no_cycle, nothing_in}
-use Rattle.wit_semver_spec.specs.SemverMerged.{IsComplete, IsSemverMergeCause, SemverMerge, SemverMergeCause, conflict_4, functions_disagree_25, interface_cycle_22, newest, package_cycle_6, replaced_use, types_of_new_entries, target_name, type_cycle_23, type_missing_25, semver_merge, with_new_entries_at}
-use Rattle.wit_semver_spec.specs.steps.SemverMerged.{Agrees}
+use Rattle.wit_semver.specs.SemverMerged.{IsComplete, IsSemverMergeCause, SemverMerge, SemverMergeCause, conflict_4, functions_disagree_25, interface_cycle_22, newest, package_cycle_6, replaced_use, types_of_new_entries, target_name, type_cycle_23, type_missing_25, semver_merge, with_new_entries_at}
+use Rattle.wit_semver.specs.steps.SemverMerged.{Agrees}
 use Rattle.wit_elaboration.specs.steps.Parts.{exported_keys, exported_interfaces, graph_package_uses}
-use Rattle.wit_semver_spec.specs.steps.Parts.{interface_type}
+use Rattle.wit_semver.specs.steps.Parts.{interface_type}
 
 module _ (u : SemverMerge) where
   -- does the newest have the type of this name?

@@ -31,15 +31,15 @@ use Rattle.wit_elaboration.specs.AllElaborated.{DependsOnItself, RefersToItself}
 use Rattle.wit_remap_spec.specs.FunctionMismatch.{FunctionMismatch, parameter_names_differ}
 use Rattle.wit_graph_theory.specs.facts.OptionFacts.{some_same}
 use Rattle.wit_graph_theory.specs.examples.TestFacts.{all_are, all_uses, falls, is_empty, no_cycle, not_on_cycle, only_one}
-use Rattle.wit_semver_spec.specs.SemverMerged.{IsComplete, IsSemverMergeCause, LacksType, SemverMerge, SemverMergeCause, conflict_4, functions_disagree_25, interface_cycle_22, is_replaced, newest, package_cycle_6, types_of_new_entries, type_cycle_23, type_missing_25, semver_merge, with_new_entries_at}
-use Rattle.wit_semver_spec.specs.steps.SemverMerged.{Agrees}
+use Rattle.wit_semver.specs.SemverMerged.{IsComplete, IsSemverMergeCause, LacksType, SemverMerge, SemverMergeCause, conflict_4, functions_disagree_25, interface_cycle_22, is_replaced, newest, package_cycle_6, types_of_new_entries, type_cycle_23, type_missing_25, semver_merge, with_new_entries_at}
+use Rattle.wit_semver.specs.steps.SemverMerged.{Agrees}
 use Rattle.examples_merge.proofs.SemverFine.{Clear, complete, has_target, is_fine, no_functions}
 use Rattle.examples_merge.proofs.SemverMismatches.{x_is_not_y, x_of, y_of}
 use Rattle.examples_merge.specs.CauseExamples.{ExamplesOfCauses, IsCauseOf, IsFine, around_main, around_z, exporting, f_of, failed, foo_app, newer_x, older_x, with_functions, with_newer, without_type, without_type_but_cycle}
 use Rattle.examples_merge.specs.Releases.{alias_in, called, foo_main, foo_x, keyed, number_in, package_of, release, with_function, world_in}
 use Rattle.examples_merge.specs.SemverMergeExamples.{first_release, of_three, published}
 use Rattle.wit_elaboration.specs.steps.Parts.{exported_keys, exported_interfaces, graph_package_uses}
-use Rattle.wit_semver_spec.specs.steps.Parts.{listed_world}
+use Rattle.wit_semver.specs.steps.Parts.{listed_world}
 
 -- the ranks of nodes by their places
 abbrev rank_of : List ℕ → ℕ → ℕ

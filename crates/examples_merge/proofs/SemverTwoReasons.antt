@@ -17,7 +17,7 @@ use Rattle.wit_graph_data.specs.declared.cause.Cause.TheVariants.{InterfaceCycle
 use Rattle.wit_graph_data.specs.declared.error_kind.ResolveErrorKind.TheVariants.{InvalidTransitiveDependency, PackageCycle, Semantic}
 use Rattle.wit_elaboration.specs.AllElaborated.{DependsOnItself, HasWorldInConflict, RefersToItself, UsesItself}
 use Rattle.wit_graph_theory.specs.examples.TestFacts.{no_cycle, none_in, one_of_two, only_one}
-use Rattle.wit_semver_spec.specs.SemverMerged.{IsComplete, LacksType, SemverMerge, SemverMergeCause, conflict_4, interface_cycle_22, package_cycle_6, types_of_new_entries, type_cycle_23, type_missing_25, semver_merge, with_new_entries_at}
+use Rattle.wit_semver.specs.SemverMerged.{IsComplete, LacksType, SemverMerge, SemverMergeCause, conflict_4, interface_cycle_22, package_cycle_6, types_of_new_entries, type_cycle_23, type_missing_25, semver_merge, with_new_entries_at}
 use Rattle.examples_merge.proofs.SemverFine.{complete, of_world}
 use Rattle.examples_merge.proofs.SemverReasons.{t_refers_to_itself}
 use Rattle.examples_merge.specs.Releases.{foo_main, keyed, world_in}

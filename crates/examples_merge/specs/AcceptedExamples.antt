@@ -2,7 +2,7 @@
 -- the reasons, as what lacks them.
 use Rattle.std.specs.Prelude.{[], ◌∷◌, ◌++◌, None, codes}
 use Rattle.wit_names.specs.declared.track.TrackRule.TheVariants.{Published, WithPrereleases}
-use Rattle.wit_semver_spec.specs.SemverMerged.{SemverMergeIsAccepted}
+use Rattle.wit_semver.specs.SemverMerged.{SemverMergeIsAccepted}
 use Rattle.examples_merge.specs.Releases.{foo_x, keyed, release}
 use Rattle.examples_merge.specs.SemverMergeExamples.{major_release, of_three, old_x, patch_release, three, with_release, with_second_name, with_worlds}
 use Rattle.examples_merge.specs.TrackExamples.{beside_x, nameless_at_l, new_x, of_one_track, using_type, y_at_l}

@@ -17,7 +17,7 @@ use Rattle.wit_graph_data.specs.declared.graph.Graph.{Graph}
 use Rattle.wit_graph_data.specs.declared.error_kind.ResolveErrorKind.{ResolveErrorKind}
 use Rattle.wit_graph_data.specs.declared.error_kind.ResolveErrorKind.TheVariants.{InvalidTransitiveDependency, PackageCycle, Semantic}
 use Rattle.wit_remap_spec.specs.FunctionMismatch.{FunctionMismatch}
-use Rattle.wit_semver_spec.specs.SemverMerged.{IsSemverMergeCause}
+use Rattle.wit_semver.specs.SemverMerged.{IsSemverMergeCause}
 use Rattle.examples_merge.specs.Releases.{Names, alias_in, called, foo_main, foo_x, graph_of, interface_in, keyed, number_in, package_of, release, two, with_function, world_in}
 use Rattle.examples_merge.specs.SemverMergeExamples.{first_release, of_three}
 

@@ -6,9 +6,9 @@ use Rattle.wit_data.specs.declared.world.World.{World}
 use Rattle.wit_elaboration.specs.Entries.{Entry}
 use Rattle.wit_graph_data.specs.examples.Samples.{labelled_entry}
 use Rattle.wit_graph_data.specs.declared.graph.Graph.{Graph}
-use Rattle.wit_semver_spec.specs.SemverMerged.{SemverMerge, semver_merged, semver_merge}
+use Rattle.wit_semver.specs.SemverMerged.{SemverMerge, semver_merged, semver_merge}
 use Rattle.examples_merge.specs.Releases.{alias_in, called, graph_of, importing, interface_in, keyed, number_in, prerelease, release, two, world_in}
-use Rattle.wit_semver_spec.specs.steps.Parts.{new_target}
+use Rattle.wit_semver.specs.steps.Parts.{new_target}
 
 -- ---- three versions, and an interface that uses one
 

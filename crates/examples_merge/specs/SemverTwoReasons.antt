@@ -9,7 +9,7 @@ use Rattle.wit_graph_data.specs.declared.cause.Cause.TheVariants.{InterfaceCycle
 use Rattle.wit_graph_data.specs.declared.error_kind.ResolveErrorKind.TheVariants.{InvalidTransitiveDependency, PackageCycle, Semantic}
 use Rattle.wit_graph_data.specs.declared.graph.Graph.{Graph}
 use Rattle.wit_elaboration.specs.AllElaborated.{DependsOnItself, UsesItself}
-use Rattle.wit_semver_spec.specs.SemverMerged.{with_new_entries}
+use Rattle.wit_semver.specs.SemverMerged.{with_new_entries}
 use Rattle.examples_merge.specs.CauseExamples.{IsCauseOf, around_main, around_z, exporting, failed, foo_app}
 use Rattle.examples_merge.specs.Releases.{Names, alias_in, called, foo_main, foo_x, interface_in, keyed, number_in, package_of, release, world_in}
 

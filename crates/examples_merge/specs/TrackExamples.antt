@@ -10,7 +10,7 @@ use Rattle.wit_data.specs.declared.world.WorldKey.TheVariants as key
 use Rattle.wit_elaboration.specs.Entries.{Entry}
 use Rattle.wit_graph_data.specs.examples.Samples.{labelled_entry, type_of}
 use Rattle.wit_graph_data.specs.declared.graph.Graph.{Graph}
-use Rattle.wit_semver_spec.specs.SemverMerged.{semver_merged}
+use Rattle.wit_semver.specs.SemverMerged.{semver_merged}
 use Rattle.examples_merge.specs.Releases.{alias_in, called, foo_main, foo_x, graph_of, interface_in, keyed, number_in, package_of, release, two, world_in}
 use Rattle.examples_merge.specs.SemverMergeExamples.{with_versions, with_worlds}
 

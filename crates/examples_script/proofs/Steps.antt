@@ -15,7 +15,7 @@ use Rattle.wit_resolve_graph.specs.Step.{Run}
 use Rattle.wit_resolve_graph.specs.declared.command.Reply.{Reply}
 use Rattle.wit_resolve_graph.specs.declared.command.Reply.TheVariants as reply
 use Rattle.wit_resolve_graph.specs.declared.command.Command.TheVariants.{SetTrackRule}
-use Rattle.wit_semver_spec.specs.SemverMerged.{semver_merged, IsSemverMergeCause}
+use Rattle.wit_semver.specs.SemverMerged.{semver_merged, IsSemverMergeCause}
 use Rattle.examples_merge.specs.CauseExamples.{ExamplesOfCauses, failed, without_type}
 use Rattle.examples_merge.specs.Releases.{foo_main}
 use Rattle.examples_merge.specs.SemverMergeExamples.{ExamplesOfSemverMerges, ExamplesOfRules, first_release, of_three, three}

@@ -88,12 +88,14 @@ is_export_intrinsic _ = true
 
 -- the name of a resource
 abbrev pub resource_name : List TypeDef → ℕ → List ℕ
-resource_name types r = option_map_or (λ (def : TypeDef). unwrap_or def.name []) (slice_get types r) []
+resource_name types r =
+    option_map_or (λ (def : TypeDef). unwrap_or def.name []) (slice_get types r) []
 
 -- the first place of a type among the futures and streams of a function; `unit` without a type
 abbrev pub future_index_text : List TypeDef → Function → Option ℕ → List ℕ
 future_index_text types f None = codes "unit"
-future_index_text types f (Some t) = option_map_or decimal (position (nat_eq t) (futures_and_streams types f)) []
+future_index_text types f (Some t) =
+    option_map_or decimal (position (nat_eq t) (futures_and_streams types f)) []
 
 -- ---- modules
 
@@ -128,11 +130,17 @@ import_names g Standard32 (imports.ResourceIntrinsic interface r ExportedNew) = 
 import_names g Standard32 (imports.ResourceIntrinsic interface r ExportedRep) = (codes "cm32p2|_ex_" ++ standard_key g (option_copied interface), resource_name g.types r ++ codes "_rep")
 import_names g Standard32 _ = ([], [])
 import_names g (Legacy abi) (imports.Func interface func) = (legacy_module g (option_copied interface), import_prefix abi ++ func.now.name)
-import_names g (Legacy abi) (imports.ResourceIntrinsic interface r intrinsic) =
-    (exported_prefix (is_export_intrinsic intrinsic) ++ legacy_module g (option_copied interface), import_prefix abi ++ (resource_mark intrinsic ++ resource_name g.types r))
+import_names g (Legacy abi) (imports.ResourceIntrinsic interface r intrinsic) = (
+  exported_prefix (is_export_intrinsic intrinsic) ++ legacy_module g (option_copied interface),
+  import_prefix abi ++ (resource_mark intrinsic ++ resource_name g.types r),
+)
 import_names g (Legacy abi) (imports.FutureIntrinsic interface func ty intrinsic exported async) = (
   exported_prefix exported ++ legacy_module g (option_copied interface),
-  async_prefix async ++ (codes "[future-" ++ (future_word intrinsic ++ (codes "-" ++ (future_index_text g.types func.now ty ++ (codes "]" ++ func.now.name))))),
+  async_prefix async
+      ++ (codes "[future-"
+      ++ (future_word intrinsic
+      ++ (codes "-"
+      ++ (future_index_text g.types func.now ty ++ (codes "]" ++ func.now.name))))),
 )
 import_names g (Legacy abi) (imports.StreamIntrinsic interface func ty intrinsic exported async) = (
   exported_prefix exported ++ legacy_module g (option_copied interface),
@@ -143,17 +151,31 @@ import_names g (Legacy abi) (imports.StreamIntrinsic interface func ty intrinsic
 
 -- the name of an export; nothing is said (the empty text) of callbacks under Standard32
 abbrev pub export_name : Graph → ManglingAndAbi → WasmExport → List ℕ
-export_name g Standard32 (exports.Func interface func Normal) = codes "cm32p2|" ++ (standard_key g (option_copied interface) ++ (codes "|" ++ func.now.name))
-export_name g Standard32 (exports.Func interface func PostReturn) = codes "cm32p2|" ++ (standard_key g (option_copied interface) ++ (codes "|" ++ (func.now.name ++ codes "_post")))
+export_name g Standard32 (exports.Func interface func Normal) =
+    codes "cm32p2|" ++ (standard_key g (option_copied interface) ++ (codes "|" ++ func.now.name))
+export_name g Standard32 (exports.Func interface func PostReturn) =
+    codes "cm32p2|"
+    ++ (standard_key g (option_copied interface) ++ (codes "|" ++ (func.now.name ++ codes "_post")))
 export_name g Standard32 (exports.Func interface func Callback) = []
-export_name g Standard32 (exports.ResourceDtor interface r) = codes "cm32p2|" ++ (standard_key g (Some interface.now) ++ (codes "|" ++ (resource_name g.types r ++ codes "_dtor")))
+export_name g Standard32 (exports.ResourceDtor interface r) =
+    codes "cm32p2|"
+    ++ (standard_key g (Some interface.now)
+    ++ (codes "|" ++ (resource_name g.types r ++ codes "_dtor")))
 export_name g Standard32 exports.Memory = codes "cm32p2_memory"
 export_name g Standard32 exports.Initialize = codes "cm32p2_initialize"
 export_name g Standard32 exports.Realloc = codes "cm32p2_realloc"
-export_name g (Legacy abi) (exports.Func interface func Normal) = export_prefix abi ++ (legacy_key g (option_copied interface) ++ func.now.name)
-export_name g (Legacy abi) (exports.Func interface func PostReturn) = export_prefix abi ++ (codes "cabi_post_" ++ (legacy_key g (option_copied interface) ++ func.now.name))
-export_name g (Legacy abi) (exports.Func interface func Callback) = codes "[callback]" ++ (export_prefix abi ++ (legacy_key g (option_copied interface) ++ func.now.name))
-export_name g (Legacy abi) (exports.ResourceDtor interface r) = export_prefix abi ++ (key_text g.packages g.interfaces interface.now ++ (codes "#[dtor]" ++ resource_name g.types r))
+export_name g (Legacy abi) (exports.Func interface func Normal) =
+    export_prefix abi ++ (legacy_key g (option_copied interface) ++ func.now.name)
+export_name g (Legacy abi) (exports.Func interface func PostReturn) =
+    export_prefix abi
+    ++ (codes "cabi_post_" ++ (legacy_key g (option_copied interface) ++ func.now.name))
+export_name g (Legacy abi) (exports.Func interface func Callback) =
+    codes "[callback]"
+    ++ (export_prefix abi ++ (legacy_key g (option_copied interface) ++ func.now.name))
+export_name g (Legacy abi) (exports.ResourceDtor interface r) =
+    export_prefix abi
+    ++ (key_text g.packages g.interfaces interface.now
+    ++ (codes "#[dtor]" ++ resource_name g.types r))
 export_name g (Legacy abi) exports.Memory = codes "memory"
 export_name g (Legacy abi) exports.Initialize = codes "_initialize"
 export_name g (Legacy abi) exports.Realloc = codes "cabi_realloc"
@@ -170,7 +192,8 @@ interface_has_name interfaces (Some k) = key_has_name interfaces k
 
 -- a type with a name
 abbrev pub type_has_name : List TypeDef → ℕ → Bool
-type_has_name types t = option_map_or (λ (def : TypeDef). is_some def.name) (slice_get types t) false
+type_has_name types t =
+    option_map_or (λ (def : TypeDef). is_some def.name) (slice_get types t) false
 
 -- what serves exports is of an interface
 abbrev pub is_within : Option WorldKey → ResourceIntrinsic → Bool
@@ -199,19 +222,25 @@ stream_can_be_async stream.CancelWrite = true
 stream_can_be_async _ = false
 
 -- what is done with a future or a stream has names under the older ones alone
-abbrev pub can_name_value : Graph → ManglingAndAbi → Option WorldKey → Function → Option ℕ → Bool → Bool
+abbrev pub can_name_value : Graph → ManglingAndAbi → Option WorldKey → Function → Option ℕ → Bool
+    → Bool
 can_name_value g Standard32 interface f ty goes_on = false
-can_name_value g (Legacy abi) interface f ty goes_on = interface_has_name g.interfaces interface && (goes_on && is_of_function g.types f ty)
+can_name_value g (Legacy abi) interface f ty goes_on =
+    interface_has_name g.interfaces interface && (goes_on && is_of_function g.types f ty)
 
 -- an import that has names
 abbrev pub can_name_import : Graph → ManglingAndAbi → WasmImport → Bool
-can_name_import g mangling (imports.Func interface func) = interface_has_name g.interfaces (option_copied interface)
+can_name_import g mangling (imports.Func interface func) =
+    interface_has_name g.interfaces (option_copied interface)
 can_name_import g mangling (imports.ResourceIntrinsic interface r intrinsic) =
-    interface_has_name g.interfaces (option_copied interface) && (type_has_name g.types r && is_within (option_copied interface) intrinsic)
+    interface_has_name g.interfaces (option_copied interface)
+    && (type_has_name g.types r && is_within (option_copied interface) intrinsic)
 can_name_import g mangling (imports.FutureIntrinsic interface func ty intrinsic exported async) =
-    can_name_value g mangling (option_copied interface) func.now ty (not async || future_can_be_async intrinsic)
+    can_name_value g mangling (option_copied interface) func.now ty
+    (not async || future_can_be_async intrinsic)
 can_name_import g mangling (imports.StreamIntrinsic interface func ty intrinsic exported async) =
-    can_name_value g mangling (option_copied interface) func.now ty (not async || stream_can_be_async intrinsic)
+    can_name_value g mangling (option_copied interface) func.now ty
+    (not async || stream_can_be_async intrinsic)
 
 -- a callback is exported under Legacy(AsyncCallback) alone
 abbrev pub has_callback : ManglingAndAbi → WasmExportKind → Bool
@@ -222,6 +251,8 @@ has_callback _ Callback = false
 
 -- an export that has a name
 abbrev pub can_name_export : Graph → ManglingAndAbi → WasmExport → Bool
-can_name_export g mangling (exports.Func interface func kind) = has_callback mangling kind && interface_has_name g.interfaces (option_copied interface)
-can_name_export g mangling (exports.ResourceDtor interface r) = key_has_name g.interfaces interface.now && type_has_name g.types r
+can_name_export g mangling (exports.Func interface func kind) =
+    has_callback mangling kind && interface_has_name g.interfaces (option_copied interface)
+can_name_export g mangling (exports.ResourceDtor interface r) =
+    key_has_name g.interfaces interface.now && type_has_name g.types r
 can_name_export g mangling _ = true

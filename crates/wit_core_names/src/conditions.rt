@@ -162,7 +162,10 @@ fn can_name_value(
     goes_on: bool,
 ) -> ResolveResult<bool>
     requires { IsAcyclic (type_references graph.now.types) }
-    ensures told { IfOk result (λ told. told ≡ can_name_value graph.now mangling (option_copied interface.now) function.now ty goes_on) }
+    ensures told { IfOk result (λ told.
+        told
+        ≡ can_name_value graph.now mangling (option_copied interface.now) function.now ty
+        goes_on) }
     ensures err { IfErr result (λ e. e ≡ OutOfMemory) }
 {
     match mangling {

@@ -73,7 +73,8 @@ pub fn wasm_export_name(
     export: &WasmExport<'_>,
 ) -> ResolveResult<String>
     requires { can_name_export graph.now mangling export.now ≡ true }
-    ensures name { IfOk result (λ name. string_bytes name ≡ export_name graph.now mangling export.now) }
+    ensures name { IfOk result
+        (λ name. string_bytes name ≡ export_name graph.now mangling export.now) }
     ensures err { IfErr result (λ e. e ≡ OutOfMemory) }
 {
     match mangling {

@@ -140,7 +140,9 @@ pub fn wasm_import_name(
 ) -> ResolveResult<(String, String)>
     requires acyclic { IsAcyclic (type_references graph.now.types) }
     requires named { can_name_import graph.now mangling import.now ≡ true }
-    ensures names { IfOk result (λ names. (string_bytes names.0, string_bytes names.1) ≡ import_names graph.now mangling import.now) }
+    ensures names { IfOk result (λ names.
+        (string_bytes names.0, string_bytes names.1)
+        ≡ import_names graph.now mangling import.now) }
     ensures err { IfErr result (λ e. e ≡ OutOfMemory) }
 {
     match mangling {

@@ -23,7 +23,8 @@ fn legacy_module(
     graph: &Graph,
     interface: &Option<&WorldKey>,
 ) -> ResolveResult<String>
-    ensures text { IfOk result (λ text. string_bytes text ≡ legacy_module graph.now (option_copied interface.now)) }
+    ensures text { IfOk result
+        (λ text. string_bytes text ≡ legacy_module graph.now (option_copied interface.now)) }
     ensures err { IfErr result (λ e. e ≡ OutOfMemory) }
 {
     match interface {
@@ -34,7 +35,8 @@ fn legacy_module(
 
 /// The name of an interface's key before `#`, and nothing without an interface.
 fn legacy_key(alloc: Global, graph: &Graph, interface: &Option<&WorldKey>) -> ResolveResult<String>
-    ensures text { IfOk result (λ text. string_bytes text ≡ legacy_key graph.now (option_copied interface.now)) }
+    ensures text { IfOk result
+        (λ text. string_bytes text ≡ legacy_key graph.now (option_copied interface.now)) }
     ensures err { IfErr result (λ e. e ≡ OutOfMemory) }
 {
     match interface {
@@ -54,7 +56,9 @@ pub(crate) fn legacy_import(
     import: &WasmImport<'_>,
 ) -> ResolveResult<(String, String)>
     requires { IsAcyclic (type_references graph.now.types) }
-    ensures names { IfOk result (λ names. (string_bytes names.0, string_bytes names.1) ≡ import_names graph.now (Legacy abi) import.now) }
+    ensures names { IfOk result (λ names.
+        (string_bytes names.0, string_bytes names.1)
+        ≡ import_names graph.now (Legacy abi) import.now) }
     ensures err { IfErr result (λ e. e ≡ OutOfMemory) }
 {
     match import {
@@ -113,7 +117,16 @@ fn value_field(
     word: &str,
 ) -> ResolveResult<String>
     requires { IsAcyclic (type_references graph.now.types) }
-    ensures text { IfOk result (λ text. string_bytes text ≡ async_prefix async_ ++ (91 ∷ (noun.now ++ (45 ∷ (word.now ++ (45 ∷ (future_index_text graph.now.types function.now ty ++ (93 ∷ function.now.name)))))))) }
+    ensures text { IfOk result (λ text.
+        string_bytes text
+        ≡ async_prefix async_
+        ++ (91
+        ∷ (noun.now
+        ++ (45
+        ∷ (word.now
+        ++ (45
+        ∷ (future_index_text graph.now.types function.now ty
+        ++ (93 ∷ function.now.name)))))))) }
     ensures err { IfErr result (λ e. e ≡ OutOfMemory) }
 {
     let index = future_index_text(alloc, graph, function, ty)?;
@@ -128,7 +141,9 @@ fn module_of(
     interface: &Option<&WorldKey>,
     exported: bool,
 ) -> ResolveResult<String>
-    ensures text { IfOk result (λ text. string_bytes text ≡ exported_prefix exported ++ legacy_module graph.now (option_copied interface.now)) }
+    ensures text { IfOk result (λ text.
+        string_bytes text
+        ≡ exported_prefix exported ++ legacy_module graph.now (option_copied interface.now)) }
     ensures err { IfErr result (λ e. e ≡ OutOfMemory) }
 {
     let prefix = exported_prefix(exported);
@@ -143,7 +158,8 @@ pub(crate) fn legacy_export(
     abi: LiftLowerAbi,
     export: &WasmExport<'_>,
 ) -> ResolveResult<String>
-    ensures name { IfOk result (λ name. string_bytes name ≡ export_name graph.now (Legacy abi) export.now) }
+    ensures name { IfOk result
+        (λ name. string_bytes name ≡ export_name graph.now (Legacy abi) export.now) }
     ensures err { IfErr result (λ e. e ≡ OutOfMemory) }
 {
     let prefix = export_prefix(abi);

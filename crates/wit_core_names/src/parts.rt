@@ -123,7 +123,8 @@ pub(crate) fn future_index_text(
     ty: Option<TypeId>,
 ) -> ResolveResult<String>
     requires { IsAcyclic (type_references graph.now.types) }
-    ensures text { IfOk result (λ text. string_bytes text ≡ future_index_text graph.now.types function.now ty) }
+    ensures text { IfOk result
+        (λ text. string_bytes text ≡ future_index_text graph.now.types function.now ty) }
     ensures err { IfErr result (λ e. e ≡ OutOfMemory) }
 {
     let Some(ty) = ty else {

@@ -20,7 +20,8 @@ fn standard_key(
     graph: &Graph,
     interface: &Option<&WorldKey>,
 ) -> ResolveResult<String>
-    ensures text { IfOk result (λ text. string_bytes text ≡ standard_key graph.now (option_copied interface.now)) }
+    ensures text { IfOk result
+        (λ text. string_bytes text ≡ standard_key graph.now (option_copied interface.now)) }
     ensures err { IfErr result (λ e. e ≡ OutOfMemory) }
 {
     match interface {
@@ -35,7 +36,8 @@ fn standard_module(
     graph: &Graph,
     interface: &Option<&WorldKey>,
 ) -> ResolveResult<String>
-    ensures text { IfOk result (λ text. string_bytes text ≡ standard_module graph.now (option_copied interface.now)) }
+    ensures text { IfOk result
+        (λ text. string_bytes text ≡ standard_module graph.now (option_copied interface.now)) }
     ensures err { IfErr result (λ e. e ≡ OutOfMemory) }
 {
     match interface {
@@ -54,7 +56,9 @@ pub(crate) fn standard_import(
     import: &WasmImport<'_>,
 ) -> ResolveResult<(String, String)>
     requires { can_name_import graph.now Standard32 import.now ≡ true }
-    ensures names { IfOk result (λ names. (string_bytes names.0, string_bytes names.1) ≡ import_names graph.now Standard32 import.now) }
+    ensures names { IfOk result (λ names.
+        (string_bytes names.0, string_bytes names.1)
+        ≡ import_names graph.now Standard32 import.now) }
     ensures err { IfErr result (λ e. e ≡ OutOfMemory) }
 {
     match import {
@@ -79,7 +83,10 @@ fn standard_resource(
     resource: TypeId,
     intrinsic: ResourceIntrinsic,
 ) -> ResolveResult<(String, String)>
-    ensures names { IfOk result (λ names. (string_bytes names.0, string_bytes names.1) ≡ import_names graph.now Standard32 (imports.ResourceIntrinsic interface.now resource intrinsic)) }
+    ensures names { IfOk result (λ names.
+        (string_bytes names.0, string_bytes names.1)
+        ≡ import_names graph.now Standard32
+        (imports.ResourceIntrinsic interface.now resource intrinsic)) }
     ensures err { IfErr result (λ e. e ≡ OutOfMemory) }
 {
     let name = resource_name(graph, resource);
@@ -104,7 +111,8 @@ pub(crate) fn standard_export(
     export: &WasmExport<'_>,
 ) -> ResolveResult<String>
     requires { can_name_export graph.now Standard32 export.now ≡ true }
-    ensures name { IfOk result (λ name. string_bytes name ≡ export_name graph.now Standard32 export.now) }
+    ensures name { IfOk result
+        (λ name. string_bytes name ≡ export_name graph.now Standard32 export.now) }
     ensures err { IfErr result (λ e. e ≡ OutOfMemory) }
 {
     match export {

@@ -32,7 +32,8 @@ pub trait GraphQueries {
     /// Source: `interface_direct_deps` of wit-parser 0.263.0.
     fn interface_direct_deps(&self, id: InterfaceId) -> InterfaceDirectDeps<'_>
         requires { id < length (graph self.now).interfaces }
-        ensures { result ≡ interface_direct_deps (graph self.now).types (graph self.now).interfaces id };
+        ensures { result
+            ≡ interface_direct_deps (graph self.now).types (graph self.now).interfaces id };
 
     /// The packages that a package depends on directly, other than itself, with repeats: those of what the interfaces
     /// of its table use, and then those of what its worlds name, imports before exports. It takes no memory.
@@ -40,15 +41,21 @@ pub trait GraphQueries {
     /// Source: `package_direct_deps` of wit-parser 0.263.0.
     fn package_direct_deps(&self, id: PackageId) -> PackageDirectDeps<'_>
         requires { id < length (graph self.now).packages }
-        ensures { result ≡ package_direct_deps (graph self.now).types (graph self.now).interfaces (graph self.now).worlds (graph self.now).packages id };
+        ensures { result
+            ≡ package_direct_deps (graph self.now).types (graph self.now).interfaces
+            (graph self.now).worlds (graph self.now).packages id };
 
     /// All packages by their ids, but each after those that it depends on, in order, and each once. The only refusal is
     /// want of memory (28).
     ///
     /// Source: `topological_packages` of wit-parser 0.263.0.
     fn topological_packages(&self, alloc: Global) -> ResolveResult<Vec<PackageId>>
-        requires { IsAcyclic (package_uses (graph self.now).types (graph self.now).interfaces (graph self.now).worlds (graph self.now).packages) }
-        ensures order { IfOk result (λ order. order.items ≡ topological_packages (graph self.now).types (graph self.now).interfaces (graph self.now).worlds (graph self.now).packages) }
+        requires { IsAcyclic (package_uses (graph self.now).types (graph self.now).interfaces
+            (graph self.now).worlds (graph self.now).packages) }
+        ensures order { IfOk result (λ order.
+            order.items
+            ≡ topological_packages (graph self.now).types (graph self.now).interfaces
+            (graph self.now).worlds (graph self.now).packages) }
         ensures err { IfErr result (λ kind. kind ≡ OutOfMemory) };
 
     /// The id text of an interface with the text of the track in the place of the version, None where it has no name or
@@ -56,7 +63,10 @@ pub trait GraphQueries {
     ///
     /// Source: `canonicalized_id_of` of wit-parser 0.263.0.
     fn canonicalized_id_of(&self, alloc: Global, id: InterfaceId) -> ResolveResult<Option<String>>
-        ensures text { IfOk result (λ text. option_map string_bytes text ≡ canonical_interface_id_at (graph self.now).packages (graph self.now).interfaces id) }
+        ensures text { IfOk result (λ text.
+            option_map string_bytes text
+            ≡ canonical_interface_id_at (graph self.now).packages (graph self.now).interfaces
+            id) }
         ensures err { IfErr result (λ kind. kind ≡ OutOfMemory) };
 
     /// The same of an interface or a world of this name in a package, empty where the package isn't there. The only
@@ -69,7 +79,9 @@ pub trait GraphQueries {
         package: PackageId,
         name: &str,
     ) -> ResolveResult<String>
-        ensures text { IfOk result (λ text. string_bytes text ≡ canonical_id_text (graph self.now).packages «package» name.now) }
+        ensures text { IfOk result (λ text.
+            string_bytes text
+            ≡ canonical_id_text (graph self.now).packages «package» name.now) }
         ensures err { IfErr result (λ kind. kind ≡ OutOfMemory) };
 
     /// What names a key of a world: a label as it stands, an interface by its canonical id text, which is empty where
@@ -77,7 +89,10 @@ pub trait GraphQueries {
     ///
     /// Source: `name_canonicalized_world_key` of wit-parser 0.263.0.
     fn name_canonicalized_world_key(&self, alloc: Global, key: &WorldKey) -> ResolveResult<String>
-        ensures text { IfOk result (λ text. string_bytes text ≡ canonical_key_text (graph self.now).packages (graph self.now).interfaces key.now) }
+        ensures text { IfOk result (λ text.
+            string_bytes text
+            ≡ canonical_key_text (graph self.now).packages (graph self.now).interfaces
+            key.now) }
         ensures err { IfErr result (λ kind. kind ≡ OutOfMemory) };
 
     /// The futures and streams that the values of a function's parameters and of its result hold, of the parameters in
@@ -91,7 +106,8 @@ pub trait GraphQueries {
         function: &Function,
     ) -> ResolveResult<Vec<TypeId>>
         requires { IsAcyclic (type_references (graph self.now).types) }
-        ensures found { IfOk result (λ found. found.items ≡ futures_and_streams (graph self.now).types function.now) }
+        ensures found { IfOk result
+            (λ found. found.items ≡ futures_and_streams (graph self.now).types function.now) }
         ensures err { IfErr result (λ kind. kind ≡ OutOfMemory) };
 }
 

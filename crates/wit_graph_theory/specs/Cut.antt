@@ -50,21 +50,36 @@ ItemIsKept kept (item.Type_ t span) = kept.types t ≡ true
 pub record IsClosedCut (kept : KeptIds) (types : List TypeDef) (interfaces : List Interface) (worlds : List World) : Type 0 where
   pub in_range : (t : ℕ) → kept.types t ≡ true → t < length types
   pub interfaces_in_range : (f : ℕ) → kept.interfaces f ≡ true → f < length interfaces
-  pub references : EachAt (λ t (def : TypeDef). kept.types t ≡ true → Each (λ u. kept.types u ≡ true) (referred def.kind)) types
+  pub references : EachAt (λ t (def : TypeDef).
+      kept.types t ≡ true → Each (λ u. kept.types u ≡ true) (referred def.kind)) types
   pub owners : EachAt (λ t (def : TypeDef). kept.types t ≡ true → OwnerIsKept kept def.owner) types
-  pub functions : EachAt (λ f (interface : Interface). kept.interfaces f ≡ true → Each (λ (e : List ℕ × Function). kept.functions e.1 ≡ true → Each (λ t. kept.types t ≡ true) (function_references e.1)) interface.functions) interfaces
-  pub imports : EachAt (λ w (world : World). kept.worlds w ≡ true → Each (λ (e : Entry). kept.items e.1 ≡ true → ItemIsKept kept e.1) world.imports) worlds
-  pub exports : EachAt (λ w (world : World). kept.worlds w ≡ true → Each (λ (e : Entry). kept.items e.1 ≡ true → ItemIsKept kept e.1) world.exports) worlds
+  pub functions : EachAt (λ f (interface : Interface).
+      kept.interfaces f ≡ true
+      → Each (λ (e : List ℕ × Function).
+      kept.functions e.1 ≡ true
+      → Each (λ t. kept.types t ≡ true) (function_references e.1)) interface.functions)
+      interfaces
+  pub imports : EachAt (λ w (world : World).
+      kept.worlds w ≡ true
+      → Each (λ (e : Entry). kept.items e.1 ≡ true → ItemIsKept kept e.1) world.imports) worlds
+  pub exports : EachAt (λ w (world : World).
+      kept.worlds w ≡ true
+      → Each (λ (e : Entry). kept.items e.1 ≡ true → ItemIsKept kept e.1) world.exports) worlds
   -- an entry that is a type is kept with the type
   pub type_items : (t : ℕ) (span : _) → kept.items (item.Type_ t span) ≡ kept.types t
 
 -- what is kept is good, before the lists are cut (a shape says so, and a valid graph, and a partially linked graph of
 -- which so many worlds are finished)
 pub record IsGoodWhere (kept : KeptIds) (types : List TypeDef) (interfaces : List Interface) (worlds : List World) : Type 0 where
-  pub types_are : EachAt (λ t (def : TypeDef). kept.types t ≡ true → IsGoodType types interfaces worlds t def) types
-  pub interfaces_are : EachAt (λ f (interface : Interface). kept.interfaces f ≡ true → IsGoodInterface types f interface) interfaces
-  pub imports_are : EachAt (λ w (world : World). kept.worlds w ≡ true → Each (IsGoodImport types interfaces w world) world.imports) worlds
-  pub exports_are : EachAt (λ w (world : World). kept.worlds w ≡ true → Each (IsGoodExport types interfaces w world) world.exports) worlds
+  pub types_are : EachAt
+      (λ t (def : TypeDef). kept.types t ≡ true → IsGoodType types interfaces worlds t def) types
+  pub interfaces_are : EachAt
+      (λ f (interface : Interface). kept.interfaces f ≡ true → IsGoodInterface types f interface)
+      interfaces
+  pub imports_are : EachAt (λ w (world : World).
+      kept.worlds w ≡ true → Each (IsGoodImport types interfaces w world) world.imports) worlds
+  pub exports_are : EachAt (λ w (world : World).
+      kept.worlds w ≡ true → Each (IsGoodExport types interfaces w world) world.exports) worlds
 
 -- ---- a graph as a source of what grows from it
 
@@ -95,8 +110,15 @@ graph_source g = mapped_source g identity
 -- what was there stays at its ids; lists of interfaces may have grown (a merge appends types and functions),
 -- and named types may have turned (semver merging turns aliases)
 pub record StaysIn (old g : Graph) : Type 0 where
-  pub types : (t : ℕ) (def : TypeDef) → slice_get old.types t ≡ Some def → SomeAt g.types t (λ (new : TypeDef). (new.name ≡ def.name) × (new.owner ≡ def.owner) × ((def.name ≡ None) → new.kind ≡ def.kind))
+  pub types : (t : ℕ) (def : TypeDef) → slice_get old.types t ≡ Some def
+      → SomeAt g.types t (λ (new : TypeDef).
+      (new.name ≡ def.name) × (new.owner ≡ def.owner)
+      × ((def.name ≡ None) → new.kind ≡ def.kind))
   pub interfaces : (f : ℕ) (interface : Interface) → slice_get old.interfaces f ≡ Some interface
-      → SomeAt g.interfaces f (λ (new : Interface). (new.name ≡ interface.name) × (new.package ≡ interface.package) × ((e : List ℕ × ℕ) → Contains interface.types e → Contains new.types e))
+      → SomeAt g.interfaces f (λ (new : Interface).
+      (new.name ≡ interface.name) × (new.package ≡ interface.package)
+      × ((e : List ℕ × ℕ) → Contains interface.types e → Contains new.types e))
   pub worlds : (w : ℕ) (world : World) → slice_get old.worlds w ≡ Some world
-      → SomeAt g.worlds w (λ (new : World). (new.package ≡ world.package) × ((e : List ℕ × ℕ) → Contains (world_types world) e → Contains (world_types new) e))
+      → SomeAt g.worlds w (λ (new : World).
+      (new.package ≡ world.package)
+      × ((e : List ℕ × ℕ) → Contains (world_types world) e → Contains (world_types new) e))

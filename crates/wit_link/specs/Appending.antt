@@ -18,7 +18,8 @@ use Rattle.wit_link_spec.specs.Added.{added}
 
 -- the addition of a package to a graph, under features, its spans moved by an offset
 abbrev pub addition : Features → Graph → UnresolvedPackage → ℕ → Addition
-addition features g u offset = record { features = features; graph = g; unresolved = u; offset = offset }
+addition features g u offset =
+    record { features = features; graph = g; unresolved = u; offset = offset }
 
 -- the package is added: no cause holds against it, the graph is what comes of it, and its id is the next one
 pub record IsAdded (a : Addition) (new : Graph) (id : ℕ) : Type 0 where
@@ -33,7 +34,8 @@ CanAppend unresolved = IsShaped unresolved.0
 -- packages accepted one after another take the graph g to new and get these ids
 abbrev pub AreAdded : Features → Graph → List Unresolved → Graph → List ℕ → Type 0
 AreAdded features g [] new [] = new ≡ g
-AreAdded features g (p ∷ ps) new (id ∷ ids) = (mid : Graph) × IsAdded (addition features g p.0 p.1) mid id × AreAdded features mid ps new ids
+AreAdded features g (p ∷ ps) new (id ∷ ids) =
+    (mid : Graph) × IsAdded (addition features g p.0 p.1) mid id × AreAdded features mid ps new ids
 AreAdded features g [] new (id ∷ ids) = ⊥
 AreAdded features g (p ∷ ps) new [] = ⊥
 
@@ -52,7 +54,9 @@ pub record IsOneRefused (features : Features) (g : Graph) (packages : List Unres
 -- group begin at this position and those of the others follow
 abbrev pub packages_of : ℕ → List UnresolvedPackageGroup → List Unresolved
 packages_of at [] = []
-packages_of at (group ∷ groups) = map (λ (u : UnresolvedPackage). (u, at)) (group.nested ++ group.main ∷ []) ++ packages_of (at + group.source_map.end) groups
+packages_of at (group ∷ groups) =
+    map (λ (u : UnresolvedPackage). (u, at)) (group.nested ++ group.main ∷ [])
+    ++ packages_of (at + group.source_map.end) groups
 
 -- ---- refusals
 
@@ -77,6 +81,9 @@ FilesPassTheEnd at groups _ = ⊥
 
 -- the addition of groups, whose files begin at this position, has a reason to be refused with this
 -- error: in sorting them, in one package, or in the end of their files
-abbrev pub IsGroupsCause : Features → Graph → ℕ → List UnresolvedPackageGroup → ResolveErrorKind → Type 0
+abbrev pub IsGroupsCause : Features → Graph → ℕ → List UnresolvedPackageGroup → ResolveErrorKind
+    → Type 0
 IsGroupsCause features g at groups error =
-    IsSortCause (packages_of at groups) error ⊎ (IsAdditionsCause features g (packages_of at groups) error ⊎ FilesPassTheEnd at groups error)
+    IsSortCause (packages_of at groups) error
+    ⊎ (IsAdditionsCause features g (packages_of at groups) error
+    ⊎ FilesPassTheEnd at groups error)

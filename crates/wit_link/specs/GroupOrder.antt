@@ -23,7 +23,8 @@ Unresolved = UnresolvedPackage × ℕ
 
 -- each package has a place for each package that it depends on
 abbrev pub HaveSpans : List Unresolved → Type 0
-HaveSpans unresolved = Each (λ (p : Unresolved). length p.0.foreign_dep_spans ≡ length p.0.foreign_deps) unresolved
+HaveSpans unresolved =
+    Each (λ (p : Unresolved). length p.0.foreign_dep_spans ≡ length p.0.foreign_deps) unresolved
 
 -- ---- dependencies
 
@@ -35,7 +36,9 @@ names_of unresolved = map (λ (p : Unresolved). p.0.name) unresolved
 -- it names things of itself; one that isn't handed in is passed over
 abbrev pub group_uses : List Unresolved → List (List ℕ)
 group_uses unresolved =
-    map (λ (p : Unresolved). filter_map (λ (e : PackageName × List ForeignItem). position (same_package e.0) (names_of unresolved)) p.0.foreign_deps) unresolved
+    map (λ (p : Unresolved).
+    filter_map (λ (e : PackageName × List ForeignItem).
+    position (same_package e.0) (names_of unresolved)) p.0.foreign_deps) unresolved
 
 -- ---- the order
 
@@ -58,19 +61,22 @@ pub record IsDefinedTwice (unresolved : List Unresolved) (name : PackageName) (s
   pub earlier : ℕ
   pub later : ℕ
   pub before : earlier < later
-  pub first : SomeAt unresolved earlier (λ (p : Unresolved). (p.0.name ≡ name) × (span2 ≡ moved_by p.1 p.0.package_name_span))
-  pub second : SomeAt unresolved later (λ (p : Unresolved). (p.0.name ≡ name) × (span1 ≡ moved_by p.1 p.0.package_name_span))
+  pub first : SomeAt unresolved earlier
+      (λ (p : Unresolved). (p.0.name ≡ name) × (span2 ≡ moved_by p.1 p.0.package_name_span))
+  pub second : SomeAt unresolved later
+      (λ (p : Unresolved). (p.0.name ≡ name) × (span1 ≡ moved_by p.1 p.0.package_name_span))
 
 -- unresolved package `user` names things of unresolved package `used`, there
-pub record DependsAt (unresolved : List Unresolved) (user used : ℕ) (span : OptionalSpan) : Type 0 where
-  pub p : Unresolved
-  pub place : ℕ
-  pub name : PackageName
-  pub items : List ForeignItem
-  pub is : slice_get unresolved user ≡ Some p
-  pub names : slice_get p.0.foreign_deps place ≡ Some (name, items)
-  pub used_is : slice_get (names_of unresolved) used ≡ Some name
-  pub span_is : SomeAt p.0.foreign_dep_spans place (λ (s : OptionalSpan). span ≡ moved_by p.1 s)
+pub record DependsAt (unresolved : List Unresolved) (user used : ℕ) (span : OptionalSpan) : Type 0
+  where
+    pub p : Unresolved
+    pub place : ℕ
+    pub name : PackageName
+    pub items : List ForeignItem
+    pub is : slice_get unresolved user ≡ Some p
+    pub names : slice_get p.0.foreign_deps place ≡ Some (name, items)
+    pub used_is : slice_get (names_of unresolved) used ≡ Some name
+    pub span_is : SomeAt p.0.foreign_dep_spans place (λ (s : OptionalSpan). span ≡ moved_by p.1 s)
 
 -- 6: the package of this name is on a cycle, and a dependency on the same cycle stands there
 pub record IsOnPackageCycle (unresolved : List Unresolved) (span : OptionalSpan) (home : PackageName) : Type 0 where
@@ -90,9 +96,13 @@ PassesLastPosition place = (from : ℕ) × (to : ℕ) × (place ≡ Some (from, 
 -- sorting unresolved packages has a reason to be refused with this error: 5, 6, or 27 where a place that one of these would
 -- tell is too far
 abbrev pub IsSortCause : List Unresolved → ResolveErrorKind → Type 0
-IsSortCause unresolved (DuplicatePackage name span1 span2) = IsDefinedTwice unresolved name span1 span2
+IsSortCause unresolved (DuplicatePackage name span1 span2) =
+    IsDefinedTwice unresolved name span1 span2
 IsSortCause unresolved (PackageCycle span home) = IsOnPackageCycle unresolved span home
 IsSortCause unresolved OffsetOverflow =
-    ((name : PackageName) × (span1 : OptionalSpan) × (span2 : OptionalSpan) × IsDefinedTwice unresolved name span1 span2 × (PassesLastPosition span1 ⊎ PassesLastPosition span2))
-    ⊎ ((span : OptionalSpan) × (home : PackageName) × IsOnPackageCycle unresolved span home × PassesLastPosition span)
+    ((name : PackageName) × (span1 : OptionalSpan) × (span2 : OptionalSpan)
+    × IsDefinedTwice unresolved name span1 span2
+    × (PassesLastPosition span1 ⊎ PassesLastPosition span2))
+    ⊎ ((span : OptionalSpan) × (home : PackageName) × IsOnPackageCycle unresolved span home
+    × PassesLastPosition span)
 IsSortCause unresolved _ = ⊥

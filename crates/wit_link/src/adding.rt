@@ -47,12 +47,17 @@ pub fn append(
 ) -> ResolveResult<PackageId>
     requires shaped { IsShaped «package» }
     requires valid { IsValid graph.old }
-    ensures ok { IfOk result (λ id. IsAdded (addition features.now graph.old «package» span_offset) graph.new id) }
+    ensures ok { IfOk result
+        (λ id. IsAdded (addition features.now graph.old «package» span_offset) graph.new id) }
     ensures valid { IsValid graph.new }
     ensures err { OnErr result (graph.new ≡ graph.old) }
     ensures grown { Grown graph.old graph.new }
-    ensures cause { IfErr result (λ kind. (kind ≡ OutOfMemory) ⊎ IsAdditionCause (addition features.now graph.old «package» span_offset) kind) }
-    ensures refuses { (kind : ResolveErrorKind) → IsAdditionCause (addition features.now graph.old «package» span_offset) kind → OnOk result ⊥ }
+    ensures cause { IfErr result (λ kind.
+        (kind ≡ OutOfMemory)
+        ⊎ IsAdditionCause (addition features.now graph.old «package» span_offset) kind) }
+    ensures refuses { (kind : ResolveErrorKind)
+        → IsAdditionCause (addition features.now graph.old «package» span_offset) kind
+        → OnOk result ⊥ }
 {
     let mut caches = GraphCaches::of(alloc, graph)?;
     append_with(alloc, graph, &mut caches, features, package, span_offset)
@@ -73,14 +78,19 @@ pub fn append_with(
     requires shaped { IsShaped «package» }
     requires valid { IsValid graph.old }
     requires caches { AreCachesOf graph.old caches.old }
-    ensures ok { IfOk result (λ id. IsAdded (addition features.now graph.old «package» span_offset) graph.new id) }
+    ensures ok { IfOk result
+        (λ id. IsAdded (addition features.now graph.old «package» span_offset) graph.new id) }
     ensures valid { IsValid graph.new }
     ensures caches { AreCachesOf graph.new caches.new }
     ensures err { OnErr result (graph.new ≡ graph.old) }
     ensures grown { Grown graph.old graph.new }
     ensures known { HaveGrown caches.old caches.new }
-    ensures cause { IfErr result (λ kind. (kind ≡ OutOfMemory) ⊎ IsAdditionCause (addition features.now graph.old «package» span_offset) kind) }
-    ensures refuses { (kind : ResolveErrorKind) → IsAdditionCause (addition features.now graph.old «package» span_offset) kind → OnOk result ⊥ }
+    ensures cause { IfErr result (λ kind.
+        (kind ≡ OutOfMemory)
+        ⊎ IsAdditionCause (addition features.now graph.old «package» span_offset) kind) }
+    ensures refuses { (kind : ResolveErrorKind)
+        → IsAdditionCause (addition features.now graph.old «package» span_offset) kind
+        → OnOk result ⊥ }
 {
     if graph.package_names.contains_key(&package.name) {
         return Err(name_taken(package, span_offset));
@@ -146,15 +156,21 @@ fn add_checked(
     requires uses { elaborator.old ≡ graph_uses graph.old }
     requires new { IsNew (addition features.now graph.old «package» span_offset) }
     requires checked { IsChecked (addition features.now graph.old «package» span_offset) }
-    requires activity { checked.activity ≡ activity_of (addition features.now graph.old «package» span_offset) }
-    requires new_ids { checked.new_ids ≡ new_ids_of (addition features.now graph.old «package» span_offset) }
-    requires values { checked.values ≡ values_of (addition features.now graph.old «package» span_offset) }
-    ensures ok { IfOk result (λ id. IsAdded (addition features.now graph.old «package» span_offset) graph.new id) }
+    requires activity { checked.activity
+        ≡ activity_of (addition features.now graph.old «package» span_offset) }
+    requires new_ids { checked.new_ids
+        ≡ new_ids_of (addition features.now graph.old «package» span_offset) }
+    requires values { checked.values
+        ≡ values_of (addition features.now graph.old «package» span_offset) }
+    ensures ok { IfOk result
+        (λ id. IsAdded (addition features.now graph.old «package» span_offset) graph.new id) }
     ensures valid { OnOk result (IsValid graph.new) }
     ensures uses { OnOk result (elaborator.new ≡ graph_uses graph.new) }
     ensures grown { Grown graph.old graph.new }
     ensures rows { Begins elaborator.old elaborator.new }
-    ensures cause { IfErr result (λ kind. (kind ≡ OutOfMemory) ⊎ IsAdditionCause (addition features.now graph.old «package» span_offset) kind) }
+    ensures cause { IfErr result (λ kind.
+        (kind ≡ OutOfMemory)
+        ⊎ IsAdditionCause (addition features.now graph.old «package» span_offset) kind) }
 {
     pushes_stay_valid();
     includes_can_be();
@@ -188,11 +204,16 @@ fn add_updated(
     requires valid { IsValid graph.old }
     requires new { IsNew (addition features.now graph.old «package» span_offset) }
     requires checked { IsChecked (addition features.now graph.old «package» span_offset) }
-    requires activity { checked.activity ≡ activity_of (addition features.now graph.old «package» span_offset) }
-    requires new_ids { checked.new_ids ≡ new_ids_of (addition features.now graph.old «package» span_offset) }
-    requires values { checked.values ≡ values_of (addition features.now graph.old «package» span_offset) }
-    ensures ok { OnOk result (graph.new ≡ with_parts (addition features.now graph.old «package» span_offset)) }
-    ensures worlds { IfOk result (λ worlds. worlds ≡ ready_worlds (addition features.now graph.old «package» span_offset)) }
+    requires activity { checked.activity
+        ≡ activity_of (addition features.now graph.old «package» span_offset) }
+    requires new_ids { checked.new_ids
+        ≡ new_ids_of (addition features.now graph.old «package» span_offset) }
+    requires values { checked.values
+        ≡ values_of (addition features.now graph.old «package» span_offset) }
+    ensures ok { OnOk result
+        (graph.new ≡ with_parts (addition features.now graph.old «package» span_offset)) }
+    ensures worlds { IfOk result (λ worlds.
+        worlds ≡ ready_worlds (addition features.now graph.old «package» span_offset)) }
     ensures grown { Grown graph.old graph.new }
 {
     let Checked {

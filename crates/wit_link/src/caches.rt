@@ -83,7 +83,8 @@ impl CachesMark {
     /// were.
     pub fn cut(self, caches: &mut GraphCaches)
         ensures cut { caches.new ≡ caches_cut_at self caches.old }
-        ensures back { (old : GraphCaches) → self ≡ caches_mark_of old → HaveGrown old caches.old → caches.new ≡ old }
+        ensures back { (old : GraphCaches) → self ≡ caches_mark_of old → HaveGrown old caches.old
+            → caches.new ≡ old }
     {
         caches.elaborator.cut(self.interfaces);
         caches.met.truncate(self.met);

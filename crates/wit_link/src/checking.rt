@@ -41,10 +41,14 @@ pub(crate) fn check(
     ensures met { AreRight addition.now.graph.now.types met.new }
     ensures met_before { Begins met.old met.new }
     ensures checked { OnOk result (IsChecked (addition_of addition.now)) }
-    ensures activity { IfOk result (λ checked. checked.activity ≡ activity_of (addition_of addition.now)) }
-    ensures new_ids { IfOk result (λ checked. checked.new_ids ≡ new_ids_of (addition_of addition.now)) }
-    ensures values { IfOk result (λ checked. checked.values ≡ values_of (addition_of addition.now)) }
-    ensures cause { IfErr result (λ kind. (kind ≡ OutOfMemory) ⊎ IsAdditionCause (addition_of addition.now) kind) }
+    ensures activity { IfOk result
+        (λ checked. checked.activity ≡ activity_of (addition_of addition.now)) }
+    ensures new_ids { IfOk result
+        (λ checked. checked.new_ids ≡ new_ids_of (addition_of addition.now)) }
+    ensures values { IfOk result
+        (λ checked. checked.values ≡ values_of (addition_of addition.now)) }
+    ensures cause { IfErr result
+        (λ kind. (kind ≡ OutOfMemory) ⊎ IsAdditionCause (addition_of addition.now) kind) }
 {
     let activity = checked_activity(alloc, addition)?;
     let new_ids = checked_ids(alloc, addition, &activity, met)?;
@@ -63,7 +67,8 @@ fn checked_activity(alloc: Global, addition: &AdditionRef<'_>) -> ResolveResult<
     ensures activity { IfOk result (λ activity. activity ≡ activity_of (addition_of addition.now)) }
     ensures met { OnOk result (GatesAreMet (addition_of addition.now)) }
     ensures needs { OnOk result (NeedsNothingExcluded (addition_of addition.now)) }
-    ensures cause { IfErr result (λ kind. (kind ≡ OutOfMemory) ⊎ IsAdditionCause (addition_of addition.now) kind) }
+    ensures cause { IfErr result
+        (λ kind. (kind ≡ OutOfMemory) ⊎ IsAdditionCause (addition_of addition.now) kind) }
 {
     let activity = activity(alloc, addition)?;
     check_versions(alloc, addition, &activity)?;
@@ -92,7 +97,8 @@ fn checked_ids(
     ensures found { OnOk result (IsAllFound (addition_of addition.now)) }
     ensures resources { OnOk result (HasResources (addition_of addition.now)) }
     ensures no_borrow { OnOk result (ReturnsNoBorrow (addition_of addition.now)) }
-    ensures cause { IfErr result (λ kind. (kind ≡ OutOfMemory) ⊎ IsAdditionCause (addition_of addition.now) kind) }
+    ensures cause { IfErr result
+        (λ kind. (kind ≡ OutOfMemory) ⊎ IsAdditionCause (addition_of addition.now) kind) }
 {
     let new_ids = new_ids_of(alloc, addition, activity)?;
     check_resources(alloc, addition, &new_ids, met)?;

@@ -13,7 +13,8 @@ use wit_graph_data::ResolveResult;
 ///
 /// Source: `rename` of wit-parser 0.263.0.
 pub fn rename(alloc: Global, label: &str, name: &IncludeName) -> ResolveResult<Option<String>>
-    ensures renamed { IfOk result (λ text. option_map string_bytes text ≡ renamed_label_by name.now label.now) }
+    ensures renamed { IfOk result
+        (λ text. option_map string_bytes text ≡ renamed_label_by name.now label.now) }
     ensures err { IfErr result (λ kind. kind ≡ OutOfMemory) }
 {
     Ok(wit_labels::rename(alloc, label, name)?)

@@ -19,7 +19,8 @@ pub(crate) fn defined_twice(
 ) -> ResolveError
     requires before { earlier < later }
     requires inside { later < length unresolved.now }
-    requires same { slice_get (names_of unresolved.now) earlier ≡ slice_get (names_of unresolved.now) later }
+    requires same { slice_get (names_of unresolved.now) earlier
+        ≡ slice_get (names_of unresolved.now) later }
     ensures { (result ≡ OutOfMemory) ⊎ IsSortCause unresolved.now result }
 {
     match defined_twice_error(unresolved.at(later), unresolved.at(earlier)) {

@@ -30,8 +30,10 @@ pub fn append_all(
     ensures ok { IfOk result (λ ids. AreAdded features.now graph.old packages graph.new ids) }
     ensures valid { IsValid graph.new }
     ensures err { OnErr result (graph.new ≡ graph.old) }
-    ensures cause { IfErr result (λ kind. (kind ≡ OutOfMemory) ⊎ IsOneRefused features.now graph.old packages kind) }
-    ensures refuses { (kind : ResolveErrorKind) → IsOneRefused features.now graph.old packages kind → OnOk result ⊥ }
+    ensures cause { IfErr result
+        (λ kind. (kind ≡ OutOfMemory) ⊎ IsOneRefused features.now graph.old packages kind) }
+    ensures refuses { (kind : ResolveErrorKind) → IsOneRefused features.now graph.old packages kind
+        → OnOk result ⊥ }
 {
     let mut caches = GraphCaches::of(alloc, graph)?;
     append_all_with(alloc, graph, &mut caches, features, packages)
@@ -55,8 +57,10 @@ pub fn append_all_with(
     ensures err { OnErr result (graph.new ≡ graph.old) }
     ensures grown { Grown graph.old graph.new }
     ensures known { HaveGrown caches.old caches.new }
-    ensures cause { IfErr result (λ kind. (kind ≡ OutOfMemory) ⊎ IsOneRefused features.now graph.old packages kind) }
-    ensures refuses { (kind : ResolveErrorKind) → IsOneRefused features.now graph.old packages kind → OnOk result ⊥ }
+    ensures cause { IfErr result
+        (λ kind. (kind ≡ OutOfMemory) ⊎ IsOneRefused features.now graph.old packages kind) }
+    ensures refuses { (kind : ResolveErrorKind) → IsOneRefused features.now graph.old packages kind
+        → OnOk result ⊥ }
 {
     let mark = Mark::of(graph);
     let known = CachesMark::of(caches);
@@ -84,7 +88,8 @@ fn append_each(
     ensures caches { AreCachesOf graph.new caches.new }
     ensures grown { Grown graph.old graph.new }
     ensures known { HaveGrown caches.old caches.new }
-    ensures cause { IfErr result (λ kind. (kind ≡ OutOfMemory) ⊎ IsOneRefused features.now graph.old packages kind) }
+    ensures cause { IfErr result
+        (λ kind. (kind ≡ OutOfMemory) ⊎ IsOneRefused features.now graph.old packages kind) }
 {
     let mut ids = Items::new(alloc);
     for (package, offset) in packages.into_vec() {

@@ -25,10 +25,14 @@ fn include_each(
     home: PackageId,
 ) -> ResolveResult<World>
     requires { CanIncludeAll home graph.old world includes.now }
-    ensures graph { OnOk result (graph.new ≡ (with_several home graph.old world includes.now).graph) }
-    ensures world { IfOk result (λ new. new ≡ with_entry_lists world (with_several home graph.old world includes.now).lists) }
+    ensures graph { OnOk result
+        (graph.new ≡ (with_several home graph.old world includes.now).graph) }
+    ensures world { IfOk result (λ new.
+        new ≡ with_entry_lists world (with_several home graph.old world includes.now).lists) }
     ensures fine { OnOk result ((j : ℕ) → IsAcceptedAt home graph.old world includes.now j) }
-    ensures cause { IfErr result (λ kind. (kind ≡ OutOfMemory) ⊎ ((j : ℕ) × StopsAtInclude home graph.old world includes.now j kind)) }
+    ensures cause { IfErr result (λ kind.
+        (kind ≡ OutOfMemory)
+        ⊎ ((j : ℕ) × StopsAtInclude home graph.old world includes.now j kind)) }
     ensures grown { Grown graph.old graph.new }
 {
     let mut world = world;
@@ -64,7 +68,8 @@ pub fn add_world(
     ensures uses { OnOk result (elaborator.new ≡ graph_uses graph.new) }
     ensures rows { Begins elaborator.old elaborator.new }
     ensures fine { OnOk result (NoCause (IsWorldCause home graph.old world includes.now)) }
-    ensures cause { IfErr result (λ kind. (kind ≡ OutOfMemory) ⊎ IsWorldCause home graph.old world includes.now kind) }
+    ensures cause { IfErr result
+        (λ kind. (kind ≡ OutOfMemory) ⊎ IsWorldCause home graph.old world includes.now kind) }
     ensures grown { Grown graph.old graph.new }
 {
     let world = include_each(alloc, graph, world, includes, home)?;

@@ -18,7 +18,8 @@ pub(crate) fn belonging_interfaces(
     world: &World,
 ) -> Result<Items<InterfaceId>, AllocError>
     ensures rising { IfOk result (λ ids. IsStrictlySortedBy nat_cmp ids) }
-    ensures members { IfOk result (λ ids. (i : ℕ) → list_any (nat_eq i) ids ≡ belongs_to graph.now world.now i) }
+    ensures members { IfOk result
+        (λ ids. (i : ℕ) → list_any (nat_eq i) ids ≡ belongs_to graph.now world.now i) }
 {
     let mut ids = Items::new(alloc);
     push_unnamed(&mut ids, graph, &world.imports)?;
@@ -32,7 +33,9 @@ fn push_unnamed(
     graph: &Graph,
     entries: &Table<WorldKey, WorldItem>,
 ) -> Result<(), AllocError>
-    ensures { OnOk result (ids.new ≡ ids.old ++ filter (is_unnamed graph.now.interfaces) (interfaces_of_entries entries.now)) }
+    ensures { OnOk result (ids.new
+        ≡ ids.old
+        ++ filter (is_unnamed graph.now.interfaces) (interfaces_of_entries entries.now)) }
 {
     for (_, item) in entries.iter() {
         push_if_unnamed(ids, graph, item)?;
@@ -46,7 +49,8 @@ fn push_if_unnamed(
     graph: &Graph,
     item: &WorldItem,
 ) -> Result<(), AllocError>
-    ensures { OnOk result (ids.new ≡ ids.old ++ filter (is_unnamed graph.now.interfaces) (item_interface item.now)) }
+    ensures { OnOk result (ids.new
+        ≡ ids.old ++ filter (is_unnamed graph.now.interfaces) (item_interface item.now)) }
 {
     if let WorldItem::Interface { id, .. } = item {
         if is_unnamed(graph.interfaces.as_slice(), *id) {

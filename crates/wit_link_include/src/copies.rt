@@ -133,7 +133,8 @@ impl<'a> Copies<'a> {
         key: &WorldKey,
         item: &WorldItem,
     ) -> Result<(WorldKey, WorldItem), AllocError>
-        ensures { IfOk result (λ copy. copy ≡ entry_image (maps_of self.now) self.now.from (key.now, item.now)) }
+        ensures { IfOk result
+            (λ copy. copy ≡ entry_image (maps_of self.now) self.now.from (key.now, item.now)) }
     {
         Ok((self.key(alloc, key)?, self.item(alloc, item)?))
     }
@@ -147,7 +148,8 @@ impl<'a> Copies<'a> {
         alloc: Global,
         entries: &Table<WorldKey, WorldItem>,
     ) -> Result<Items<(WorldKey, WorldItem)>, AllocError>
-        ensures { IfOk result (λ copies. copies ≡ map (entry_image (maps_of self.now) self.now.from) entries.now) }
+        ensures { IfOk result
+            (λ copies. copies ≡ map (entry_image (maps_of self.now) self.now.from) entries.now) }
     {
         let mut copies = Items::new(alloc);
         for (key, item) in entries.iter() {
@@ -168,7 +170,8 @@ impl<'a> Copies<'a> {
 
     /// What an item becomes. A function is renamed with its label.
     fn item(&self, alloc: Global, item: &WorldItem) -> Result<WorldItem, AllocError>
-        ensures { IfOk result (λ copy. copy ≡ item_image (maps_of self.now) self.now.from item.now) }
+        ensures { IfOk result
+            (λ copy. copy ≡ item_image (maps_of self.now) self.now.from item.now) }
     {
         let mut copy = item.try_clone()?;
         match &mut copy {

@@ -32,11 +32,13 @@ pub(crate) fn finish_world(
 ) -> ResolveResult<()>
     requires uses { elaborator.old ≡ graph_uses graph.old }
     requires acyclic { IsAcyclic (graph_uses graph.old) }
-    requires listed { HasSoundEntries graph.old.types (length graph.old.interfaces) (setters_placed world.imports) (setters_placed world.exports) }
+    requires listed { HasSoundEntries graph.old.types (length graph.old.interfaces)
+        (setters_placed world.imports) (setters_placed world.exports) }
     ensures ok { OnOk result (graph.new ≡ with_finished graph.old world) }
     ensures fine { OnOk result (NoCause (IsFinishCause graph.old world)) }
     ensures err { OnErr result (graph.new ≡ graph.old) }
-    ensures cause { IfErr result (λ kind. (kind ≡ OutOfMemory) ⊎ IsFinishCause graph.old world kind) }
+    ensures cause { IfErr result
+        (λ kind. (kind ≡ OutOfMemory) ⊎ IsFinishCause graph.old world kind) }
     ensures same { elaborator.new ≡ elaborator.old }
 {
     check_labels(alloc, &world)?;
@@ -54,9 +56,11 @@ fn elaborated(
 ) -> ResolveResult<World>
     requires uses { elaborator.old ≡ graph_uses graph.now }
     requires acyclic { IsAcyclic (graph_uses graph.now) }
-    requires listed { HasSoundEntries graph.now.types (length graph.now.interfaces) world.imports world.exports }
+    requires listed { HasSoundEntries graph.now.types (length graph.now.interfaces) world.imports
+        world.exports }
     ensures ok { IfOk result (λ new. new ≡ elaborated_world graph.now world) }
-    ensures no_conflict { OnOk result (HasTransitiveConflict (graph_uses graph.now) world.exports → ⊥) }
+    ensures no_conflict { OnOk result
+        (HasTransitiveConflict (graph_uses graph.now) world.exports → ⊥) }
     ensures cause { IfErr result (λ e. (e ≡ OutOfMemory) ⊎ IsConflictError graph.now world e) }
     ensures same { elaborator.new ≡ elaborator.old }
 {

@@ -50,11 +50,19 @@ pub fn add_copies<'a>(
 ) -> Result<Copies<'a>, AllocError>
     requires there { from < length graph.old.worlds }
     requires acyclic { IsAcyclic (type_references graph.old.types) }
-    requires apart { (world : World) → slice_get graph.old.worlds from ≡ Some world → StayApart graph.old from world }
-    requires named { (world : World) → slice_get graph.old.worlds from ≡ Some world → NamesThere graph.old world }
-    requires belonging { (world : World) → slice_get graph.old.worlds from ≡ Some world → NamesBelonging graph.old from world }
-    ensures ok { (world : World) → slice_get graph.old.worlds from ≡ Some world → OnOk result (graph.new ≡ with_copies graph.old from world (copy_maps graph.old from world names.now into home)) }
-    ensures maps { (world : World) → slice_get graph.old.worlds from ≡ Some world → IfOk result (λ copies. maps_of copies ≡ copy_maps graph.old from world names.now into home) }
+    requires apart { (world : World) → slice_get graph.old.worlds from ≡ Some world
+        → StayApart graph.old from world }
+    requires named { (world : World) → slice_get graph.old.worlds from ≡ Some world
+        → NamesThere graph.old world }
+    requires belonging { (world : World) → slice_get graph.old.worlds from ≡ Some world
+        → NamesBelonging graph.old from world }
+    ensures ok { (world : World) → slice_get graph.old.worlds from ≡ Some world
+        → OnOk result (graph.new
+        ≡ with_copies graph.old from world
+        (copy_maps graph.old from world names.now into home)) }
+    ensures maps { (world : World) → slice_get graph.old.worlds from ≡ Some world
+        → IfOk result
+        (λ copies. maps_of copies ≡ copy_maps graph.old from world names.now into home) }
     ensures from { IfOk result (λ copies. copies.from ≡ from) }
     ensures grown { Grown graph.old graph.new }
 {
@@ -80,7 +88,11 @@ fn list_belonging(
     from: WorldId,
 ) -> Result<Table<InterfaceId, InterfaceId>, AllocError>
     requires { from < length graph.old.worlds }
-    ensures table { (world : World) → slice_get graph.old.worlds from ≡ Some world → IfOk result (λ table. table ≡ numbered (length graph.old.interfaces) (places (belongs_to graph.old world) graph.old.interfaces)) }
+    ensures table { (world : World) → slice_get graph.old.worlds from ≡ Some world
+        → IfOk result (λ table.
+        table
+        ≡ numbered (length graph.old.interfaces)
+        (places (belongs_to graph.old world) graph.old.interfaces)) }
     ensures same { graph.new ≡ graph.old }
 {
     let ids = belonging_interfaces(alloc, graph, graph.worlds.at(from.index()))?;
@@ -96,12 +108,21 @@ fn copied_types(
     belonging_interfaces: &Table<InterfaceId, InterfaceId>,
 ) -> Result<Table<TypeId, TypeId>, AllocError>
     requires there { from < length graph.old.worlds }
-    requires belonging_interfaces { (world : World) → slice_get graph.old.worlds from ≡ Some world → (i : ℕ) → is_some (lookup (nat_eq i) belonging_interfaces.now) ≡ belongs_to graph.old world i }
+    requires belonging_interfaces { (world : World) → slice_get graph.old.worlds from ≡ Some world
+        → (i : ℕ)
+        → is_some (lookup (nat_eq i) belonging_interfaces.now) ≡ belongs_to graph.old world i }
     requires acyclic { IsAcyclic (type_references graph.old.types) }
-    requires apart { (world : World) → slice_get graph.old.worlds from ≡ Some world → StayApart graph.old from world }
-    requires named { (world : World) → slice_get graph.old.worlds from ≡ Some world → NamesThere graph.old world }
-    requires belonging { (world : World) → slice_get graph.old.worlds from ≡ Some world → NamesBelonging graph.old from world }
-    ensures table { (world : World) → slice_get graph.old.worlds from ≡ Some world → IfOk result (λ table. table ≡ numbered (length graph.old.types) (places (is_copied graph.old from world) graph.old.types)) }
+    requires apart { (world : World) → slice_get graph.old.worlds from ≡ Some world
+        → StayApart graph.old from world }
+    requires named { (world : World) → slice_get graph.old.worlds from ≡ Some world
+        → NamesThere graph.old world }
+    requires belonging { (world : World) → slice_get graph.old.worlds from ≡ Some world
+        → NamesBelonging graph.old from world }
+    ensures table { (world : World) → slice_get graph.old.worlds from ≡ Some world
+        → IfOk result (λ table.
+        table
+        ≡ numbered (length graph.old.types)
+        (places (is_copied graph.old from world) graph.old.types)) }
     ensures same { graph.new ≡ graph.old }
 {
     let origin = Origin {
@@ -123,7 +144,10 @@ fn copied_ids(alloc: Global, origin: &Origin<'_>) -> Result<Items<TypeId>, Alloc
     requires named { NamesThere origin.now.graph.now origin.now.world.now }
     requires belonging { NamesBelonging origin.now.graph.now origin.now.id origin.now.world.now }
     ensures rising { IfOk result (λ ids. IsStrictlySortedBy nat_cmp ids) }
-    ensures places { IfOk result (λ ids. ids ≡ places (is_copied origin.now.graph.now origin.now.id origin.now.world.now) origin.now.graph.now.types) }
+    ensures places { IfOk result (λ ids.
+        ids
+        ≡ places (is_copied origin.now.graph.now origin.now.id origin.now.world.now)
+        origin.now.graph.now.types) }
 {
     let roots = named_types(alloc, origin)?;
     let known = leading(alloc, origin, roots.as_slice())?;
@@ -133,8 +157,12 @@ fn copied_ids(alloc: Global, origin: &Origin<'_>) -> Result<Items<TypeId>, Alloc
 /// Puts the copies of what is active at the ends of a graph's types and interfaces.
 fn append_copies(alloc: Global, graph: &mut Graph, copies: &Copies<'_>) -> Result<(), AllocError>
     requires types { (t : ℕ) → Contains (keys_of copies.now.types) t → t < length graph.old.types }
-    requires interfaces { (i : ℕ) → Contains (keys_of copies.now.interfaces) i → i < length graph.old.interfaces }
-    ensures ok { (type interface : ℕ → Bool) → keys_of copies.now.types ≡ places type graph.old.types → keys_of copies.now.interfaces ≡ places interface graph.old.interfaces → OnOk result (graph.new ≡ with_images graph.old (maps_of copies.now) type interface) }
+    requires interfaces { (i : ℕ) → Contains (keys_of copies.now.interfaces) i
+        → i < length graph.old.interfaces }
+    ensures ok { (type interface : ℕ → Bool)
+        → keys_of copies.now.types ≡ places type graph.old.types
+        → keys_of copies.now.interfaces ≡ places interface graph.old.interfaces
+        → OnOk result (graph.new ≡ with_images graph.old (maps_of copies.now) type interface) }
     ensures grown { Grown graph.old graph.new }
 {
     let types = type_copies(alloc, graph, copies)?;
@@ -151,7 +179,9 @@ fn type_copies(
     copies: &Copies<'_>,
 ) -> Result<Items<TypeDef>, AllocError>
     requires { (t : ℕ) → Contains (keys_of copies.now.types) t → t < length graph.now.types }
-    ensures { (kept : ℕ → Bool) → keys_of copies.now.types ≡ places kept graph.now.types → IfOk result (λ types. types ≡ map (type_image (maps_of copies.now)) (selected kept graph.now.types)) }
+    ensures { (kept : ℕ → Bool) → keys_of copies.now.types ≡ places kept graph.now.types
+        → IfOk result (λ types.
+        types ≡ map (type_image (maps_of copies.now)) (selected kept graph.now.types)) }
 {
     let mut types = Items::new(alloc);
     for (id, _) in copies.types.iter() {
@@ -166,8 +196,12 @@ fn interface_copies(
     graph: &Graph,
     copies: &Copies<'_>,
 ) -> Result<Items<Interface>, AllocError>
-    requires { (i : ℕ) → Contains (keys_of copies.now.interfaces) i → i < length graph.now.interfaces }
-    ensures { (kept : ℕ → Bool) → keys_of copies.now.interfaces ≡ places kept graph.now.interfaces → IfOk result (λ interfaces. interfaces ≡ map (interface_image (maps_of copies.now)) (selected kept graph.now.interfaces)) }
+    requires { (i : ℕ) → Contains (keys_of copies.now.interfaces) i
+        → i < length graph.now.interfaces }
+    ensures { (kept : ℕ → Bool) → keys_of copies.now.interfaces ≡ places kept graph.now.interfaces
+        → IfOk result (λ interfaces.
+        interfaces
+        ≡ map (interface_image (maps_of copies.now)) (selected kept graph.now.interfaces)) }
 {
     let mut interfaces = Items::new(alloc);
     for (id, _) in copies.interfaces.iter() {

@@ -39,10 +39,17 @@ pub fn include(
     requires there { include.now.id < length graph.old.worlds }
     requires can { CanBeIncluded (before_includes graph.old world) include.now }
     requires own_keys { HaveOwnKeys (lists_of world) }
-    ensures graph { OnOk result (graph.new ≡ (with_one home (before_includes graph.old world) include.now).graph) }
-    ensures world { IfOk result (λ new. new ≡ with_entry_lists world (with_one home (before_includes graph.old world) include.now).lists) }
-    ensures fine { OnOk result (NoCause (IsCauseOfInclude home (before_includes graph.old world) include.now)) }
-    ensures cause { IfErr result (λ kind. (kind ≡ OutOfMemory) ⊎ IsCauseOfInclude home (before_includes graph.old world) include.now kind) }
+    ensures graph { OnOk result
+        (graph.new ≡ (with_one home (before_includes graph.old world) include.now).graph) }
+    ensures world { IfOk result (λ new.
+        new
+        ≡ with_entry_lists world
+        (with_one home (before_includes graph.old world) include.now).lists) }
+    ensures fine { OnOk result
+        (NoCause (IsCauseOfInclude home (before_includes graph.old world) include.now)) }
+    ensures cause { IfErr result (λ kind.
+        (kind ≡ OutOfMemory)
+        ⊎ IsCauseOfInclude home (before_includes graph.old world) include.now kind) }
     ensures grown { Grown graph.old graph.new }
 {
     let into = WorldId::from_index(graph.worlds.len());
@@ -64,10 +71,21 @@ fn join_copies(
 ) -> ResolveResult<World>
     requires imports { ComeOnce (copied_entries copies.now included.now.imports) }
     requires exports { ComeOnce (copied_entries copies.now included.now.exports) }
-    ensures ok { IfOk result (λ new. new ≡ with_joined (is_other_package included.now.package home) world (copied_entries copies.now included.now.imports) (copied_entries copies.now included.now.exports)) }
-    ensures imports { OnOk result (JoinIsAccepted (is_other_package included.now.package home) span (codes "import") world.imports (copied_entries copies.now included.now.imports)) }
-    ensures exports { OnOk result (JoinIsAccepted (is_other_package included.now.package home) span (codes "export") world.exports (copied_entries copies.now included.now.exports)) }
-    ensures cause { IfErr result (λ kind. (kind ≡ OutOfMemory) ⊎ (IsJoinError (is_other_package included.now.package home) span (codes "import") world.imports (copied_entries copies.now included.now.imports) kind ⊎ IsJoinError (is_other_package included.now.package home) span (codes "export") world.exports (copied_entries copies.now included.now.exports) kind)) }
+    ensures ok { IfOk result (λ new.
+        new
+        ≡ with_joined (is_other_package included.now.package home) world
+        (copied_entries copies.now included.now.imports)
+        (copied_entries copies.now included.now.exports)) }
+    ensures imports { OnOk result (JoinIsAccepted (is_other_package included.now.package home) span
+        (codes "import") world.imports (copied_entries copies.now included.now.imports)) }
+    ensures exports { OnOk result (JoinIsAccepted (is_other_package included.now.package home) span
+        (codes "export") world.exports (copied_entries copies.now included.now.exports)) }
+    ensures cause { IfErr result (λ kind.
+        (kind ≡ OutOfMemory)
+        ⊎ (IsJoinError (is_other_package included.now.package home) span (codes "import")
+        world.imports (copied_entries copies.now included.now.imports) kind
+        ⊎ IsJoinError (is_other_package included.now.package home) span (codes "export")
+        world.exports (copied_entries copies.now included.now.exports) kind)) }
 {
     let imports = copies.entries(alloc, &included.imports)?;
     let exports = copies.entries(alloc, &included.exports)?;
@@ -87,9 +105,14 @@ fn join_lists(
     requires imports { ComeOnce imports }
     requires exports { ComeOnce exports }
     ensures ok { IfOk result (λ new. new ≡ with_joined other world imports exports) }
-    ensures imports { OnOk result (JoinIsAccepted other span (codes "import") world.imports imports) }
-    ensures exports { OnOk result (JoinIsAccepted other span (codes "export") world.exports exports) }
-    ensures cause { IfErr result (λ kind. (kind ≡ OutOfMemory) ⊎ (IsJoinError other span (codes "import") world.imports imports kind ⊎ IsJoinError other span (codes "export") world.exports exports kind)) }
+    ensures imports { OnOk result
+        (JoinIsAccepted other span (codes "import") world.imports imports) }
+    ensures exports { OnOk result
+        (JoinIsAccepted other span (codes "export") world.exports exports) }
+    ensures cause { IfErr result (λ kind.
+        (kind ≡ OutOfMemory)
+        ⊎ (IsJoinError other span (codes "import") world.imports imports kind
+        ⊎ IsJoinError other span (codes "export") world.exports exports kind)) }
 {
     let mut world = world;
     let current = mem::replace(&mut world.imports, Table::new(alloc));

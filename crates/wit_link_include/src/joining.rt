@@ -31,7 +31,8 @@ pub(crate) fn join(
     requires { ComeOnce brought }
     ensures ok { IfOk result (λ new. new ≡ joined_entries other current brought) }
     ensures fine { OnOk result (JoinIsAccepted other span word.now current brought) }
-    ensures cause { IfErr result (λ kind. (kind ≡ OutOfMemory) ⊎ IsJoinError other span word.now current brought kind) }
+    ensures cause { IfErr result
+        (λ kind. (kind ≡ OutOfMemory) ⊎ IsJoinError other span word.now current brought kind) }
 {
     let mut entries = current;
     for (key, item) in brought.into_vec() {
@@ -87,9 +88,14 @@ fn join_at(
     item: WorldItem,
 ) -> ResolveResult<()>
     requires { index < length entries.old }
-    ensures ok { OnOk result ((k : WorldKey) (into : WorldItem) → slice_get entries.old index ≡ Some (k, into) → entries.new ≡ set_value_at entries.old index (joined_item other item into)) }
-    ensures fine { OnOk result ((k : WorldKey) (into : WorldItem) → slice_get entries.old index ≡ Some (k, into) → ItemsAgree other item into) }
-    ensures cause { IfErr result (λ kind. (k : WorldKey) (into : WorldItem) → slice_get entries.old index ≡ Some (k, into) → IsItemError other span item into kind) }
+    ensures ok { OnOk result
+        ((k : WorldKey) (into : WorldItem) → slice_get entries.old index ≡ Some (k, into)
+        → entries.new ≡ set_value_at entries.old index (joined_item other item into)) }
+    ensures fine { OnOk result ((k : WorldKey) (into : WorldItem)
+        → slice_get entries.old index ≡ Some (k, into) → ItemsAgree other item into) }
+    ensures cause { IfErr result (λ kind.
+        (k : WorldKey) (into : WorldItem) → slice_get entries.old index ≡ Some (k, into)
+        → IsItemError other span item into kind) }
 {
     join_item(other, span, item, entries.value_at_mut(index))
 }

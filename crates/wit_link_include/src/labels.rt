@@ -29,7 +29,8 @@ fn check_list(
     world: &Text,
 ) -> ResolveResult<()>
     ensures fine { OnOk result (ListIsAccepted world.now word.now entries.now) }
-    ensures cause { IfErr result (λ kind. (kind ≡ OutOfMemory) ⊎ IsListCause world.now word.now entries.now kind) }
+    ensures cause { IfErr result
+        (λ kind. (kind ≡ OutOfMemory) ⊎ IsListCause world.now word.now entries.now kind) }
 {
     if let Some(clash) = find_clash(alloc, entries)? {
         return Err(not_strongly_unique(alloc, word, clash, world)?);
@@ -47,7 +48,11 @@ fn not_strongly_unique(
     clash: Clash<'_>,
     world: &Text,
 ) -> Result<ResolveError, AllocError>
-    ensures { IfOk result (λ e. e ≡ Semantic None (clash_text word.now clash.entry.label.now world.now clash.entry.earlier.now) cause.NotStronglyUnique) }
+    ensures { IfOk result (λ e.
+        e
+        ≡ Semantic None
+        (clash_text word.now clash.entry.label.now world.now clash.entry.earlier.now)
+        cause.NotStronglyUnique) }
 {
     let (label, earlier) = (clash.label, clash.earlier);
     let message = format!(in alloc;

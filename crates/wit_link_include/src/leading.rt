@@ -32,7 +32,8 @@ pub(crate) fn leading(
     requires acyclic { IsAcyclic (type_references origin.now.graph.now.types) }
     requires apart { StayApart origin.now.graph.now origin.now.id origin.now.world.now }
     requires there { (t : ℕ) → Contains roots.now t → t < length origin.now.graph.now.types }
-    ensures { IfOk result (λ known. (t : ℕ) → lookup (nat_eq t) known ≡ known_of origin.now roots.now t) }
+    ensures { IfOk result
+        (λ known. (t : ℕ) → lookup (nat_eq t) known ≡ known_of origin.now roots.now t) }
 {
     let mut known = IndexMap::new(alloc);
     let mut stack = Items::new(alloc);
@@ -62,7 +63,8 @@ fn push_references(
     id: TypeId,
 ) -> Result<(), AllocError>
     requires { IsOrigin origin.now }
-    ensures { OnOk result (stack.new ≡ stack.old ++ map step.Enter (direct (open_rows origin.now) id)) }
+    ensures { OnOk result
+        (stack.new ≡ stack.old ++ map step.Enter (direct (open_rows origin.now) id)) }
 {
     match origin.graph.types.get(id.index()) {
         Some(def) => {

@@ -33,7 +33,9 @@ fn push_entries(
     entries: &Table<WorldKey, WorldItem>,
 ) -> Result<(), AllocError>
     requires { IsOrigin origin.now }
-    ensures { OnOk result (ids.new ≡ ids.old ++ flat_map (entry_mentions origin.now.graph.now origin.now.world.now) entries.now) }
+    ensures { OnOk result (ids.new
+        ≡ ids.old
+        ++ flat_map (entry_mentions origin.now.graph.now origin.now.world.now) entries.now) }
 {
     for (_, item) in entries.iter() {
         push_item(alloc, ids, origin, item)?;
@@ -49,7 +51,9 @@ fn push_item(
     item: &WorldItem,
 ) -> Result<(), AllocError>
     requires { IsOrigin origin.now }
-    ensures { (k : WorldKey) → OnOk result (ids.new ≡ ids.old ++ entry_mentions origin.now.graph.now origin.now.world.now (k, item.now)) }
+    ensures { (k : WorldKey)
+        → OnOk result (ids.new
+        ≡ ids.old ++ entry_mentions origin.now.graph.now origin.now.world.now (k, item.now)) }
 {
     match item {
         WorldItem::Interface { id, .. } => {
@@ -71,7 +75,10 @@ fn push_held(
     origin: &Origin<'_>,
     id: InterfaceId,
 ) -> Result<(), AllocError>
-    ensures { OnOk result (ids.new ≡ ids.old ++ option_map_or interface_mentions (slice_get origin.now.graph.now.interfaces id) []) }
+    ensures { OnOk result (ids.new
+        ≡ ids.old
+        ++ option_map_or interface_mentions (slice_get origin.now.graph.now.interfaces id)
+        []) }
 {
     match origin.graph.interfaces.get(id.index()) {
         Some(interface) => {
@@ -98,7 +105,10 @@ fn push_functions(
     ids: &mut Items<TypeId>,
     interface: &Interface,
 ) -> Result<(), AllocError>
-    ensures { OnOk result (ids.new ≡ ids.old ++ flat_map (λ (e : List ℕ × Function). function_references e.1) interface.now.functions) }
+    ensures { OnOk result (ids.new
+        ≡ ids.old
+        ++ flat_map (λ (e : List ℕ × Function). function_references e.1)
+        interface.now.functions) }
 {
     for (_, function) in interface.functions.iter() {
         ids.append(function_references(alloc, function)?)?;

@@ -11,7 +11,8 @@ use wit_data::{Id, Items, Table, TryClone};
 /// Ids in order, each once.
 pub(crate) fn in_order<S>(ids: Items<Id<S>>) -> Result<Items<Id<S>>, AllocError>
     ensures rising { IfOk result (λ sorted. IsStrictlySortedBy nat_cmp sorted) }
-    ensures members { IfOk result (λ sorted. (x : ℕ) → list_any (nat_eq x) sorted ≡ list_any (nat_eq x) ids) }
+    ensures members { IfOk result
+        (λ sorted. (x : ℕ) → list_any (nat_eq x) sorted ≡ list_any (nat_eq x) ids) }
 {
     let mut ids = ids.into_vec();
     ids.sort()?;

@@ -19,7 +19,8 @@ impl<'a> Origin<'a> {
     /// Whether what has this owner goes with the world.
     pub(crate) fn owns(&self, owner: TypeOwner) -> bool
         requires { IsOrigin self.now }
-        ensures { result ≡ owner_belongs_to self.now.graph.now self.now.id self.now.world.now owner }
+        ensures { result
+            ≡ owner_belongs_to self.now.graph.now self.now.id self.now.world.now owner }
     {
         match owner {
             TypeOwner::World(world) => world == self.id,

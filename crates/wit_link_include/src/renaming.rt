@@ -25,7 +25,10 @@ pub(crate) fn check_names(
     world: &World,
 ) -> ResolveResult<()>
     ensures fine { OnOk result (AreRenamed world.now names.now) }
-    ensures cause { IfErr result (λ kind. (kind ≡ OutOfMemory) ⊎ ((name : IncludeName) × IsFirstUnmatched world.now names.now name × (kind ≡ Semantic span (rename_text name.name) cause.RenameUnmatched))) }
+    ensures cause { IfErr result (λ kind.
+        (kind ≡ OutOfMemory)
+        ⊎ ((name : IncludeName) × IsFirstUnmatched world.now names.now name
+        × (kind ≡ Semantic span (rename_text name.name) cause.RenameUnmatched))) }
 {
     if names.is_empty() {
         return Ok(());
@@ -42,7 +45,11 @@ pub(crate) fn check_names(
 
 /// The words of a world's labels that renamings can be of.
 fn words_of(alloc: Global, world: &World) -> Result<NameSet, AllocError>
-    ensures { IfOk result (λ words. (word : List ℕ) → list_any (bytes_eq word) words ≡ (list_any (has_word word) (keys_of world.now.imports) || list_any (has_word word) (keys_of world.now.exports))) }
+    ensures { IfOk result (λ words.
+        (word : List ℕ)
+        → list_any (bytes_eq word) words
+        ≡ (list_any (has_word word) (keys_of world.now.imports)
+        || list_any (has_word word) (keys_of world.now.exports))) }
 {
     let mut words = NameSet::new(alloc);
     add_words(alloc, &mut words, &world.imports)?;
@@ -56,7 +63,10 @@ fn add_words(
     words: &mut NameSet,
     entries: &Table<WorldKey, WorldItem>,
 ) -> Result<(), AllocError>
-    ensures { OnOk result ((word : List ℕ) → list_any (bytes_eq word) words.new ≡ (list_any (bytes_eq word) words.old || list_any (has_word word) (keys_of entries.now))) }
+    ensures { OnOk result ((word : List ℕ)
+        → list_any (bytes_eq word) words.new
+        ≡ (list_any (bytes_eq word) words.old
+        || list_any (has_word word) (keys_of entries.now))) }
 {
     for (key, _) in entries.iter() {
         add_word(alloc, words, key)?;
@@ -66,7 +76,9 @@ fn add_words(
 
 /// Adds the word of a label; the key of an interface has none.
 fn add_word(alloc: Global, words: &mut NameSet, key: &WorldKey) -> Result<(), AllocError>
-    ensures { OnOk result ((word : List ℕ) → list_any (bytes_eq word) words.new ≡ (list_any (bytes_eq word) words.old || has_word word key.now)) }
+    ensures { OnOk result ((word : List ℕ)
+        → list_any (bytes_eq word) words.new
+        ≡ (list_any (bytes_eq word) words.old || has_word word key.now)) }
 {
     if let WorldKey::Name(label) = key {
         if let Some(word) = word_of(label.as_str()) {

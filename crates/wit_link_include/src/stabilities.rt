@@ -16,8 +16,11 @@ pub(crate) fn join_stability(
     into: &mut Stability,
 ) -> ResolveResult<()>
     ensures ok { OnOk result (into.new ≡ include_stability other from into.old) }
-    ensures fine { OnOk result (Disagree from into.old → include_stability other from into.old ≡ from → ⊥) }
-    ensures cause { IfErr result (λ kind. (kind ≡ StabilityMismatch span from into.old) × Disagree from into.old × (include_stability other from into.old ≡ from)) }
+    ensures fine { OnOk result
+        (Disagree from into.old → include_stability other from into.old ≡ from → ⊥) }
+    ensures cause { IfErr result (λ kind.
+        (kind ≡ StabilityMismatch span from into.old) × Disagree from into.old
+        × (include_stability other from into.old ≡ from)) }
 {
     if other && from.is_stable() {
         *into = Stability::Unknown;

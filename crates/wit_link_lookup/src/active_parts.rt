@@ -67,7 +67,10 @@ fn type_flags(
     features: &Features,
     unresolved: &UnresolvedPackage,
 ) -> Result<Items<bool>, AllocError>
-    ensures { IfOk result (λ flags. flags ≡ map (type_is_active features.now unresolved.now.types) (range_with_len 0 (length unresolved.now.types))) }
+    ensures { IfOk result (λ flags.
+        flags
+        ≡ map (type_is_active features.now unresolved.now.types)
+        (range_with_len 0 (length unresolved.now.types))) }
 {
     let mut flags = Items::new(alloc);
     for def in unresolved.types.as_slice() {
@@ -82,7 +85,10 @@ fn interface_flags(
     features: &Features,
     unresolved: &UnresolvedPackage,
 ) -> Result<Items<bool>, AllocError>
-    ensures { IfOk result (λ flags. flags ≡ map (own_interface_flag features.now unresolved.now) (range_with_len 0 (length unresolved.now.interfaces))) }
+    ensures { IfOk result (λ flags.
+        flags
+        ≡ map (own_interface_flag features.now unresolved.now)
+        (range_with_len 0 (length unresolved.now.interfaces))) }
 {
     let foreign = foreign_interfaces(alloc, &unresolved.foreign_deps)?.len();
     let interfaces = unresolved.interfaces.as_slice();
@@ -99,7 +105,10 @@ fn world_flags(
     features: &Features,
     unresolved: &UnresolvedPackage,
 ) -> Result<Items<bool>, AllocError>
-    ensures { IfOk result (λ flags. flags ≡ map (own_world_flag features.now unresolved.now) (range_with_len 0 (length unresolved.now.worlds))) }
+    ensures { IfOk result (λ flags.
+        flags
+        ≡ map (own_world_flag features.now unresolved.now)
+        (range_with_len 0 (length unresolved.now.worlds))) }
 {
     let foreign = foreign_worlds(alloc, &unresolved.foreign_deps)?.len();
     let worlds = unresolved.worlds.as_slice();
@@ -116,7 +125,8 @@ fn mark_packages(
     deps: &Table<PackageName, Names<(AstItem, Items<Stability>)>>,
     activity: &mut Activity,
 )
-    requires { Each (λ (e : PackageName × List ForeignItem). Each (λ (item : ForeignItem). HasFlag activity.old item.1.0) e.1) deps.now }
+    requires { Each (λ (e : PackageName × List ForeignItem).
+        Each (λ (item : ForeignItem). HasFlag activity.old item.1.0) e.1) deps.now }
     ensures { IsMarked features.now (foreign_items deps.now) activity.old activity.new }
 {
     for (_, items) in deps.iter() {

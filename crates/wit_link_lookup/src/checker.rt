@@ -40,7 +40,9 @@ impl<'a> Checker<'a> {
         message: String,
         cause: Cause,
     ) -> Result<ResolveError, AllocError>
-        ensures { IfOk result (λ e. e ≡ Semantic (moved_by self.now.addition.offset span) (string_bytes message) cause) }
+        ensures { IfOk result (λ e.
+            e
+            ≡ Semantic (moved_by self.now.addition.offset span) (string_bytes message) cause) }
     {
         let span = self.moved(span)?;
         Ok(ResolveErrorKind::Semantic {

@@ -32,10 +32,16 @@ pub(crate) fn find_foreign(
 ) -> ResolveResult<Found>
     requires shaped { IsShaped addition.now.unresolved.now }
     requires activity { activity.now ≡ activity_of (addition_of addition.now) }
-    ensures found { IfOk result (λ found. found ≡ found_among (addition_of addition.now) (named_items addition.now.unresolved.now.foreign_deps)) }
-    ensures there { OnOk result (AreThere (addition_of addition.now) (named_items addition.now.unresolved.now.foreign_deps)) }
-    ensures packages { OnOk result (ArePackagesThere (addition_of addition.now) (length addition.now.unresolved.now.foreign_deps)) }
-    ensures cause { IfErr result (λ kind. (kind ≡ OutOfMemory) ⊎ IsAdditionCause (addition_of addition.now) kind) }
+    ensures found { IfOk result (λ found.
+        found
+        ≡ found_among (addition_of addition.now)
+        (named_items addition.now.unresolved.now.foreign_deps)) }
+    ensures there { OnOk result (AreThere (addition_of addition.now)
+        (named_items addition.now.unresolved.now.foreign_deps)) }
+    ensures packages { OnOk result (ArePackagesThere (addition_of addition.now)
+        (length addition.now.unresolved.now.foreign_deps)) }
+    ensures cause { IfErr result
+        (λ kind. (kind ≡ OutOfMemory) ⊎ IsAdditionCause (addition_of addition.now) kind) }
 {
     let interfaces = nothing(alloc, addition.unresolved.interfaces.len())?;
     let worlds = nothing(alloc, addition.unresolved.worlds.len())?;
@@ -68,13 +74,20 @@ fn find_named(
     requires shaped { IsShaped addition.now.unresolved.now }
     requires activity { activity.now ≡ activity_of (addition_of addition.now) }
     requires inside { index < length addition.now.unresolved.now.foreign_deps }
-    requires before { found.old ≡ found_among (addition_of addition.now) (named_before addition.now.unresolved.now.foreign_deps index) }
-    requires there { AreThere (addition_of addition.now) (named_before addition.now.unresolved.now.foreign_deps index) }
+    requires before { found.old
+        ≡ found_among (addition_of addition.now)
+        (named_before addition.now.unresolved.now.foreign_deps index) }
+    requires there { AreThere (addition_of addition.now)
+        (named_before addition.now.unresolved.now.foreign_deps index) }
     requires packages { ArePackagesThere (addition_of addition.now) index }
-    ensures found { OnOk result (found.new ≡ found_among (addition_of addition.now) (named_before addition.now.unresolved.now.foreign_deps (index + 1))) }
-    ensures there { OnOk result (AreThere (addition_of addition.now) (named_before addition.now.unresolved.now.foreign_deps (index + 1))) }
+    ensures found { OnOk result (found.new
+        ≡ found_among (addition_of addition.now)
+        (named_before addition.now.unresolved.now.foreign_deps (index + 1))) }
+    ensures there { OnOk result (AreThere (addition_of addition.now)
+        (named_before addition.now.unresolved.now.foreign_deps (index + 1))) }
     ensures packages { OnOk result (ArePackagesThere (addition_of addition.now) (index + 1)) }
-    ensures cause { IfErr result (λ kind. (kind ≡ OutOfMemory) ⊎ IsAdditionCause (addition_of addition.now) kind) }
+    ensures cause { IfErr result
+        (λ kind. (kind ≡ OutOfMemory) ⊎ IsAdditionCause (addition_of addition.now) kind) }
 {
     let home = find_home(alloc, addition, index)?;
     for (requested, (item, _)) in home.items.iter() {
@@ -94,7 +107,8 @@ fn find_item(
     found: &mut Found,
 ) -> bool
     requires { HasEntryFor found.old item.now }
-    ensures found { found.new ≡ with_item found.old item.now (item_in graph.now home.now.id requested.now item.now) }
+    ensures found { found.new
+        ≡ with_item found.old item.now (item_in graph.now home.now.id requested.now item.now) }
     ensures there { result ≡ is_some (item_in graph.now home.now.id requested.now item.now) }
 {
     match *item {
@@ -124,10 +138,12 @@ fn check_inactive(
 ) -> ResolveResult<()>
     requires shaped { IsShaped addition.now.unresolved.now }
     requires activity { activity.now ≡ activity_of (addition_of addition.now) }
-    requires named { NamesItem (addition_of addition.now) home.now.name.now home.now.id requested.now item.now }
+    requires named { NamesItem (addition_of addition.now) home.now.name.now home.now.id
+        requested.now item.now }
     requires absent { item_in addition.now.graph.now home.now.id requested.now item.now ≡ None }
     ensures inactive { OnOk result (named_is_active (addition_of addition.now) item.now ≡ false) }
-    ensures cause { IfErr result (λ kind. (kind ≡ OutOfMemory) ⊎ IsAdditionCause (addition_of addition.now) kind) }
+    ensures cause { IfErr result
+        (λ kind. (kind ≡ OutOfMemory) ⊎ IsAdditionCause (addition_of addition.now) kind) }
 {
     let active = match *item {
         AstItem::Interface(id) => *activity.interfaces.at(id.index()),

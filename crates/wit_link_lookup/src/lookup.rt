@@ -31,7 +31,8 @@ pub fn new_ids_of(
     requires activity { activity.now ≡ activity_of (addition_of addition.now) }
     ensures new_ids { IfOk result (λ new_ids. new_ids ≡ new_ids_of (addition_of addition.now)) }
     ensures found { OnOk result (IsAllFound (addition_of addition.now)) }
-    ensures cause { IfErr result (λ kind. (kind ≡ OutOfMemory) ⊎ IsAdditionCause (addition_of addition.now) kind) }
+    ensures cause { IfErr result
+        (λ kind. (kind ≡ OutOfMemory) ⊎ IsAdditionCause (addition_of addition.now) kind) }
 {
     let found = find_foreign(alloc, addition, activity)?;
     let types = type_ids(alloc, addition, activity, &found)?;

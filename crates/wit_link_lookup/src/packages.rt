@@ -31,8 +31,10 @@ pub(crate) fn find_home<'a>(
 ) -> ResolveResult<Home<'a>>
     requires shaped { IsShaped addition.now.unresolved.now }
     requires inside { index < length addition.now.unresolved.now.foreign_deps }
-    ensures home { IfOk result (λ home. IsHome (addition_of addition.now) index home.name.now home.items.now home.id) }
-    ensures cause { IfErr result (λ kind. (kind ≡ OutOfMemory) ⊎ IsAdditionCause (addition_of addition.now) kind) }
+    ensures home { IfOk result
+        (λ home. IsHome (addition_of addition.now) index home.name.now home.items.now home.id) }
+    ensures cause { IfErr result
+        (λ kind. (kind ≡ OutOfMemory) ⊎ IsAdditionCause (addition_of addition.now) kind) }
 {
     let (name, items) = addition.unresolved.foreign_deps.entry_at(index);
     let id = match addition.graph.package_names.get(name) {

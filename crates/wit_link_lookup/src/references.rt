@@ -40,7 +40,8 @@ pub fn check_references(
     requires shaped { IsShaped addition.now.unresolved.now }
     requires activity { activity.now ≡ activity_of (addition_of addition.now) }
     ensures met { OnOk result (NeedsNothingExcluded (addition_of addition.now)) }
-    ensures cause { IfErr result (λ kind. (kind ≡ OutOfMemory) ⊎ IsAdditionCause (addition_of addition.now) kind) }
+    ensures cause { IfErr result
+        (λ kind. (kind ≡ OutOfMemory) ⊎ IsAdditionCause (addition_of addition.now) kind) }
 {
     let checker = Checker {
         alloc,
@@ -67,7 +68,10 @@ impl<'a> Checker<'a> {
 
     /// Something refers to what is left out.
     fn excluded(&self, needed: Needed, span: Span) -> Result<ResolveError, AllocError>
-        ensures { IfOk result (λ e. e ≡ Semantic (moved_by self.now.addition.offset span) (excluded_text (word_of (thing_of needed))) cause.Excluded) }
+        ensures { IfOk result (λ e.
+            e
+            ≡ Semantic (moved_by self.now.addition.offset span)
+            (excluded_text (word_of (thing_of needed))) cause.Excluded) }
     {
         let message = excluded_message(self.alloc, needed.word())?;
         self.semantic(span, message, Cause::Excluded)
@@ -75,7 +79,10 @@ impl<'a> Checker<'a> {
 
     /// The owner of a type is left out.
     fn excluded_owner(&self, needed: Needed, span: Span) -> Result<ResolveError, AllocError>
-        ensures { IfOk result (λ e. e ≡ Semantic (moved_by self.now.addition.offset span) (excluded_owner_text (word_of (thing_of needed))) cause.ExcludedOwner) }
+        ensures { IfOk result (λ e.
+            e
+            ≡ Semantic (moved_by self.now.addition.offset span)
+            (excluded_owner_text (word_of (thing_of needed))) cause.ExcludedOwner) }
     {
         let message = excluded_owner_message(self.alloc, needed.word())?;
         self.semantic(span, message, Cause::ExcludedOwner)
@@ -110,7 +117,8 @@ impl<'a> Checker<'a> {
     /// What types need.
     fn look_at_types(&self) -> ResolveResult<()>
         requires { IsCheckerReady self.now }
-        ensures stay { OnOk result (EachAt (TypesStay self.now) self.now.addition.unresolved.now.types) }
+        ensures stay { OnOk result
+            (EachAt (TypesStay self.now) self.now.addition.unresolved.now.types) }
         ensures cause { IfErr result (MayRefuse self.now) }
     {
         let types = self.addition.unresolved.types.as_slice();
@@ -213,7 +221,8 @@ impl<'a> Checker<'a> {
     /// What interfaces that are active need.
     fn look_at_interfaces(&self) -> ResolveResult<()>
         requires { IsCheckerReady self.now }
-        ensures stay { OnOk result (EachAt (FunctionsStay self.now) self.now.addition.unresolved.now.interfaces) }
+        ensures stay { OnOk result
+            (EachAt (FunctionsStay self.now) self.now.addition.unresolved.now.interfaces) }
         ensures cause { IfErr result (MayRefuse self.now) }
     {
         let interfaces = self.addition.unresolved.interfaces.as_slice();
@@ -230,7 +239,8 @@ impl<'a> Checker<'a> {
     fn look_at_functions(&self, functions: &Names<Function>) -> ResolveResult<()>
         requires ready { IsCheckerReady self.now }
         requires may { Each (λ (e : List ℕ × Function). MayBeActive self.now e.1) functions.now }
-        ensures stay { OnOk result (Each (λ (e : List ℕ × Function). FunctionStays self.now e.1) functions.now) }
+        ensures stay { OnOk result
+            (Each (λ (e : List ℕ × Function). FunctionStays self.now e.1) functions.now) }
         ensures cause { IfErr result (MayRefuse self.now) }
     {
         for (_, function) in functions.iter() {
@@ -255,7 +265,8 @@ impl<'a> Checker<'a> {
     /// What worlds that are active need.
     fn look_at_worlds(&self) -> ResolveResult<()>
         requires { IsCheckerReady self.now }
-        ensures stay { OnOk result (EachAt (PartsStay self.now) self.now.addition.unresolved.now.worlds) }
+        ensures stay { OnOk result
+            (EachAt (PartsStay self.now) self.now.addition.unresolved.now.worlds) }
         ensures cause { IfErr result (MayRefuse self.now) }
     {
         let worlds = self.addition.unresolved.worlds.as_slice();

@@ -21,7 +21,10 @@ pub(crate) fn package_not_found(
     span: Span,
     requested: &PackageName,
 ) -> Result<ResolveError, AllocError>
-    ensures { IfOk result (λ e. e ≡ PackageNotFound (moved_by addition.now.offset span) requested.now (known_packages (addition_of addition.now))) }
+    ensures { IfOk result (λ e.
+        e
+        ≡ PackageNotFound (moved_by addition.now.offset span) requested.now
+        (known_packages (addition_of addition.now))) }
 {
     let span = moved(span, addition.offset)?;
     let known = known(alloc, addition)?;
@@ -43,7 +46,8 @@ pub(crate) fn item_not_found(
     requested: &str,
     home: &PackageName,
 ) -> Result<ResolveError, AllocError>
-    ensures { IfOk result (λ e. e ≡ not_found item.now (moved_by addition.now.offset span) requested.now home.now) }
+    ensures { IfOk result
+        (λ e. e ≡ not_found item.now (moved_by addition.now.offset span) requested.now home.now) }
 {
     let span = moved(span, addition.offset)?;
     let requested = Text::try_from_str(alloc, requested)?;
@@ -70,7 +74,10 @@ pub(crate) fn type_not_defined(
     span: Span,
     name: &Text,
 ) -> Result<ResolveError, AllocError>
-    ensures { IfOk result (λ e. e ≡ Semantic (moved_by addition.now.offset span) (type_not_defined_text name.now) TypeNotDefined) }
+    ensures { IfOk result (λ e.
+        e
+        ≡ Semantic (moved_by addition.now.offset span) (type_not_defined_text name.now)
+        TypeNotDefined) }
 {
     let span = moved(span, addition.offset)?;
     let message = format!(in alloc; "type `{name}` not defined in interface")?;

@@ -32,10 +32,17 @@ pub(crate) fn type_ids(
 ) -> ResolveResult<Items<Option<TypeId>>>
     requires shaped { IsShaped addition.now.unresolved.now }
     requires activity { activity.now ≡ activity_of (addition_of addition.now) }
-    requires found { found.now ≡ found_among (addition_of addition.now) (named_items addition.now.unresolved.now.foreign_deps) }
-    ensures new_ids { IfOk result (λ new_ids. new_ids ≡ map (active_type_id (addition_of addition.now)) (range_with_len 0 (length addition.now.unresolved.now.types))) }
-    ensures there { OnOk result (AreTypesThere (addition_of addition.now) (length addition.now.unresolved.now.types)) }
-    ensures cause { IfErr result (λ kind. (kind ≡ OutOfMemory) ⊎ IsAdditionCause (addition_of addition.now) kind) }
+    requires found { found.now
+        ≡ found_among (addition_of addition.now)
+        (named_items addition.now.unresolved.now.foreign_deps) }
+    ensures new_ids { IfOk result (λ new_ids.
+        new_ids
+        ≡ map (active_type_id (addition_of addition.now))
+        (range_with_len 0 (length addition.now.unresolved.now.types))) }
+    ensures there { OnOk result
+        (AreTypesThere (addition_of addition.now) (length addition.now.unresolved.now.types)) }
+    ensures cause { IfErr result
+        (λ kind. (kind ≡ OutOfMemory) ⊎ IsAdditionCause (addition_of addition.now) kind) }
 {
     let mut new_ids = Items::new(alloc);
     let mut next = addition.graph.types.len();
@@ -56,13 +63,19 @@ fn new_type_id(
 ) -> ResolveResult<Option<TypeId>>
     requires shaped { IsShaped addition.now.unresolved.now }
     requires activity { activity.now ≡ activity_of (addition_of addition.now) }
-    requires found { found.now ≡ found_among (addition_of addition.now) (named_items addition.now.unresolved.now.foreign_deps) }
+    requires found { found.now
+        ≡ found_among (addition_of addition.now)
+        (named_items addition.now.unresolved.now.foreign_deps) }
     requires inside { t < length addition.now.unresolved.now.types }
-    requires next { next.old ≡ length addition.now.graph.now.types + rank (own_type (addition_of addition.now)) t }
+    requires next { next.old
+        ≡ length addition.now.graph.now.types + rank (own_type (addition_of addition.now)) t }
     ensures id { IfOk result (λ id. id ≡ active_type_id (addition_of addition.now) t) }
-    ensures next { OnOk result (next.new ≡ length addition.now.graph.now.types + rank (own_type (addition_of addition.now)) (t + 1)) }
+    ensures next { OnOk result (next.new
+        ≡ length addition.now.graph.now.types + rank (own_type (addition_of addition.now))
+        (t + 1)) }
     ensures there { OnOk result (IsTypeThere (addition_of addition.now) t) }
-    ensures cause { IfErr result (λ kind. (kind ≡ OutOfMemory) ⊎ IsAdditionCause (addition_of addition.now) kind) }
+    ensures cause { IfErr result
+        (λ kind. (kind ≡ OutOfMemory) ⊎ IsAdditionCause (addition_of addition.now) kind) }
 {
     let active = *activity.types.at(t);
     if active && t < addition.unresolved.unknown_type_spans.len() {
@@ -81,13 +94,18 @@ fn foreign_type(
 ) -> ResolveResult<Option<TypeId>>
     requires shaped { IsShaped addition.now.unresolved.now }
     requires activity { activity.now ≡ activity_of (addition_of addition.now) }
-    requires found { found.now ≡ found_among (addition_of addition.now) (named_items addition.now.unresolved.now.foreign_deps) }
+    requires found { found.now
+        ≡ found_among (addition_of addition.now)
+        (named_items addition.now.unresolved.now.foreign_deps) }
     requires inside { t < length addition.now.unresolved.now.types }
     requires foreign { t < length addition.now.unresolved.now.unknown_type_spans }
-    requires active { type_is_active addition.now.features.now addition.now.unresolved.now.types t ≡ true }
-    ensures id { IfOk result (λ id. id ≡ foreign_type_id addition.now.graph.now addition.now.unresolved.now t) }
+    requires active { type_is_active addition.now.features.now addition.now.unresolved.now.types t
+        ≡ true }
+    ensures id { IfOk result
+        (λ id. id ≡ foreign_type_id addition.now.graph.now addition.now.unresolved.now t) }
     ensures there { OnOk result (IsTypeThere (addition_of addition.now) t) }
-    ensures cause { IfErr result (λ kind. (kind ≡ OutOfMemory) ⊎ IsAdditionCause (addition_of addition.now) kind) }
+    ensures cause { IfErr result
+        (λ kind. (kind ≡ OutOfMemory) ⊎ IsAdditionCause (addition_of addition.now) kind) }
 {
     let def = addition.unresolved.types.at(t);
     let Some(name) = &def.name else {

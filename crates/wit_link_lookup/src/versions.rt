@@ -46,7 +46,8 @@ pub fn check_versions(
     requires shaped { IsShaped addition.now.unresolved.now }
     requires activity { activity.now ≡ activity_of (addition_of addition.now) }
     ensures met { OnOk result (GatesAreMet (addition_of addition.now)) }
-    ensures cause { IfErr result (λ kind. (kind ≡ OutOfMemory) ⊎ IsAdditionCause (addition_of addition.now) kind) }
+    ensures cause { IfErr result
+        (λ kind. (kind ≡ OutOfMemory) ⊎ IsAdditionCause (addition_of addition.now) kind) }
 {
     let checker = Checker {
         alloc,
@@ -64,7 +65,11 @@ pub fn check_versions(
 impl<'a> Checker<'a> {
     /// The package has no version.
     fn without_version(&self, span: Span) -> Result<ResolveError, AllocError>
-        ensures { IfOk result (λ e. e ≡ Semantic (moved_by self.now.addition.offset span) (gate_without_version_text self.now.addition.unresolved.now.name) cause.GateWithoutVersion) }
+        ensures { IfOk result (λ e.
+            e
+            ≡ Semantic (moved_by self.now.addition.offset span)
+            (gate_without_version_text self.now.addition.unresolved.now.name)
+            cause.GateWithoutVersion) }
     {
         let name = &self.addition.unresolved.name;
         let message = format!(in self.alloc;
@@ -80,7 +85,10 @@ impl<'a> Checker<'a> {
         version: &Version,
         span: Span,
     ) -> Result<ResolveError, AllocError>
-        ensures { IfOk result (λ e. e ≡ Semantic (moved_by self.now.addition.offset span) (gate_unreleased_text since.now self.now.addition.unresolved.now.name version.now) cause.GateUnreleased) }
+        ensures { IfOk result (λ e.
+            e
+            ≡ Semantic (moved_by self.now.addition.offset span) (gate_unreleased_text since.now
+            self.now.addition.unresolved.now.name version.now) cause.GateUnreleased) }
     {
         let name = &self.addition.unresolved.name;
         let message = format!(in self.alloc;
@@ -105,7 +113,8 @@ impl<'a> Checker<'a> {
     /// A version with which an item came.
     fn check_since(&self, since: &Version, span: Span) -> ResolveResult<()>
         requires { (deprecated : Option Parts) × Asks self.now (Stable since.now deprecated) span }
-        ensures met { OnOk result (HasReached self.now.addition.unresolved.now.name.version since.now) }
+        ensures met { OnOk result
+            (HasReached self.now.addition.unresolved.now.name.version since.now) }
         ensures cause { IfErr result (MayRefuse self.now) }
     {
         match &self.addition.unresolved.name.version {
@@ -121,8 +130,10 @@ impl<'a> Checker<'a> {
 
     /// Several notes of one item there, up to the first that lets it be active.
     fn check_gates(&self, notes: &Items<Stability>, span: Span) -> ResolveResult<()>
-        requires { Each (λ note. Asks self.now note span) (asked_gates self.now.addition.features.now notes.now) }
-        ensures met { OnOk result (Each (IsMet self.now) (asked_gates self.now.addition.features.now notes.now)) }
+        requires { Each (λ note. Asks self.now note span)
+            (asked_gates self.now.addition.features.now notes.now) }
+        ensures met { OnOk result
+            (Each (IsMet self.now) (asked_gates self.now.addition.features.now notes.now)) }
         ensures cause { IfErr result (MayRefuse self.now) }
     {
         for note in notes.as_slice() {
@@ -136,7 +147,8 @@ impl<'a> Checker<'a> {
 
     /// The gates of types, whoever owns them.
     fn check_types(&self) -> ResolveResult<()>
-        ensures met { OnOk result (Each (λ (def : TypeDef). IsMet self.now def.stability) self.now.addition.unresolved.now.types) }
+        ensures met { OnOk result (Each (λ (def : TypeDef). IsMet self.now def.stability)
+            self.now.addition.unresolved.now.types) }
         ensures cause { IfErr result (MayRefuse self.now) }
     {
         for def in self.addition.unresolved.types.as_slice() {
@@ -148,7 +160,8 @@ impl<'a> Checker<'a> {
     /// The gates of what is named of other packages.
     fn check_packages(&self) -> ResolveResult<()>
         requires { IsCheckerReady self.now }
-        ensures met { OnOk result (Each (MeetsForeign self.now) (foreign_items self.now.addition.unresolved.now.foreign_deps)) }
+        ensures met { OnOk result (Each (MeetsForeign self.now)
+            (foreign_items self.now.addition.unresolved.now.foreign_deps)) }
         ensures cause { IfErr result (MayRefuse self.now) }
     {
         for (_, items) in self.addition.unresolved.foreign_deps.iter() {
@@ -160,7 +173,8 @@ impl<'a> Checker<'a> {
     /// Those of one other package.
     fn check_items(&self, items: &Names<(AstItem, Items<Stability>)>) -> ResolveResult<()>
         requires ready { IsCheckerReady self.now }
-        requires named { Each (Contains (foreign_items self.now.addition.unresolved.now.foreign_deps)) items.now }
+        requires named { Each
+            (Contains (foreign_items self.now.addition.unresolved.now.foreign_deps)) items.now }
         ensures met { OnOk result (Each (MeetsForeign self.now) items.now) }
         ensures cause { IfErr result (MayRefuse self.now) }
     {
@@ -184,7 +198,10 @@ impl<'a> Checker<'a> {
 
     /// The gates of the package's own interfaces.
     fn check_interfaces(&self) -> ResolveResult<()>
-        ensures met { OnOk result (EachAt (λ i (interface : Interface). length (foreign_interfaces self.now.addition.unresolved.now.foreign_deps) ≤ i → IsMet self.now interface.stability) self.now.addition.unresolved.now.interfaces) }
+        ensures met { OnOk result (EachAt (λ i (interface : Interface).
+            length (foreign_interfaces self.now.addition.unresolved.now.foreign_deps) ≤ i
+            → IsMet self.now interface.stability)
+            self.now.addition.unresolved.now.interfaces) }
         ensures cause { IfErr result (MayRefuse self.now) }
     {
         let unresolved = self.addition.unresolved;
@@ -198,7 +215,9 @@ impl<'a> Checker<'a> {
 
     /// The gates of the package's own worlds.
     fn check_worlds(&self) -> ResolveResult<()>
-        ensures met { OnOk result (EachAt (λ w (world : World). length (foreign_worlds self.now.addition.unresolved.now.foreign_deps) ≤ w → IsMet self.now world.stability) self.now.addition.unresolved.now.worlds) }
+        ensures met { OnOk result (EachAt (λ w (world : World).
+            length (foreign_worlds self.now.addition.unresolved.now.foreign_deps) ≤ w
+            → IsMet self.now world.stability) self.now.addition.unresolved.now.worlds) }
         ensures cause { IfErr result (MayRefuse self.now) }
     {
         let unresolved = self.addition.unresolved;
@@ -213,7 +232,8 @@ impl<'a> Checker<'a> {
     /// The gates of the functions of interfaces that are active.
     fn check_functions_of_interfaces(&self) -> ResolveResult<()>
         requires { IsCheckerReady self.now }
-        ensures met { OnOk result (EachAt (MeetsFunctions self.now) self.now.addition.unresolved.now.interfaces) }
+        ensures met { OnOk result
+            (EachAt (MeetsFunctions self.now) self.now.addition.unresolved.now.interfaces) }
         ensures cause { IfErr result (MayRefuse self.now) }
     {
         let interfaces = self.addition.unresolved.interfaces.as_slice();
@@ -228,8 +248,10 @@ impl<'a> Checker<'a> {
 
     /// The gates of functions.
     fn check_functions(&self, functions: &Names<Function>) -> ResolveResult<()>
-        requires { Each (λ (e : List ℕ × Function). Asks self.now e.1.stability e.1.span) functions.now }
-        ensures met { OnOk result (Each (λ (e : List ℕ × Function). IsMet self.now e.1.stability) functions.now) }
+        requires { Each (λ (e : List ℕ × Function). Asks self.now e.1.stability e.1.span)
+            functions.now }
+        ensures met { OnOk result
+            (Each (λ (e : List ℕ × Function). IsMet self.now e.1.stability) functions.now) }
         ensures cause { IfErr result (MayRefuse self.now) }
     {
         for (_, function) in functions.iter() {
@@ -241,7 +263,8 @@ impl<'a> Checker<'a> {
     /// The gates of the entries and the includes of worlds that are active.
     fn check_parts_of_worlds(&self) -> ResolveResult<()>
         requires { IsCheckerReady self.now }
-        ensures met { OnOk result (EachAt (MeetsParts self.now) self.now.addition.unresolved.now.worlds) }
+        ensures met { OnOk result
+            (EachAt (MeetsParts self.now) self.now.addition.unresolved.now.worlds) }
         ensures cause { IfErr result (MayRefuse self.now) }
     {
         let worlds = self.addition.unresolved.worlds.as_slice();
@@ -288,7 +311,8 @@ impl<'a> Checker<'a> {
     /// The gates of includes.
     fn check_includes(&self, includes: &Items<WorldInclude>) -> ResolveResult<()>
         requires { Each (λ (i : WorldInclude). Asks self.now i.stability i.span) includes.now }
-        ensures met { OnOk result (Each (λ (i : WorldInclude). IsMet self.now i.stability) includes.now) }
+        ensures met { OnOk result
+            (Each (λ (i : WorldInclude). IsMet self.now i.stability) includes.now) }
         ensures cause { IfErr result (MayRefuse self.now) }
     {
         for include in includes.as_slice() {

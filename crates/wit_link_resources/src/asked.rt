@@ -18,8 +18,12 @@ pub(crate) fn asked(
     incoming: &Incoming<'_>,
     functions: &[&Function],
 ) -> Result<Items<bool>, AllocError>
-    requires { All (λ t. t < length incoming.now.types.now) (positions_of incoming.now (seen functions.now)) }
-    ensures { IfOk result (λ asked. asked ≡ map (λ t. list_any (nat_eq t) (positions_of incoming.now (seen functions.now))) (range_with_len 0 (length incoming.now.types.now))) }
+    requires { All (λ t. t < length incoming.now.types.now)
+        (positions_of incoming.now (seen functions.now)) }
+    ensures { IfOk result (λ asked.
+        asked
+        ≡ map (λ t. list_any (nat_eq t) (positions_of incoming.now (seen functions.now)))
+        (range_with_len 0 (length incoming.now.types.now))) }
 {
     let ids = positions(alloc, incoming, functions)?;
     marked(alloc, incoming.types.len(), ids.as_slice())
@@ -29,7 +33,8 @@ pub(crate) fn asked(
 /// only error is want of memory.
 fn marked(alloc: Global, count: usize, ids: &[TypeId]) -> Result<Items<bool>, AllocError>
     requires { All (λ id. id < count) ids.now }
-    ensures { IfOk result (λ marks. marks ≡ map (λ t. list_any (nat_eq t) ids.now) (range_with_len 0 count)) }
+    ensures { IfOk result
+        (λ marks. marks ≡ map (λ t. list_any (nat_eq t) ids.now) (range_with_len 0 count)) }
 {
     let mut marks = Items::from_vec(vec![in alloc; false; count]?);
     for id in ids {
@@ -60,7 +65,10 @@ fn push_types(
     ids: &mut Items<TypeId>,
     incoming: &Incoming<'_>,
 ) -> Result<(), AllocError>
-    ensures { OnOk result (ids.new ≡ ids.old ++ flat_map (λ (def : TypeDef). value_positions def.kind) (selected (new_of incoming.now) incoming.now.types.now)) }
+    ensures { OnOk result (ids.new
+        ≡ ids.old
+        ++ flat_map (λ (def : TypeDef). value_positions def.kind)
+        (selected (new_of incoming.now) incoming.now.types.now)) }
 {
     for (index, def) in incoming.types.as_slice().iter().enumerate() {
         if incoming.is_new(index) {

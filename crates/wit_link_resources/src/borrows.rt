@@ -107,8 +107,10 @@ fn is_borrow_there(
     requires new_ids { new_ids.now ≡ new_ids_of (addition_of addition.now) }
     requires there { index < length addition.now.unresolved.now.types }
     requires free { AreFreeTypes addition.now.graph.now.types free.old.keys }
-    ensures holds { IfOk result (λ holds. IsTrue holds ↔ IsBorrowThere (addition_of addition.now) index) }
-    ensures free { IfOk result (λ holds. holds ≡ false → AreFreeTypes addition.now.graph.now.types free.new.keys) }
+    ensures holds { IfOk result
+        (λ holds. IsTrue holds ↔ IsBorrowThere (addition_of addition.now) index) }
+    ensures free { IfOk result
+        (λ holds. holds ≡ false → AreFreeTypes addition.now.graph.now.types free.new.keys) }
 {
     if index < addition.unresolved.unknown_type_spans.len() {
         match *new_ids.types.at(index) {
@@ -136,9 +138,13 @@ pub(crate) fn may_hold_borrow(
     requires there { id < length addition.now.unresolved.now.types }
     requires unresolved { AreFreeOfUnresolved (addition_of addition.now) free.old.unresolved.keys }
     requires graph { AreFreeTypes addition.now.graph.now.types free.old.graph.keys }
-    ensures holds { IfOk result (λ holds. IsTrue holds ↔ MayHoldBorrow (addition_of addition.now) id) }
-    ensures unresolved { IfOk result (λ holds. holds ≡ false → AreFreeOfUnresolved (addition_of addition.now) free.new.unresolved.keys) }
-    ensures graph { IfOk result (λ holds. holds ≡ false → AreFreeTypes addition.now.graph.now.types free.new.graph.keys) }
+    ensures holds { IfOk result
+        (λ holds. IsTrue holds ↔ MayHoldBorrow (addition_of addition.now) id) }
+    ensures unresolved { IfOk result (λ holds.
+        holds ≡ false
+        → AreFreeOfUnresolved (addition_of addition.now) free.new.unresolved.keys) }
+    ensures graph { IfOk result
+        (λ holds. holds ≡ false → AreFreeTypes addition.now.graph.now.types free.new.graph.keys) }
 {
     let mut stack = Items::new(alloc);
     stack.push(id.index())?;

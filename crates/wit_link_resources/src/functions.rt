@@ -16,7 +16,8 @@ pub(crate) fn active_functions<'a>(
     activity: &Activity,
 ) -> Result<Vec<&'a Function>, AllocError>
     requires { activity.now ≡ activity_of (addition_of addition.now) }
-    ensures { IfOk result (λ functions. seen functions.items ≡ active_functions (addition_of addition.now)) }
+    ensures { IfOk result
+        (λ functions. seen functions.items ≡ active_functions (addition_of addition.now)) }
 {
     let mut functions = Vec::new(alloc);
     push_interfaces(&mut functions, addition, activity)?;
@@ -31,7 +32,10 @@ fn push_interfaces<'a>(
     activity: &Activity,
 ) -> Result<(), AllocError>
     requires { activity.now ≡ activity_of (addition_of addition.now) }
-    ensures { OnOk result (seen functions.new.items ≡ seen functions.old.items ++ flat_map (interface_functions (addition_of addition.now)) (range_with_len 0 (length addition.now.unresolved.now.interfaces))) }
+    ensures { OnOk result (seen functions.new.items
+        ≡ seen functions.old.items
+        ++ flat_map (interface_functions (addition_of addition.now))
+        (range_with_len 0 (length addition.now.unresolved.now.interfaces))) }
 {
     for (index, interface) in addition.unresolved.interfaces.as_slice().iter().enumerate() {
         if *activity.interfaces.at(index) {
@@ -48,7 +52,10 @@ fn push_worlds<'a>(
     activity: &Activity,
 ) -> Result<(), AllocError>
     requires { activity.now ≡ activity_of (addition_of addition.now) }
-    ensures { OnOk result (seen functions.new.items ≡ seen functions.old.items ++ flat_map (world_functions (addition_of addition.now)) (range_with_len 0 (length addition.now.unresolved.now.worlds))) }
+    ensures { OnOk result (seen functions.new.items
+        ≡ seen functions.old.items
+        ++ flat_map (world_functions (addition_of addition.now))
+        (range_with_len 0 (length addition.now.unresolved.now.worlds))) }
 {
     for (index, world) in addition.unresolved.worlds.as_slice().iter().enumerate() {
         if *activity.worlds.at(index) {
@@ -65,7 +72,8 @@ fn push_named<'a>(
     features: &Features,
     named: &'a Names<Function>,
 ) -> Result<(), AllocError>
-    ensures { OnOk result (seen functions.new.items ≡ seen functions.old.items ++ active_named features.now named.now) }
+    ensures { OnOk result (seen functions.new.items
+        ≡ seen functions.old.items ++ active_named features.now named.now) }
 {
     for (_, function) in named.iter() {
         push_active(functions, features, function)?;
@@ -79,7 +87,8 @@ fn push_entries<'a>(
     features: &Features,
     entries: &'a Table<WorldKey, WorldItem>,
 ) -> Result<(), AllocError>
-    ensures { OnOk result (seen functions.new.items ≡ seen functions.old.items ++ active_entries features.now entries.now) }
+    ensures { OnOk result (seen functions.new.items
+        ≡ seen functions.old.items ++ active_entries features.now entries.now) }
 {
     for (_, item) in entries.iter() {
         push_item(functions, features, item)?;
@@ -93,7 +102,8 @@ fn push_item<'a>(
     features: &Features,
     item: &'a WorldItem,
 ) -> Result<(), AllocError>
-    ensures { OnOk result (seen functions.new.items ≡ seen functions.old.items ++ active_item features.now item.now) }
+    ensures { OnOk result (seen functions.new.items
+        ≡ seen functions.old.items ++ active_item features.now item.now) }
 {
     match item {
         WorldItem::Function(function) => push_active(functions, features, function),
@@ -107,7 +117,8 @@ fn push_active<'a>(
     features: &Features,
     function: &'a Function,
 ) -> Result<(), AllocError>
-    ensures { OnOk result (seen functions.new.items ≡ seen functions.old.items ++ active_one features.now function.now) }
+    ensures { OnOk result (seen functions.new.items
+        ≡ seen functions.old.items ++ active_one features.now function.now) }
 {
     if is_active(features, &function.stability) {
         functions.push(function)?;

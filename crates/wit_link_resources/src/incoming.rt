@@ -32,8 +32,12 @@ impl Incoming<'_> {
     /// What a type names as an alias, where it is new.
     pub(crate) fn new_alias(&self, index: usize) -> Option<TypeId>
         requires { index < length self.now.types.now }
-        ensures some { (target : ℕ) → result ≡ Some target → (new_of self.now index ≡ true) × ((def : TypeDef) × (slice_get self.now.types.now index ≡ Some def) × (alias_target def.kind ≡ Some target)) }
-        ensures none { result ≡ None → new_of self.now index ≡ true → (def : TypeDef) → slice_get self.now.types.now index ≡ Some def → alias_target def.kind ≡ None }
+        ensures some { (target : ℕ) → result ≡ Some target
+            → (new_of self.now index ≡ true)
+            × ((def : TypeDef) × (slice_get self.now.types.now index ≡ Some def)
+            × (alias_target def.kind ≡ Some target)) }
+        ensures none { result ≡ None → new_of self.now index ≡ true → (def : TypeDef)
+            → slice_get self.now.types.now index ≡ Some def → alias_target def.kind ≡ None }
     {
         if self.is_new(index) {
             alias_target(&self.types.at(index).kind)
@@ -45,8 +49,11 @@ impl Incoming<'_> {
     /// The type of the graph that a type is remapped to, if it isn't new.
     pub(crate) fn in_graph(&self, index: usize) -> Option<TypeId>
         requires { index < length self.now.ids.now }
-        ensures some { (id : ℕ) → result ≡ Some id → (new_of self.now index ≡ false) × (slice_get self.now.ids.now index ≡ Some (Some id)) }
-        ensures none { result ≡ None → (new_of self.now index ≡ true) ⊎ (slice_get self.now.ids.now index ≡ Some None) }
+        ensures some { (id : ℕ) → result ≡ Some id
+            → (new_of self.now index ≡ false)
+            × (slice_get self.now.ids.now index ≡ Some (Some id)) }
+        ensures none { result ≡ None
+            → (new_of self.now index ≡ true) ⊎ (slice_get self.now.ids.now index ≡ Some None) }
     {
         if self.is_new(index) {
             None
@@ -58,7 +65,8 @@ impl Incoming<'_> {
     /// What a type is remapped to; one that isn't stays.
     pub(crate) fn remapped(&self, index: usize) -> TypeId
         requires { index < length self.now.ids.now }
-        ensures { (o : Option ℕ) → slice_get self.now.ids.now index ≡ Some o → result ≡ unwrap_or o index }
+        ensures { (o : Option ℕ) → slice_get self.now.ids.now index ≡ Some o
+            → result ≡ unwrap_or o index }
     {
         match *self.ids.at(index) {
             Some(id) => id,
@@ -68,7 +76,8 @@ impl Incoming<'_> {
 
     /// The id of the first `own`: it comes behind the types of the graph and those that are new.
     pub(crate) fn first_own(&self) -> usize
-        ensures first { result ≡ length self.now.graph_types.now + rank (new_of self.now) (length self.now.ids.now) }
+        ensures first { result
+            ≡ length self.now.graph_types.now + rank (new_of self.now) (length self.now.ids.now) }
         ensures room { result + length self.now.ids.now < 2 ^ 64 }
     {
         self.graph_types.as_slice().len() + self.count_new()

@@ -34,9 +34,12 @@ pub(crate) fn leads(
     requires long { length known.old ≡ length incoming.now.types.now }
     requires remapped { IsRemapped incoming.now.ids.now index }
     requires met { AreRight incoming.now.graph_types.now met.old }
-    ensures leads { IfOk result (λ leads. (functions : List Function) (r : ValueRemap) → IsRemap incoming.now functions r → AreTold r known.old → leads_in r index ≡ leads) }
+    ensures leads { IfOk result (λ leads.
+        (functions : List Function) (r : ValueRemap) → IsRemap incoming.now functions r
+        → AreTold r known.old → leads_in r index ≡ leads) }
     ensures long { length known.new ≡ length incoming.now.types.now }
-    ensures told { OnOk result ((functions : List Function) (r : ValueRemap) → IsRemap incoming.now functions r → AreTold r known.old → AreTold r known.new) }
+    ensures told { OnOk result ((functions : List Function) (r : ValueRemap)
+        → IsRemap incoming.now functions r → AreTold r known.old → AreTold r known.new) }
     ensures met { AreRight incoming.now.graph_types.now met.new }
     ensures begins { take (length met.old) met.new ≡ met.old }
 {
@@ -52,7 +55,8 @@ fn end_of_way(incoming: &Incoming<'_>, known: &Items<Option<bool>>, index: usize
     requires long { length known.now ≡ length incoming.now.types.now }
     requires remapped { IsRemapped incoming.now.ids.now index }
     ensures remapped { IsRemapped incoming.now.ids.now result }
-    ensures same { (functions : List Function) (r : ValueRemap) → IsRemap incoming.now functions r → leads_in r index ≡ leads_in r result }
+    ensures same { (functions : List Function) (r : ValueRemap) → IsRemap incoming.now functions r
+        → leads_in r index ≡ leads_in r result }
     ensures end { EndsWay incoming.now known.now result }
 {
     let mut current = index;
@@ -74,7 +78,9 @@ fn leads_at_end(
     requires remapped { IsRemapped incoming.now.ids.now index }
     requires end { EndsWay incoming.now known.now index }
     requires met { AreRight incoming.now.graph_types.now met.old }
-    ensures leads { IfOk result (λ leads. (functions : List Function) (r : ValueRemap) → IsRemap incoming.now functions r → AreTold r known.now → leads_in r index ≡ leads) }
+    ensures leads { IfOk result (λ leads.
+        (functions : List Function) (r : ValueRemap) → IsRemap incoming.now functions r
+        → AreTold r known.now → leads_in r index ≡ leads) }
     ensures met { AreRight incoming.now.graph_types.now met.new }
     ensures begins { take (length met.old) met.new ≡ met.old }
 {
@@ -92,9 +98,12 @@ fn leads_unknown(
 ) -> Result<bool, AllocError>
     requires can { CanComeIn incoming.now }
     requires remapped { IsRemapped incoming.now.ids.now index }
-    requires end { new_of incoming.now index ≡ true → (def : TypeDef) → slice_get incoming.now.types.now index ≡ Some def → alias_target def.kind ≡ None }
+    requires end { new_of incoming.now index ≡ true → (def : TypeDef)
+        → slice_get incoming.now.types.now index ≡ Some def → alias_target def.kind ≡ None }
     requires met { AreRight incoming.now.graph_types.now met.old }
-    ensures leads { IfOk result (λ leads. (functions : List Function) (r : ValueRemap) → IsRemap incoming.now functions r → leads_in r index ≡ leads) }
+    ensures leads { IfOk result (λ leads.
+        (functions : List Function) (r : ValueRemap) → IsRemap incoming.now functions r
+        → leads_in r index ≡ leads) }
     ensures met { AreRight incoming.now.graph_types.now met.new }
     ensures begins { take (length met.old) met.new ≡ met.old }
 {
@@ -110,7 +119,8 @@ fn note_way(incoming: &Incoming<'_>, known: &mut Items<Option<bool>>, index: usi
     requires long { length known.old ≡ length incoming.now.types.now }
     requires remapped { IsRemapped incoming.now.ids.now index }
     ensures long { length known.new ≡ length incoming.now.types.now }
-    ensures told { (functions : List Function) (r : ValueRemap) → IsRemap incoming.now functions r → AreTold r known.old → leads_in r index ≡ leads → AreTold r known.new }
+    ensures told { (functions : List Function) (r : ValueRemap) → IsRemap incoming.now functions r
+        → AreTold r known.old → leads_in r index ≡ leads → AreTold r known.new }
 {
     let mut current = index;
     while let Some(target) = next(incoming, known, current) {
@@ -124,7 +134,8 @@ fn note_way(incoming: &Incoming<'_>, known: &mut Items<Option<bool>>, index: usi
 fn next(incoming: &Incoming<'_>, known: &Items<Option<bool>>, index: usize) -> Option<TypeId>
     requires long { length known.now ≡ length incoming.now.types.now }
     requires there { index < length incoming.now.types.now }
-    ensures some { (target : ℕ) → result ≡ Some target → NamesNext incoming.now known.now index target }
+    ensures some { (target : ℕ) → result ≡ Some target
+        → NamesNext incoming.now known.now index target }
     ensures none { result ≡ None → EndsWay incoming.now known.now index }
 {
     match *known.at(index) {

@@ -30,9 +30,11 @@ pub fn remapped_values(
     met: &mut Table<TypeId, bool>,
 ) -> Result<Values, AllocError>
     requires can { CanComeIn incoming.now }
-    requires there { (t : ℕ) → Contains (positions_of incoming.now (seen functions.now)) t → IsRemapped incoming.now.ids.now t }
+    requires there { (t : ℕ) → Contains (positions_of incoming.now (seen functions.now)) t
+        → IsRemapped incoming.now.ids.now t }
     requires met { AreRight incoming.now.graph_types.now met.old }
-    ensures values { IfOk result (λ values. (r : ValueRemap) → IsRemap incoming.now (seen functions.now) r → values ≡ values_in r) }
+    ensures values { IfOk result (λ values.
+        (r : ValueRemap) → IsRemap incoming.now (seen functions.now) r → values ≡ values_in r) }
     ensures met { AreRight incoming.now.graph_types.now met.new }
     ensures begins { take (length met.old) met.new ≡ met.old }
 {
@@ -64,10 +66,13 @@ fn needed(
     met: &mut Table<TypeId, bool>,
 ) -> Result<Items<bool>, AllocError>
     requires can { CanComeIn incoming.now }
-    requires there { (t : ℕ) → Contains (positions_of incoming.now (seen functions.now)) t → IsRemapped incoming.now.ids.now t }
+    requires there { (t : ℕ) → Contains (positions_of incoming.now (seen functions.now)) t
+        → IsRemapped incoming.now.ids.now t }
     requires met { AreRight incoming.now.graph_types.now met.old }
     ensures long { IfOk result (λ needed. length needed ≡ length incoming.now.types.now) }
-    ensures needed { IfOk result (λ needed. (r : ValueRemap) → IsRemap incoming.now (seen functions.now) r → needed ≡ map (needs_own r) (range_with_len 0 (length incoming.now.types.now))) }
+    ensures needed { IfOk result (λ needed.
+        (r : ValueRemap) → IsRemap incoming.now (seen functions.now) r
+        → needed ≡ map (needs_own r) (range_with_len 0 (length incoming.now.types.now))) }
     ensures met { AreRight incoming.now.graph_types.now met.new }
     ensures begins { take (length met.old) met.new ≡ met.old }
 {

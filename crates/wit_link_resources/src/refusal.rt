@@ -42,7 +42,8 @@ pub(crate) fn borrow_in_result(
     function: &Function,
     offset: u32,
 ) -> Result<ResolveError, AllocError>
-    ensures { IfOk result (IsErrorAtSpan function.now.span offset (borrow_text function.now.name) cause.BorrowInResult) }
+    ensures { IfOk result (IsErrorAtSpan function.now.span offset (borrow_text function.now.name)
+        cause.BorrowInResult) }
 {
     let name = &function.name;
     let message = format!(in alloc;

@@ -38,7 +38,8 @@ pub fn check_resources(
     ensures met { AreRight addition.now.graph.now.types met.new }
     ensures begins { take (length met.old) met.new ≡ met.old }
     ensures resources { OnOk result (HasResources (addition_of addition.now)) }
-    ensures cause { IfErr result (λ kind. (kind ≡ OutOfMemory) ⊎ IsAdditionCause (addition_of addition.now) kind) }
+    ensures cause { IfErr result
+        (λ kind. (kind ≡ OutOfMemory) ⊎ IsAdditionCause (addition_of addition.now) kind) }
 {
     for &(id, span) in addition.unresolved.required_resource_types.as_slice() {
         check_required(alloc, addition, new_ids, met, id, span)?;
@@ -62,7 +63,8 @@ fn check_required(
     requires met { AreRight addition.now.graph.now.types met.old }
     requires required { Contains addition.now.unresolved.now.required_resource_types (id, span) }
     ensures ok { OnOk result (LeadsWhereFound (addition_of addition.now) id) }
-    ensures cause { IfErr result (λ kind. (kind ≡ OutOfMemory) ⊎ IsAdditionCause (addition_of addition.now) kind) }
+    ensures cause { IfErr result
+        (λ kind. (kind ≡ OutOfMemory) ⊎ IsAdditionCause (addition_of addition.now) kind) }
     ensures met { AreRight addition.now.graph.now.types met.new }
     ensures begins { take (length met.old) met.new ≡ met.old }
 {

@@ -40,7 +40,8 @@ pub fn check_results(
     requires new_ids { new_ids.now ≡ new_ids_of (addition_of addition.now) }
     requires image { IsResolved (addition_of addition.now) }
     ensures no_borrow { OnOk result (ReturnsNoBorrow (addition_of addition.now)) }
-    ensures cause { IfErr result (λ kind. (kind ≡ OutOfMemory) ⊎ IsAdditionCause (addition_of addition.now) kind) }
+    ensures cause { IfErr result
+        (λ kind. (kind ≡ OutOfMemory) ⊎ IsAdditionCause (addition_of addition.now) kind) }
 {
     let functions = active_functions(alloc, addition, activity)?;
     let mut free = Free::new(alloc);
@@ -66,9 +67,11 @@ fn check_result(
     requires unresolved { AreFreeOfUnresolved (addition_of addition.now) free.old.unresolved.keys }
     requires graph { AreFreeTypes addition.now.graph.now.types free.old.graph.keys }
     ensures none { OnOk result (ReturnsNone (addition_of addition.now) function.now) }
-    ensures unresolved { OnOk result (AreFreeOfUnresolved (addition_of addition.now) free.new.unresolved.keys) }
+    ensures unresolved { OnOk result
+        (AreFreeOfUnresolved (addition_of addition.now) free.new.unresolved.keys) }
     ensures graph { OnOk result (AreFreeTypes addition.now.graph.now.types free.new.graph.keys) }
-    ensures cause { IfErr result (λ kind. (kind ≡ OutOfMemory) ⊎ IsAdditionCause (addition_of addition.now) kind) }
+    ensures cause { IfErr result
+        (λ kind. (kind ≡ OutOfMemory) ⊎ IsAdditionCause (addition_of addition.now) kind) }
 {
     let Some(id) = result_type(function) else {
         return Ok(());

@@ -22,8 +22,13 @@ abbrev pub new_package : Addition → Package
 new_package a = record {
   name = a.unresolved.name;
   docs = a.unresolved.docs;
-  interfaces = filter_map (λ (e : ℕ × Interface). option_map (λ (name : List ℕ). (name, remapped_interface a e.0)) e.1.name) (selected_with_index (own_interface a) a.unresolved.interfaces);
-  worlds = map (λ (e : ℕ × World). (e.1.name, remapped_world a e.0)) (selected_with_index (own_world a) a.unresolved.worlds);
+  interfaces =
+      filter_map (λ (e : ℕ × Interface).
+      option_map (λ (name : List ℕ). (name, remapped_interface a e.0)) e.1.name)
+      (selected_with_index (own_interface a) a.unresolved.interfaces);
+  worlds =
+      map (λ (e : ℕ × World). (e.1.name, remapped_world a e.0))
+      (selected_with_index (own_world a) a.unresolved.worlds);
 }
 
 -- the graph with the package's types and interfaces, before its worlds
@@ -40,14 +45,19 @@ with_parts a = record {
 
 -- a world, finished: its setters after their getters, elaborated over the types and interfaces of a graph
 abbrev pub finished_world : Graph → World → World
-finished_world g world = elaborated_world g (record world { imports = setters_placed world.imports; exports = setters_placed world.exports })
+finished_world g world =
+    elaborated_world g (record world
+    { imports = setters_placed world.imports; exports = setters_placed world.exports })
 
 -- the graph with one world more behind its worlds, with all its active includes, finished
 abbrev pub with_world : Addition → Graph → ℕ × World → Graph
 with_world a g e =
     let world = world_image (addition_maps a) e.0 e.1 in
     let b = with_several (length a.graph.packages) g world (updated_includes a e.1) in
-    record b.graph { worlds = b.graph.worlds ++ finished_world b.graph (with_entry_lists world b.lists) ∷ [] }
+    record b.graph {
+      worlds = b.graph.worlds
+          ++ finished_world b.graph (with_entry_lists world b.lists) ∷ [];
+    }
 
 -- the graph with the first so many of the package's worlds
 abbrev pub with_worlds : Addition → ℕ → Graph

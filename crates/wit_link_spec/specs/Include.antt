@@ -55,7 +55,8 @@ with_entry_lists world lists = record world { imports = lists.imports; exports =
 
 -- does interface i belong to the world? It has no name and stands in it
 abbrev pub belongs_to : Graph → World → ℕ → Bool
-belongs_to g world i = is_unnamed g.interfaces i && list_any (nat_eq i) (interfaces_in_worlds (world ∷ []))
+belongs_to g world i =
+    is_unnamed g.interfaces i && list_any (nat_eq i) (interfaces_in_worlds (world ∷ []))
 
 -- an owner belongs to world w: it is that world, or an interface that belongs to it
 abbrev pub owner_belongs_to : Graph → ℕ → World → TypeOwner → Bool
@@ -65,12 +66,15 @@ owner_belongs_to g w world owner.None = false
 
 -- does type t belong to world w? Its owner does
 abbrev pub is_owned_within : Graph → ℕ → World → ℕ → Bool
-is_owned_within g w world t = option_map_or (λ (def : TypeDef). owner_belongs_to g w world def.owner) (slice_get g.types t) false
+is_owned_within g w world t =
+    option_map_or (λ (def : TypeDef). owner_belongs_to g w world def.owner) (slice_get g.types t)
+    false
 
 -- the types that an entry names: itself where it is a type, those that its function refers to, those that an interface
 -- which belongs to the world lists and that its functions refer to
 abbrev pub entry_mentions : Graph → World → Entry → List ℕ
-entry_mentions g world (k, item.Interface i stability docs span external_id) = if belongs_to g world i
+entry_mentions g world (k, item.Interface i stability docs span external_id) =
+    if belongs_to g world i
     then option_map_or (λ (interface : Interface).
     map (λ (e : List ℕ × ℕ). e.1) interface.types ++ flat_map (λ (e : List ℕ × Function). function_references e.1) interface.functions) (slice_get g.interfaces i) []
     else []
@@ -79,22 +83,28 @@ entry_mentions g world (k, item.Type_ t span) = t ∷ []
 
 -- what is reached from the types that the world's entries name
 abbrev pub named_types : Graph → World → List ℕ
-named_types g world = flat_map (post_order (type_references g.types)) (flat_map (entry_mentions g world) (world.imports ++ world.exports))
+named_types g world =
+    flat_map (post_order (type_references g.types))
+    (flat_map (entry_mentions g world) (world.imports ++ world.exports))
 
 -- has type t no name?
 abbrev pub is_unnamed_type : Graph → ℕ → Bool
-is_unnamed_type g t = option_map_or (λ (def : TypeDef). not (is_some def.name)) (slice_get g.types t) false
+is_unnamed_type g t =
+    option_map_or (λ (def : TypeDef). not (is_some def.name)) (slice_get g.types t) false
 
 -- does an include of world w copy type t? It belongs to the world; or it has no name and is on a way from what an entry
 -- names to a type that belongs to the world: it is reached from the one, and the other from it
 abbrev pub is_copied : Graph → ℕ → World → ℕ → Bool
 is_copied g w world t =
     is_owned_within g w world t
-    || (is_unnamed_type g t && (list_any (nat_eq t) (named_types g world) && list_any (is_owned_within g w world) (post_order (type_references g.types) t)))
+    || (is_unnamed_type g t
+    && (list_any (nat_eq t) (named_types g world)
+    && list_any (is_owned_within g w world) (post_order (type_references g.types) t)))
 
 -- what a type is remapped to: one that is copied to its copy, behind what is there in the order of the ids; all else stays
 abbrev pub type_copy : Graph → ℕ → World → ℕ → ℕ
-type_copy g w world t = if is_copied g w world t then length g.types + rank (is_copied g w world) t else t
+type_copy g w world t =
+    if is_copied g w world t then length g.types + rank (is_copied g w world) t else t
 
 -- the maps of an include of world `from` into world `into` of package `home`, under these renamings: what is copied goes
 -- to its copy, values plainly (no `own` is made), labels are renamed
@@ -102,7 +112,8 @@ abbrev pub copy_maps : Graph → ℕ → World → List IncludeName → ℕ → 
 copy_maps g from world names into home = record {
   types = type_copy g from world;
   values = type_copy g from world;
-  interfaces = λ i. if belongs_to g world i then length g.interfaces + rank (belongs_to g world) i else i;
+  interfaces =
+      λ i. if belongs_to g world i then length g.interfaces + rank (belongs_to g world) i else i;
   worlds = λ w. if nat_eq w from then into else w;
   home = λ p. Some home;
   labels = λ w name. if nat_eq w from then renamed_label names name else name;
@@ -118,13 +129,17 @@ with_copies g from world m = record g {
 
 -- an entry that comes anew: under the key of an interface a `@since` of another package is dropped
 abbrev pub new_item : Bool → WorldKey → WorldItem → WorldItem
-new_item true (key.Interface k) (item.Interface i (Stable since deprecated) docs span external_id) = item.Interface i Unknown docs span external_id
+new_item true (key.Interface k) (item.Interface i (Stable since deprecated) docs span external_id) =
+    item.Interface i Unknown docs span external_id
 new_item other k held = held
 
 -- a list with brought entries added to it: those that were there stay in front
 abbrev pub joined_entries : Bool → List Entry → List Entry → List Entry
 joined_entries other current brought =
-    map (joined_entry other brought) current ++ map (λ (e : Entry). (e.0, new_item other e.0 e.1)) (filter (λ (e : Entry). not (list_any (λ (there : Entry). same_key e.0 there.0) current)) brought)
+    map (joined_entry other brought) current
+    ++ map (λ (e : Entry). (e.0, new_item other e.0 e.1)) (filter
+    (λ (e : Entry). not (list_any (λ (there : Entry). same_key e.0 there.0) current))
+    brought)
 
 -- ---- the include
 
@@ -138,14 +153,17 @@ abbrev pub is_other_package : Option ℕ → ℕ → Bool
 is_other_package there home = not (option_eq nat_eq there (Some home))
 
 -- with world `from` included into world `into` of package `home`
-abbrev pub with_world_included : ℕ → ℕ → List IncludeName → ℕ → World → PartiallyLinked → PartiallyLinked
+abbrev pub with_world_included : ℕ → ℕ → List IncludeName → ℕ → World → PartiallyLinked
+    → PartiallyLinked
 with_world_included home into names from world b =
     let m = copy_maps b.graph from world names into home in
     record {
       graph = with_copies b.graph from world m;
       lists = record {
         imports = joined_entries (is_other_package world.package home) b.lists.imports (map (entry_image m from) world.imports);
-        exports = joined_entries (is_other_package world.package home) b.lists.exports (map (entry_image m from) world.exports);
+        exports =
+            joined_entries (is_other_package world.package home) b.lists.exports
+            (map (entry_image m from) world.exports);
       };
     }
 
@@ -153,5 +171,8 @@ with_world_included home into names from world b =
 -- there changes nothing
 abbrev pub with_several : ℕ → Graph → World → List WorldInclude → PartiallyLinked
 with_several home g world includes =
-    fold (λ (b : PartiallyLinked) (i : WorldInclude). option_map_or (λ (old : World). with_world_included home (length b.graph.worlds) i.names i.id old b) (slice_get b.graph.worlds i.id) b)
+    fold (λ (b : PartiallyLinked) (i : WorldInclude).
+    option_map_or
+    (λ (old : World). with_world_included home (length b.graph.worlds) i.names i.id old b)
+    (slice_get b.graph.worlds i.id) b)
     (record { graph = g; lists = lists_of world }) includes

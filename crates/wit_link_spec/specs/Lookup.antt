@@ -19,11 +19,16 @@ use Rattle.wit_graph_data.specs.declared.graph.Graph.{Graph}
 
 -- what is named of other packages: the index and the name of the package, and the item
 abbrev pub named_items : ForeignItems → List (ℕ × PackageName × ForeignItem)
-named_items deps = flat_map (λ (e : ℕ × (PackageName × List ForeignItem)). map (λ (i : ForeignItem). (e.0, e.1.0, i)) e.1.1) (enumerate_from 0 deps)
+named_items deps =
+    flat_map (λ (e : ℕ × (PackageName × List ForeignItem)).
+    map (λ (i : ForeignItem). (e.0, e.1.0, i)) e.1.1) (enumerate_from 0 deps)
 
 -- what names the thing of this id, among interfaces or among worlds
-abbrev pub naming_item : (AstItem → List ℕ) → UnresolvedPackage → ℕ → Option (ℕ × PackageName × ForeignItem)
-naming_item ids u id = find (λ (e : ℕ × PackageName × ForeignItem). list_any (nat_eq id) (ids e.2.1.0)) (named_items u.foreign_deps)
+abbrev pub naming_item : (AstItem → List ℕ) → UnresolvedPackage → ℕ
+    → Option (ℕ × PackageName × ForeignItem)
+naming_item ids u id =
+    find (λ (e : ℕ × PackageName × ForeignItem). list_any (nat_eq id) (ids e.2.1.0))
+    (named_items u.foreign_deps)
 
 -- the types of other packages are the first ones
 abbrev pub is_foreign_type : UnresolvedPackage → ℕ → Bool
@@ -33,7 +38,8 @@ is_foreign_type u t = nat_lt t (length u.unknown_type_spans)
 
 -- the package of this name, but never the one that is added
 abbrev pub find_package : Graph → PackageName → PackageName → Option ℕ
-find_package g own name = if same_package own name then None else lookup (same_package name) g.package_names
+find_package g own name =
+    if same_package own name then None else lookup (same_package name) g.package_names
 
 -- the interface of this name in it
 abbrev pub find_interface : Graph → PackageName → PackageName → List ℕ → Option ℕ
@@ -45,11 +51,15 @@ find_world g own home name = option_and_then (world_in g name) (find_package g o
 
 -- the interface of the graph that foreign interface i of the package names
 abbrev pub foreign_interface_id : Graph → UnresolvedPackage → ℕ → Option ℕ
-foreign_interface_id g u i = option_and_then (λ (e : ℕ × PackageName × ForeignItem). find_interface g u.name e.1 e.2.0) (naming_item interface_id u i)
+foreign_interface_id g u i =
+    option_and_then (λ (e : ℕ × PackageName × ForeignItem). find_interface g u.name e.1 e.2.0)
+    (naming_item interface_id u i)
 
 -- the world of the graph that foreign world w of the package names
 abbrev pub foreign_world_id : Graph → UnresolvedPackage → ℕ → Option ℕ
-foreign_world_id g u w = option_and_then (λ (e : ℕ × PackageName × ForeignItem). find_world g u.name e.1 e.2.0) (naming_item world_id u w)
+foreign_world_id g u w =
+    option_and_then (λ (e : ℕ × PackageName × ForeignItem). find_world g u.name e.1 e.2.0)
+    (naming_item world_id u w)
 
 -- the foreign interface that owns a foreign type
 abbrev pub owning_interface : TypeOwner → Option ℕ

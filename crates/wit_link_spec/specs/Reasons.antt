@@ -45,18 +45,21 @@ HasPackage g name = is_some (lookup (same_package name) g.package_names) ≡ tru
 
 -- ---- 5: the package is there
 
-pub record IsDuplicate (a : Addition) (name : PackageName) (span1 span2 : OptionalSpan) : Type 0 where
-  pub there : HasPackage a.graph a.unresolved.name
-  pub name_is : name ≡ a.unresolved.name
-  pub span1_is : span1 ≡ moved_by a.offset a.unresolved.package_name_span
-  pub span2_is : span2 ≡ None
+pub record IsDuplicate (a : Addition) (name : PackageName) (span1 span2 : OptionalSpan) : Type 0
+  where
+    pub there : HasPackage a.graph a.unresolved.name
+    pub name_is : name ≡ a.unresolved.name
+    pub span1_is : span1 ≡ moved_by a.offset a.unresolved.package_name_span
+    pub span2_is : span2 ≡ None
 
 -- ---- 1, 2, 3: what is named of other packages isn't there
 
 -- the packages that are known: those of the graph in order and the one that is added, each once
 abbrev pub known_packages : Addition → List PackageName
 known_packages a =
-    if is_some (lookup (same_package a.unresolved.name) a.graph.package_names) then keys_of a.graph.package_names else keys_of a.graph.package_names ++ a.unresolved.name ∷ []
+    if is_some (lookup (same_package a.unresolved.name) a.graph.package_names)
+    then keys_of a.graph.package_names
+    else keys_of a.graph.package_names ++ a.unresolved.name ∷ []
 
 -- 1: something is named of a package that is neither in the graph nor the one that is added
 pub record LacksPackage (a : Addition) (span : OptionalSpan) (requested : PackageName) (known : List PackageName) : Type 0 where
@@ -66,7 +69,8 @@ pub record LacksPackage (a : Addition) (span : OptionalSpan) (requested : Packag
   pub some : items ≢ []
   pub absent : HasPackage a.graph requested → ⊥
   pub other : requested ≢ a.unresolved.name
-  pub span_is : SomeAt a.unresolved.foreign_dep_spans at (λ (s : OptionalSpan). span ≡ moved_by a.offset s)
+  pub span_is : SomeAt a.unresolved.foreign_dep_spans at
+      (λ (s : OptionalSpan). span ≡ moved_by a.offset s)
   pub known_are : known ≡ known_packages a
 
 -- 2: a world that is active isn't in the table of its package; the package that is added counts as there and empty
@@ -74,22 +78,26 @@ pub record LacksWorld (a : Addition) (span : OptionalSpan) (requested : List ℕ
   pub at : ℕ
   pub w : ℕ
   pub notes : List Stability
-  pub names : Contains (named_items a.unresolved.foreign_deps) (at, home, (requested, (named.World w, notes)))
+  pub names : Contains (named_items a.unresolved.foreign_deps)
+      (at, home, (requested, (named.World w, notes)))
   pub active : world_is_active a.features a.unresolved w ≡ true
   pub has_package : HasPackage a.graph home ⊎ (home ≡ a.unresolved.name)
   pub absent : find_world a.graph a.unresolved.name home requested ≡ None
-  pub span_is : SomeAt a.unresolved.worlds w (λ (world : World). span ≡ moved_by a.offset world.span)
+  pub span_is : SomeAt a.unresolved.worlds w
+      (λ (world : World). span ≡ moved_by a.offset world.span)
 
 -- 3: the same of an interface
 pub record LacksInterface (a : Addition) (span : OptionalSpan) (requested : List ℕ) (home : PackageName) : Type 0 where
   pub at : ℕ
   pub i : ℕ
   pub notes : List Stability
-  pub names : Contains (named_items a.unresolved.foreign_deps) (at, home, (requested, (named.Interface i, notes)))
+  pub names : Contains (named_items a.unresolved.foreign_deps)
+      (at, home, (requested, (named.Interface i, notes)))
   pub active : interface_is_active a.features a.unresolved i ≡ true
   pub has_package : HasPackage a.graph home ⊎ (home ≡ a.unresolved.name)
   pub absent : find_interface a.graph a.unresolved.name home requested ≡ None
-  pub span_is : SomeAt a.unresolved.interfaces i (λ (interface : Interface). span ≡ moved_by a.offset interface.span)
+  pub span_is : SomeAt a.unresolved.interfaces i
+      (λ (interface : Interface). span ≡ moved_by a.offset interface.span)
 
 -- ---- 9, 10: a `@since` that the package can't meet
 
@@ -101,7 +109,10 @@ pub record LacksVersion (a : Addition) (span : OptionalSpan) (message : List ℕ
   pub asked : IsAsked a.features a.unresolved (Stable since deprecated) place
   pub no_version : a.unresolved.name.version ≡ None
   pub span_is : span ≡ moved_by a.offset place
-  pub message_is : message ≡ codes "package [" ++ (package_name_text a.unresolved.name ++ codes "] contains a feature gate with a version specifier, so it must have a version")
+  pub message_is : message
+      ≡ codes "package ["
+      ++ (package_name_text a.unresolved.name
+      ++ codes "] contains a feature gate with a version specifier, so it must have a version")
 
 -- 10: a `@since` is asked, and the package's version is below it
 pub record IsUnreleased (a : Addition) (span : OptionalSpan) (message : List ℕ) : Type 0 where
@@ -114,7 +125,11 @@ pub record IsUnreleased (a : Addition) (span : OptionalSpan) (message : List ℕ
   pub below : version_cmp version since ≡ Less
   pub span_is : span ≡ moved_by a.offset place
   pub message_is : message
-      ≡ codes "feature gate cannot reference unreleased version " ++ (parts_text since ++ (codes " of package [" ++ (package_name_text a.unresolved.name ++ (codes "] (current version " ++ (parts_text version ++ codes ")")))))
+      ≡ codes "feature gate cannot reference unreleased version "
+      ++ (parts_text since
+      ++ (codes " of package ["
+      ++ (package_name_text a.unresolved.name
+      ++ (codes "] (current version " ++ (parts_text version ++ codes ")")))))
 
 -- ---- 11, 12: what is active needs what is left out
 
@@ -138,33 +153,50 @@ IsExcluded a (AWorld w) = world_is_active a.features a.unresolved w ≡ false
 
 -- the types that a type refers to, each with the span: that of the field, or of the type
 abbrev pub kind_references : TypeDefKind → OptionalSpan → List (ℕ × OptionalSpan)
-kind_references (kind.Record fields) span = flat_map (λ (f : Field). map (λ (t : ℕ). (t, f.span)) (named_type f.ty)) fields
+kind_references (kind.Record fields) span =
+    flat_map (λ (f : Field). map (λ (t : ℕ). (t, f.span)) (named_type f.ty)) fields
 kind_references other span = map (λ (t : ℕ). (t, span)) (referred other)
 
 -- a function of the package that is active: of an interface or of a world
 pub data IsActiveFunction (a : Addition) : Function → Type 0 where
-  of_interface : (i : ℕ) (interface : Interface) (name : List ℕ) (f : Function) → slice_get a.unresolved.interfaces i ≡ Some interface → interface_is_active a.features a.unresolved i ≡ true
-      → Contains interface.functions (name, f) → is_active a.features f.stability ≡ true → IsActiveFunction a f
-  of_world : (w : ℕ) (world : World) (k : WorldKey) (f : Function) → slice_get a.unresolved.worlds w ≡ Some world → world_is_active a.features a.unresolved w ≡ true
-      → HasEntry world (k, item.Function f) → is_active a.features f.stability ≡ true → IsActiveFunction a f
+  of_interface : (i : ℕ) (interface : Interface) (name : List ℕ) (f : Function)
+      → slice_get a.unresolved.interfaces i ≡ Some interface
+      → interface_is_active a.features a.unresolved i ≡ true
+      → Contains interface.functions (name, f) → is_active a.features f.stability ≡ true
+      → IsActiveFunction a f
+  of_world : (w : ℕ) (world : World) (k : WorldKey) (f : Function)
+      → slice_get a.unresolved.worlds w ≡ Some world
+      → world_is_active a.features a.unresolved w ≡ true
+      → HasEntry world (k, item.Function f) → is_active a.features f.stability ≡ true
+      → IsActiveFunction a f
 
 -- what is active refers to a thing, at a span
 pub data RefersTo (a : Addition) : Thing → OptionalSpan → Type 0 where
   -- a type to those that its kind names, whatever owns it
-  of_type : (t : ℕ) (def : TypeDef) (named : ℕ) (place : OptionalSpan) → slice_get a.unresolved.types t ≡ Some def → type_is_active a.features a.unresolved.types t ≡ true
+  of_type : (t : ℕ) (def : TypeDef) (named : ℕ) (place : OptionalSpan)
+      → slice_get a.unresolved.types t ≡ Some def
+      → type_is_active a.features a.unresolved.types t ≡ true
       → Contains (kind_references def.kind def.span) (named, place) → RefersTo a (AType named) place
   -- a foreign type to its interface, at no known span
-  of_foreign_type : (t : ℕ) (def : TypeDef) (i : ℕ) → slice_get a.unresolved.types t ≡ Some def → def.kind ≡ kind.Unknown → type_is_active a.features a.unresolved.types t ≡ true
+  of_foreign_type : (t : ℕ) (def : TypeDef) (i : ℕ) → slice_get a.unresolved.types t ≡ Some def
+      → def.kind ≡ kind.Unknown → type_is_active a.features a.unresolved.types t ≡ true
       → def.owner ≡ owner.Interface i → RefersTo a (AnInterface i) None
   -- a function to its resource and to the types of its parameters and of its result
-  of_function : (f : Function) (named : ℕ) → IsActiveFunction a f → Contains (function_references f) named → RefersTo a (AType named) f.span
+  of_function : (f : Function) (named : ℕ) → IsActiveFunction a f
+      → Contains (function_references f) named → RefersTo a (AType named) f.span
   -- an entry of a world to its interface
-  of_entry : (w : ℕ) (world : World) (k : WorldKey) (i : ℕ) (note : Stability) (docs : Docs) (place : OptionalSpan) (external_id : Option (List ℕ))
-      → slice_get a.unresolved.worlds w ≡ Some world → world_is_active a.features a.unresolved w ≡ true
-      → HasEntry world (k, item.Interface i note docs place external_id) → is_active a.features note ≡ true → RefersTo a (AnInterface i) place
+  of_entry : (w : ℕ) (world : World) (k : WorldKey) (i : ℕ) (note : Stability) (docs : Docs)
+      (place : OptionalSpan) (external_id : Option (List ℕ))
+      → slice_get a.unresolved.worlds w ≡ Some world
+      → world_is_active a.features a.unresolved w ≡ true
+      → HasEntry world (k, item.Interface i note docs place external_id)
+      → is_active a.features note ≡ true → RefersTo a (AnInterface i) place
   -- an include to its world
-  of_include : (w : ℕ) (world : World) (i : WorldInclude) → slice_get a.unresolved.worlds w ≡ Some world → world_is_active a.features a.unresolved w ≡ true
-      → Contains world.includes i → is_active a.features i.stability ≡ true → RefersTo a (AWorld i.id) i.span
+  of_include : (w : ℕ) (world : World) (i : WorldInclude)
+      → slice_get a.unresolved.worlds w ≡ Some world
+      → world_is_active a.features a.unresolved w ≡ true
+      → Contains world.includes i → is_active a.features i.stability ≡ true
+      → RefersTo a (AWorld i.id) i.span
 
 -- 11: what is active refers to what is left out
 pub record RefersToExcluded (a : Addition) (span : OptionalSpan) (message : List ℕ) : Type 0 where
@@ -211,7 +243,8 @@ pub record ForeignTypeMissing (a : Addition) (span : OptionalSpan) (message : Li
   pub owner_active : interface_is_active a.features a.unresolved i ≡ true
   pub found : foreign_interface_id a.graph a.unresolved i ≡ Some i'
   pub absent : interface_type a.graph name i' ≡ None
-  pub span_is : SomeAt a.unresolved.unknown_type_spans t (λ (s : OptionalSpan). span ≡ moved_by a.offset s)
+  pub span_is : SomeAt a.unresolved.unknown_type_spans t
+      (λ (s : OptionalSpan). span ≡ moved_by a.offset s)
   pub message_is : message ≡ codes "type `" ++ (name ++ codes "` not defined in interface")
 
 -- 14: a type that has to be a resource doesn't lead to one by aliases
@@ -236,7 +269,9 @@ pub record ReturnsBorrow (a : Addition) (span : OptionalSpan) (message : List �
   pub result_is : Contains (named_option f.result_) t
   -- one of the package, or in a foreign type one of the graph
   pub holds : HoldsBorrow a.unresolved.types t
-      ⊎ ((s : ℕ) × (s' : ℕ) × Reaches (type_contents a.unresolved.types) t s × (type_is_active a.features a.unresolved.types s ≡ true) × (foreign_type_id a.graph a.unresolved s ≡ Some s') × HoldsBorrow a.graph.types s')
+      ⊎ ((s : ℕ) × (s' : ℕ) × Reaches (type_contents a.unresolved.types) t s
+      × (type_is_active a.features a.unresolved.types s ≡ true)
+      × (foreign_type_id a.graph a.unresolved s ≡ Some s') × HoldsBorrow a.graph.types s')
   pub span_is : span ≡ moved_by a.offset f.span
   pub message_is : message ≡ borrow_text f.name
 
@@ -244,9 +279,12 @@ pub record ReturnsBorrow (a : Addition) (span : OptionalSpan) (message : List �
 
 -- none of 1, 2, 3, 9, 10, 11, 12 and 13 holds, so every id of the package has an image
 pub record IsResolved (a : Addition) : Type 0 where
-  pub packages : (span : OptionalSpan) (requested : PackageName) (known : List PackageName) → LacksPackage a span requested known → ⊥
-  pub worlds : (span : OptionalSpan) (requested : List ℕ) (home : PackageName) → LacksWorld a span requested home → ⊥
-  pub interfaces : (span : OptionalSpan) (requested : List ℕ) (home : PackageName) → LacksInterface a span requested home → ⊥
+  pub packages : (span : OptionalSpan) (requested : PackageName) (known : List PackageName)
+      → LacksPackage a span requested known → ⊥
+  pub worlds : (span : OptionalSpan) (requested : List ℕ) (home : PackageName)
+      → LacksWorld a span requested home → ⊥
+  pub interfaces : (span : OptionalSpan) (requested : List ℕ) (home : PackageName)
+      → LacksInterface a span requested home → ⊥
   pub version : (span : OptionalSpan) (message : List ℕ) → LacksVersion a span message → ⊥
   pub released : (span : OptionalSpan) (message : List ℕ) → IsUnreleased a span message → ⊥
   pub references : (span : OptionalSpan) (message : List ℕ) → RefersToExcluded a span message → ⊥

@@ -24,7 +24,8 @@ pub(crate) fn check_agreement(
     requires other { IsValid other.now }
     requires matches { AreMatches graph.now other.now matches.now }
     ensures agree { OnOk result (DoAgree (merge_of_graphs_by graph.now other.now offset)) }
-    ensures cause { IfErr result (λ e. (e ≡ OutOfMemory) ⊎ IsMergeCause (merge_of_graphs_by graph.now other.now offset) e) }
+    ensures cause { IfErr result (λ e.
+        (e ≡ OutOfMemory) ⊎ IsMergeCause (merge_of_graphs_by graph.now other.now offset) e) }
 {
     if let Some(message) = find_mismatch(alloc, graph, other, matches)? {
         return Err(ResolveErrorKind::Semantic {

@@ -37,7 +37,8 @@ pub(crate) fn append(
     ensures rows_err { OnErr result (elaborator.new ≡ elaborator.old) }
     ensures grown { Grown graph.old graph.new }
     ensures rows { Begins elaborator.old elaborator.new }
-    ensures cause { IfErr result (λ kind. (kind ≡ OutOfMemory) ⊎ IsAppendCause graph.old coming kind) }
+    ensures cause { IfErr result
+        (λ kind. (kind ≡ OutOfMemory) ⊎ IsAppendCause graph.old coming kind) }
 {
     let mark = Mark::of(graph);
     let rows = elaborator.interfaces();
@@ -63,7 +64,8 @@ fn append_parts(
     ensures fine { OnOk result (IsFine graph.old coming) }
     ensures grown { Grown graph.old graph.new }
     ensures rows { Begins elaborator.old elaborator.new }
-    ensures cause { IfErr result (λ kind. (kind ≡ OutOfMemory) ⊎ IsAppendCause graph.old coming kind) }
+    ensures cause { IfErr result
+        (λ kind. (kind ≡ OutOfMemory) ⊎ IsAppendCause graph.old coming kind) }
 {
     let Coming {
         types,
@@ -90,7 +92,12 @@ fn append_homes(
     names: Items<(PackageName, PackageId)>,
 ) -> Result<(), AllocError>
     requires { HasDistinctKeys (graph.old.package_names ++ names) }
-    ensures ok { OnOk result (graph.new ≡ record graph.old { interfaces = graph.old.interfaces ++ interfaces; packages = graph.old.packages ++ packages; package_names = graph.old.package_names ++ names }) }
+    ensures ok { OnOk result (graph.new
+        ≡ record graph.old {
+          interfaces = graph.old.interfaces ++ interfaces;
+          packages = graph.old.packages ++ packages;
+          package_names = graph.old.package_names ++ names;
+        }) }
     ensures grown { Grown graph.old graph.new }
 {
     graph.interfaces.append(interfaces)?;
@@ -125,7 +132,8 @@ fn elaborated_worlds(
     requires listed { AreListed graph.now worlds }
     ensures ok { IfOk result (λ elaborated. elaborated ≡ map (elaborated_by graph.now) worlds) }
     ensures clear { OnOk result (AreClear graph.now worlds) }
-    ensures cause { IfErr result (λ kind. (kind ≡ OutOfMemory) ⊎ IsRefusedWorld (record graph.now { worlds = worlds }) kind) }
+    ensures cause { IfErr result (λ kind.
+        (kind ≡ OutOfMemory) ⊎ IsRefusedWorld (record graph.now { worlds = worlds }) kind) }
     ensures same { elaborator.new ≡ elaborator.old }
 {
     let mut elaborated = Items::new(alloc);
@@ -144,9 +152,11 @@ fn elaborated_world(
 ) -> ResolveResult<World>
     requires uses { elaborator.old ≡ graph_uses graph.now }
     requires acyclic { IsAcyclic (graph_uses graph.now) }
-    requires listed { HasSoundEntries graph.now.types (length graph.now.interfaces) world.imports world.exports }
+    requires listed { HasSoundEntries graph.now.types (length graph.now.interfaces) world.imports
+        world.exports }
     ensures ok { IfOk result (λ new. new ≡ elaborated_by graph.now world) }
-    ensures no_conflict { OnOk result (HasTransitiveConflict (graph_uses graph.now) world.exports → ⊥) }
+    ensures no_conflict { OnOk result
+        (HasTransitiveConflict (graph_uses graph.now) world.exports → ⊥) }
     ensures cause { IfErr result (λ e. (e ≡ OutOfMemory) ⊎ IsConflictError graph.now world e) }
     ensures same { elaborator.new ≡ elaborator.old }
 {

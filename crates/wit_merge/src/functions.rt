@@ -30,7 +30,8 @@ pub(crate) fn moved_functions<'a>(
     matches: &Matches,
 ) -> Result<Vec<&'a Function>, AllocError>
     requires { AreMatches graph.now other.now matches.now }
-    ensures { IfOk result (λ functions. seen functions.items ≡ moved_functions (merge_of_graphs graph.now other.now)) }
+    ensures { IfOk result (λ functions.
+        seen functions.items ≡ moved_functions (merge_of_graphs graph.now other.now)) }
 {
     let mut functions = Vec::new(alloc);
     push_interfaces(&mut functions, graph, other, matches)?;
@@ -44,7 +45,8 @@ pub(crate) fn functions_of<'a>(
     interfaces: &'a Items<Interface>,
     worlds: &'a Items<World>,
 ) -> Result<Vec<&'a Function>, AllocError>
-    ensures { IfOk result (λ functions. seen functions.items ≡ functions_of interfaces.now worlds.now) }
+    ensures { IfOk result
+        (λ functions. seen functions.items ≡ functions_of interfaces.now worlds.now) }
 {
     let mut functions = Vec::new(alloc);
     push_of_interfaces(&mut functions, interfaces)?;
@@ -57,7 +59,10 @@ fn push_of_interfaces<'a>(
     functions: &mut Vec<&'a Function>,
     interfaces: &'a Items<Interface>,
 ) -> Result<(), AllocError>
-    ensures { OnOk result (seen functions.new.items ≡ seen functions.old.items ++ flat_map (λ (interface : Interface). map (λ (e : List ℕ × Function). e.1) interface.functions) interfaces.now) }
+    ensures { OnOk result (seen functions.new.items
+        ≡ seen functions.old.items
+        ++ flat_map (λ (interface : Interface).
+        map (λ (e : List ℕ × Function). e.1) interface.functions) interfaces.now) }
 {
     for interface in interfaces.as_slice() {
         push_all(functions, &interface.functions)?;
@@ -70,7 +75,8 @@ fn push_of_worlds<'a>(
     functions: &mut Vec<&'a Function>,
     worlds: &'a Items<World>,
 ) -> Result<(), AllocError>
-    ensures { OnOk result (seen functions.new.items ≡ seen functions.old.items ++ flat_map world_functions worlds.now) }
+    ensures { OnOk result (seen functions.new.items
+        ≡ seen functions.old.items ++ flat_map world_functions worlds.now) }
 {
     for world in worlds.as_slice() {
         push_world(functions, world)?;
@@ -86,7 +92,11 @@ fn push_interfaces<'a>(
     matches: &Matches,
 ) -> Result<(), AllocError>
     requires { AreMatches graph.now other.now matches.now }
-    ensures { OnOk result (seen functions.new.items ≡ seen functions.old.items ++ flat_map (λ (e : ℕ × Interface). interface_functions (merge_of_graphs graph.now other.now) e.0 e.1) (enumerate_from 0 other.now.interfaces)) }
+    ensures { OnOk result (seen functions.new.items
+        ≡ seen functions.old.items
+        ++ flat_map (λ (e : ℕ × Interface).
+        interface_functions (merge_of_graphs graph.now other.now) e.0 e.1)
+        (enumerate_from 0 other.now.interfaces)) }
 {
     for (index, from) in other.interfaces.as_slice().iter().enumerate() {
         let into = matched_interface(graph, matches, index);
@@ -98,7 +108,9 @@ fn push_interfaces<'a>(
 /// The interface that is matched with one of the other graph.
 fn matched_interface<'a>(graph: &'a Graph, matches: &Matches, place: usize) -> Option<&'a Interface>
     requires { place < length matches.now.interfaces }
-    ensures { option_copied result ≡ option_and_then (slice_get graph.now.interfaces) (get_or matches.now.interfaces place None) }
+    ensures { option_copied result
+        ≡ option_and_then (slice_get graph.now.interfaces)
+        (get_or matches.now.interfaces place None) }
 {
     let id = (*matches.interfaces.at(place))?;
     graph.interfaces.get(id.index())
@@ -110,7 +122,10 @@ fn push_brought<'a>(
     from: &'a Interface,
     into: Option<&Interface>,
 ) -> Result<(), AllocError>
-    ensures { OnOk result (seen functions.new.items ≡ seen functions.old.items ++ map (λ (e : List ℕ × Function). e.1) (option_map_or (brought_functions from.now) (option_copied into.entry) from.now.functions)) }
+    ensures { OnOk result (seen functions.new.items
+        ≡ seen functions.old.items
+        ++ map (λ (e : List ℕ × Function). e.1) (option_map_or (brought_functions from.now)
+        (option_copied into.entry) from.now.functions)) }
 {
     match into {
         Some(into) => push_missing(functions, &from.functions, &into.functions),
@@ -124,7 +139,11 @@ fn push_missing<'a>(
     named: &'a Names<Function>,
     there: &Names<Function>,
 ) -> Result<(), AllocError>
-    ensures { OnOk result (seen functions.new.items ≡ seen functions.old.items ++ map (λ (e : List ℕ × Function). e.1) (filter (λ (e : List ℕ × Function). not (is_some (lookup (bytes_eq e.0) there.now))) named.now)) }
+    ensures { OnOk result (seen functions.new.items
+        ≡ seen functions.old.items
+        ++ map (λ (e : List ℕ × Function). e.1) (filter
+        (λ (e : List ℕ × Function). not (is_some (lookup (bytes_eq e.0) there.now)))
+        named.now)) }
 {
     for (name, function) in named.iter() {
         if !there.contains_key(name) {
@@ -139,7 +158,8 @@ fn push_all<'a>(
     functions: &mut Vec<&'a Function>,
     named: &'a Names<Function>,
 ) -> Result<(), AllocError>
-    ensures { OnOk result (seen functions.new.items ≡ seen functions.old.items ++ map (λ (e : List ℕ × Function). e.1) named.now) }
+    ensures { OnOk result (seen functions.new.items
+        ≡ seen functions.old.items ++ map (λ (e : List ℕ × Function). e.1) named.now) }
 {
     for (_, function) in named.iter() {
         functions.push(function)?;
@@ -153,7 +173,10 @@ fn push_worlds<'a>(
     other: &'a Graph,
     matches: &Matches,
 ) -> Result<(), AllocError>
-    ensures { OnOk result (seen functions.new.items ≡ seen functions.old.items ++ flat_map (λ (e : ℕ × World). world_functions e.1) (selected_with_index (moves matches.now.worlds) other.now.worlds)) }
+    ensures { OnOk result (seen functions.new.items
+        ≡ seen functions.old.items
+        ++ flat_map (λ (e : ℕ × World). world_functions e.1)
+        (selected_with_index (moves matches.now.worlds) other.now.worlds)) }
 {
     for (index, world) in other.worlds.as_slice().iter().enumerate() {
         if moves(&matches.worlds, index) {
@@ -165,7 +188,8 @@ fn push_worlds<'a>(
 
 /// Adds those of a world.
 fn push_world<'a>(functions: &mut Vec<&'a Function>, world: &'a World) -> Result<(), AllocError>
-    ensures { OnOk result (seen functions.new.items ≡ seen functions.old.items ++ world_functions world.now) }
+    ensures { OnOk result
+        (seen functions.new.items ≡ seen functions.old.items ++ world_functions world.now) }
 {
     push_entries(functions, &world.imports)?;
     push_entries(functions, &world.exports)
@@ -176,7 +200,8 @@ fn push_entries<'a>(
     functions: &mut Vec<&'a Function>,
     entries: &'a Table<WorldKey, WorldItem>,
 ) -> Result<(), AllocError>
-    ensures { OnOk result (seen functions.new.items ≡ seen functions.old.items ++ flat_map (λ (e : Entry). item_function e.1) entries.now) }
+    ensures { OnOk result (seen functions.new.items
+        ≡ seen functions.old.items ++ flat_map (λ (e : Entry). item_function e.1) entries.now) }
 {
     for (_, item) in entries.iter() {
         push_item(functions, item)?;
@@ -186,7 +211,8 @@ fn push_entries<'a>(
 
 /// Adds the function that an entry is, where it is one.
 fn push_item<'a>(functions: &mut Vec<&'a Function>, item: &'a WorldItem) -> Result<(), AllocError>
-    ensures { OnOk result (seen functions.new.items ≡ seen functions.old.items ++ item_function item.now) }
+    ensures { OnOk result
+        (seen functions.new.items ≡ seen functions.old.items ++ item_function item.now) }
 {
     match item {
         WorldItem::Function(function) => functions.push(function)?,

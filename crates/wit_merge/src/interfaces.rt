@@ -68,8 +68,11 @@ fn push_functions(
 ) -> Result<(), AllocError>
     requires ready { CanMerge plan.now }
     requires functions { FunctionsMove (merging_of plan.now) from.now }
-    requires apart { HasDistinctKeys (into.old ++ functions_image (merging_of plan.now) (brought_matched known.now from.now)) }
-    ensures { OnOk result (into.new ≡ into.old ++ functions_image (merging_of plan.now) (brought_matched known.now from.now)) }
+    requires apart { HasDistinctKeys
+        (into.old ++ functions_image (merging_of plan.now) (brought_matched known.now from.now)) }
+    ensures { OnOk result (into.new
+        ≡ into.old
+        ++ functions_image (merging_of plan.now) (brought_matched known.now from.now)) }
 {
     let alloc = into.allocator();
     for (name, function) in from.iter() {
@@ -85,7 +88,8 @@ fn push_functions(
 fn moved_function(plan: &MergePlan<'_>, function: &Function) -> Result<Function, AllocError>
     requires ready { CanMerge plan.now }
     requires moves { FunctionMoves (merging_of plan.now) function.now }
-    ensures { IfOk result (λ moved. moved ≡ function_image (merge_maps (merging_of plan.now)) function.now) }
+    ensures { IfOk result
+        (λ moved. moved ≡ function_image (merge_maps (merging_of plan.now)) function.now) }
 {
     let mut moved = function.try_clone()?;
     moved.update(&plan.mover(None));
@@ -100,7 +104,8 @@ pub(crate) fn joined_interfaces(
 ) -> Result<Items<Interface>, AllocError>
     requires ready { CanMerge plan.now }
     requires counterparts { KnowsCounterparts plan.now counterparts.now }
-    ensures { IfOk result (λ interfaces. interfaces ≡ (joined_graph (merging_of plan.now)).interfaces) }
+    ensures { IfOk result
+        (λ interfaces. interfaces ≡ (joined_graph (merging_of plan.now)).interfaces) }
 {
     let found = &plan.matches.interfaces;
     let others = &plan.other.interfaces;
@@ -114,7 +119,10 @@ pub(crate) fn moved_interfaces(
     plan: &MergePlan<'_>,
 ) -> Result<Items<Interface>, AllocError>
     requires { CanMerge plan.now }
-    ensures { IfOk result (λ interfaces. interfaces ≡ map (interface_image (merge_maps (merging_of plan.now))) (moved_interfaces (merging_of plan.now))) }
+    ensures { IfOk result (λ interfaces.
+        interfaces
+        ≡ map (interface_image (merge_maps (merging_of plan.now)))
+        (moved_interfaces (merging_of plan.now))) }
 {
     move_all(
         alloc,

@@ -27,7 +27,8 @@ impl<'a> MergePlan<'a> {
         requires { CanMerge self.now }
         ensures new_ids { result.new_ids.now ≡ self.now.merge_ids.now.new_ids }
         ensures values { result.values.now ≡ self.now.values.now }
-        ensures home { (p : ℕ) → home ≡ Some p → p < length self.now.other.now.packages → result.«package» ≡ merged_package (merging_of self.now) p }
+        ensures home { (p : ℕ) → home ≡ Some p → p < length self.now.other.now.packages
+            → result.«package» ≡ merged_package (merging_of self.now) p }
         ensures offset { result.offset ≡ self.now.offset }
     {
         let package = match home {
@@ -45,7 +46,8 @@ impl<'a> MergePlan<'a> {
     /// Where a package of the other graph goes. One that isn't there stays.
     pub(crate) fn merged_package(&self, id: PackageId) -> PackageId
         requires { CanMerge self.now }
-        ensures { id < length self.now.other.now.packages → result ≡ merged_package (merging_of self.now) id }
+        ensures { id < length self.now.other.now.packages
+            → result ≡ merged_package (merging_of self.now) id }
     {
         match self.merge_ids.packages.get(id.index()) {
             Some(new) => *new,

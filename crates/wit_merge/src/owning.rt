@@ -35,7 +35,11 @@ pub(crate) fn values(
     requires matches { AreMatches graph.now other.now matches.now }
     requires merge_ids { merge_ids.now ≡ merge_ids_of (merge_of_graphs graph.now other.now) }
     requires met { AreRight graph.now.types met.old }
-    ensures values { IfOk result (λ values. (offset : ℕ) → (values.new_ids ≡ value_ids (merge_of_graphs_by graph.now other.now offset)) × (values.owns ≡ owns (value_remap (merge_of_graphs_by graph.now other.now offset)))) }
+    ensures values { IfOk result (λ values.
+        (offset : ℕ)
+        → (values.new_ids ≡ value_ids (merge_of_graphs_by graph.now other.now offset))
+        × (values.owns
+        ≡ owns (value_remap (merge_of_graphs_by graph.now other.now offset)))) }
     ensures met { AreRight graph.now.types met.new }
     ensures met_before { Begins met.old met.new }
 {

@@ -53,8 +53,12 @@ impl Part for Package {
 
 /// Adds the interfaces and worlds of a package of the other graph that move.
 fn push_tables(plan: &MergePlan<'_>, into: &mut Package, from: &Package) -> Result<(), AllocError>
-    requires interfaces { HasDistinctKeys (into.old.interfaces ++ moved_names plan.now.matches.now.interfaces plan.now.merge_ids.now.new_ids.interfaces from.now.interfaces) }
-    requires worlds { HasDistinctKeys (into.old.worlds ++ moved_names plan.now.matches.now.worlds plan.now.merge_ids.now.new_ids.worlds from.now.worlds) }
+    requires interfaces { HasDistinctKeys (into.old.interfaces
+        ++ moved_names plan.now.matches.now.interfaces plan.now.merge_ids.now.new_ids.interfaces
+        from.now.interfaces) }
+    requires worlds { HasDistinctKeys (into.old.worlds
+        ++ moved_names plan.now.matches.now.worlds plan.now.merge_ids.now.new_ids.worlds
+        from.now.worlds) }
     ensures { OnOk result (into.new ≡ record into.old {
       interfaces = into.old.interfaces ++ moved_names plan.now.matches.now.interfaces plan.now.merge_ids.now.new_ids.interfaces from.now.interfaces;
       worlds = into.old.worlds ++ moved_names plan.now.matches.now.worlds plan.now.merge_ids.now.new_ids.worlds from.now.worlds;
@@ -113,7 +117,10 @@ pub(crate) fn moved_packages(
     plan: &MergePlan<'_>,
 ) -> Result<Items<Package>, AllocError>
     requires { CanMerge plan.now }
-    ensures { IfOk result (λ packages. packages ≡ map (package_image (merging_of plan.now)) (selected (moves_package (merging_of plan.now)) plan.now.other.now.packages)) }
+    ensures { IfOk result (λ packages.
+        packages
+        ≡ map (package_image (merging_of plan.now))
+        (selected (moves_package (merging_of plan.now)) plan.now.other.now.packages)) }
 {
     move_all(alloc, plan, &plan.matches.packages, &plan.other.packages)
 }

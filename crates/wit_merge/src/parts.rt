@@ -31,7 +31,8 @@ pub(crate) trait Part: TryClone + Drop {
     fn moved(&self, plan: &MergePlan<'_>) -> Result<Self, AllocError>
         requires ready { CanMerge plan.now }
         requires can { can_move (merging_of plan.now) self.now }
-        ensures { IfOk result (λ made. (index : ℕ) → made ≡ image (merging_of plan.now) (index, self.now)) };
+        ensures { IfOk result
+            (λ made. (index : ℕ) → made ≡ image (merging_of plan.now) (index, self.now)) };
 
     /// A copy with another joined to it, at whatever index of the other graph that stands, by with which interface of that
     /// graph each one is matched.
@@ -44,7 +45,9 @@ pub(crate) trait Part: TryClone + Drop {
         requires ready { CanMerge plan.now }
         requires counterparts { KnowsCounterparts plan.now counterparts.now }
         requires can { can_join (merging_of plan.now) from.now self.now }
-        ensures { IfOk result (λ made. (index : ℕ) → made ≡ with_matched (merging_of plan.now) (index, from.now) self.now) };
+        ensures { IfOk result (λ made.
+            (index : ℕ)
+            → made ≡ with_matched (merging_of plan.now) (index, from.now) self.now) };
 }
 
 /// Copies of the things of a graph, each with the one joined to it that is matched with it, if one is; and behind them
@@ -60,9 +63,19 @@ pub(crate) fn joined_list<S, T: Part>(
     requires ready { CanMerge plan.now }
     requires interfaces { KnowsCounterparts plan.now interfaces.now }
     requires long { length found.now ≡ length others.now }
-    requires joining { (x x' : ℕ) (from into : T) → slice_get others.now x ≡ Some from → get_or found.now x None ≡ Some x' → slice_get ours.now x' ≡ Some into → T.can_join (merging_of plan.now) from into }
-    requires moving { (x : ℕ) (from : T) → slice_get others.now x ≡ Some from → moves found.now x ≡ true → T.can_move (merging_of plan.now) from }
-    ensures { IfOk result (λ made. made ≡ map (λ (e : ℕ × T). option_map_or (λ (p : ℕ × T). T.with_matched (merging_of plan.now) p e.1) (counterpart_of (λ x. get_or found.now x None) others.now e.0) e.1) (enumerate_from 0 ours.now) ++ map (T.image (merging_of plan.now)) (selected_with_index (moves found.now) others.now)) }
+    requires joining { (x x' : ℕ) (from into : T) → slice_get others.now x ≡ Some from
+        → get_or found.now x None ≡ Some x' → slice_get ours.now x' ≡ Some into
+        → T.can_join (merging_of plan.now) from into }
+    requires moving { (x : ℕ) (from : T) → slice_get others.now x ≡ Some from
+        → moves found.now x ≡ true → T.can_move (merging_of plan.now) from }
+    ensures { IfOk result (λ made.
+        made
+        ≡ map (λ (e : ℕ × T).
+        option_map_or (λ (p : ℕ × T). T.with_matched (merging_of plan.now) p e.1)
+        (counterpart_of (λ x. get_or found.now x None) others.now e.0) e.1)
+        (enumerate_from 0 ours.now)
+        ++ map (T.image (merging_of plan.now))
+        (selected_with_index (moves found.now) others.now)) }
 {
     let mut made = join_all(alloc, plan, interfaces, found, others, ours)?;
     made.append(move_all(alloc, plan, found, others)?)?;
@@ -81,8 +94,15 @@ fn join_all<S, T: Part>(
     requires ready { CanMerge plan.now }
     requires interfaces { KnowsCounterparts plan.now interfaces.now }
     requires long { length found.now ≡ length others.now }
-    requires can { (x x' : ℕ) (from into : T) → slice_get others.now x ≡ Some from → get_or found.now x None ≡ Some x' → slice_get ours.now x' ≡ Some into → T.can_join (merging_of plan.now) from into }
-    ensures { IfOk result (λ made. made ≡ map (λ (e : ℕ × T). option_map_or (λ (p : ℕ × T). T.with_matched (merging_of plan.now) p e.1) (counterpart_of (λ x. get_or found.now x None) others.now e.0) e.1) (enumerate_from 0 ours.now)) }
+    requires can { (x x' : ℕ) (from into : T) → slice_get others.now x ≡ Some from
+        → get_or found.now x None ≡ Some x' → slice_get ours.now x' ≡ Some into
+        → T.can_join (merging_of plan.now) from into }
+    ensures { IfOk result (λ made.
+        made
+        ≡ map (λ (e : ℕ × T).
+        option_map_or (λ (p : ℕ × T). T.with_matched (merging_of plan.now) p e.1)
+        (counterpart_of (λ x. get_or found.now x None) others.now e.0) e.1)
+        (enumerate_from 0 ours.now)) }
 {
     let counterparts = counterparts(alloc, found, ours.len())?;
     let mut made = Items::new(alloc);
@@ -104,8 +124,12 @@ fn join_one<T: Part>(
 ) -> Result<T, AllocError>
     requires ready { CanMerge plan.now }
     requires interfaces { KnowsCounterparts plan.now interfaces.now }
-    requires can { (x : ℕ) (from : T) → index ≡ Some x → slice_get others.now x ≡ Some from → T.can_join (merging_of plan.now) from into.now }
-    ensures { IfOk result (λ made. made ≡ option_map_or (λ (p : ℕ × T). T.with_matched (merging_of plan.now) p into.now) (placed_at others.now index) into.now) }
+    requires can { (x : ℕ) (from : T) → index ≡ Some x → slice_get others.now x ≡ Some from
+        → T.can_join (merging_of plan.now) from into.now }
+    ensures { IfOk result (λ made.
+        made
+        ≡ option_map_or (λ (p : ℕ × T). T.with_matched (merging_of plan.now) p into.now)
+        (placed_at others.now index) into.now) }
 {
     match index {
         Some(index) => match others.get(index) {
@@ -124,8 +148,12 @@ pub(crate) fn move_all<S, T: Part>(
     others: &Items<T>,
 ) -> Result<Items<T>, AllocError>
     requires ready { CanMerge plan.now }
-    requires can { (x : ℕ) (from : T) → slice_get others.now x ≡ Some from → moves found.now x ≡ true → T.can_move (merging_of plan.now) from }
-    ensures { IfOk result (λ made. made ≡ map (T.image (merging_of plan.now)) (selected_with_index (moves found.now) others.now)) }
+    requires can { (x : ℕ) (from : T) → slice_get others.now x ≡ Some from
+        → moves found.now x ≡ true → T.can_move (merging_of plan.now) from }
+    ensures { IfOk result (λ made.
+        made
+        ≡ map (T.image (merging_of plan.now))
+        (selected_with_index (moves found.now) others.now)) }
 {
     let mut made = Items::new(alloc);
     for (index, other) in others.as_slice().iter().enumerate() {

@@ -29,8 +29,10 @@ pub(crate) fn check_results(
 ) -> ResolveResult<()>
     requires ready { CanMerge plan.now }
     requires types { types.now ≡ (joined_graph (merging_of plan.now)).types }
-    ensures none { OnOk result ((message : List ℕ) → MergeReturnsBorrow (merging_of plan.now) message → ⊥) }
-    ensures cause { IfErr result (λ kind. (kind ≡ OutOfMemory) ⊎ IsBorrowError (merging_of plan.now) kind) }
+    ensures none { OnOk result
+        ((message : List ℕ) → MergeReturnsBorrow (merging_of plan.now) message → ⊥) }
+    ensures cause { IfErr result
+        (λ kind. (kind ≡ OutOfMemory) ⊎ IsBorrowError (merging_of plan.now) kind) }
 {
     let functions = moved_functions(alloc, plan.graph, plan.other, plan.matches)?;
     let mut free = IndexSet::new(alloc);
@@ -54,7 +56,8 @@ fn check_result(
     requires free { AreFreeTypes types.now free.old.keys }
     ensures none { OnOk result (ReturnsFree (merging_of plan.now) function.now) }
     ensures free { OnOk result (AreFreeTypes types.now free.new.keys) }
-    ensures cause { IfErr result (λ kind. (kind ≡ OutOfMemory) ⊎ IsBorrowError (merging_of plan.now) kind) }
+    ensures cause { IfErr result
+        (λ kind. (kind ≡ OutOfMemory) ⊎ IsBorrowError (merging_of plan.now) kind) }
 {
     let Some(id) = result_type(function) else {
         return Ok(());
@@ -93,8 +96,11 @@ pub(crate) fn check_returned(
 ) -> ResolveResult<()>
     requires acyclic { IsAcyclic (type_references types.now) }
     requires returned { AreReturned types.now (listed_functions interfaces.now worlds.now) }
-    ensures none { OnOk result (ReturnNoBorrow types.now (listed_functions interfaces.now worlds.now)) }
-    ensures cause { IfErr result (λ kind. (kind ≡ OutOfMemory) ⊎ ReturnsBorrow types.now (listed_functions interfaces.now worlds.now) kind) }
+    ensures none { OnOk result
+        (ReturnNoBorrow types.now (listed_functions interfaces.now worlds.now)) }
+    ensures cause { IfErr result (λ kind.
+        (kind ≡ OutOfMemory)
+        ⊎ ReturnsBorrow types.now (listed_functions interfaces.now worlds.now) kind) }
 {
     let functions = functions_of(alloc, interfaces, worlds)?;
     let mut free = IndexSet::new(alloc);
@@ -116,7 +122,8 @@ fn check_returns(
     requires free { AreFreeTypes types.now free.old.keys }
     ensures none { OnOk result (ReturnNoBorrow types.now (function.now ∷ [])) }
     ensures free { OnOk result (AreFreeTypes types.now free.new.keys) }
-    ensures cause { IfErr result (λ kind. (kind ≡ OutOfMemory) ⊎ ReturnsBorrow types.now (function.now ∷ []) kind) }
+    ensures cause { IfErr result
+        (λ kind. (kind ≡ OutOfMemory) ⊎ ReturnsBorrow types.now (function.now ∷ []) kind) }
 {
     let Some(id) = result_type(function) else {
         return Ok(());

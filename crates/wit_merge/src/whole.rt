@@ -55,10 +55,13 @@ pub fn merge(
     requires valid { IsValid graph.now }
     requires other { IsValid other }
     ensures ok { IfOk result (λ made. made.0 ≡ merged (merge_of_graphs_by graph.now other offset)) }
-    ensures remap { IfOk result (λ made. made.1 ≡ merge_remap (merge_of_graphs_by graph.now other offset)) }
+    ensures remap { IfOk result
+        (λ made. made.1 ≡ merge_remap (merge_of_graphs_by graph.now other offset)) }
     ensures valid { IfOk result (λ made. IsValid made.0) }
-    ensures cause { IfErr result (λ e. (e ≡ OutOfMemory) ⊎ IsMergeCause (merge_of_graphs_by graph.now other offset) e) }
-    ensures refuses { (e : ResolveErrorKind) → IsMergeCause (merge_of_graphs_by graph.now other offset) e → OnOk result ⊥ }
+    ensures cause { IfErr result
+        (λ e. (e ≡ OutOfMemory) ⊎ IsMergeCause (merge_of_graphs_by graph.now other offset) e) }
+    ensures refuses { (e : ResolveErrorKind)
+        → IsMergeCause (merge_of_graphs_by graph.now other offset) e → OnOk result ⊥ }
 {
     let MergedGraph {
         graph: merged_graph,
@@ -84,11 +87,15 @@ pub fn merged_copy(
 ) -> ResolveResult<MergedGraph>
     requires valid { IsValid graph.now }
     requires other { IsValid other.now }
-    ensures graph { IfOk result (λ made. made.graph ≡ merged (merge_of_graphs_by graph.now other.now offset)) }
-    ensures remap { IfOk result (λ made. made.remap ≡ merge_remap (merge_of_graphs_by graph.now other.now offset)) }
+    ensures graph { IfOk result
+        (λ made. made.graph ≡ merged (merge_of_graphs_by graph.now other.now offset)) }
+    ensures remap { IfOk result
+        (λ made. made.remap ≡ merge_remap (merge_of_graphs_by graph.now other.now offset)) }
     ensures valid { IfOk result (λ made. IsValid made.graph) }
-    ensures cause { IfErr result (λ e. (e ≡ OutOfMemory) ⊎ IsMergeCause (merge_of_graphs_by graph.now other.now offset) e) }
-    ensures refuses { (e : ResolveErrorKind) → IsMergeCause (merge_of_graphs_by graph.now other.now offset) e → OnOk result ⊥ }
+    ensures cause { IfErr result (λ e.
+        (e ≡ OutOfMemory) ⊎ IsMergeCause (merge_of_graphs_by graph.now other.now offset) e) }
+    ensures refuses { (e : ResolveErrorKind)
+        → IsMergeCause (merge_of_graphs_by graph.now other.now offset) e → OnOk result ⊥ }
 {
     let matches = agreed_matches(alloc, graph, other, offset)?;
     merged_by(alloc, graph, other, &matches, offset)
@@ -107,7 +114,8 @@ pub fn agreed_matches(
     requires other { IsValid other.now }
     ensures matches { IfOk result (AreMatches graph.now other.now) }
     ensures agree { OnOk result (DoAgree (merge_of_graphs_by graph.now other.now offset)) }
-    ensures cause { IfErr result (λ e. (e ≡ OutOfMemory) ⊎ IsMergeCause (merge_of_graphs_by graph.now other.now offset) e) }
+    ensures cause { IfErr result (λ e.
+        (e ≡ OutOfMemory) ⊎ IsMergeCause (merge_of_graphs_by graph.now other.now offset) e) }
 {
     let matches = find_matches(alloc, graph, other)?;
     check_agreement(alloc, graph, other, &matches, offset)?;
@@ -126,11 +134,15 @@ pub fn merged_by(
     requires other { IsValid other.now }
     requires agree { DoAgree (merge_of_graphs_by graph.now other.now offset) }
     requires matches { AreMatches graph.now other.now matches.now }
-    ensures graph { IfOk result (λ made. made.graph ≡ merged (merge_of_graphs_by graph.now other.now offset)) }
-    ensures remap { IfOk result (λ made. made.remap ≡ merge_remap (merge_of_graphs_by graph.now other.now offset)) }
+    ensures graph { IfOk result
+        (λ made. made.graph ≡ merged (merge_of_graphs_by graph.now other.now offset)) }
+    ensures remap { IfOk result
+        (λ made. made.remap ≡ merge_remap (merge_of_graphs_by graph.now other.now offset)) }
     ensures valid { IfOk result (λ made. IsValid made.graph) }
-    ensures cause { IfErr result (λ e. (e ≡ OutOfMemory) ⊎ IsMergeCause (merge_of_graphs_by graph.now other.now offset) e) }
-    ensures refuses { (e : ResolveErrorKind) → IsMergeCause (merge_of_graphs_by graph.now other.now offset) e → OnOk result ⊥ }
+    ensures cause { IfErr result (λ e.
+        (e ≡ OutOfMemory) ⊎ IsMergeCause (merge_of_graphs_by graph.now other.now offset) e) }
+    ensures refuses { (e : ResolveErrorKind)
+        → IsMergeCause (merge_of_graphs_by graph.now other.now offset) e → OnOk result ⊥ }
 {
     merges_stay_valid();
     let merge_ids = find_ids(alloc, graph, other, matches)?;
@@ -164,8 +176,10 @@ pub fn append_merge(
     requires leaves { LeavesGraph (merge_of_graphs_by graph.old other.now offset) }
     requires uses { elaborator.old ≡ graph_uses graph.old }
     requires met { AreRight graph.old.types met.old }
-    ensures graph { OnOk result (graph.new ≡ merged (merge_of_graphs_by graph.old other.now offset)) }
-    ensures remap { IfOk result (λ remap. remap ≡ merge_remap (merge_of_graphs_by graph.old other.now offset)) }
+    ensures graph { OnOk result
+        (graph.new ≡ merged (merge_of_graphs_by graph.old other.now offset)) }
+    ensures remap { IfOk result
+        (λ remap. remap ≡ merge_remap (merge_of_graphs_by graph.old other.now offset)) }
     ensures valid { IsValid graph.new }
     ensures uses { elaborator.new ≡ graph_uses graph.new }
     ensures err { OnErr result (graph.new ≡ graph.old) }
@@ -173,8 +187,10 @@ pub fn append_merge(
     ensures rows { Begins elaborator.old elaborator.new }
     ensures met { AreRight graph.new.types met.new }
     ensures met_before { Begins met.old met.new }
-    ensures cause { IfErr result (λ e. (e ≡ OutOfMemory) ⊎ IsMergeCause (merge_of_graphs_by graph.old other.now offset) e) }
-    ensures refuses { (e : ResolveErrorKind) → IsMergeCause (merge_of_graphs_by graph.old other.now offset) e → OnOk result ⊥ }
+    ensures cause { IfErr result (λ e.
+        (e ≡ OutOfMemory) ⊎ IsMergeCause (merge_of_graphs_by graph.old other.now offset) e) }
+    ensures refuses { (e : ResolveErrorKind)
+        → IsMergeCause (merge_of_graphs_by graph.old other.now offset) e → OnOk result ⊥ }
 {
     joined_is_grown();
     uses_grow();
@@ -204,7 +220,8 @@ fn what_comes(
     requires other { IsValid other.now }
     requires agree { DoAgree (merge_of_graphs_by graph.now other.now offset) }
     requires matches { AreMatches graph.now other.now matches.now }
-    requires merge_ids { merge_ids.now ≡ merge_ids_of (merge_of_graphs_by graph.now other.now offset) }
+    requires merge_ids { merge_ids.now
+        ≡ merge_ids_of (merge_of_graphs_by graph.now other.now offset) }
     requires met { AreRight graph.now.types met.old }
     ensures comes { IfOk result (IsComing (merge_of_graphs_by graph.now other.now offset)) }
     ensures met { AreRight graph.now.types met.new }
@@ -227,7 +244,13 @@ fn what_comes(
 
 /// Where things are now, as it is answered.
 fn into_remap(merge_ids: MergeIds) -> Remap
-    ensures { result ≡ record { types = merge_ids.new_ids.types; interfaces = merge_ids.new_ids.interfaces; worlds = merge_ids.new_ids.worlds; packages = merge_ids.packages } }
+    ensures { result
+        ≡ record {
+          types = merge_ids.new_ids.types;
+          interfaces = merge_ids.new_ids.interfaces;
+          worlds = merge_ids.new_ids.worlds;
+          packages = merge_ids.packages;
+        } }
 {
     let MergeIds { new_ids, packages } = merge_ids;
     let NewIds {
@@ -251,10 +274,14 @@ fn as_listed(
     requires other { IsValid other.now }
     requires agree { DoAgree (merge_of_graphs_by graph.now other.now offset) }
     requires matches { AreMatches graph.now other.now matches.now }
-    requires merge_ids { merge_ids.now ≡ merge_ids_of (merge_of_graphs_by graph.now other.now offset) }
-    ensures joined { IfOk result (λ joined. joined ≡ joined_graph (merge_of_graphs_by graph.now other.now offset)) }
-    ensures none { OnOk result ((message : List ℕ) → MergeReturnsBorrow (merge_of_graphs_by graph.now other.now offset) message → ⊥) }
-    ensures cause { IfErr result (λ e. (e ≡ OutOfMemory) ⊎ IsMergeCause (merge_of_graphs_by graph.now other.now offset) e) }
+    requires merge_ids { merge_ids.now
+        ≡ merge_ids_of (merge_of_graphs_by graph.now other.now offset) }
+    ensures joined { IfOk result
+        (λ joined. joined ≡ joined_graph (merge_of_graphs_by graph.now other.now offset)) }
+    ensures none { OnOk result ((message : List ℕ)
+        → MergeReturnsBorrow (merge_of_graphs_by graph.now other.now offset) message → ⊥) }
+    ensures cause { IfErr result (λ e.
+        (e ≡ OutOfMemory) ⊎ IsMergeCause (merge_of_graphs_by graph.now other.now offset) e) }
 {
     let mut met = Table::new(alloc);
     let Values {

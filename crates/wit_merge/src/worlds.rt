@@ -68,7 +68,8 @@ fn joined_entries(
     into: &Table<WorldKey, WorldItem>,
 ) -> Result<Table<WorldKey, WorldItem>, AllocError>
     requires { HasDistinctKeys into.now }
-    ensures { IfOk result (λ joined. joined ≡ map (entry_joined counterparts.now from.now) into.now) }
+    ensures { IfOk result
+        (λ joined. joined ≡ map (entry_joined counterparts.now from.now) into.now) }
 {
     let mut joined = Table::new(into.allocator());
     for (key, item) in into.iter() {
@@ -80,7 +81,8 @@ fn joined_entries(
 
 /// A copy of what a world holds under a key, with a stability joined to it where it is an interface.
 fn joined_item(item: &WorldItem, stability: Option<&Stability>) -> Result<WorldItem, AllocError>
-    ensures { IfOk result (λ joined. joined ≡ stability_joined (option_copied stability.entry) item.now) }
+    ensures { IfOk result
+        (λ joined. joined ≡ stability_joined (option_copied stability.entry) item.now) }
 {
     let mut joined = item.try_clone()?;
     if let Some(from) = stability {

@@ -10,7 +10,8 @@ use Rattle.wit_merge_spec.specs.Merged.{merged_interface, merged_package, merged
 abbrev pub merge_remap : GraphMerge → Remap
 merge_remap m = record {
   types = map (λ t. Some (merged_type m t)) (range_with_len 0 (length m.other.types));
-  interfaces = map (λ i. Some (merged_interface m i)) (range_with_len 0 (length m.other.interfaces));
+  interfaces =
+      map (λ i. Some (merged_interface m i)) (range_with_len 0 (length m.other.interfaces));
   worlds = map (λ w. Some (merged_world m w)) (range_with_len 0 (length m.other.worlds));
   packages = map (merged_package m) (range_with_len 0 (length m.other.packages));
 }

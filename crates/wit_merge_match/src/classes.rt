@@ -49,7 +49,8 @@ pub(crate) fn unite(leaders: &mut Items<usize>, one: usize, other: usize)
     requires other { other < length leaders.old }
     ensures descending { IsDescending leaders.new }
     ensures long { length leaders.new ≡ length leaders.old }
-    ensures kept { (f : ℕ → List Feature) → AreSame f leaders.old → f one ≡ f other → AreSame f leaders.new }
+    ensures kept { (f : ℕ → List Feature) → AreSame f leaders.old → f one ≡ f other
+        → AreSame f leaders.new }
 {
     let one = leader_of(leaders, one);
     let other = leader_of(leaders, other);

@@ -80,8 +80,11 @@ impl<'a> Comparison<'a> {
         requires sound { IsSound self.old }
         requires from { from < length self.old.sides.from.now }
         requires into { into < length self.old.sides.into.now }
-        ensures some { IfOk result (Tells (DifferInStructure self.old.sides.from.now self.old.sides.into.now (matched_by self.old.sides) from into)) }
-        ensures none { IfOk result (λ found. IfNone found (from_structure self.old.sides from ≡ into_structure self.old.sides into)) }
+        ensures some { IfOk result (Tells (DifferInStructure self.old.sides.from.now
+            self.old.sides.into.now (matched_by self.old.sides) from into)) }
+        ensures none { IfOk result (λ found.
+            IfNone found
+            (from_structure self.old.sides from ≡ into_structure self.old.sides into)) }
         ensures sides { self.new.sides ≡ self.old.sides }
         ensures sound { IsSound self.new }
     {
@@ -102,9 +105,13 @@ impl<'a> Comparison<'a> {
         requires sound { IsSound self.old }
         requires from { from < length self.old.sides.from.now }
         requires into { into < length self.old.sides.into.now }
-        requires heads { head_features (kind_at self.old.sides.from.now from) ≡ head_features (kind_at self.old.sides.into.now into) }
-        ensures some { IfOk result (Tells (DifferInStructure self.old.sides.from.now self.old.sides.into.now (matched_by self.old.sides) from into)) }
-        ensures none { IfOk result (λ found. IfNone found (from_structure self.old.sides from ≡ into_structure self.old.sides into)) }
+        requires heads { head_features (kind_at self.old.sides.from.now from)
+            ≡ head_features (kind_at self.old.sides.into.now into) }
+        ensures some { IfOk result (Tells (DifferInStructure self.old.sides.from.now
+            self.old.sides.into.now (matched_by self.old.sides) from into)) }
+        ensures none { IfOk result (λ found.
+            IfNone found
+            (from_structure self.old.sides from ≡ into_structure self.old.sides into)) }
         ensures sides { self.new.sides ≡ self.old.sides }
         ensures sound { IsSound self.new }
     {
@@ -254,7 +261,8 @@ impl<'a> Sides<'a> {
     fn told(&self, alloc: Global, stack: &[Frame], ending: Ending) -> Result<String, AllocError>
         requires parts { AreAtParts self.now stack.now }
         requires some { 0 < length stack.now }
-        ensures { IfOk result (λ text. string_bytes text ≡ path_text (path_of self.now stack.now) ++ ending_text ending) }
+        ensures { IfOk result (λ text.
+            string_bytes text ≡ path_text (path_of self.now stack.now) ++ ending_text ending) }
     {
         let mut text = String::from_str(alloc, "at ")?;
         for (index, frame) in stack.iter().enumerate() {

@@ -22,7 +22,8 @@ impl<'a> MatchedGraphs<'a> {
     ) -> Result<Option<String>, AllocError>
         requires { AreKnown self.now }
         ensures some { IfOk result (Tells (SidesDiffer (merging_of self.now) from.now into.now)) }
-        ensures none { IfOk result (TellsNone (SidesDiffer (merging_of self.now) from.now into.now)) }
+        ensures none { IfOk result
+            (TellsNone (SidesDiffer (merging_of self.now) from.now into.now)) }
     {
         match self.entries_mismatch(alloc, "import", &from.imports, &into.imports)? {
             Some(text) => Ok(Some(text)),
@@ -40,8 +41,10 @@ impl<'a> MatchedGraphs<'a> {
         into: &Table<WorldKey, WorldItem>,
     ) -> Result<Option<String>, AllocError>
         requires { AreKnown self.now }
-        ensures some { IfOk result (Tells (EntriesDiffer (merging_of self.now) word.now from.now into.now)) }
-        ensures none { IfOk result (TellsNone (EntriesDiffer (merging_of self.now) word.now from.now into.now)) }
+        ensures some { IfOk result
+            (Tells (EntriesDiffer (merging_of self.now) word.now from.now into.now)) }
+        ensures none { IfOk result
+            (TellsNone (EntriesDiffer (merging_of self.now) word.now from.now into.now)) }
     {
         if from.len() != into.len() {
             return Ok(Some(other_count(alloc, word)?));
@@ -64,8 +67,10 @@ impl<'a> MatchedGraphs<'a> {
         into: &Table<WorldKey, WorldItem>,
     ) -> Result<Option<String>, AllocError>
         requires { AreKnown self.now }
-        ensures some { IfOk result (Tells (EntryDiffers (merging_of self.now) word.now into.now key.now item.now)) }
-        ensures none { IfOk result (TellsNone (EntryDiffers (merging_of self.now) word.now into.now key.now item.now)) }
+        ensures some { IfOk result
+            (Tells (EntryDiffers (merging_of self.now) word.now into.now key.now item.now)) }
+        ensures none { IfOk result
+            (TellsNone (EntryDiffers (merging_of self.now) word.now into.now key.now item.now)) }
     {
         let Some(there) = self.matched_item(key, into) else {
             let name = key_text(alloc, self.other, key)?;
@@ -89,7 +94,8 @@ impl<'a> MatchedGraphs<'a> {
     ) -> Result<Option<String>, AllocError>
         requires { AreKnown self.now }
         ensures some { IfOk result (Tells (ItemsDiffer (merging_of self.now) from.now into.now)) }
-        ensures none { IfOk result (TellsNone (ItemsDiffer (merging_of self.now) from.now into.now)) }
+        ensures none { IfOk result
+            (TellsNone (ItemsDiffer (merging_of self.now) from.now into.now)) }
     {
         if !are_of_one_sort(from, into) {
             return Ok(Some(String::from_str(alloc, "world items do not have the same type")?));

@@ -30,7 +30,8 @@ use wit_graph_data::{Graph, Package};
 pub fn leaves_graph(graph: &Graph, other: &Graph, matches: &Matches) -> bool
     requires graph { IsValid graph.now }
     requires matches { AreMatches graph.now other.now matches.now }
-    ensures { IsTrue result → (offset : ℕ) → LeavesGraph (merge_of_graphs_by graph.now other.now offset) }
+    ensures { IsTrue result → (offset : ℕ)
+        → LeavesGraph (merge_of_graphs_by graph.now other.now offset) }
 {
     let comparing = MatchedGraphs {
         graph,
@@ -47,7 +48,9 @@ impl<'a> MatchedGraphs<'a> {
     /// Whether all types stay.
     fn types_stay(&self) -> bool
         requires { AreKnown self.now }
-        ensures { IsTrue result → (t : ℕ) → LeavesAt (counterpart_type (merging_of self.now)) self.now.other.now.types self.now.graph.now.types TypeLeaves t }
+        ensures { IsTrue result → (t : ℕ)
+            → LeavesAt (counterpart_type (merging_of self.now)) self.now.other.now.types
+            self.now.graph.now.types TypeLeaves t }
     {
         for index in 0..self.other.types.len() {
             if !self.type_stays(index) {
@@ -60,7 +63,9 @@ impl<'a> MatchedGraphs<'a> {
     /// Whether the type with which one is matched stays.
     fn type_stays(&self, index: usize) -> bool
         requires { AreKnown self.now }
-        ensures { IsTrue result → LeavesAt (counterpart_type (merging_of self.now)) self.now.other.now.types self.now.graph.now.types TypeLeaves index }
+        ensures { IsTrue result
+            → LeavesAt (counterpart_type (merging_of self.now)) self.now.other.now.types
+            self.now.graph.now.types TypeLeaves index }
     {
         let Some(from) = self.other.types.get(index) else {
             return true;
@@ -74,7 +79,9 @@ impl<'a> MatchedGraphs<'a> {
     /// Whether all interfaces stay.
     fn interfaces_stay(&self) -> bool
         requires { AreKnown self.now }
-        ensures { IsTrue result → (i : ℕ) → LeavesAt (counterpart_interface (merging_of self.now)) self.now.other.now.interfaces self.now.graph.now.interfaces (InterfaceLeaves (merging_of self.now)) i }
+        ensures { IsTrue result → (i : ℕ)
+            → LeavesAt (counterpart_interface (merging_of self.now)) self.now.other.now.interfaces
+            self.now.graph.now.interfaces (InterfaceLeaves (merging_of self.now)) i }
     {
         for index in 0..self.other.interfaces.len() {
             if !self.interface_stays(index) {
@@ -87,7 +94,9 @@ impl<'a> MatchedGraphs<'a> {
     /// Whether the interface with which one is matched stays.
     fn interface_stays(&self, index: usize) -> bool
         requires { AreKnown self.now }
-        ensures { IsTrue result → LeavesAt (counterpart_interface (merging_of self.now)) self.now.other.now.interfaces self.now.graph.now.interfaces (InterfaceLeaves (merging_of self.now)) index }
+        ensures { IsTrue result
+            → LeavesAt (counterpart_interface (merging_of self.now)) self.now.other.now.interfaces
+            self.now.graph.now.interfaces (InterfaceLeaves (merging_of self.now)) index }
     {
         let Some(from) = self.other.interfaces.get(index) else {
             return true;
@@ -111,7 +120,9 @@ impl<'a> MatchedGraphs<'a> {
     /// Whether all worlds stay.
     fn worlds_stay(&self) -> bool
         requires { AreKnown self.now }
-        ensures { IsTrue result → (w : ℕ) → LeavesAt (counterpart_world (merging_of self.now)) self.now.other.now.worlds self.now.graph.now.worlds (WorldLeaves (merging_of self.now)) w }
+        ensures { IsTrue result → (w : ℕ)
+            → LeavesAt (counterpart_world (merging_of self.now)) self.now.other.now.worlds
+            self.now.graph.now.worlds (WorldLeaves (merging_of self.now)) w }
     {
         for index in 0..self.other.worlds.len() {
             if !self.world_stays(index) {
@@ -124,7 +135,9 @@ impl<'a> MatchedGraphs<'a> {
     /// Whether the world with which one is matched stays.
     fn world_stays(&self, index: usize) -> bool
         requires { AreKnown self.now }
-        ensures { IsTrue result → LeavesAt (counterpart_world (merging_of self.now)) self.now.other.now.worlds self.now.graph.now.worlds (WorldLeaves (merging_of self.now)) index }
+        ensures { IsTrue result
+            → LeavesAt (counterpart_world (merging_of self.now)) self.now.other.now.worlds
+            self.now.graph.now.worlds (WorldLeaves (merging_of self.now)) index }
     {
         let Some(from) = self.other.worlds.get(index) else {
             return true;
@@ -188,7 +201,9 @@ impl<'a> MatchedGraphs<'a> {
     /// Whether all packages stay.
     fn packages_stay(&self) -> bool
         requires { AreKnown self.now }
-        ensures { IsTrue result → (p : ℕ) → LeavesAt (counterpart_package (merging_of self.now)) self.now.other.now.packages self.now.graph.now.packages (PackageLeaves (merging_of self.now)) p }
+        ensures { IsTrue result → (p : ℕ)
+            → LeavesAt (counterpart_package (merging_of self.now)) self.now.other.now.packages
+            self.now.graph.now.packages (PackageLeaves (merging_of self.now)) p }
     {
         for index in 0..self.other.packages.len() {
             if !self.package_stays(index) {
@@ -201,7 +216,9 @@ impl<'a> MatchedGraphs<'a> {
     /// Whether the package with which one is matched stays: no interface and no world of the other moves into it.
     fn package_stays(&self, index: usize) -> bool
         requires { AreKnown self.now }
-        ensures { IsTrue result → LeavesAt (counterpart_package (merging_of self.now)) self.now.other.now.packages self.now.graph.now.packages (PackageLeaves (merging_of self.now)) index }
+        ensures { IsTrue result
+            → LeavesAt (counterpart_package (merging_of self.now)) self.now.other.now.packages
+            self.now.graph.now.packages (PackageLeaves (merging_of self.now)) index }
     {
         let Some(from) = self.other.packages.get(index) else {
             return true;
@@ -215,7 +232,8 @@ impl<'a> MatchedGraphs<'a> {
     /// Whether no interface and no world of a package moves.
     fn moves_nothing(&self, from: &Package) -> bool
         requires { AreKnown self.now }
-        ensures { IsTrue result → (into : Package) → PackageLeaves (merging_of self.now) from.now into }
+        ensures { IsTrue result → (into : Package)
+            → PackageLeaves (merging_of self.now) from.now into }
     {
         all_interfaces_matched(&from.interfaces, &self.matches.interfaces)
             && all_worlds_matched(&from.worlds, &self.matches.worlds)
@@ -287,7 +305,9 @@ fn moves<T: Copy>(found: &Items<Option<T>>, index: usize) -> bool
 
 /// Whether all names of some functions are among those of others.
 fn all_named(from: &Names<Function>, into: &Names<Function>) -> bool
-    ensures { IsTrue result → filter (λ (e : List ℕ × Function). not (is_some (lookup (bytes_eq e.0) into.now))) from.now ≡ [] }
+    ensures { IsTrue result
+        → filter (λ (e : List ℕ × Function). not (is_some (lookup (bytes_eq e.0) into.now)))
+        from.now ≡ [] }
 {
     for (name, _) in from.iter() {
         if !into.contains_key(name) {

@@ -20,7 +20,9 @@ impl<'a> MatchedGraphs<'a> {
     /// The type of the graph with which one of the other is matched.
     pub(crate) fn matched_type(&self, index: usize) -> Option<&'a TypeDef>
         requires { AreKnown self.now }
-        ensures { option_copied result ≡ option_and_then (slice_get self.now.graph.now.types) (counterpart_type (merging_of self.now) index) }
+        ensures { option_copied result
+            ≡ option_and_then (slice_get self.now.graph.now.types)
+            (counterpart_type (merging_of self.now) index) }
     {
         match self.matches.types.get(index) {
             Some(Some(id)) => self.graph.types.get(id.index()),
@@ -67,7 +69,8 @@ impl<'a> MatchedGraphs<'a> {
         entries: &'b Table<WorldKey, WorldItem>,
     ) -> Option<&'b WorldItem>
         requires { AreKnown self.now }
-        ensures { option_copied result ≡ counterpart_item (merging_of self.now) entries.now key.now }
+        ensures { option_copied result
+            ≡ counterpart_item (merging_of self.now) entries.now key.now }
     {
         match key {
             WorldKey::Name(_) => entries.get(key),

@@ -27,7 +27,8 @@ pub fn find_ids(
     matches: &Matches,
 ) -> Result<MergeIds, AllocError>
     requires { AreMatches graph.now other.now matches.now }
-    ensures { IfOk result (λ merge_ids. merge_ids ≡ merge_ids_of (merge_of_graphs graph.now other.now)) }
+    ensures { IfOk result
+        (λ merge_ids. merge_ids ≡ merge_ids_of (merge_of_graphs graph.now other.now)) }
 {
     let new_ids = NewIds {
         types: new_ids(alloc, &matches.types, graph.types.len())?,
@@ -44,7 +45,10 @@ fn new_ids<S>(
     found: &Items<Option<Id<S>>>,
     first: usize,
 ) -> Result<Items<Option<Id<S>>>, AllocError>
-    ensures { IfOk result (λ new_ids. new_ids ≡ map (λ i. Some (new_id_from found.now first i)) (range_with_len 0 (length found.now))) }
+    ensures { IfOk result (λ new_ids.
+        new_ids
+        ≡ map (λ i. Some (new_id_from found.now first i))
+        (range_with_len 0 (length found.now))) }
 {
     let mut new_ids = Items::new(alloc);
     let mut next = first;
@@ -61,7 +65,8 @@ fn package_ids(
     found: &Items<Option<PackageId>>,
     first: usize,
 ) -> Result<Items<PackageId>, AllocError>
-    ensures { IfOk result (λ new_ids. new_ids ≡ map (new_id_from found.now first) (range_with_len 0 (length found.now))) }
+    ensures { IfOk result (λ new_ids.
+        new_ids ≡ map (new_id_from found.now first) (range_with_len 0 (length found.now))) }
 {
     let mut new_ids = Items::new(alloc);
     let mut next = first;

@@ -16,7 +16,8 @@ pub(crate) fn in_part(
     name: &str,
     text: &str,
 ) -> Result<String, AllocError>
-    ensures { IfOk result (λ message. string_bytes message ≡ linked (part_links home.now sort.now name.now) text.now) }
+    ensures { IfOk result (λ message.
+        string_bytes message ≡ linked (part_links home.now sort.now name.now) text.now) }
 {
     format!(in alloc;
         "failed to merge package `{home}` into existing copy: failed to merge {sort} `{name}`: {text}"
@@ -30,14 +31,16 @@ pub(crate) fn in_entry(
     key: &str,
     text: &str,
 ) -> Result<String, AllocError>
-    ensures { IfOk result (λ message. string_bytes message ≡ linked (entry_link word.now key.now ∷ []) text.now) }
+    ensures { IfOk result
+        (λ message. string_bytes message ≡ linked (entry_link word.now key.now ∷ []) text.now) }
 {
     format!(in alloc; "{word} `{key}` didn't match target world: {text}")
 }
 
 /// What differs in a type.
 pub(crate) fn in_type(alloc: Global, name: &str, text: &str) -> Result<String, AllocError>
-    ensures { IfOk result (λ message. string_bytes message ≡ linked (type_link name.now ∷ []) text.now) }
+    ensures { IfOk result
+        (λ message. string_bytes message ≡ linked (type_link name.now ∷ []) text.now) }
 {
     format!(in alloc; "mismatch in type `{name}`: {text}")
 }
@@ -58,7 +61,8 @@ pub(crate) fn other_count(alloc: Global, word: &str) -> Result<String, AllocErro
 
 /// What names a key of a graph.
 pub(crate) fn key_text(alloc: Global, graph: &Graph, key: &WorldKey) -> Result<String, AllocError>
-    ensures { IfOk result (λ text. string_bytes text ≡ key_text graph.now.packages graph.now.interfaces key.now) }
+    ensures { IfOk result
+        (λ text. string_bytes text ≡ key_text graph.now.packages graph.now.interfaces key.now) }
 {
     match graph.name_world_key(alloc, key) {
         Ok(text) => Ok(text),

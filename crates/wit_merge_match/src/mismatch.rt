@@ -30,7 +30,8 @@ pub fn find_mismatch(
     requires other { IsValid other.now }
     requires matches { AreMatches graph.now other.now matches.now }
     ensures some { IfOk result (Tells (GraphsDiffer (merge_of_graphs graph.now other.now))) }
-    ensures none { IfOk result (λ found. IfNone found (HasNoMismatch (merge_of_graphs graph.now other.now))) }
+    ensures none { IfOk result
+        (λ found. IfNone found (HasNoMismatch (merge_of_graphs graph.now other.now))) }
 {
     let comparing = MatchedGraphs {
         graph,

@@ -10,8 +10,10 @@ use wit_remap::parts_fit;
 /// Whether no span of the other graph passes the last position, 4294967295, when it is moved by so many positions.
 /// All its spans are asked, also those of what is matched.
 pub fn spans_fit(other: &Graph, offset: u32) -> bool
-    ensures fit { result ≡ true → (graph : Graph) → MergeOverflows (merge_of_graphs_by graph other.now offset) → ⊥ }
-    ensures pass { result ≡ false → (graph : Graph) → MergeOverflows (merge_of_graphs_by graph other.now offset) }
+    ensures fit { result ≡ true → (graph : Graph)
+        → MergeOverflows (merge_of_graphs_by graph other.now offset) → ⊥ }
+    ensures pass { result ≡ false → (graph : Graph)
+        → MergeOverflows (merge_of_graphs_by graph other.now offset) }
 {
     parts_fit(
         other.types.as_slice(),

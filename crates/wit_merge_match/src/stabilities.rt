@@ -40,8 +40,12 @@ pub fn find_stability_mismatch(
     matches: &Matches,
 ) -> Result<Option<StabilityPair>, AllocError>
     requires { AreMatches graph.now other.now matches.now }
-    ensures some { IfOk result (λ found. IfSome found (λ pair. StabilitiesMismatch (merge_of_graphs graph.now other.now) pair.from pair.into)) }
-    ensures none { IfOk result (λ found. IfNone found ((from into : Stability) → StabilitiesMismatch (merge_of_graphs graph.now other.now) from into → ⊥)) }
+    ensures some { IfOk result (λ found.
+        IfSome found (λ pair.
+        StabilitiesMismatch (merge_of_graphs graph.now other.now) pair.from pair.into)) }
+    ensures none { IfOk result (λ found.
+        IfNone found ((from into : Stability)
+        → StabilitiesMismatch (merge_of_graphs graph.now other.now) from into → ⊥)) }
 {
     let comparing = MatchedGraphs {
         graph,
@@ -62,8 +66,10 @@ impl<'a> MatchedGraphs<'a> {
     /// The first two that can't be joined.
     fn disagreement(&self) -> Option<Disagreement<'a>>
         requires { AreKnown self.now }
-        ensures some { IfSome result (λ d. StabilitiesMismatch (merging_of self.now) d.from.now d.into.now) }
-        ensures none { IfNone result ((from into : Stability) → StabilitiesMismatch (merging_of self.now) from into → ⊥) }
+        ensures some { IfSome result
+            (λ d. StabilitiesMismatch (merging_of self.now) d.from.now d.into.now) }
+        ensures none { IfNone result
+            ((from into : Stability) → StabilitiesMismatch (merging_of self.now) from into → ⊥) }
     {
         if let Some(found) = self.types_apart() {
             return Some(found);
@@ -77,8 +83,10 @@ impl<'a> MatchedGraphs<'a> {
     /// Those of the first types.
     fn types_apart(&self) -> Option<Disagreement<'a>>
         requires { AreKnown self.now }
-        ensures some { IfSome result (λ d. (t : ℕ) × TypesApartAt (merging_of self.now) t (d.from.now, d.into.now)) }
-        ensures none { IfNone result ((t : ℕ) (s : Stability × Stability) → TypesApartAt (merging_of self.now) t s → ⊥) }
+        ensures some { IfSome result
+            (λ d. (t : ℕ) × TypesApartAt (merging_of self.now) t (d.from.now, d.into.now)) }
+        ensures none { IfNone result
+            ((t : ℕ) (s : Stability × Stability) → TypesApartAt (merging_of self.now) t s → ⊥) }
     {
         for index in 0..self.other.types.len() {
             if let Some(found) = self.type_apart(index) {
@@ -91,8 +99,10 @@ impl<'a> MatchedGraphs<'a> {
     /// Those of a type.
     fn type_apart(&self, index: usize) -> Option<Disagreement<'a>>
         requires { AreKnown self.now }
-        ensures some { IfSome result (λ d. TypesApartAt (merging_of self.now) index (d.from.now, d.into.now)) }
-        ensures none { IfNone result ((s : Stability × Stability) → TypesApartAt (merging_of self.now) index s → ⊥) }
+        ensures some { IfSome result
+            (λ d. TypesApartAt (merging_of self.now) index (d.from.now, d.into.now)) }
+        ensures none { IfNone result
+            ((s : Stability × Stability) → TypesApartAt (merging_of self.now) index s → ⊥) }
     {
         let from = self.other.types.get(index)?;
         let into = self.matched_type(index)?;
@@ -102,8 +112,10 @@ impl<'a> MatchedGraphs<'a> {
     /// Those of the first interfaces.
     fn interfaces_apart(&self) -> Option<Disagreement<'a>>
         requires { AreKnown self.now }
-        ensures some { IfSome result (λ d. (i : ℕ) × InterfacesApartAt (merging_of self.now) i (d.from.now, d.into.now)) }
-        ensures none { IfNone result ((i : ℕ) (s : Stability × Stability) → InterfacesApartAt (merging_of self.now) i s → ⊥) }
+        ensures some { IfSome result
+            (λ d. (i : ℕ) × InterfacesApartAt (merging_of self.now) i (d.from.now, d.into.now)) }
+        ensures none { IfNone result ((i : ℕ) (s : Stability × Stability)
+            → InterfacesApartAt (merging_of self.now) i s → ⊥) }
     {
         for index in 0..self.other.interfaces.len() {
             if let Some(found) = self.interface_apart(index) {
@@ -116,8 +128,10 @@ impl<'a> MatchedGraphs<'a> {
     /// Those of an interface.
     fn interface_apart(&self, index: usize) -> Option<Disagreement<'a>>
         requires { AreKnown self.now }
-        ensures some { IfSome result (λ d. InterfacesApartAt (merging_of self.now) index (d.from.now, d.into.now)) }
-        ensures none { IfNone result ((s : Stability × Stability) → InterfacesApartAt (merging_of self.now) index s → ⊥) }
+        ensures some { IfSome result
+            (λ d. InterfacesApartAt (merging_of self.now) index (d.from.now, d.into.now)) }
+        ensures none { IfNone result
+            ((s : Stability × Stability) → InterfacesApartAt (merging_of self.now) index s → ⊥) }
     {
         let from = self.other.interfaces.get(index)?;
         let into = self.matched_interface(index)?;
@@ -127,8 +141,10 @@ impl<'a> MatchedGraphs<'a> {
     /// Those of the first worlds, or of entries of them.
     fn worlds_apart(&self) -> Option<Disagreement<'a>>
         requires { AreKnown self.now }
-        ensures some { IfSome result (λ d. (w : ℕ) × WorldsApartAt (merging_of self.now) w (d.from.now, d.into.now)) }
-        ensures none { IfNone result ((w : ℕ) (s : Stability × Stability) → WorldsApartAt (merging_of self.now) w s → ⊥) }
+        ensures some { IfSome result
+            (λ d. (w : ℕ) × WorldsApartAt (merging_of self.now) w (d.from.now, d.into.now)) }
+        ensures none { IfNone result
+            ((w : ℕ) (s : Stability × Stability) → WorldsApartAt (merging_of self.now) w s → ⊥) }
     {
         for index in 0..self.other.worlds.len() {
             if let Some(found) = self.world_apart(index) {
@@ -141,8 +157,10 @@ impl<'a> MatchedGraphs<'a> {
     /// Those of a world, or of its entries.
     fn world_apart(&self, index: usize) -> Option<Disagreement<'a>>
         requires { AreKnown self.now }
-        ensures some { IfSome result (λ d. WorldsApartAt (merging_of self.now) index (d.from.now, d.into.now)) }
-        ensures none { IfNone result ((s : Stability × Stability) → WorldsApartAt (merging_of self.now) index s → ⊥) }
+        ensures some { IfSome result
+            (λ d. WorldsApartAt (merging_of self.now) index (d.from.now, d.into.now)) }
+        ensures none { IfNone result
+            ((s : Stability × Stability) → WorldsApartAt (merging_of self.now) index s → ⊥) }
     {
         let from = self.other.worlds.get(index)?;
         let into = self.matched_world(index)?;
@@ -152,8 +170,10 @@ impl<'a> MatchedGraphs<'a> {
     /// Those of two worlds, or of their imports or exports.
     fn lists_apart(&self, from: &'a World, into: &'a World) -> Option<Disagreement<'a>>
         requires { AreKnown self.now }
-        ensures some { IfSome result (λ d. WorldsApart (merging_of self.now) from.now into.now (d.from.now, d.into.now)) }
-        ensures none { IfNone result ((s : Stability × Stability) → WorldsApart (merging_of self.now) from.now into.now s → ⊥) }
+        ensures some { IfSome result
+            (λ d. WorldsApart (merging_of self.now) from.now into.now (d.from.now, d.into.now)) }
+        ensures none { IfNone result ((s : Stability × Stability)
+            → WorldsApart (merging_of self.now) from.now into.now s → ⊥) }
     {
         if let Some(found) = compare(&from.stability, &into.stability) {
             return Some(found);
@@ -171,8 +191,10 @@ impl<'a> MatchedGraphs<'a> {
         into: &'a Table<WorldKey, WorldItem>,
     ) -> Option<Disagreement<'a>>
         requires { AreKnown self.now }
-        ensures some { IfSome result (λ d. EntriesApart (merging_of self.now) from.now into.now (d.from.now, d.into.now)) }
-        ensures none { IfNone result ((s : Stability × Stability) → EntriesApart (merging_of self.now) from.now into.now s → ⊥) }
+        ensures some { IfSome result
+            (λ d. EntriesApart (merging_of self.now) from.now into.now (d.from.now, d.into.now)) }
+        ensures none { IfNone result ((s : Stability × Stability)
+            → EntriesApart (merging_of self.now) from.now into.now s → ⊥) }
     {
         into.keys_differ();
         for (key, item) in from.iter() {
@@ -191,8 +213,11 @@ impl<'a> MatchedGraphs<'a> {
         entries: &'a Table<WorldKey, WorldItem>,
     ) -> Option<Disagreement<'a>>
         requires { AreKnown self.now }
-        ensures some { IfSome result (λ d. EntryApart (merging_of self.now) entries.now key.now item.now (d.from.now, d.into.now)) }
-        ensures none { IfNone result ((s : Stability × Stability) → EntryApart (merging_of self.now) entries.now key.now item.now s → ⊥) }
+        ensures some { IfSome result (λ d.
+            EntryApart (merging_of self.now) entries.now key.now item.now
+            (d.from.now, d.into.now)) }
+        ensures none { IfNone result ((s : Stability × Stability)
+            → EntryApart (merging_of self.now) entries.now key.now item.now s → ⊥) }
     {
         let from = own_stability(key, item)?;
         let into = self.matched_stability(key, entries)?;
@@ -206,7 +231,8 @@ impl<'a> MatchedGraphs<'a> {
         entries: &'a Table<WorldKey, WorldItem>,
     ) -> Option<&'a Stability>
         requires { AreKnown self.now }
-        ensures { option_copied result ≡ matched_stability (merging_of self.now) entries.now key.now }
+        ensures { option_copied result
+            ≡ matched_stability (merging_of self.now) entries.now key.now }
     {
         match key {
             WorldKey::Name(_) => None,

@@ -21,8 +21,11 @@ impl<'a> MatchedGraphs<'a> {
     /// that it depends on, and then those of worlds.
     pub(crate) fn structures_mismatch(&self, alloc: Global) -> Result<Option<String>, AllocError>
         requires { AreComparable self.now }
-        ensures some { IfOk result (Tells (FirstMismatch (merging_of self.now) (type_pairs (merging_of self.now)))) }
-        ensures none { IfOk result (λ found. IfNone found (NoneDiffer (merging_of self.now) (type_pairs (merging_of self.now)))) }
+        ensures some { IfOk result
+            (Tells (FirstMismatch (merging_of self.now) (type_pairs (merging_of self.now)))) }
+        ensures none { IfOk result (λ found.
+            IfNone found
+            (NoneDiffer (merging_of self.now) (type_pairs (merging_of self.now)))) }
     {
         if !self.has_pairs() {
             return Ok(None);
@@ -50,8 +53,11 @@ impl<'a> MatchedGraphs<'a> {
     ) -> Result<Option<String>, AllocError>
         requires comparable { AreComparable self.now }
         requires of { IsOf self.now comparison.old }
-        ensures some { IfOk result (Tells (FirstMismatch (merging_of self.now) (pairs_in_order (merging_of self.now) order.now))) }
-        ensures none { IfOk result (λ found. IfNone found (NoneDiffer (merging_of self.now) (pairs_in_order (merging_of self.now) order.now))) }
+        ensures some { IfOk result (Tells (FirstMismatch (merging_of self.now)
+            (pairs_in_order (merging_of self.now) order.now))) }
+        ensures none { IfOk result (λ found.
+            IfNone found (NoneDiffer (merging_of self.now)
+            (pairs_in_order (merging_of self.now) order.now))) }
     {
         for id in order.as_slice() {
             if let Some(message) = self.package_interfaces_differ(alloc, comparison, *id)? {
@@ -76,8 +82,11 @@ impl<'a> MatchedGraphs<'a> {
         requires comparable { AreComparable self.now }
         requires of { IsOf self.now comparison.old }
         ensures of { IsOf self.now comparison.new }
-        ensures some { IfOk result (Tells (FirstMismatch (merging_of self.now) (package_interface_pairs (merging_of self.now) id))) }
-        ensures none { IfOk result (λ found. IfNone found (NoneDiffer (merging_of self.now) (package_interface_pairs (merging_of self.now) id))) }
+        ensures some { IfOk result (Tells (FirstMismatch (merging_of self.now)
+            (package_interface_pairs (merging_of self.now) id))) }
+        ensures none { IfOk result (λ found.
+            IfNone found (NoneDiffer (merging_of self.now)
+            (package_interface_pairs (merging_of self.now) id))) }
     {
         let Some(home) = self.other.packages.get(id.index()) else {
             return Ok(None);
@@ -100,8 +109,11 @@ impl<'a> MatchedGraphs<'a> {
         requires comparable { AreComparable self.now }
         requires of { IsOf self.now comparison.old }
         ensures of { IsOf self.now comparison.new }
-        ensures some { IfOk result (Tells (FirstMismatch (merging_of self.now) (interface_pairs (merging_of self.now) [] id))) }
-        ensures none { IfOk result (λ found. IfNone found (NoneDiffer (merging_of self.now) (interface_pairs (merging_of self.now) [] id))) }
+        ensures some { IfOk result (Tells (FirstMismatch (merging_of self.now)
+            (interface_pairs (merging_of self.now) [] id))) }
+        ensures none { IfOk result (λ found.
+            IfNone found (NoneDiffer (merging_of self.now)
+            (interface_pairs (merging_of self.now) [] id))) }
     {
         let Some(from) = self.other.interfaces.get(id.index()) else {
             return Ok(None);
@@ -131,8 +143,11 @@ impl<'a> MatchedGraphs<'a> {
         requires from { from < length self.now.other.now.types }
         requires others { ListsThere self.now.graph.now.types others.now }
         ensures of { IsOf self.now comparison.new }
-        ensures some { IfOk result (Tells (FirstMismatch (merging_of self.now) (common_pair others.now (name.now, from)))) }
-        ensures none { IfOk result (λ found. IfNone found (NoneDiffer (merging_of self.now) (common_pair others.now (name.now, from)))) }
+        ensures some { IfOk result (Tells
+            (FirstMismatch (merging_of self.now) (common_pair others.now (name.now, from)))) }
+        ensures none { IfOk result (λ found.
+            IfNone found
+            (NoneDiffer (merging_of self.now) (common_pair others.now (name.now, from)))) }
     {
         match others.get(name) {
             Some(into) => self.types_differ(alloc, comparison, name, from, *into),
@@ -154,8 +169,11 @@ impl<'a> MatchedGraphs<'a> {
         requires from { from < length self.now.other.now.types }
         requires into { into < length self.now.graph.now.types }
         ensures of { IsOf self.now comparison.new }
-        ensures some { IfOk result (Tells (FirstMismatch (merging_of self.now) (paired [] name.now from into ∷ []))) }
-        ensures none { IfOk result (λ found. IfNone found (NoneDiffer (merging_of self.now) (paired [] name.now from into ∷ []))) }
+        ensures some { IfOk result
+            (Tells (FirstMismatch (merging_of self.now) (paired [] name.now from into ∷ []))) }
+        ensures none { IfOk result (λ found.
+            IfNone found
+            (NoneDiffer (merging_of self.now) (paired [] name.now from into ∷ []))) }
     {
         match comparison.difference(alloc, from.index(), into.index())? {
             Some(text) => Ok(Some(in_type(alloc, name, &text)?)),
@@ -173,8 +191,11 @@ impl<'a> MatchedGraphs<'a> {
         requires comparable { AreComparable self.now }
         requires of { IsOf self.now comparison.old }
         ensures of { IsOf self.now comparison.new }
-        ensures some { IfOk result (Tells (FirstMismatch (merging_of self.now) (package_world_pairs (merging_of self.now) id))) }
-        ensures none { IfOk result (λ found. IfNone found (NoneDiffer (merging_of self.now) (package_world_pairs (merging_of self.now) id))) }
+        ensures some { IfOk result (Tells (FirstMismatch (merging_of self.now)
+            (package_world_pairs (merging_of self.now) id))) }
+        ensures none { IfOk result (λ found.
+            IfNone found (NoneDiffer (merging_of self.now)
+            (package_world_pairs (merging_of self.now) id))) }
     {
         let Some(home) = self.other.packages.get(id.index()) else {
             return Ok(None);
@@ -197,8 +218,11 @@ impl<'a> MatchedGraphs<'a> {
         requires comparable { AreComparable self.now }
         requires of { IsOf self.now comparison.old }
         ensures of { IsOf self.now comparison.new }
-        ensures some { IfOk result (Tells (FirstMismatch (merging_of self.now) (world_pairs (merging_of self.now) [] id))) }
-        ensures none { IfOk result (λ found. IfNone found (NoneDiffer (merging_of self.now) (world_pairs (merging_of self.now) [] id))) }
+        ensures some { IfOk result (Tells
+            (FirstMismatch (merging_of self.now) (world_pairs (merging_of self.now) [] id))) }
+        ensures none { IfOk result (λ found.
+            IfNone found
+            (NoneDiffer (merging_of self.now) (world_pairs (merging_of self.now) [] id))) }
     {
         let Some(from) = self.other.worlds.get(id.index()) else {
             return Ok(None);
@@ -226,8 +250,11 @@ impl<'a> MatchedGraphs<'a> {
         requires from { TypesThere self.now.other.now.types from.now }
         requires into { TypesThere self.now.graph.now.types into.now }
         ensures of { IsOf self.now comparison.new }
-        ensures some { IfOk result (Tells (FirstMismatch (merging_of self.now) (side_pairs (merging_of self.now) word.now from.now into.now))) }
-        ensures none { IfOk result (λ found. IfNone found (NoneDiffer (merging_of self.now) (side_pairs (merging_of self.now) word.now from.now into.now))) }
+        ensures some { IfOk result (Tells (FirstMismatch (merging_of self.now)
+            (side_pairs (merging_of self.now) word.now from.now into.now))) }
+        ensures none { IfOk result (λ found.
+            IfNone found (NoneDiffer (merging_of self.now)
+            (side_pairs (merging_of self.now) word.now from.now into.now))) }
     {
         for (key, item) in from.iter() {
             if let Some(text) = self.entry_differs(alloc, comparison, word, key, item, into)? {
@@ -252,8 +279,11 @@ impl<'a> MatchedGraphs<'a> {
         requires from { IsThere self.now.other.now.types from.now }
         requires into { TypesThere self.now.graph.now.types into.now }
         ensures of { IsOf self.now comparison.new }
-        ensures some { IfOk result (Tells (FirstMismatch (merging_of self.now) (entry_pairs (merging_of self.now) [] word.now into.now (key.now, from.now)))) }
-        ensures none { IfOk result (λ found. IfNone found (NoneDiffer (merging_of self.now) (entry_pairs (merging_of self.now) [] word.now into.now (key.now, from.now)))) }
+        ensures some { IfOk result (Tells (FirstMismatch (merging_of self.now)
+            (entry_pairs (merging_of self.now) [] word.now into.now (key.now, from.now)))) }
+        ensures none { IfOk result (λ found.
+            IfNone found (NoneDiffer (merging_of self.now) (entry_pairs (merging_of self.now) []
+            word.now into.now (key.now, from.now)))) }
     {
         match key {
             WorldKey::Interface(_) => Ok(None),
@@ -285,8 +315,11 @@ impl<'a> MatchedGraphs<'a> {
         requires from { IsThere self.now.other.now.types from.now }
         requires into { IsThere self.now.graph.now.types into.now }
         ensures of { IsOf self.now comparison.new }
-        ensures some { IfOk result (Tells (FirstMismatch (merging_of self.now) (item_pairs (merging_of self.now) [] label.now from.now into.now))) }
-        ensures none { IfOk result (λ found. IfNone found (NoneDiffer (merging_of self.now) (item_pairs (merging_of self.now) [] label.now from.now into.now))) }
+        ensures some { IfOk result (Tells (FirstMismatch (merging_of self.now)
+            (item_pairs (merging_of self.now) [] label.now from.now into.now))) }
+        ensures none { IfOk result (λ found.
+            IfNone found (NoneDiffer (merging_of self.now)
+            (item_pairs (merging_of self.now) [] label.now from.now into.now))) }
     {
         match from {
             WorldItem::Type_ { id, .. } => match into {
@@ -310,8 +343,11 @@ impl<'a> MatchedGraphs<'a> {
         requires comparable { AreComparable self.now }
         requires of { IsOf self.now comparison.old }
         ensures of { IsOf self.now comparison.new }
-        ensures some { IfOk result (Tells (FirstMismatch (merging_of self.now) (unnamed_pairs (merging_of self.now) id))) }
-        ensures none { IfOk result (λ found. IfNone found (NoneDiffer (merging_of self.now) (unnamed_pairs (merging_of self.now) id))) }
+        ensures some { IfOk result (Tells
+            (FirstMismatch (merging_of self.now) (unnamed_pairs (merging_of self.now) id))) }
+        ensures none { IfOk result (λ found.
+            IfNone found
+            (NoneDiffer (merging_of self.now) (unnamed_pairs (merging_of self.now) id))) }
     {
         let Some(interface) = self.other.interfaces.get(id.index()) else {
             return Ok(None);
@@ -337,8 +373,12 @@ fn any_matched<T: Copy>(found: &Items<Option<T>>) -> bool
 
 /// The packages of a valid graph, each after those that it depends on.
 fn package_order(alloc: Global, graph: &Graph) -> Result<Items<PackageId>, AllocError>
-    requires { IsAcyclic (package_uses graph.now.types graph.now.interfaces graph.now.worlds graph.now.packages) }
-    ensures { IfOk result (λ order. order ≡ topological_packages graph.now.types graph.now.interfaces graph.now.worlds graph.now.packages) }
+    requires { IsAcyclic
+        (package_uses graph.now.types graph.now.interfaces graph.now.worlds graph.now.packages) }
+    ensures { IfOk result (λ order.
+        order
+        ≡ topological_packages graph.now.types graph.now.interfaces graph.now.worlds
+        graph.now.packages) }
 {
     match topological_packages(alloc, graph) {
         Ok(order) => Ok(Items::from_vec(order)),

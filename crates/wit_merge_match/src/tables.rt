@@ -15,7 +15,10 @@ pub(crate) fn package_matches(
     graph: &Graph,
     other: &Graph,
 ) -> Result<Items<Option<PackageId>>, AllocError>
-    ensures { IfOk result (λ found. found ≡ map (λ (home : Package). lookup (same_package home.name) graph.now.package_names) other.now.packages) }
+    ensures { IfOk result (λ found.
+        found
+        ≡ map (λ (home : Package). lookup (same_package home.name) graph.now.package_names)
+        other.now.packages) }
 {
     let mut found = Items::new(alloc);
     for home in other.packages.as_slice() {
@@ -51,7 +54,8 @@ pub(crate) fn world_matches(
     other: &Graph,
     packages: &Items<Option<PackageId>>,
 ) -> Result<Items<Option<WorldId>>, AllocError>
-    ensures { IfOk result (λ found. found ≡ map (world_under graph.now packages.now) other.now.worlds) }
+    ensures { IfOk result
+        (λ found. found ≡ map (world_under graph.now packages.now) other.now.worlds) }
 {
     let mut found = Items::new(alloc);
     for world in other.worlds.as_slice() {
@@ -76,7 +80,8 @@ pub(crate) fn named_interfaces(
     other: &Graph,
     packages: &Items<Option<PackageId>>,
 ) -> Result<Items<Option<InterfaceId>>, AllocError>
-    ensures { IfOk result (λ found. found ≡ map (interface_under graph.now packages.now) other.now.interfaces) }
+    ensures { IfOk result
+        (λ found. found ≡ map (interface_under graph.now packages.now) other.now.interfaces) }
 {
     let mut found = Items::new(alloc);
     for interface in other.interfaces.as_slice() {

@@ -24,7 +24,8 @@ pub(crate) fn type_matches(
     interfaces: &Items<Option<InterfaceId>>,
 ) -> Result<Items<Option<TypeId>>, AllocError>
     requires { IsValid graph.now }
-    ensures { IfOk result (λ found. found ≡ map (type_under graph.now worlds.now interfaces.now) other.now.types) }
+    ensures { IfOk result
+        (λ found. found ≡ map (type_under graph.now worlds.now interfaces.now) other.now.types) }
 {
     let mut found = Items::new(alloc);
     for def in other.types.as_slice() {
@@ -41,7 +42,8 @@ fn type_match(
     def: &TypeDef,
 ) -> Result<Option<TypeId>, AllocError>
     requires { IsValid graph.now }
-    ensures { IfOk result (λ found. found ≡ type_under graph.now worlds.now interfaces.now def.now) }
+    ensures { IfOk result
+        (λ found. found ≡ type_under graph.now worlds.now interfaces.now def.now) }
 {
     let Some(name) = &def.name else {
         return Ok(None);
@@ -72,7 +74,10 @@ fn type_of_world(
     name: &Text,
 ) -> Result<Option<TypeId>, AllocError>
     requires { IsValid graph.now }
-    ensures { IfOk result (λ found. found ≡ option_and_then (λ (there : World). lookup (bytes_eq name.now) (world_types there)) (option_and_then (slice_get graph.now.worlds) id)) }
+    ensures { IfOk result (λ found.
+        found
+        ≡ option_and_then (λ (there : World). lookup (bytes_eq name.now) (world_types there))
+        (option_and_then (slice_get graph.now.worlds) id)) }
 {
     let Some(id) = id else {
         return Ok(None);

@@ -25,8 +25,10 @@ impl<'a> LabelNotes<'a> {
     pub(crate) fn add_unnamed(&self, found: &mut Items<Option<InterfaceId>>)
         requires worlds { KnowsWorlds self.now }
         requires long { length found.old ≡ length self.now.other.now.interfaces }
-        requires unnamed { (i : ℕ) → is_unnamed self.now.other.now.interfaces i ≡ true → get_or found.old i None ≡ None }
-        ensures { AreLabelled self.now.graph.now self.now.other.now found.old (world_labels self.now.other.now.worlds) found.new }
+        requires unnamed { (i : ℕ) → is_unnamed self.now.other.now.interfaces i ≡ true
+            → get_or found.old i None ≡ None }
+        ensures { AreLabelled self.now.graph.now self.now.other.now found.old
+            (world_labels self.now.other.now.worlds) found.new }
     {
         for index in (0..self.other.worlds.len()).rev() {
             let world = self.other.worlds.at(index);
@@ -80,7 +82,9 @@ impl<'a> LabelNotes<'a> {
 
     /// The interface without a name that stands under a key on a side of the world that is matched.
     fn standing(&self, world: usize, exported: bool, key: &WorldKey) -> Option<InterfaceId>
-        ensures { result ≡ unnamed_at self.now.graph.now (get_or self.now.worlds.now world None) exported key.now }
+        ensures { result
+            ≡ unnamed_at self.now.graph.now (get_or self.now.worlds.now world None) exported
+            key.now }
     {
         let id = match_at(self.worlds, world)?;
         let there = self.graph.worlds.get(id.index())?;

@@ -50,38 +50,56 @@ same_sort from into = false
 -- an item that comes in and the one under its key differ
 pub data ItemsDiffer (m : GraphMerge) (from into : WorldItem) : List ℕ → Type 0 where
   -- they aren't of one sort
-  sorts : same_sort from into ≡ false → ItemsDiffer m from into (codes "world items do not have the same type")
+  sorts : same_sort from into ≡ false
+      → ItemsDiffer m from into (codes "world items do not have the same type")
   -- interfaces, of which the first isn't matched with the second
   interfaces : (i i' : ℕ) → item_interface from ≡ i ∷ [] → item_interface into ≡ i' ∷ []
-      → counterpart_interface m i ≢ Some i' → ItemsDiffer m from into (codes "interfaces are not the same")
+      → counterpart_interface m i ≢ Some i'
+      → ItemsDiffer m from into (codes "interfaces are not the same")
   -- matched interfaces without a name that disagree in a function; of those with a name that is told once, of the graphs
-  unnamed : (text : List ℕ) (p : Pair (counterpart_interface m) m.other.interfaces m.graph.interfaces)
+  unnamed : (text : List ℕ)
+      (p : Pair (counterpart_interface m) m.other.interfaces m.graph.interfaces)
       → item_interface from ≡ p.x ∷ [] → item_interface into ≡ p.x' ∷ [] → p.from.name ≡ None
       → HaveFunctionMismatch p.from p.into text → ItemsDiffer m from into text
 
 -- the imports or the exports of matched worlds differ; word is `import` or `export`
-pub data EntriesDiffer (m : GraphMerge) (word : List ℕ) (from into : List Entry) : List ℕ → Type 0 where
+pub data EntriesDiffer (m : GraphMerge) (word : List ℕ) (from into : List Entry) : List ℕ
+    → Type 0 where
   -- they aren't as many
-  count : length from ≢ length into → EntriesDiffer m word from into (codes "world contains different number of " ++ (word ++ codes "s than expected"))
+  count : length from ≢ length into
+      → EntriesDiffer m word from into
+      (codes "world contains different number of " ++ (word ++ codes "s than expected"))
   -- there is none under the key of an entry
   absent : (e : Entry) → Contains from e → counterpart_item m into e.0 ≡ None
-      → EntriesDiffer m word from into (word ++ (codes " `" ++ (key_text m.other.packages m.other.interfaces e.0 ++ codes "` not found in target world")))
+      → EntriesDiffer m word from into (word
+      ++ (codes " `"
+      ++ (key_text m.other.packages m.other.interfaces e.0
+      ++ codes "` not found in target world")))
   -- there is one, and it differs
-  apart : (e : Entry) (there : WorldItem) (text : List ℕ) → Contains from e → counterpart_item m into e.0 ≡ Some there → ItemsDiffer m e.1 there text
-      → EntriesDiffer m word from into (linked (entry_link word (key_text m.other.packages m.other.interfaces e.0) ∷ []) text)
+  apart : (e : Entry) (there : WorldItem) (text : List ℕ) → Contains from e
+      → counterpart_item m into e.0 ≡ Some there → ItemsDiffer m e.1 there text
+      → EntriesDiffer m word from into
+      (linked (entry_link word (key_text m.other.packages m.other.interfaces e.0) ∷ []) text)
 
 -- ---- graphs
 
 -- matched interfaces of a name disagree in a function, matched worlds differ, or matched types do; the message says where
 pub data GraphsDiffer (m : GraphMerge) : List ℕ → Type 0 where
-  interfaces : (p : Pair (counterpart_interface m) m.other.interfaces m.graph.interfaces) (home : ℕ) (there : Package) (name text : List ℕ)
-      → p.from.name ≡ Some name → p.from.package ≡ Some home → slice_get m.other.packages home ≡ Some there
-      → HaveFunctionMismatch p.from p.into text → GraphsDiffer m (linked (part_links there.name (codes "interface") name) text)
-  worlds : (p : Pair (counterpart_world m) m.other.worlds m.graph.worlds) (home : ℕ) (there : Package) (exported : Bool) (text : List ℕ)
+  interfaces : (p : Pair (counterpart_interface m) m.other.interfaces m.graph.interfaces) (home : ℕ)
+      (there : Package) (name text : List ℕ)
+      → p.from.name ≡ Some name → p.from.package ≡ Some home
+      → slice_get m.other.packages home ≡ Some there
+      → HaveFunctionMismatch p.from p.into text
+      → GraphsDiffer m (linked (part_links there.name (codes "interface") name) text)
+  worlds : (p : Pair (counterpart_world m) m.other.worlds m.graph.worlds) (home : ℕ)
+      (there : Package) (exported : Bool) (text : List ℕ)
       → p.from.package ≡ Some home → slice_get m.other.packages home ≡ Some there
-      → EntriesDiffer m (side_word exported) (entries_of exported p.from) (entries_of exported p.into) text
+      → EntriesDiffer m (side_word exported) (entries_of exported p.from)
+      (entries_of exported p.into) text
       → GraphsDiffer m (linked (part_links there.name (codes "world") p.from.name) text)
-  types : (message : List ℕ) → FirstDiffers (DifferInStructure m.other.types m.graph.types (counterpart_type m)) (type_pairs m) message → GraphsDiffer m message
+  types : (message : List ℕ)
+      → FirstDiffers (DifferInStructure m.other.types m.graph.types (counterpart_type m))
+      (type_pairs m) message → GraphsDiffer m message
 
 -- nothing differs that has to agree, so no mismatch (24) is told, and there is a merged graph
 abbrev pub HasNoMismatch : GraphMerge → Type 0
@@ -90,11 +108,16 @@ HasNoMismatch m = (message : List ℕ) → GraphsDiffer m message → ⊥
 -- a stability of a matched thing, and the one to which it is joined: of types, interfaces, worlds, and of entries of
 -- matched worlds under the keys of matched interfaces
 pub data AreJoined (m : GraphMerge) : Stability → Stability → Type 0 where
-  types : (p : Pair (counterpart_type m) m.other.types m.graph.types) → AreJoined m p.from.stability p.into.stability
-  interfaces : (p : Pair (counterpart_interface m) m.other.interfaces m.graph.interfaces) → AreJoined m p.from.stability p.into.stability
-  worlds : (p : Pair (counterpart_world m) m.other.worlds m.graph.worlds) → AreJoined m p.from.stability p.into.stability
-  entries : (p : Pair (counterpart_world m) m.other.worlds m.graph.worlds) (exported : Bool) (i i' : ℕ) (from into : Stability)
-      → counterpart_interface m i ≡ Some i' → HasStability (entries_of exported p.from) i from → HasStability (entries_of exported p.into) i' into → AreJoined m from into
+  types : (p : Pair (counterpart_type m) m.other.types m.graph.types)
+      → AreJoined m p.from.stability p.into.stability
+  interfaces : (p : Pair (counterpart_interface m) m.other.interfaces m.graph.interfaces)
+      → AreJoined m p.from.stability p.into.stability
+  worlds : (p : Pair (counterpart_world m) m.other.worlds m.graph.worlds)
+      → AreJoined m p.from.stability p.into.stability
+  entries : (p : Pair (counterpart_world m) m.other.worlds m.graph.worlds) (exported : Bool)
+      (i i' : ℕ) (from into : Stability)
+      → counterpart_interface m i ≡ Some i' → HasStability (entries_of exported p.from) i from
+      → HasStability (entries_of exported p.into) i' into → AreJoined m from into
 
 -- ---- 15: a borrow in a result
 
@@ -109,17 +132,25 @@ pub record MergeReturnsBorrow (m : GraphMerge) (message : List ℕ) : Type 0 whe
 
 -- why the two graphs of a merge can't be made one
 pub data IsMergeCause (m : GraphMerge) : ResolveErrorKind → Type 0 where
-  conflict_4 : (span : OptionalSpan) (name : List ℕ) → HasNoMismatch m → HasWorldInConflict (joined_graph m) span name
+  conflict_4 : (span : OptionalSpan) (name : List ℕ) → HasNoMismatch m
+      → HasWorldInConflict (joined_graph m) span name
       → IsMergeCause m (InvalidTransitiveDependency span name)
-  package_cycle_6 : (home : PackageName) → HasNoMismatch m → DependsOnItself (joined_graph m) home → IsMergeCause m (PackageCycle None home)
+  package_cycle_6 : (home : PackageName) → HasNoMismatch m → DependsOnItself (joined_graph m) home
+      → IsMergeCause m (PackageCycle None home)
   -- two stabilities that are joined are known and differ
-  mismatch_8 : (from into : Stability) → AreJoined m from into → Disagree from into → IsMergeCause m (StabilityMismatch None from into)
-  borrow_in_result_15 : (message : List ℕ) → HasNoMismatch m → MergeReturnsBorrow m message → IsMergeCause m (Semantic None message cause.BorrowInResult)
-  interface_cycle_22 : (message : List ℕ) → HasNoMismatch m → UsesItself (joined_graph m) message → IsMergeCause m (Semantic None message cause.InterfaceCycle)
-  merge_mismatch_24 : (message : List ℕ) → GraphsDiffer m message → IsMergeCause m (Semantic None message cause.MergeMismatch)
+  mismatch_8 : (from into : Stability) → AreJoined m from into → Disagree from into
+      → IsMergeCause m (StabilityMismatch None from into)
+  borrow_in_result_15 : (message : List ℕ) → HasNoMismatch m → MergeReturnsBorrow m message
+      → IsMergeCause m (Semantic None message cause.BorrowInResult)
+  interface_cycle_22 : (message : List ℕ) → HasNoMismatch m → UsesItself (joined_graph m) message
+      → IsMergeCause m (Semantic None message cause.InterfaceCycle)
+  merge_mismatch_24 : (message : List ℕ) → GraphsDiffer m message
+      → IsMergeCause m (Semantic None message cause.MergeMismatch)
   -- a span of the incoming graph would end past 4294967295, whether it moves or not
   offset_overflow_27 : (from to : ℕ)
-      → Contains (flat_map type_spans m.other.types ++ (flat_map interface_spans m.other.interfaces ++ flat_map world_spans m.other.worlds)) (Some (from, to))
+      → Contains (flat_map type_spans m.other.types
+      ++ (flat_map interface_spans m.other.interfaces ++ flat_map world_spans m.other.worlds))
+      (Some (from, to))
       → 2 ^ 32 ≤ to + m.offset → IsMergeCause m OffsetOverflow
 
 -- no cause holds against the merge

@@ -39,22 +39,30 @@ moved_worlds m = selected_with_index (moves (counterpart_world m)) m.other.world
 
 -- of a matched interface the functions whose names its counterpart doesn't have
 abbrev pub brought_functions : Interface → Interface → List (List ℕ × Function)
-brought_functions from into = filter (λ (e : List ℕ × Function). not (is_some (lookup (bytes_eq e.0) into.functions))) from.functions
+brought_functions from into =
+    filter (λ (e : List ℕ × Function). not (is_some (lookup (bytes_eq e.0) into.functions)))
+    from.functions
 
 -- ---- where it goes
 
 -- a matched thing to its counterpart, another to the next id
 abbrev pub merged_type : GraphMerge → ℕ → ℕ
-merged_type m t = unwrap_or (counterpart_type m t) (length m.graph.types + rank (moves (counterpart_type m)) t)
+merged_type m t =
+    unwrap_or (counterpart_type m t) (length m.graph.types + rank (moves (counterpart_type m)) t)
 
 abbrev pub merged_interface : GraphMerge → ℕ → ℕ
-merged_interface m i = unwrap_or (counterpart_interface m i) (length m.graph.interfaces + rank (moves (counterpart_interface m)) i)
+merged_interface m i =
+    unwrap_or (counterpart_interface m i)
+    (length m.graph.interfaces + rank (moves (counterpart_interface m)) i)
 
 abbrev pub merged_world : GraphMerge → ℕ → ℕ
-merged_world m w = unwrap_or (counterpart_world m w) (length m.graph.worlds + rank (moves (counterpart_world m)) w)
+merged_world m w =
+    unwrap_or (counterpart_world m w) (length m.graph.worlds + rank (moves (counterpart_world m)) w)
 
 abbrev pub merged_package : GraphMerge → ℕ → ℕ
-merged_package m p = unwrap_or (counterpart_package m p) (length m.graph.packages + rank (moves (counterpart_package m)) p)
+merged_package m p =
+    unwrap_or (counterpart_package m p)
+    (length m.graph.packages + rank (moves (counterpart_package m)) p)
 
 -- what ids are remapped to before values ask for `own`s
 abbrev pub merge_maps_without_owns : GraphMerge → Maps
@@ -74,14 +82,24 @@ merge_maps_without_owns m = record {
 -- those of the worlds that move
 abbrev pub moved_functions : GraphMerge → List Function
 moved_functions m =
-    flat_map (λ (e : ℕ × Interface). map (λ (f : List ℕ × Function). f.1) (option_map_or (brought_functions e.1) (matched_interface m e.0) e.1.functions)) (enumerate_from 0 m.other.interfaces)
+    flat_map (λ (e : ℕ × Interface).
+    map (λ (f : List ℕ × Function). f.1)
+    (option_map_or (brought_functions e.1) (matched_interface m e.0) e.1.functions))
+    (enumerate_from 0 m.other.interfaces)
     ++ flat_map (λ (e : ℕ × World). world_functions e.1) (moved_worlds m)
 
 -- ---- where values become an `own`
 
 -- what comes into the graph, as values ask for `own`s. A matched type is what it is in the graph
 abbrev pub value_remap : GraphMerge → ValueRemap
-value_remap m = record { graph_types = m.graph.types; new_types = selected (moves (counterpart_type m)) m.other.types; new_functions = moved_functions m; count = length m.other.types; ids = merge_maps_without_owns m }
+value_remap m =
+    record {
+      graph_types = m.graph.types;
+      new_types = selected (moves (counterpart_type m)) m.other.types;
+      new_functions = moved_functions m;
+      count = length m.other.types;
+      ids = merge_maps_without_owns m;
+    }
 
 -- what ids are remapped to, with values at their `own`s
 abbrev pub merge_maps : GraphMerge → Maps
@@ -92,15 +110,23 @@ merge_maps m = maps_with_owns (value_remap m)
 -- things, each with what its counterpart among the others brings it, if it has one
 abbrev pub joined_each : {X : Type 0} → (ℕ → Option ℕ) → List X → (ℕ × X → X → X) → List X → List X
 joined_each {X} found others join ours =
-    map (λ (e : ℕ × X). option_map_or (λ (p : ℕ × X). join p e.1) (counterpart_of found others e.0) e.1) (enumerate_from 0 ours)
+    map (λ (e : ℕ × X).
+    option_map_or (λ (p : ℕ × X). join p e.1) (counterpart_of found others e.0) e.1)
+    (enumerate_from 0 ours)
 
 -- ---- interfaces
 
 -- an interface, with the types of another that move and the functions that it doesn't have behind its own
 abbrev pub with_interface : GraphMerge → Interface → Interface → Interface
 with_interface m from into = record into {
-  types = into.types ++ map (λ (e : List ℕ × ℕ). (e.0, merged_type m e.1)) (filter (λ (e : List ℕ × ℕ). moves (counterpart_type m) e.1) from.types);
-  functions = into.functions ++ map (λ (e : List ℕ × Function). (e.0, function_image (merge_maps m) e.1)) (brought_functions from into);
+  types =
+      into.types
+      ++ map (λ (e : List ℕ × ℕ). (e.0, merged_type m e.1))
+      (filter (λ (e : List ℕ × ℕ). moves (counterpart_type m) e.1) from.types);
+  functions =
+      into.functions
+      ++ map (λ (e : List ℕ × Function). (e.0, function_image (merge_maps m) e.1))
+      (brought_functions from into);
   stability = joined_stability from.stability into.stability;
 }
 
@@ -114,7 +140,9 @@ is_under_id (key.Interface i) = true
 -- entries of a world, each with the stability joined to it of the entry under its key among those of world w of the
 -- graph that comes in; so under keys of interfaces alone
 abbrev pub with_entries : GraphMerge → ℕ → List Entry → List Entry → List Entry
-with_entries m w from into = map (joined_entry false (map (entry_image (merge_maps m) w) (filter (λ (e : Entry). is_under_id e.0) from))) into
+with_entries m w from into =
+    map (joined_entry false
+    (map (entry_image (merge_maps m) w) (filter (λ (e : Entry). is_under_id e.0) from))) into
 
 -- a world, with the stabilities of another, which comes with its place, joined to its own
 abbrev pub with_world : GraphMerge → ℕ × World → World → World
@@ -129,8 +157,14 @@ with_world m p into = record into {
 -- a package, with the interfaces and worlds of another that move behind its own
 abbrev pub with_package : GraphMerge → Package → Package → Package
 with_package m from into = record into {
-  interfaces = into.interfaces ++ map (λ (e : List ℕ × ℕ). (e.0, merged_interface m e.1)) (filter (λ (e : List ℕ × ℕ). moves (counterpart_interface m) e.1) from.interfaces);
-  worlds = into.worlds ++ map (λ (e : List ℕ × ℕ). (e.0, merged_world m e.1)) (filter (λ (e : List ℕ × ℕ). moves (counterpart_world m) e.1) from.worlds);
+  interfaces =
+      into.interfaces
+      ++ map (λ (e : List ℕ × ℕ). (e.0, merged_interface m e.1))
+      (filter (λ (e : List ℕ × ℕ). moves (counterpart_interface m) e.1) from.interfaces);
+  worlds =
+      into.worlds
+      ++ map (λ (e : List ℕ × ℕ). (e.0, merged_world m e.1))
+      (filter (λ (e : List ℕ × ℕ). moves (counterpart_world m) e.1) from.worlds);
 }
 
 -- a package that moves, with what its tables list at the new ids
@@ -144,11 +178,26 @@ package_image m home = record home {
 -- to its own
 abbrev pub joined_graph : GraphMerge → Graph
 joined_graph m = record {
-  types = joined_each (counterpart_type m) m.other.types (λ p into. record into { stability = joined_stability p.1.stability into.stability }) m.graph.types ++ types_behind (value_remap m);
-  interfaces = joined_each (counterpart_interface m) m.other.interfaces (λ p into. with_interface m p.1 into) m.graph.interfaces ++ map (interface_image (merge_maps m)) (selected (moves (counterpart_interface m)) m.other.interfaces);
-  worlds = joined_each (counterpart_world m) m.other.worlds (with_world m) m.graph.worlds ++ map (λ (e : ℕ × World). world_image (merge_maps m) e.0 e.1) (moved_worlds m);
-  packages = joined_each (counterpart_package m) m.other.packages (λ p into. with_package m p.1 into) m.graph.packages ++ map (package_image m) (selected (moves (counterpart_package m)) m.other.packages);
-  package_names = m.graph.package_names ++ map (λ (e : PackageName × ℕ). (e.0, merged_package m e.1)) (filter (λ (e : PackageName × ℕ). moves (counterpart_package m) e.1) m.other.package_names);
+  types =
+      joined_each (counterpart_type m) m.other.types
+      (λ p into. record into { stability = joined_stability p.1.stability into.stability })
+      m.graph.types ++ types_behind (value_remap m);
+  interfaces =
+      joined_each (counterpart_interface m) m.other.interfaces (λ p into. with_interface m p.1 into)
+      m.graph.interfaces
+      ++ map (interface_image (merge_maps m))
+      (selected (moves (counterpart_interface m)) m.other.interfaces);
+  worlds =
+      joined_each (counterpart_world m) m.other.worlds (with_world m) m.graph.worlds
+      ++ map (λ (e : ℕ × World). world_image (merge_maps m) e.0 e.1) (moved_worlds m);
+  packages =
+      joined_each (counterpart_package m) m.other.packages (λ p into. with_package m p.1 into)
+      m.graph.packages
+      ++ map (package_image m) (selected (moves (counterpart_package m)) m.other.packages);
+  package_names =
+      m.graph.package_names
+      ++ map (λ (e : PackageName × ℕ). (e.0, merged_package m e.1)) (filter
+      (λ (e : PackageName × ℕ). moves (counterpart_package m) e.1) m.other.package_names);
 }
 
 -- the two graphs as one, with every world elaborated

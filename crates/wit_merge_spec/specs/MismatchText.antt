@@ -15,7 +15,9 @@ linked (link ∷ links) rest = link ++ (codes ": " ++ linked links rest)
 
 -- in a package, and in one of its interfaces or worlds; sort is `interface` or `world`
 abbrev pub part_links : PackageName → List ℕ → List ℕ → List (List ℕ)
-part_links home sort name = (codes "failed to merge package `" ++ (package_name_text home ++ codes "` into existing copy")) ∷ (codes "failed to merge " ++ (sort ++ (codes " `" ++ (name ++ codes "`")))) ∷ []
+part_links home sort name =
+    (codes "failed to merge package `" ++ (package_name_text home ++ codes "` into existing copy"))
+    ∷ (codes "failed to merge " ++ (sort ++ (codes " `" ++ (name ++ codes "`")))) ∷ []
 
 -- in an entry of a world, by what names its key in the incoming graph; word is `import` or `export`
 abbrev pub entry_link : List ℕ → List ℕ → List ℕ

@@ -40,27 +40,37 @@ within step f = record { path = step ∷ f.path; content = f.content }
 
 -- the features of a kind itself, without its parts
 abbrev pub head_features : TypeDefKind → List Feature
-head_features k = here (variant (variant_of k)) ∷ here (names (map (λ (p : KindPart). p.step) (kind_parts k))) ∷ option_map_or (λ len. here (fixed len) ∷ []) (fixed_length k) []
+head_features k =
+    here (variant (variant_of k)) ∷ here (names (map (λ (p : KindPart). p.step) (kind_parts k)))
+    ∷ option_map_or (λ len. here (fixed len) ∷ []) (fixed_length k) []
 
 -- has type t a name?
 abbrev pub is_named : List TypeDef → ℕ → Bool
 is_named types t = option_map_or (λ (def : TypeDef). is_some def.name) (slice_get types t) false
 
 -- the features of what a part holds: a type with a name alone, of one without a name those that `inner` has
-abbrev pub held_features : List TypeDef → (ℕ → Option ℕ) → (ℕ → List Feature) → Option Type_ → List Feature
+abbrev pub held_features : List TypeDef → (ℕ → Option ℕ) → (ℕ → List Feature) → Option Type_
+    → List Feature
 held_features types matched inner None = here absent ∷ []
-held_features types matched inner (Some (type.Id t)) = if is_named types t then here (named (matched t)) ∷ [] else inner t
+held_features types matched inner (Some (type.Id t)) =
+    if is_named types t then here (named (matched t)) ∷ [] else inner t
 held_features types matched inner (Some ty) = here (primitive ty) ∷ []
 
 -- the features of a kind with those of its parts, each one step further in
-abbrev pub kind_features : List TypeDef → (ℕ → Option ℕ) → (ℕ → List Feature) → TypeDefKind → List Feature
+abbrev pub kind_features : List TypeDef → (ℕ → Option ℕ) → (ℕ → List Feature) → TypeDefKind
+    → List Feature
 kind_features types matched inner k =
-    head_features k ++ flat_map (λ (p : KindPart). map (within p.step) (held_features types matched inner p.ty)) (kind_parts k)
+    head_features k
+    ++ flat_map (λ (p : KindPart). map (within p.step) (held_features types matched inner p.ty))
+    (kind_parts k)
 
 -- the structure of type t along paths of at most `members` types
 unfoldable pub structure_within : List TypeDef → (ℕ → Option ℕ) → ℕ → ℕ → List Feature
 structure_within types matched zero t = []
-structure_within types matched (suc members) t = option_map_or (λ (def : TypeDef). kind_features types matched (structure_within types matched members) def.kind) (slice_get types t) []
+structure_within types matched (suc members) t =
+    option_map_or (λ (def : TypeDef).
+    kind_features types matched (structure_within types matched members) def.kind)
+    (slice_get types t) []
 
 -- the structure of type t, where `matched` tells with which type one with a name is matched. No path has more members
 -- than there are types where none refers to itself, so nothing is cut off

@@ -108,7 +108,8 @@ fn interface_fits(interface: &Interface, offset: u32) -> bool
 }
 
 fn functions_fit(interface: &Interface, offset: u32) -> bool
-    ensures { IsTrue result ↔ Each (λ (e : List ℕ × Function). FunctionFits (Fits offset) e.1) interface.now.functions }
+    ensures { IsTrue result
+        ↔ Each (λ (e : List ℕ × Function). FunctionFits (Fits offset) e.1) interface.now.functions }
 {
     for (_, function) in interface.functions.iter() {
         if !function_fits(function, offset) {

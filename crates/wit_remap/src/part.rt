@@ -97,7 +97,8 @@ pub(crate) fn selected<S, T: Drop>(
     let mut new_ids = new_ids.iter();
     items.retain(
         move |_item: &T| -> bool
-            ensures answer { result ≡ is_from first.entry.now (slice_get (iter_rest new_ids.entry) 0) }
+            ensures answer { result
+                ≡ is_from first.entry.now (slice_get (iter_rest new_ids.entry) 0) }
             ensures rest { iter_rest new_ids.exit ≡ drop 1 (iter_rest new_ids.entry) }
         { is_from(new_ids.next(), first) },
     );
@@ -111,7 +112,8 @@ pub(crate) fn selected_with_index<S, T: Drop>(
     new_ids: &[Option<Id<S>>],
     first: &Id<S>,
 ) -> Result<Items<(usize, T)>, AllocError>
-    ensures { IfOk result (λ selected. selected ≡ selected_with_index (is_new first.now new_ids.now) items) }
+    ensures { IfOk result
+        (λ selected. selected ≡ selected_with_index (is_new first.now new_ids.now) items) }
 {
     let mut selected = Items::new(alloc);
     for (index, item) in items.into_vec().into_iter().enumerate() {

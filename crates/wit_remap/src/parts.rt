@@ -43,7 +43,13 @@ fn add_types(
     owns: Items<TypeDef>,
 ) -> Result<(), AllocError>
     requires { Each (TypeFits (Fits mover.now.offset)) types }
-    ensures ok { OnOk result (graph.new ≡ record graph.old { types = graph.old.types ++ (map (type_image (maps_of mover.now)) (selected (is_new (length graph.old.types) mover.now.new_ids.now.types) types) ++ owns) }) }
+    ensures ok { OnOk result (graph.new
+        ≡ record graph.old {
+          types = graph.old.types
+              ++ (map (type_image (maps_of mover.now)) (selected
+              (is_new (length graph.old.types) mover.now.new_ids.now.types) types)
+              ++ owns);
+        }) }
     ensures grown { Grown graph.old graph.new }
 {
     let first = TypeId::from_index(graph.types.len());
@@ -64,9 +70,23 @@ fn add_interfaces(
     interfaces: Items<Interface>,
 ) -> Result<Names<InterfaceId>, AllocError>
     requires fits { Each (InterfaceFits (Fits mover.now.offset)) interfaces }
-    requires names { IsDistinct bytes_eq (keys_of (interfaces_at (maps_of mover.now) (selected_with_index (is_new (length graph.old.interfaces) mover.now.new_ids.now.interfaces) interfaces))) }
-    ensures ok { OnOk result (graph.new ≡ record graph.old { interfaces = graph.old.interfaces ++ map (interface_image (maps_of mover.now)) (map (cut_interface (kept_of part.now)) (selected (is_new (length graph.old.interfaces) mover.now.new_ids.now.interfaces) interfaces)) }) }
-    ensures table { IfOk result (λ table. table ≡ interfaces_at (maps_of mover.now) (selected_with_index (is_new (length graph.old.interfaces) mover.now.new_ids.now.interfaces) interfaces)) }
+    requires names { IsDistinct bytes_eq
+        (keys_of (interfaces_at (maps_of mover.now) (selected_with_index
+        (is_new (length graph.old.interfaces) mover.now.new_ids.now.interfaces)
+        interfaces))) }
+    ensures ok { OnOk result (graph.new
+        ≡ record graph.old {
+          interfaces = graph.old.interfaces
+              ++ map (interface_image (maps_of mover.now))
+              (map (cut_interface (kept_of part.now)) (selected
+              (is_new (length graph.old.interfaces) mover.now.new_ids.now.interfaces)
+              interfaces));
+        }) }
+    ensures table { IfOk result (λ table.
+        table
+        ≡ interfaces_at (maps_of mover.now) (selected_with_index
+        (is_new (length graph.old.interfaces) mover.now.new_ids.now.interfaces)
+        interfaces)) }
     ensures grown { Grown graph.old graph.new }
 {
     let first = InterfaceId::from_index(graph.interfaces.len());
@@ -86,7 +106,10 @@ fn updated_interfaces(
     interfaces: Items<(usize, Interface)>,
 ) -> Result<Items<Interface>, AllocError>
     requires { Each (λ e. InterfaceFits (Fits mover.now.offset) e.1) interfaces }
-    ensures { IfOk result (λ updated. updated ≡ map (λ e. interface_image (maps_of mover.now) (cut_interface (kept_of part.now) e.1)) interfaces) }
+    ensures { IfOk result (λ updated.
+        updated
+        ≡ map (λ e. interface_image (maps_of mover.now) (cut_interface (kept_of part.now) e.1))
+        interfaces) }
 {
     let mut updated = Items::new(alloc);
     for item in interfaces.into_vec() {
@@ -101,7 +124,12 @@ fn updated_interfaces(
 /// Adds a package under its name.
 fn add_package(graph: &mut Graph, package: Package) -> Result<(), AllocError>
     requires { lookup (same_package «package».name) graph.old.package_names ≡ None }
-    ensures ok { OnOk result (graph.new ≡ record graph.old { packages = graph.old.packages ++ «package» ∷ []; package_names = graph.old.package_names ++ («package».name, length graph.old.packages) ∷ [] }) }
+    ensures ok { OnOk result (graph.new
+        ≡ record graph.old {
+          packages = graph.old.packages ++ «package» ∷ [];
+          package_names = graph.old.package_names
+              ++ («package».name, length graph.old.packages) ∷ [];
+        }) }
     ensures grown { Grown graph.old graph.new }
 {
     let id = PackageId::from_index(graph.packages.len());
@@ -121,8 +149,13 @@ fn add_with_worlds(
 ) -> Result<(), AllocError>
     requires new { lookup (same_package unresolved.name) graph.old.package_names ≡ None }
     requires fits { Each (InterfaceFits (Fits mover.now.offset)) unresolved.interfaces }
-    requires names { IsDistinct bytes_eq (keys_of (interfaces_at (maps_of mover.now) (selected_with_index (is_new (length graph.old.interfaces) mover.now.new_ids.now.interfaces) unresolved.interfaces))) }
-    ensures ok { OnOk result (graph.new ≡ with_interfaces mover.now.new_ids.now (maps_of mover.now) (kept_of part.now) unresolved worlds graph.old) }
+    requires names { IsDistinct bytes_eq
+        (keys_of (interfaces_at (maps_of mover.now) (selected_with_index
+        (is_new (length graph.old.interfaces) mover.now.new_ids.now.interfaces)
+        unresolved.interfaces))) }
+    ensures ok { OnOk result (graph.new
+        ≡ with_interfaces mover.now.new_ids.now (maps_of mover.now) (kept_of part.now) unresolved
+        worlds graph.old) }
     ensures grown { Grown graph.old graph.new }
 {
     let mut unresolved = unresolved;
@@ -148,9 +181,16 @@ fn move_parts(
     owns: Items<TypeDef>,
     unresolved: UnresolvedPackage,
 ) -> Result<Items<UpdatedWorld>, AllocError>
-    requires { CanMoveParts mover.now.new_ids.now (maps_of mover.now) (kept_of part.now) graph.old unresolved }
-    ensures ok { OnOk result (graph.new ≡ moved_parts mover.now.new_ids.now (maps_of mover.now) (kept_of part.now) owns unresolved graph.old) }
-    ensures worlds { IfOk result (λ worlds. worlds ≡ map (updated_world (maps_of mover.now) part.now) (selected_with_index (is_new (length graph.old.worlds) mover.now.new_ids.now.worlds) unresolved.worlds)) }
+    requires { CanMoveParts mover.now.new_ids.now (maps_of mover.now) (kept_of part.now) graph.old
+        unresolved }
+    ensures ok { OnOk result (graph.new
+        ≡ moved_parts mover.now.new_ids.now (maps_of mover.now) (kept_of part.now) owns
+        unresolved graph.old) }
+    ensures worlds { IfOk result (λ worlds.
+        worlds
+        ≡ map (updated_world (maps_of mover.now) part.now)
+        (selected_with_index (is_new (length graph.old.worlds) mover.now.new_ids.now.worlds)
+        unresolved.worlds)) }
     ensures grown { Grown graph.old graph.new }
 {
     let mut unresolved = unresolved;
@@ -190,11 +230,14 @@ pub fn add_parts(
     requires image { IsResolved (addition part.now graph.old unresolved offset) }
     requires new { lookup (same_package unresolved.name) graph.old.package_names ≡ None }
     requires fits { AdditionOverflows (addition part.now graph.old unresolved offset) → ⊥ }
-    requires activity { part.now.activity.now ≡ activity_of (addition part.now graph.old unresolved offset) }
+    requires activity { part.now.activity.now
+        ≡ activity_of (addition part.now graph.old unresolved offset) }
     requires new_ids { new_ids.now ≡ new_ids_of (addition part.now graph.old unresolved offset) }
     requires values { values ≡ values_of (addition part.now graph.old unresolved offset) }
-    ensures ok { OnOk result (graph.new ≡ with_parts (addition part.now graph.old unresolved offset)) }
-    ensures worlds { IfOk result (λ worlds. worlds ≡ added_worlds (addition part.now graph.old unresolved offset)) }
+    ensures ok { OnOk result
+        (graph.new ≡ with_parts (addition part.now graph.old unresolved offset)) }
+    ensures worlds { IfOk result
+        (λ worlds. worlds ≡ added_worlds (addition part.now graph.old unresolved offset)) }
     ensures grown { Grown graph.old graph.new }
 {
     let Values {

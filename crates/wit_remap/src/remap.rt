@@ -30,7 +30,9 @@ impl Remap {
         worlds: Items<Option<WorldId>>,
         packages: Items<PackageId>,
     ) -> Remap
-        ensures { result ≡ record { types = types; interfaces = interfaces; worlds = worlds; packages = packages } }
+        ensures { result
+            ≡ record
+            { types = types; interfaces = interfaces; worlds = worlds; packages = packages } }
     {
         Remap {
             types,
@@ -85,9 +87,12 @@ impl Remap {
     /// Source: `map_type` of wit-parser 0.263.0.
     pub fn map_type(&self, alloc: Global, id: TypeId, span: Span) -> ResolveResult<TypeId>
         requires { id < length self.now.types }
-        ensures found { (new : ℕ) → slice_get self.now.types id ≡ Some (Some new) → result ≡ Ok new }
+        ensures found { (new : ℕ) → slice_get self.now.types id ≡ Some (Some new)
+            → result ≡ Ok new }
         ensures refuses { slice_get self.now.types id ≡ Some None → OnOk result ⊥ }
-        ensures cause { IfErr result (λ kind. (kind ≡ OutOfMemory) ⊎ (kind ≡ Semantic span (excluded_text (codes "type")) cause.Excluded)) }
+        ensures cause { IfErr result (λ kind.
+            (kind ≡ OutOfMemory)
+            ⊎ (kind ≡ Semantic span (excluded_text (codes "type")) cause.Excluded)) }
     {
         new_id(alloc, *self.types.at(id.index()), "type", span)
     }
@@ -102,9 +107,12 @@ impl Remap {
         span: Span,
     ) -> ResolveResult<InterfaceId>
         requires { id < length self.now.interfaces }
-        ensures found { (new : ℕ) → slice_get self.now.interfaces id ≡ Some (Some new) → result ≡ Ok new }
+        ensures found { (new : ℕ) → slice_get self.now.interfaces id ≡ Some (Some new)
+            → result ≡ Ok new }
         ensures refuses { slice_get self.now.interfaces id ≡ Some None → OnOk result ⊥ }
-        ensures cause { IfErr result (λ kind. (kind ≡ OutOfMemory) ⊎ (kind ≡ Semantic span (excluded_text (codes "interface")) cause.Excluded)) }
+        ensures cause { IfErr result (λ kind.
+            (kind ≡ OutOfMemory)
+            ⊎ (kind ≡ Semantic span (excluded_text (codes "interface")) cause.Excluded)) }
     {
         new_id(alloc, *self.interfaces.at(id.index()), "interface", span)
     }
@@ -114,9 +122,12 @@ impl Remap {
     /// Source: `map_world` of wit-parser 0.263.0.
     pub fn map_world(&self, alloc: Global, id: WorldId, span: Span) -> ResolveResult<WorldId>
         requires { id < length self.now.worlds }
-        ensures found { (new : ℕ) → slice_get self.now.worlds id ≡ Some (Some new) → result ≡ Ok new }
+        ensures found { (new : ℕ) → slice_get self.now.worlds id ≡ Some (Some new)
+            → result ≡ Ok new }
         ensures refuses { slice_get self.now.worlds id ≡ Some None → OnOk result ⊥ }
-        ensures cause { IfErr result (λ kind. (kind ≡ OutOfMemory) ⊎ (kind ≡ Semantic span (excluded_text (codes "world")) cause.Excluded)) }
+        ensures cause { IfErr result (λ kind.
+            (kind ≡ OutOfMemory)
+            ⊎ (kind ≡ Semantic span (excluded_text (codes "world")) cause.Excluded)) }
     {
         new_id(alloc, *self.worlds.at(id.index()), "world", span)
     }
@@ -132,9 +143,13 @@ impl Remap {
         span: Span,
     ) -> ResolveResult<InterfaceId>
         requires { id < length self.now.interfaces }
-        ensures found { (new : ℕ) → slice_get self.now.interfaces id ≡ Some (Some new) → result ≡ Ok new }
+        ensures found { (new : ℕ) → slice_get self.now.interfaces id ≡ Some (Some new)
+            → result ≡ Ok new }
         ensures refuses { slice_get self.now.interfaces id ≡ Some None → OnOk result ⊥ }
-        ensures cause { IfErr result (λ kind. (kind ≡ OutOfMemory) ⊎ (kind ≡ Semantic span (excluded_owner_text (codes "interface")) cause.ExcludedOwner)) }
+        ensures cause { IfErr result (λ kind.
+            (kind ≡ OutOfMemory)
+            ⊎ (kind
+            ≡ Semantic span (excluded_owner_text (codes "interface")) cause.ExcludedOwner)) }
     {
         new_owner_id(alloc, *self.interfaces.at(id.index()), "interface", span)
     }
@@ -149,9 +164,13 @@ impl Remap {
         span: Span,
     ) -> ResolveResult<WorldId>
         requires { id < length self.now.worlds }
-        ensures found { (new : ℕ) → slice_get self.now.worlds id ≡ Some (Some new) → result ≡ Ok new }
+        ensures found { (new : ℕ) → slice_get self.now.worlds id ≡ Some (Some new)
+            → result ≡ Ok new }
         ensures refuses { slice_get self.now.worlds id ≡ Some None → OnOk result ⊥ }
-        ensures cause { IfErr result (λ kind. (kind ≡ OutOfMemory) ⊎ (kind ≡ Semantic span (excluded_owner_text (codes "world")) cause.ExcludedOwner)) }
+        ensures cause { IfErr result (λ kind.
+            (kind ≡ OutOfMemory)
+            ⊎ (kind
+            ≡ Semantic span (excluded_owner_text (codes "world")) cause.ExcludedOwner)) }
     {
         new_owner_id(alloc, *self.worlds.at(id.index()), "world", span)
     }
@@ -162,7 +181,8 @@ impl Remap {
 fn new_id<S>(alloc: Global, new: Option<Id<S>>, sort: &str, span: Span) -> ResolveResult<Id<S>>
     ensures found { (id : ℕ) → new ≡ Some id → result ≡ Ok id }
     ensures refuses { new ≡ None → OnOk result ⊥ }
-    ensures cause { IfErr result (λ kind. (kind ≡ OutOfMemory) ⊎ (kind ≡ Semantic span (excluded_text sort.now) cause.Excluded)) }
+    ensures cause { IfErr result (λ kind.
+        (kind ≡ OutOfMemory) ⊎ (kind ≡ Semantic span (excluded_text sort.now) cause.Excluded)) }
 {
     match new {
         Some(id) => Ok(id),
@@ -179,7 +199,9 @@ fn new_owner_id<S>(
 ) -> ResolveResult<Id<S>>
     ensures found { (id : ℕ) → new ≡ Some id → result ≡ Ok id }
     ensures refuses { new ≡ None → OnOk result ⊥ }
-    ensures cause { IfErr result (λ kind. (kind ≡ OutOfMemory) ⊎ (kind ≡ Semantic span (excluded_owner_text sort.now) cause.ExcludedOwner)) }
+    ensures cause { IfErr result (λ kind.
+        (kind ≡ OutOfMemory)
+        ⊎ (kind ≡ Semantic span (excluded_owner_text sort.now) cause.ExcludedOwner)) }
 {
     match new {
         Some(id) => Ok(id),

@@ -36,7 +36,8 @@ pub(crate) fn updated_worlds(
 ) -> Result<Items<UpdatedWorld>, AllocError>
     requires fits { Each (λ e. WorldFits (Fits mover.now.offset) e.1) worlds }
     requires keys { Each (λ e. HasKeysApart (maps_of mover.now) (kept_of part.now) e.1) worlds }
-    ensures { IfOk result (λ updated. updated ≡ map (updated_world (maps_of mover.now) part.now) worlds) }
+    ensures { IfOk result
+        (λ updated. updated ≡ map (updated_world (maps_of mover.now) part.now) worlds) }
 {
     let mut updated = Items::new(alloc);
     for (index, world) in worlds.into_vec() {
@@ -56,7 +57,8 @@ fn updated_world(
 ) -> Result<UpdatedWorld, AllocError>
     requires fits { WorldFits (Fits mover.now.offset) world }
     requires keys { HasKeysApart (maps_of mover.now) (kept_of part.now) world }
-    ensures { IfOk result (λ updated. updated ≡ updated_world (maps_of mover.now) part.now (id, world)) }
+    ensures { IfOk result
+        (λ updated. updated ≡ updated_world (maps_of mover.now) part.now (id, world)) }
 {
     let imports = mem::replace(&mut world.imports, Table::new(alloc));
     let imports = updated_entries(alloc, mover, part.cut_entries(imports))?;
@@ -85,8 +87,10 @@ pub fn updated_entries(
     entries: Table<WorldKey, WorldItem>,
 ) -> Result<Table<WorldKey, WorldItem>, AllocError>
     requires fits { EntriesFit (Fits mover.now.offset) entries }
-    requires keys { IsDistinct same_key (keys_of (map (entry_image (maps_of mover.now) 0) entries)) }
-    ensures { IfOk result (λ updated. (w : ℕ) → updated ≡ map (entry_image (maps_of mover.now) w) entries) }
+    requires keys { IsDistinct same_key
+        (keys_of (map (entry_image (maps_of mover.now) 0) entries)) }
+    ensures { IfOk result
+        (λ updated. (w : ℕ) → updated ≡ map (entry_image (maps_of mover.now) w) entries) }
 {
     let mut updated = Table::new(alloc);
     updated.reserve(entries.len())?;

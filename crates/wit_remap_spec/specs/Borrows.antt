@@ -10,8 +10,12 @@ use Rattle.wit_graph_data.specs.Queries.{type_contents}
 
 -- the values of type t hold a borrow: it is one, or some type that they hold is
 abbrev pub HoldsBorrow : List TypeDef → ℕ → Type 0
-HoldsBorrow types t = (b : ℕ) × Reaches (type_contents types) t b × SomeAt types b (λ (def : TypeDef). (r : ℕ) × (def.kind ≡ kind.Handle (Borrow r)))
+HoldsBorrow types t =
+    (b : ℕ) × Reaches (type_contents types) t b
+    × SomeAt types b (λ (def : TypeDef). (r : ℕ) × (def.kind ≡ kind.Handle (Borrow r)))
 
 -- what the message says of a function of this name
 abbrev pub borrow_text : List ℕ → List ℕ
-borrow_text name = codes "function `" ++ (name ++ codes "` returns a type which contains a `borrow<T>` which is not supported")
+borrow_text name =
+    codes "function `"
+    ++ (name ++ codes "` returns a type which contains a `borrow<T>` which is not supported")

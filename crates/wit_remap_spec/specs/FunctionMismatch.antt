@@ -21,16 +21,29 @@ AreOfOneKind a b = map_function_kind (λ r. 0) a ≡ map_function_kind (λ r. 0)
 
 -- function `from` disagrees with function `into`, which this text tells; of several disagreements any may be told
 pub data FunctionMismatch (from into : Function) (text : List ℕ) : Type 0 where
-  kinds_differ : (AreOfOneKind from.kind into.kind → ⊥) → text ≡ codes "different function kind types" → FunctionMismatch from into text
-  parameter_counts_differ : length from.params ≢ length into.params → text ≡ codes "different number of function parameters" → FunctionMismatch from into text
-  parameter_names_differ : (i : ℕ) (a b : Param) → slice_get from.params i ≡ Some a → slice_get into.params i ≡ Some b
-      → a.name ≢ b.name → text ≡ codes "different function parameter names: " ++ (a.name ++ (codes " != " ++ b.name)) → FunctionMismatch from into text
+  kinds_differ : (AreOfOneKind from.kind into.kind → ⊥)
+      → text ≡ codes "different function kind types" → FunctionMismatch from into text
+  parameter_counts_differ : length from.params ≢ length into.params
+      → text ≡ codes "different number of function parameters" → FunctionMismatch from into text
+  parameter_names_differ : (i : ℕ) (a b : Param) → slice_get from.params i ≡ Some a
+      → slice_get into.params i ≡ Some b
+      → a.name ≢ b.name
+      → text
+      ≡ codes "different function parameter names: " ++ (a.name ++ (codes " != " ++ b.name))
+      → FunctionMismatch from into text
   -- told by the name of the parameter of `from`
-  parameter_types_differ : (i : ℕ) (a b : Param) → slice_get from.params i ≡ Some a → slice_get into.params i ≡ Some b
-      → (AreOfOneSort a.ty b.ty → ⊥) → text ≡ codes "different function parameter types for `" ++ (a.name ++ codes "`: different kinds of types") → FunctionMismatch from into text
+  parameter_types_differ : (i : ℕ) (a b : Param) → slice_get from.params i ≡ Some a
+      → slice_get into.params i ≡ Some b
+      → (AreOfOneSort a.ty b.ty → ⊥)
+      → text
+      ≡ codes "different function parameter types for `"
+      ++ (a.name ++ codes "`: different kinds of types") → FunctionMismatch from into text
   results_differ : (a b : Type_) → from.result_ ≡ Some a → into.result_ ≡ Some b
-      → (AreOfOneSort a b → ⊥) → text ≡ codes "different function result types: different kinds of types" → FunctionMismatch from into text
-  result_counts_differ : is_some from.result_ ≢ is_some into.result_ → text ≡ codes "different number of function results" → FunctionMismatch from into text
+      → (AreOfOneSort a b → ⊥)
+      → text ≡ codes "different function result types: different kinds of types"
+      → FunctionMismatch from into text
+  result_counts_differ : is_some from.result_ ≢ is_some into.result_
+      → text ≡ codes "different number of function results" → FunctionMismatch from into text
 
 -- two interfaces have a function of one name, in which the first disagrees with the second
 pub record HaveFunctionMismatch (from into : Interface) (text : List ℕ) : Type 0 where

@@ -84,7 +84,9 @@ map_function_kind go (StaticSetter r) = StaticSetter (go r)
 abbrev pub function_image : Maps → Function → Function
 function_image m f = record f {
   kind = map_function_kind m.types f.kind;
-  params = map (λ (p : Param). record p { ty = map_type m.values p.ty; span = moved_by m.offset p.span }) f.params;
+  params =
+      map (λ (p : Param). record p { ty = map_type m.values p.ty; span = moved_by m.offset p.span })
+      f.params;
   result_ = option_map (map_type m.values) f.result_;
   span = moved_by m.offset f.span;
 }
@@ -105,8 +107,10 @@ key_image m w (key.Interface i) = key.Interface (m.interfaces i)
 
 -- a function under a label has the label as its name
 abbrev pub item_image : Maps → ℕ → WorldItem → WorldItem
-item_image m w (item.Interface i stability docs span external_id) = item.Interface (m.interfaces i) stability docs (moved_by m.offset span) external_id
-item_image m w (item.Function f) = item.Function (record (function_image m f) { name = m.labels w f.name })
+item_image m w (item.Interface i stability docs span external_id) =
+    item.Interface (m.interfaces i) stability docs (moved_by m.offset span) external_id
+item_image m w (item.Function f) =
+    item.Function (record (function_image m f) { name = m.labels w f.name })
 item_image m w (item.Type_ t span) = item.Type_ (m.types t) (moved_by m.offset span)
 
 abbrev pub entry_image : Maps → ℕ → Entry → Entry

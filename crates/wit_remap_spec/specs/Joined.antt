@@ -32,12 +32,17 @@ joined_item other from into = into
 
 -- an entry that is there keeps all but its stability, which that of a brought entry of its key joins
 abbrev pub joined_entry : Bool → List Entry → Entry → Entry
-joined_entry other brought e = (e.0, option_map_or (λ (from : WorldItem). joined_item other from e.1) (lookup (same_key e.0) brought) e.1)
+joined_entry other brought e = (
+  e.0,
+  option_map_or (λ (from : WorldItem). joined_item other from e.1)
+      (lookup (same_key e.0) brought) e.1,
+)
 
 -- the entry under the key of an interface, with its stability
 abbrev pub HasStability : List Entry → ℕ → Stability → Type 0
 HasStability entries i stability =
-    (docs : Docs) × (place : OptionalSpan) × (external_id : Option (List ℕ)) × Contains entries (key.Interface i, item.Interface i stability docs place external_id)
+    (docs : Docs) × (place : OptionalSpan) × (external_id : Option (List ℕ))
+    × Contains entries (key.Interface i, item.Interface i stability docs place external_id)
 
 -- two stabilities disagree: both are known, and they differ
 pub record Disagree (from into : Stability) : Type 0 where

@@ -21,7 +21,8 @@ is_resource_kind _ = false
 
 -- is type t a resource?
 abbrev pub is_resource : List TypeDef → ℕ → Bool
-is_resource types t = option_map_or (λ (def : TypeDef). is_resource_kind def.kind) (slice_get types t) false
+is_resource types t =
+    option_map_or (λ (def : TypeDef). is_resource_kind def.kind) (slice_get types t) false
 
 -- is type t a resource, or does it lead to one by aliases?
 abbrev pub leads_to_resource : List TypeDef → ℕ → Bool

@@ -22,7 +22,8 @@ function_spans f = f.span ∷ map (λ (p : Param). p.span) f.params
 
 -- those of an interface and of its functions
 abbrev pub interface_spans : Interface → List OptionalSpan
-interface_spans interface = interface.span ∷ flat_map (λ (e : List ℕ × Function). function_spans e.1) interface.functions
+interface_spans interface =
+    interface.span ∷ flat_map (λ (e : List ℕ × Function). function_spans e.1) interface.functions
 
 -- those of an entry of a world
 abbrev pub item_spans : WorldItem → List OptionalSpan
@@ -33,4 +34,7 @@ item_spans (item.Type_ id span) = span ∷ []
 -- those of a world, of its entries and of its includes
 abbrev pub world_spans : World → List OptionalSpan
 world_spans world =
-    world.span ∷ (flat_map (λ (e : Entry). item_spans e.1) world.imports ++ (flat_map (λ (e : Entry). item_spans e.1) world.exports ++ map (λ (i : WorldInclude). i.span) world.includes))
+    world.span
+    ∷ (flat_map (λ (e : Entry). item_spans e.1) world.imports
+    ++ (flat_map (λ (e : Entry). item_spans e.1) world.exports
+    ++ map (λ (i : WorldInclude). i.span) world.includes))

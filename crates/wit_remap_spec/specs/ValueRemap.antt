@@ -45,20 +45,29 @@ world_functions world = flat_map (λ (e : Entry). item_function e.1) (world.impo
 -- the types at the value positions of what comes: all that kinds name, but not what an alias or a handle names, and those
 -- of parameters and results
 abbrev pub positions : ValueRemap → List ℕ
-positions r = flat_map (λ (def : TypeDef). referred_in is_value def.kind) r.new_types ++ flat_map signature_types r.new_functions
+positions r =
+    flat_map (λ (def : TypeDef). referred_in is_value def.kind) r.new_types
+    ++ flat_map signature_types r.new_functions
 
 -- does a value ask for an `own` of type t? Which types lead to resources is seen before values ask for `own`s
 abbrev pub needs_own : ValueRemap → ℕ → Bool
-needs_own r t = list_any (nat_eq t) (positions r) && leads_to_resource (r.graph_types ++ map (type_image r.ids) r.new_types) (r.ids.types t)
+needs_own r t =
+    list_any (nat_eq t) (positions r)
+    && leads_to_resource (r.graph_types ++ map (type_image r.ids) r.new_types) (r.ids.types t)
 
 -- ---- what comes of it
 
 -- what ids are remapped to; at a value position a type that needs an `own` to that
 abbrev pub maps_with_owns : ValueRemap → Maps
 maps_with_owns r = record r.ids {
-  values = λ t. if needs_own r t then length r.graph_types + length r.new_types + rank (needs_own r) t else r.ids.types t;
+  values =
+      λ t.
+      if needs_own r t then length r.graph_types + length r.new_types + rank (needs_own r) t
+      else r.ids.types t;
 }
 
 -- what stands behind the types of the graph: the types that come, then the `own`s
 abbrev pub types_behind : ValueRemap → List TypeDef
-types_behind r = map (type_image (maps_with_owns r)) r.new_types ++ map (λ t. own_of (r.ids.types t)) (filter (needs_own r) (range_with_len 0 r.count))
+types_behind r =
+    map (type_image (maps_with_owns r)) r.new_types
+    ++ map (λ t. own_of (r.ids.types t)) (filter (needs_own r) (range_with_len 0 r.count))

@@ -20,8 +20,8 @@ use Rattle.wit_merge_spec.specs.Matches.{GraphMerge, counterpart_of, counterpart
 use Rattle.wit_merge_spec.specs.Merged.{joined_each, joined_graph, merged, merged_package, moves, package_image, with_package}
 use Rattle.wit_remap_spec.specs.Image.{Maps}
 use Rattle.wit_remap_spec.specs.Selected.{rank, selected, selected_with_index}
-use Rattle.wit_semver_spec.specs.SemverMerged.{semver_merged}
-use Rattle.wit_semver_spec.specs.laws.TrackLaws.{KeepsThings, SemverMergedKeep}
+use Rattle.wit_semver.specs.SemverMerged.{semver_merged}
+use Rattle.wit_semver.specs.laws.TrackLaws.{KeepsThings, SemverMergedKeep}
 use Rattle.wit_transform.specs.Transformed.{WorldLists, exportized, importized, transformed, transformed_at, with_renamed}
 use Rattle.wit_transform.specs.steps.Parts.{put_last}
 use Rattle.wit_resolve_graph.specs.Merging.{merge_of}

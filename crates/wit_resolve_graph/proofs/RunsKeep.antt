@@ -25,9 +25,9 @@ use Rattle.wit_merge_spec.specs.Matches.{GraphMerge}
 use Rattle.wit_merge_spec.specs.facts.Unchanged.{SameHome, SameInterface, SamePackage, SameType}
 use Rattle.wit_merge_spec.specs.Merged.{merged}
 use Rattle.wit_merge_laws.specs.facts.KeptFacts.{interfaces_stay, names_stay, packages_stay, types_stay, worlds_stay}
-use Rattle.wit_semver_spec.specs.SemverMerged.{semver_merged}
-use Rattle.wit_semver_spec.specs.laws.Unchanged.{IsAlias, SameButLists, SameButTarget, SameKind}
-use Rattle.wit_semver_spec.specs.laws.TrackLaws.{KeepsThings, SemverMergedKeep}
+use Rattle.wit_semver.specs.SemverMerged.{semver_merged}
+use Rattle.wit_semver.specs.laws.Unchanged.{IsAlias, SameButLists, SameButTarget, SameKind}
+use Rattle.wit_semver.specs.laws.TrackLaws.{KeepsThings, SemverMergedKeep}
 use Rattle.wit_resolve_graph.specs.Merging.{merge_of}
 use Rattle.wit_resolve_graph.specs.laws.RunLaws.{Keeps, KeepsType, RunsKeep}
 use Rattle.wit_resolve_graph.specs.State.{State}

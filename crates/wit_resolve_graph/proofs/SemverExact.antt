@@ -4,9 +4,9 @@ use Rattle.wit_elaboration.specs.Valid.{IsValid}
 use Rattle.wit_graph_theory.specs.facts.ListFacts.{found_at, get_at}
 use Rattle.wit_resolve_graph.specs.State.{State}
 use Rattle.wit_resolve_graph.specs.facts.NamedWorlds.{world_within}
-use Rattle.wit_semver_spec.specs.laws.TrackLaws.{KeysAreExact, SemverMergedKeep}
-use Rattle.wit_semver_spec.specs.SemverMerged.{semver_merged}
-use Rattle.wit_semver_spec.specs.laws.Unchanged.{SameButLists}
+use Rattle.wit_semver.specs.laws.TrackLaws.{KeysAreExact, SemverMergedKeep}
+use Rattle.wit_semver.specs.SemverMerged.{semver_merged}
+use Rattle.wit_semver.specs.laws.Unchanged.{SameButLists}
 use Rattle.wit_resolve_graph.specs.laws.SemverLaws.{CallIsExact, CommandIsExact, ImportsLessReplaced}
 
 module _ (exact : KeysAreExact) (keep : SemverMergedKeep) (old : State) (valid : IsValid old.graph) where

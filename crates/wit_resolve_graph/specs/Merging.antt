@@ -40,10 +40,13 @@ HasSourcesAfter _ old added new = new ≡ added
 
 -- a merge is refused with this error
 pub record RefusesMerge (old other : State) (error : ResolveErrorKind) (new : State) : Type 0 where
-  pub cause : (error ≡ OutOfMemory) ⊎ (IsMergeCause (merge_of old other) error ⊎ FilesPass old other error)
+  pub cause : (error ≡ OutOfMemory)
+      ⊎ (IsMergeCause (merge_of old other) error ⊎ FilesPass old other error)
   -- where the files of both end past 4294967295, no other cause is told
-  pub past_end : 2 ^ 32 ≤ old.source_map.end + other.source_map.end → (error ≡ OutOfMemory) ⊎ (error ≡ OffsetOverflow)
+  pub past_end : 2 ^ 32 ≤ old.source_map.end + other.source_map.end
+      → (error ≡ OutOfMemory) ⊎ (error ≡ OffsetOverflow)
   pub graph : new.graph ≡ old.graph
   pub features : new.features ≡ old.features
   pub rule : new.track_rule ≡ old.track_rule
-  pub files : HasSourcesAfter error old.source_map (with_sources old.source_map other.source_map) new.source_map
+  pub files : HasSourcesAfter error old.source_map (with_sources old.source_map other.source_map)
+      new.source_map

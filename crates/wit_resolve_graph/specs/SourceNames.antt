@@ -24,7 +24,8 @@ all_names sources = each_once (flat_map (λ names. names) sources.sources)
 
 -- the names of a package's source map, None where the package isn't listed
 abbrev pub package_names : NamesOf → ℕ → Option (List (List ℕ))
-package_names sources id = option_and_then (λ place. slice_get sources.sources place) (lookup (nat_eq id) sources.places)
+package_names sources id =
+    option_and_then (λ place. slice_get sources.sources place) (lookup (nat_eq id) sources.places)
 
 -- each listed package's source map is there
 abbrev pub ArePlaced : List (ℕ × ℕ) → ℕ → Type 0

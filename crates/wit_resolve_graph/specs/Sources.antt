@@ -32,7 +32,8 @@ fault_rendered files (fault.Resolve kind) = rendered_text files kind
 
 -- its files, or its place in them, would go past the last position where they follow what is there
 abbrev pub FaultOverflows : State → Sources → Option (ℕ × ℕ) → Type 0
-FaultOverflows old files span = (2 ^ 32 ≤ old.source_map.end + files.end) ⊎ (2 ^ 32 ≤ end_of span + old.source_map.end)
+FaultOverflows old files span =
+    (2 ^ 32 ≤ old.source_map.end + files.end) ⊎ (2 ^ 32 ≤ end_of span + old.source_map.end)
 
 -- its files follow what is there, and its place is moved with them
 pub record IsPlaced (old : State) (files : Sources) (span : Option (ℕ × ℕ)) (message : List ℕ) (told : SourceFault) (new : State) : Type 0 where
@@ -42,13 +43,15 @@ pub record IsPlaced (old : State) (files : Sources) (span : Option (ℕ × ℕ))
 
 -- there is no room for its files (27, and 28 for memory), and nothing has changed
 pub record IsNotPlaced (old : State) (files : Sources) (span : Option (ℕ × ℕ)) (told : SourceFault) (new : State) : Type 0 where
-  pub cause : (told ≡ fault.Resolve OutOfMemory) ⊎ ((told ≡ fault.Resolve OffsetOverflow) × FaultOverflows old files span)
+  pub cause : (told ≡ fault.Resolve OutOfMemory)
+      ⊎ ((told ≡ fault.Resolve OffsetOverflow) × FaultOverflows old files span)
   pub same : new ≡ old
 
 -- ---- what comes of what a parse answered
 
 -- a group is added
-pub record PushesAnswer (old : State) (group : UnresolvedPackageGroup) (id : ℕ) (new : State) : Type 0 where
+pub record PushesAnswer (old : State) (group : UnresolvedPackageGroup) (id : ℕ) (new : State) : Type
+    0 where
   pub pushes : PushesGroups old group [] id new
   pub accepted : NoCause (IsGroupsCause old.features old.graph old.source_map.end (group ∷ []))
 
@@ -59,14 +62,18 @@ pub record RefusesAnswer (old : State) (group : UnresolvedPackageGroup) (told : 
   pub refuses : RefusesGroups old group [] kind new
 
 -- what is told of an answer, where no package comes of it
-abbrev pub RefusesParse : State → Result UnresolvedPackageGroup ParseFault → SourceFault → State → Type 0
+abbrev pub RefusesParse : State → Result UnresolvedPackageGroup ParseFault → SourceFault → State
+    → Type 0
 RefusesParse old (Ok group) told new = RefusesAnswer old group told new
-RefusesParse old (Err (parse.Text files span message)) told new = IsPlaced old files span message told new ⊎ IsNotPlaced old files span told new
+RefusesParse old (Err (parse.Text files span message)) told new =
+    IsPlaced old files span message told new ⊎ IsNotPlaced old files span told new
 RefusesParse old (Err parse.OutOfMemory) told new = (told ≡ fault.Resolve OutOfMemory) × (new ≡ old)
 
 -- there is no source for the parse: it would go past the last position (27), or memory is wanted (28)
 abbrev pub IsNoSource : List ℕ → SourceFault → Type 0
-IsNoSource contents told = (told ≡ fault.Resolve OutOfMemory) ⊎ ((told ≡ fault.Resolve OffsetOverflow) × (2 ^ 32 ≤ end_after 0 contents))
+IsNoSource contents told =
+    (told ≡ fault.Resolve OutOfMemory)
+    ⊎ ((told ≡ fault.Resolve OffsetOverflow) × (2 ^ 32 ≤ end_after 0 contents))
 
 module _ {F : Type 0} (calls : Once F (Sources × Unit {0}) (Result UnresolvedPackageGroup ParseFault)) (f : F) where
   -- a parse may answer this of a file
@@ -74,11 +81,12 @@ module _ {F : Type 0} (calls : Once F (Sources × Unit {0}) (Result UnresolvedPa
   MayParse path contents answer = calls.post f (only_file path contents, tt) answer
 
   -- a parse gave a group of the file, which is added
-  pub record PushesSource (old : State) (path contents : List ℕ) (id : ℕ) (new : State) : Type 0 where
-    pub group : UnresolvedPackageGroup
-    pub fits : end_after 0 contents < 2 ^ 32
-    pub given : MayParse path contents (Ok group)
-    pub pushes : PushesAnswer old group id new
+  pub record PushesSource (old : State) (path contents : List ℕ) (id : ℕ) (new : State) : Type 0
+    where
+      pub group : UnresolvedPackageGroup
+      pub fits : end_after 0 contents < 2 ^ 32
+      pub given : MayParse path contents (Ok group)
+      pub pushes : PushesAnswer old group id new
 
   -- a parse gave an answer of the file of which no package comes
   pub record RefusesParsed (old : State) (path contents : List ℕ) (told : SourceFault) (new : State) : Type 0 where
@@ -88,4 +96,5 @@ module _ {F : Type 0} (calls : Once F (Sources × Unit {0}) (Result UnresolvedPa
 
   -- a source is refused, before the parse or after it
   abbrev pub RefusesSource : State → List ℕ → List ℕ → SourceFault → State → Type 0
-  RefusesSource old path contents told new = (IsNoSource contents told × (new ≡ old)) ⊎ RefusesParsed old path contents told new
+  RefusesSource old path contents told new =
+      (IsNoSource contents told × (new ≡ old)) ⊎ RefusesParsed old path contents told new

@@ -23,7 +23,7 @@ use Rattle.wit_link.specs.GroupOrder.{AreSorted, IsSortCause, Unresolved}
 use Rattle.wit_resolve_graph.specs.Merging.{HasSourcesAfter, Merges, RefusesMerge}
 use Rattle.wit_graph_data.specs.Named.{world_named}
 use Rattle.wit_resolve_graph.specs.State.{State}
-use Rattle.wit_semver_spec.specs.SemverMerged.{semver_merged, IsSemverMergeCause}
+use Rattle.wit_semver.specs.SemverMerged.{semver_merged, IsSemverMergeCause}
 use Rattle.wit_transform.specs.Transformed.{IsExportizeCause, IsImportizeCause, imports_at, exportized, importized, transformed}
 use Rattle.wit_resolve_graph.specs.declared.command.Command.{Command}
 use Rattle.wit_resolve_graph.specs.declared.command.Command.TheVariants.{AddFeature, Exportize, Importize, Merge, PushGroups, Semver, SetAllFeatures, SetTrackRule}
@@ -35,7 +35,11 @@ use Rattle.std.specs.Option.{option_map_or}
 
 -- the features with one more, which is there once
 abbrev pub with_feature : Features → List ℕ → Features
-with_feature features name = record features { names = if list_any (bytes_eq name) features.names then features.names else features.names ++ name ∷ [] }
+with_feature features name =
+    record features {
+      names = if list_any (bytes_eq name) features.names then features.names
+          else features.names ++ name ∷ [];
+    }
 
 -- ---- groups
 
@@ -62,13 +66,16 @@ pub record PushesGroups (old : State) (main : UnresolvedPackageGroup) (deps : Li
 
 -- the addition of groups is refused with this error
 pub record RefusesGroups (old : State) (main : UnresolvedPackageGroup) (deps : List UnresolvedPackageGroup) (error : ResolveErrorKind) (new : State) : Type 0 where
-  pub cause : (error ≡ OutOfMemory) ⊎ IsGroupsCause old.features old.graph old.source_map.end (main ∷ deps) error
+  pub cause : (error ≡ OutOfMemory)
+      ⊎ IsGroupsCause old.features old.graph old.source_map.end (main ∷ deps) error
   -- where their files end past 4294967295, no other cause is told
-  pub past_end : 2 ^ 32 ≤ files_end old.source_map.end (main ∷ deps) → (error ≡ OutOfMemory) ⊎ (error ≡ OffsetOverflow)
+  pub past_end : 2 ^ 32 ≤ files_end old.source_map.end (main ∷ deps)
+      → (error ≡ OutOfMemory) ⊎ (error ≡ OffsetOverflow)
   pub graph : new.graph ≡ old.graph
   pub features : new.features ≡ old.features
   pub rule : new.track_rule ≡ old.track_rule
-  pub files : HasSourcesAfter error old.source_map (with_files old.source_map (main ∷ deps)) new.source_map
+  pub files : HasSourcesAfter error old.source_map (with_files old.source_map (main ∷ deps))
+      new.source_map
 
 -- ---- commands on a world
 
@@ -90,7 +97,10 @@ pub record RefusesTransform (old : State) (home : PackageName) (world : List ℕ
 -- for each import of world w, whether what names its key is listed; without a list all are
 abbrev pub answers_at : State → Option (List (List ℕ)) → ℕ → List Bool
 answers_at state keys w =
-    map (λ (e : Entry). option_map_or (λ (listed : List (List ℕ)). list_any (bytes_eq (key_text state.graph.packages state.graph.interfaces e.0)) listed) keys true) (imports_at state.graph w)
+    map (λ (e : Entry).
+    option_map_or (λ (listed : List (List ℕ)).
+    list_any (bytes_eq (key_text state.graph.packages state.graph.interfaces e.0))
+    listed) keys true) (imports_at state.graph w)
 
 -- ---- steps
 
@@ -99,7 +109,8 @@ abbrev pub Step : State → Command → Reply → State → Type 0
 Step old (AddFeature name) Done new = new ≡ record old { features = with_feature old.features name }
 Step old (AddFeature name) (Refused error) new = (error ≡ OutOfMemory) × (new ≡ old)
 Step old (AddFeature name) _ new = ⊥
-Step old (SetAllFeatures all) Done new = new ≡ record old { features = record old.features { all = all } }
+Step old (SetAllFeatures all) Done new =
+    new ≡ record old { features = record old.features { all = all } }
 Step old (SetAllFeatures all) _ new = ⊥
 Step old (SetTrackRule rule) Done new = new ≡ record old { track_rule = rule }
 Step old (SetTrackRule rule) _ new = ⊥
@@ -109,24 +120,37 @@ Step old (PushGroups main deps) _ new = ⊥
 Step old (Merge other) (Merged remap) new = Merges old other remap new
 Step old (Merge other) (Refused error) new = RefusesMerge old other error new
 Step old (Merge other) _ new = ⊥
-Step old (Importize home world out) NoWorld new = (world_named old.graph home world ≡ None) × (new ≡ old)
-Step old (Importize home world out) Done new = Transforms old home world (λ w. transformed old.graph w (importized out)) (λ w. IsImportizeCause old.graph w out) new
-Step old (Importize home world out) (Refused error) new = RefusesTransform old home world (λ w. IsImportizeCause old.graph w out) error new
+Step old (Importize home world out) NoWorld new =
+    (world_named old.graph home world ≡ None) × (new ≡ old)
+Step old (Importize home world out) Done new =
+    Transforms old home world (λ w. transformed old.graph w (importized out))
+    (λ w. IsImportizeCause old.graph w out) new
+Step old (Importize home world out) (Refused error) new =
+    RefusesTransform old home world (λ w. IsImportizeCause old.graph w out) error new
 Step old (Importize home world out) _ new = ⊥
-Step old (Exportize home world out keys) NoWorld new = (world_named old.graph home world ≡ None) × (new ≡ old)
+Step old (Exportize home world out keys) NoWorld new =
+    (world_named old.graph home world ≡ None) × (new ≡ old)
 Step old (Exportize home world out keys) Done new =
-    Transforms old home world (λ w. transformed old.graph w (exportized (answers_at old keys w) out)) (λ w. IsExportizeCause old.graph w (answers_at old keys w) out) new
-Step old (Exportize home world out keys) (Refused error) new = RefusesTransform old home world (λ w. IsExportizeCause old.graph w (answers_at old keys w) out) error new
+    Transforms old home world
+    (λ w. transformed old.graph w (exportized (answers_at old keys w) out))
+    (λ w. IsExportizeCause old.graph w (answers_at old keys w) out) new
+Step old (Exportize home world out keys) (Refused error) new =
+    RefusesTransform old home world (λ w. IsExportizeCause old.graph w (answers_at old keys w) out)
+    error new
 Step old (Exportize home world out keys) _ new = ⊥
 Step old (Semver home world) NoWorld new = (world_named old.graph home world ≡ None) × (new ≡ old)
-Step old (Semver home world) Done new = Transforms old home world (semver_merged old.track_rule old.graph) (IsSemverMergeCause old.track_rule old.graph) new
-Step old (Semver home world) (Refused error) new = RefusesTransform old home world (IsSemverMergeCause old.track_rule old.graph) error new
+Step old (Semver home world) Done new =
+    Transforms old home world (semver_merged old.track_rule old.graph)
+    (IsSemverMergeCause old.track_rule old.graph) new
+Step old (Semver home world) (Refused error) new =
+    RefusesTransform old home world (IsSemverMergeCause old.track_rule old.graph) error new
 Step old (Semver home world) _ new = ⊥
 
 -- one step after another, with one reply to each command
 abbrev pub Run : State → List Command → List Reply → State → Type 0
 Run old [] [] new = new ≡ old
-Run old (command ∷ commands) (reply ∷ replies) new = (mid : State) × Step old command reply mid × Run mid commands replies new
+Run old (command ∷ commands) (reply ∷ replies) new =
+    (mid : State) × Step old command reply mid × Run mid commands replies new
 Run old [] (reply ∷ replies) new = ⊥
 Run old (command ∷ commands) [] new = ⊥
 

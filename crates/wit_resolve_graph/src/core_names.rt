@@ -23,7 +23,8 @@ impl Resolve {
         mangling: ManglingAndAbi,
         import: &WasmImport<'_>,
     ) -> ResolveResult<bool>
-        ensures told { IfOk result (λ told. told ≡ can_name_import self.now.graph mangling import.now) }
+        ensures told { IfOk result
+            (λ told. told ≡ can_name_import self.now.graph mangling import.now) }
         ensures err { IfErr result (λ kind. kind ≡ OutOfMemory) }
     {
         can_name_import(alloc, self.graph(), mangling, import)
@@ -49,7 +50,9 @@ impl Resolve {
         import: &WasmImport<'_>,
     ) -> ResolveResult<(String, String)>
         requires { can_name_import self.now.graph mangling import.now ≡ true }
-        ensures names { IfOk result (λ names. (string_bytes names.0, string_bytes names.1) ≡ import_names self.now.graph mangling import.now) }
+        ensures names { IfOk result (λ names.
+            (string_bytes names.0, string_bytes names.1)
+            ≡ import_names self.now.graph mangling import.now) }
         ensures err { IfErr result (λ kind. kind ≡ OutOfMemory) }
     {
         wasm_import_name(alloc, self.graph(), mangling, import)
@@ -66,7 +69,8 @@ impl Resolve {
         export: &WasmExport<'_>,
     ) -> ResolveResult<String>
         requires { can_name_export self.now.graph mangling export.now ≡ true }
-        ensures name { IfOk result (λ name. string_bytes name ≡ export_name self.now.graph mangling export.now) }
+        ensures name { IfOk result
+            (λ name. string_bytes name ≡ export_name self.now.graph mangling export.now) }
         ensures err { IfErr result (λ kind. kind ≡ OutOfMemory) }
     {
         wasm_export_name(alloc, self.graph(), mangling, export)

@@ -35,7 +35,8 @@ pub(crate) fn place_groups(
     ensures files { OnOk result (source_map.new ≡ with_files source_map.old (main ∷ deps)) }
     ensures fits { OnOk result (files_end source_map.old.end (main ∷ deps) < 2 ^ 32) }
     ensures err { OnErr result (source_map.new ≡ source_map.old) }
-    ensures cause { IfErr result (λ kind. (kind ≡ OutOfMemory) ⊎ FilesPassTheEnd source_map.old.end (main ∷ deps) kind) }
+    ensures cause { IfErr result
+        (λ kind. (kind ≡ OutOfMemory) ⊎ FilesPassTheEnd source_map.old.end (main ∷ deps) kind) }
 {
     let files = source_map.len();
     let end = source_map.end();
@@ -57,7 +58,8 @@ fn place_each(
     ensures files { OnOk result (source_map.new ≡ with_files source_map.old (main ∷ deps)) }
     ensures fits { OnOk result (files_end source_map.old.end (main ∷ deps) < 2 ^ 32) }
     ensures begins { Begins source_map.old.files source_map.new.files }
-    ensures cause { IfErr result (λ kind. (kind ≡ OutOfMemory) ⊎ FilesPassTheEnd source_map.old.end (main ∷ deps) kind) }
+    ensures cause { IfErr result
+        (λ kind. (kind ≡ OutOfMemory) ⊎ FilesPassTheEnd source_map.old.end (main ∷ deps) kind) }
 {
     let mut packages = Items::new(alloc);
     place_group(alloc, source_map, &mut packages, main)?;
@@ -74,11 +76,13 @@ fn place_group(
     packages: &mut Items<(UnresolvedPackage, u32)>,
     group: UnresolvedPackageGroup,
 ) -> ResolveResult<()>
-    ensures ok { OnOk result (packages.new ≡ packages.old ++ packages_of source_map.old.end (group ∷ [])) }
+    ensures ok { OnOk result
+        (packages.new ≡ packages.old ++ packages_of source_map.old.end (group ∷ [])) }
     ensures files { OnOk result (source_map.new ≡ with_sources source_map.old group.source_map) }
     ensures fits { OnOk result (source_map.old.end + group.source_map.end < 2 ^ 32) }
     ensures begins { Begins source_map.old.files source_map.new.files }
-    ensures cause { IfErr result (λ kind. (kind ≡ OutOfMemory) ⊎ FilesPassTheEnd source_map.old.end (group ∷ []) kind) }
+    ensures cause { IfErr result
+        (λ kind. (kind ≡ OutOfMemory) ⊎ FilesPassTheEnd source_map.old.end (group ∷ []) kind) }
 {
     let UnresolvedPackageGroup {
         main,
@@ -97,7 +101,8 @@ fn take_packages(
     main: UnresolvedPackage,
     offset: u32,
 ) -> Result<(), AllocError>
-    ensures { OnOk result (packages.new ≡ packages.old ++ map (λ (u : UnresolvedPackage). (u, offset)) (nested ++ main ∷ [])) }
+    ensures { OnOk result (packages.new
+        ≡ packages.old ++ map (λ (u : UnresolvedPackage). (u, offset)) (nested ++ main ∷ [])) }
 {
     for package in nested.into_vec() {
         packages.push((package, offset))?;
@@ -121,11 +126,16 @@ pub(crate) fn add_packages(
     requires packages { AllByRecursion CanAppend packages }
     requires named { Contains (names_of packages) name.now }
     requires kept { AreKept graph.old kept.old }
-    ensures ok { IfOk result (λ id. AreAddedTogether features.now graph.old packages name.now id graph.new) }
+    ensures ok { IfOk result
+        (λ id. AreAddedTogether features.now graph.old packages name.now id graph.new) }
     ensures kept { AreKept graph.new kept.new }
     ensures err { OnErr result (graph.new ≡ graph.old) }
-    ensures cause { IfErr result (λ kind. (kind ≡ OutOfMemory) ⊎ (IsSortCause packages kind ⊎ IsAdditionsCause features.now graph.old packages kind)) }
-    ensures refuses { (kind : ResolveErrorKind) → IsSortCause packages kind ⊎ IsAdditionsCause features.now graph.old packages kind → OnOk result ⊥ }
+    ensures cause { IfErr result (λ kind.
+        (kind ≡ OutOfMemory)
+        ⊎ (IsSortCause packages kind ⊎ IsAdditionsCause features.now graph.old packages kind)) }
+    ensures refuses { (kind : ResolveErrorKind)
+        → IsSortCause packages kind ⊎ IsAdditionsCause features.now graph.old packages kind
+        → OnOk result ⊥ }
 {
     let sorted = sort_groups(alloc, packages)?;
     let mark = Mark::of(graph);

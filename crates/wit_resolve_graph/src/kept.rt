@@ -60,8 +60,12 @@ impl Kept {
     ) -> Result<(), AllocError>
         requires first { length self.old.valid_bits ≤ length graph.old.types }
         requires known { AreValidBits graph.old.types self.old.valid_bits }
-        ensures ok { OnOk result ((graph.new ≡ graph.old) × ((self.new.caches ≡ self.old.caches) × AreValidBitsOf graph.new.types self.new.valid_bits)) }
-        ensures err { OnErr result ((graph.new ≡ cut_at mark graph.old) × ((self.new.caches ≡ caches_cut_at known self.old.caches) × (self.new.valid_bits ≡ self.old.valid_bits))) }
+        ensures ok { OnOk result ((graph.new ≡ graph.old)
+            × ((self.new.caches ≡ self.old.caches)
+            × AreValidBitsOf graph.new.types self.new.valid_bits)) }
+        ensures err { OnErr result ((graph.new ≡ cut_at mark graph.old)
+            × ((self.new.caches ≡ caches_cut_at known self.old.caches)
+            × (self.new.valid_bits ≡ self.old.valid_bits))) }
     {
         let added = add_valid_bits(alloc, &mut self.valid_bits, graph.types.as_slice());
         if added.is_err() {
@@ -106,11 +110,16 @@ pub(crate) fn append_kept(
 ) -> ResolveResult<PackageId>
     requires shaped { IsShaped «package» }
     requires kept { AreKept graph.old kept.old }
-    ensures ok { IfOk result (λ id. IsAdded (addition features.now graph.old «package» span_offset) graph.new id) }
+    ensures ok { IfOk result
+        (λ id. IsAdded (addition features.now graph.old «package» span_offset) graph.new id) }
     ensures kept { AreKept graph.new kept.new }
     ensures err { OnErr result (graph.new ≡ graph.old) }
-    ensures cause { IfErr result (λ kind. (kind ≡ OutOfMemory) ⊎ IsAdditionCause (addition features.now graph.old «package» span_offset) kind) }
-    ensures refuses { (kind : ResolveErrorKind) → IsAdditionCause (addition features.now graph.old «package» span_offset) kind → OnOk result ⊥ }
+    ensures cause { IfErr result (λ kind.
+        (kind ≡ OutOfMemory)
+        ⊎ IsAdditionCause (addition features.now graph.old «package» span_offset) kind) }
+    ensures refuses { (kind : ResolveErrorKind)
+        → IsAdditionCause (addition features.now graph.old «package» span_offset) kind
+        → OnOk result ⊥ }
 {
     let mark = Mark::of(graph);
     let known = CachesMark::of(&kept.caches);

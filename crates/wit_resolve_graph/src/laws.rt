@@ -7,7 +7,7 @@ ghost use Rattle.wit_resolve_graph.specs.laws.RunLaws.{AdditionsKeep, AdditionsS
 ghost use Rattle.wit_resolve_graph.specs.laws.SemverLaws.{CallIsExact, CommandIsExact};
 
 use crate::resolve::Resolve;
-use wit_semver_spec::laws::{keys_are_exact, semver_merges_keep};
+use wit_semver::laws::{keys_are_exact, semver_merges_keep};
 
 /// What was there before a run is there after it, with the same ids.
 pub fn runs_keep()

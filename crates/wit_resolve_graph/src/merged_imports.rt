@@ -2,7 +2,7 @@
 ghost use Rattle.std.specs.Prelude.{◌≡◌, ◌⊎◌, ◌<◌, IfErr, OnErr, OnOk, length};
 ghost use Rattle.wit_graph_data.specs.declared.error_kind.ResolveErrorKind.{ResolveErrorKind};
 ghost use Rattle.wit_graph_data.specs.declared.error_kind.ResolveErrorKind.TheVariants.{OutOfMemory};
-ghost use Rattle.wit_semver_spec.specs.SemverMerged.{semver_merged, IsSemverMergeCause};
+ghost use Rattle.wit_semver.specs.SemverMerged.{semver_merged, IsSemverMergeCause};
 ghost use Rattle.wit_resolve_graph.specs.State.{AreKept};
 
 use crate::kept::Kept;
@@ -26,8 +26,10 @@ pub(crate) fn merge_kept_by_track(
     ensures graph { OnOk result (graph.new ≡ semver_merged rule graph.old world) }
     ensures kept { AreKept graph.new kept.new }
     ensures err { OnErr result (graph.new ≡ graph.old) }
-    ensures cause { IfErr result (λ kind. (kind ≡ OutOfMemory) ⊎ IsSemverMergeCause rule graph.old world kind) }
-    ensures refuses { (kind : ResolveErrorKind) → IsSemverMergeCause rule graph.old world kind → OnOk result ⊥ }
+    ensures cause { IfErr result
+        (λ kind. (kind ≡ OutOfMemory) ⊎ IsSemverMergeCause rule graph.old world kind) }
+    ensures refuses { (kind : ResolveErrorKind) → IsSemverMergeCause rule graph.old world kind
+        → OnOk result ⊥ }
 {
     let merge = find_semver_merge(alloc, graph, world, rule)?;
     match merge {

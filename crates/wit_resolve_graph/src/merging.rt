@@ -32,12 +32,17 @@ pub(crate) fn merge_kept(
 ) -> ResolveResult<Remap>
     requires kept { AreKept graph.old kept.old }
     requires other { IsValid other.now }
-    ensures graph { OnOk result (graph.new ≡ merged (merge_of_graphs_by graph.old other.now offset)) }
-    ensures remap { IfOk result (λ remap. remap ≡ merge_remap (merge_of_graphs_by graph.old other.now offset)) }
+    ensures graph { OnOk result
+        (graph.new ≡ merged (merge_of_graphs_by graph.old other.now offset)) }
+    ensures remap { IfOk result
+        (λ remap. remap ≡ merge_remap (merge_of_graphs_by graph.old other.now offset)) }
     ensures kept { AreKept graph.new kept.new }
     ensures err { OnErr result (graph.new ≡ graph.old) }
-    ensures cause { IfErr result (λ kind. (kind ≡ OutOfMemory) ⊎ IsMergeCause (merge_of_graphs_by graph.old other.now offset) kind) }
-    ensures refuses { (kind : ResolveErrorKind) → IsMergeCause (merge_of_graphs_by graph.old other.now offset) kind → OnOk result ⊥ }
+    ensures cause { IfErr result (λ kind.
+        (kind ≡ OutOfMemory)
+        ⊎ IsMergeCause (merge_of_graphs_by graph.old other.now offset) kind) }
+    ensures refuses { (kind : ResolveErrorKind)
+        → IsMergeCause (merge_of_graphs_by graph.old other.now offset) kind → OnOk result ⊥ }
 {
     let matches = agreed_matches(alloc, graph, other, offset)?;
     if leaves_graph(graph, other, &matches) {
@@ -68,12 +73,17 @@ fn append_merge_kept(
     requires agree { DoAgree (merge_of_graphs_by graph.old other.now offset) }
     requires matches { AreMatches graph.old other.now matches.now }
     requires leaves { LeavesGraph (merge_of_graphs_by graph.old other.now offset) }
-    ensures graph { OnOk result (graph.new ≡ merged (merge_of_graphs_by graph.old other.now offset)) }
-    ensures remap { IfOk result (λ remap. remap ≡ merge_remap (merge_of_graphs_by graph.old other.now offset)) }
+    ensures graph { OnOk result
+        (graph.new ≡ merged (merge_of_graphs_by graph.old other.now offset)) }
+    ensures remap { IfOk result
+        (λ remap. remap ≡ merge_remap (merge_of_graphs_by graph.old other.now offset)) }
     ensures kept { AreKept graph.new kept.new }
     ensures err { OnErr result (graph.new ≡ graph.old) }
-    ensures cause { IfErr result (λ kind. (kind ≡ OutOfMemory) ⊎ IsMergeCause (merge_of_graphs_by graph.old other.now offset) kind) }
-    ensures refuses { (kind : ResolveErrorKind) → IsMergeCause (merge_of_graphs_by graph.old other.now offset) kind → OnOk result ⊥ }
+    ensures cause { IfErr result (λ kind.
+        (kind ≡ OutOfMemory)
+        ⊎ IsMergeCause (merge_of_graphs_by graph.old other.now offset) kind) }
+    ensures refuses { (kind : ResolveErrorKind)
+        → IsMergeCause (merge_of_graphs_by graph.old other.now offset) kind → OnOk result ⊥ }
 {
     let mark = Mark::of(graph);
     let known = CachesMark::of(&kept.caches);

@@ -42,7 +42,8 @@ impl PackageSources {
         package: PackageId,
         source: &str,
     ) -> ResolveResult<PackageSources>
-        ensures ok { IfOk result (λ s. s ≡ record { sources = (source.now ∷ []) ∷ []; places = («package», 0) ∷ [] }) }
+        ensures ok { IfOk result
+            (λ s. s ≡ record { sources = (source.now ∷ []) ∷ []; places = («package», 0) ∷ [] }) }
         ensures err { IfErr result (λ e. e ≡ OutOfMemory) }
     {
         Ok(single_source(alloc, package, source)?)
@@ -58,7 +59,8 @@ impl PackageSources {
         places: BTreeMap<PackageId, usize>,
     ) -> ResolveResult<PackageSources>
         requires { ArePlaced places.entries (length source_maps.items) }
-        ensures ok { IfOk result (λ s. s ≡ record { sources = names_of source_maps.items; places = places.entries }) }
+        ensures ok { IfOk result
+            (λ s. s ≡ record { sources = names_of source_maps.items; places = places.entries }) }
         ensures err { IfErr result (λ e. e ≡ OutOfMemory) }
     {
         let sources = names_of(alloc, &source_maps)?;
@@ -70,7 +72,8 @@ impl PackageSources {
     ///
     /// Source: `source_names` of `PackageSources` of wit-parser 0.263.0.
     pub fn source_names(&self, alloc: Global) -> ResolveResult<Vec<&str>>
-        ensures ok { IfOk result (λ names. map (λ name. name.now) names.items ≡ all_names self.now) }
+        ensures ok { IfOk result
+            (λ names. map (λ name. name.now) names.items ≡ all_names self.now) }
         ensures err { IfErr result (λ e. e ≡ OutOfMemory) }
     {
         let mut seen = NameSet::new(alloc);
@@ -101,7 +104,8 @@ fn single_source(
     package: PackageId,
     source: &str,
 ) -> Result<PackageSources, AllocError>
-    ensures { IfOk result (λ s. s ≡ record { sources = (source.now ∷ []) ∷ []; places = («package», 0) ∷ [] }) }
+    ensures { IfOk result
+        (λ s. s ≡ record { sources = (source.now ∷ []) ∷ []; places = («package», 0) ∷ [] }) }
 {
     let mut names = Items::new(alloc);
     names.push(Text::try_from_str(alloc, source)?)?;

@@ -34,10 +34,17 @@ impl Resolve {
         parse: F,
     ) -> Result<PackageId, SourceFault>
         requires callable { F.IsAlwaysCallable parse }
-        requires shaped { (group : UnresolvedPackageGroup) → MayParse F.FnOnce parse path.now contents.now (Ok group) → IsGroupShaped group }
-        ensures ok { IfOk result (λ id. PushesSource F.FnOnce parse self.old path.now contents.now id self.new) }
-        ensures err { IfErr result (λ fault. RefusesSource F.FnOnce parse self.old path.now contents.now fault self.new) }
-        ensures refuses { ((group : UnresolvedPackageGroup) → MayParse F.FnOnce parse path.now contents.now (Ok group) → (kind : ResolveErrorKind) × IsGroupsCause self.old.features self.old.graph self.old.source_map.end (group ∷ []) kind) → OnOk result ⊥ }
+        requires shaped { (group : UnresolvedPackageGroup)
+            → MayParse F.FnOnce parse path.now contents.now (Ok group) → IsGroupShaped group }
+        ensures ok { IfOk result
+            (λ id. PushesSource F.FnOnce parse self.old path.now contents.now id self.new) }
+        ensures err { IfErr result (λ fault.
+            RefusesSource F.FnOnce parse self.old path.now contents.now fault self.new) }
+        ensures refuses { ((group : UnresolvedPackageGroup)
+            → MayParse F.FnOnce parse path.now contents.now (Ok group)
+            → (kind : ResolveErrorKind)
+            × IsGroupsCause self.old.features self.old.graph self.old.source_map.end
+            (group ∷ []) kind) → OnOk result ⊥ }
     {
         let source_map = only_file(alloc, path, contents)?;
         match parse(source_map) {
@@ -63,7 +70,8 @@ impl Resolve {
         span: Span,
         message: Text,
     ) -> SourceFault
-        ensures { IsPlaced self.old source_map span message result self.new ⊎ IsNotPlaced self.old source_map span result self.new }
+        ensures { IsPlaced self.old source_map span message result self.new
+            ⊎ IsNotPlaced self.old source_map span result self.new }
     {
         let Some(span) = span.moved(self.source_map().end()) else {
             return SourceFault::from(MapFault::OffsetOverflow);

@@ -69,7 +69,9 @@ impl Resolve {
     /// Source: `package_direct_deps` of wit-parser 0.263.0.
     pub fn package_direct_deps(&self, id: PackageId) -> PackageDirectDeps<'_>
         requires { id < length self.now.graph.packages }
-        ensures { result ≡ package_direct_deps self.now.graph.types self.now.graph.interfaces self.now.graph.worlds self.now.graph.packages id }
+        ensures { result
+            ≡ package_direct_deps self.now.graph.types self.now.graph.interfaces
+            self.now.graph.worlds self.now.graph.packages id }
     {
         package_direct_deps(self.graph(), id)
     }
@@ -79,7 +81,10 @@ impl Resolve {
     ///
     /// Source: `topological_packages` of wit-parser 0.263.0.
     pub fn topological_packages(&self, alloc: Global) -> ResolveResult<Vec<PackageId>>
-        ensures order { IfOk result (λ order. order.items ≡ topological_packages self.now.graph.types self.now.graph.interfaces self.now.graph.worlds self.now.graph.packages) }
+        ensures order { IfOk result (λ order.
+            order.items
+            ≡ topological_packages self.now.graph.types self.now.graph.interfaces
+            self.now.graph.worlds self.now.graph.packages) }
         ensures err { IfErr result (λ kind. kind ≡ OutOfMemory) }
     {
         topological_packages(alloc, self.graph())
@@ -97,7 +102,9 @@ impl Resolve {
         alloc: Global,
         id: InterfaceId,
     ) -> ResolveResult<Option<String>>
-        ensures text { IfOk result (λ text. option_map string_bytes text ≡ canonical_interface_id_at self.now.graph.packages self.now.graph.interfaces id) }
+        ensures text { IfOk result (λ text.
+            option_map string_bytes text
+            ≡ canonical_interface_id_at self.now.graph.packages self.now.graph.interfaces id) }
         ensures err { IfErr result (λ kind. kind ≡ OutOfMemory) }
     {
         canonicalized_id_of(alloc, self.graph(), id)
@@ -113,7 +120,8 @@ impl Resolve {
         package: PackageId,
         name: &str,
     ) -> ResolveResult<String>
-        ensures text { IfOk result (λ text. string_bytes text ≡ canonical_id_text self.now.graph.packages «package» name.now) }
+        ensures text { IfOk result (λ text.
+            string_bytes text ≡ canonical_id_text self.now.graph.packages «package» name.now) }
         ensures err { IfErr result (λ kind. kind ≡ OutOfMemory) }
     {
         canonicalized_id_of_name(alloc, self.graph(), package, name)
@@ -128,7 +136,9 @@ impl Resolve {
         alloc: Global,
         key: &WorldKey,
     ) -> ResolveResult<String>
-        ensures text { IfOk result (λ text. string_bytes text ≡ canonical_key_text self.now.graph.packages self.now.graph.interfaces key.now) }
+        ensures text { IfOk result (λ text.
+            string_bytes text
+            ≡ canonical_key_text self.now.graph.packages self.now.graph.interfaces key.now) }
         ensures err { IfErr result (λ kind. kind ≡ OutOfMemory) }
     {
         name_canonicalized_world_key(alloc, self.graph(), key)
@@ -140,7 +150,9 @@ impl Resolve {
     ///
     /// Source: `version_suffix_of` of wit-parser 0.263.0.
     pub fn version_suffix_of(&self, alloc: Global, id: InterfaceId) -> ResolveResult<Option<String>>
-        ensures text { IfOk result (λ text. option_map string_bytes text ≡ version_suffix_of self.now.graph.packages self.now.graph.interfaces id) }
+        ensures text { IfOk result (λ text.
+            option_map string_bytes text
+            ≡ version_suffix_of self.now.graph.packages self.now.graph.interfaces id) }
         ensures err { IfErr result (λ kind. kind ≡ OutOfMemory) }
     {
         version_suffix_of(alloc, self.graph(), id)
@@ -168,7 +180,8 @@ impl Resolve {
         alloc: Global,
         item: &WorldItem,
     ) -> ResolveResult<Option<String>>
-        ensures text { IfOk result (λ text. option_map string_bytes text ≡ external_id_value self.now.graph.types item.now) }
+        ensures text { IfOk result (λ text.
+            option_map string_bytes text ≡ external_id_value self.now.graph.types item.now) }
         ensures err { IfErr result (λ kind. kind ≡ OutOfMemory) }
     {
         external_id_value(alloc, self.graph(), item)
@@ -196,7 +209,8 @@ impl Resolve {
         alloc: Global,
         function: &Function,
     ) -> ResolveResult<Vec<TypeId>>
-        ensures found { IfOk result (λ found. found.items ≡ futures_and_streams self.now.graph.types function.now) }
+        ensures found { IfOk result
+            (λ found. found.items ≡ futures_and_streams self.now.graph.types function.now) }
         ensures err { IfErr result (λ kind. kind ≡ OutOfMemory) }
     {
         find_futures_and_streams(alloc, self.graph(), function)

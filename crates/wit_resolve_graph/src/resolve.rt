@@ -16,7 +16,7 @@ ghost use Rattle.wit_queries.specs.Selection.{IsSelectionError, selected_world};
 ghost use Rattle.wit_resolve_graph.specs.Merging.{FilesPass, Merges, RefusesMerge, merge_of};
 ghost use Rattle.wit_resolve_graph.specs.State.{new_state};
 ghost use Rattle.wit_resolve_graph.specs.Step.{PushesGroups, RefusesGroups, with_feature};
-ghost use Rattle.wit_semver_spec.specs.SemverMerged.{semver_merged, IsSemverMergeCause};
+ghost use Rattle.wit_semver.specs.SemverMerged.{semver_merged, IsSemverMergeCause};
 ghost use Rattle.wit_transform.specs.Transformed.{AreAnswers, Exportizes, IsExportizeCause, IsImportizeCause, RefusesExportize, imports_at, exportized, importized, transformed};
 
 use crate::groups::{add_packages, place_groups};
@@ -85,7 +85,15 @@ impl Resolve {
         source_map: SourceMap,
         track_rule: TrackRule,
     ) -> ResolveResult<Option<Resolve>>
-        ensures value { IfOk result (λ made. IfSome made (λ it. it ≡ record { graph = graph; features = features; source_map = source_map; track_rule = track_rule })) }
+        ensures value { IfOk result (λ made.
+            IfSome made (λ it.
+            it
+            ≡ record {
+              graph = graph;
+              features = features;
+              source_map = source_map;
+              track_rule = track_rule;
+            })) }
         ensures valid { IfOk result (λ made. IsTrue (is_some made) ↔ IsValid graph) }
         ensures err { IfErr result (λ kind. kind ≡ OutOfMemory) }
     {
@@ -213,7 +221,8 @@ impl Resolve {
     ///
     /// Source: `Resolve::features` of wit-parser 0.263.0.
     pub fn add_feature(&mut self, alloc: Global, name: &str) -> ResolveResult<()>
-        ensures ok { OnOk result (self.new ≡ record self.old { features = with_feature self.old.features name.now }) }
+        ensures ok { OnOk result
+            (self.new ≡ record self.old { features = with_feature self.old.features name.now }) }
         ensures err { OnErr result (self.new ≡ self.old) }
         ensures cause { IfErr result (λ kind. kind ≡ OutOfMemory) }
     {
@@ -245,9 +254,15 @@ impl Resolve {
     ///
     /// Source: `push_source_map` of wit-parser 0.263.0.
     pub fn push_source_map(&mut self, alloc: Global, source_map: SourceMap) -> ResolveResult<u32>
-        ensures ok { IfOk result (λ offset. (offset ≡ self.old.source_map.end) × (self.new ≡ record self.old { source_map = with_sources self.old.source_map source_map })) }
+        ensures ok { IfOk result (λ offset.
+            (offset ≡ self.old.source_map.end)
+            × (self.new
+            ≡ record self.old
+            { source_map = with_sources self.old.source_map source_map })) }
         ensures err { OnErr result (self.new ≡ self.old) }
-        ensures cause { IfErr result (λ kind. (kind ≡ OutOfMemory) ⊎ ((kind ≡ OffsetOverflow) × (2 ^ 32 ≤ self.old.source_map.end + source_map.end))) }
+        ensures cause { IfErr result (λ kind.
+            (kind ≡ OutOfMemory)
+            ⊎ ((kind ≡ OffsetOverflow) × (2 ^ 32 ≤ self.old.source_map.end + source_map.end))) }
         ensures refuses { 2 ^ 32 ≤ self.old.source_map.end + source_map.end → OnOk result ⊥ }
     {
         Ok(self.source_map.append(alloc, source_map)?)
@@ -266,13 +281,20 @@ impl Resolve {
         span_offset: u32,
     ) -> ResolveResult<PackageId>
         requires shaped { IsShaped «package» }
-        ensures ok { IfOk result (λ id. IsAdded (addition self.old.features self.old.graph «package» span_offset) self.new.graph id) }
+        ensures ok { IfOk result (λ id.
+            IsAdded (addition self.old.features self.old.graph «package» span_offset)
+            self.new.graph id) }
         ensures features { self.new.features ≡ self.old.features }
         ensures source_map { self.new.source_map ≡ self.old.source_map }
         ensures track_rule { self.new.track_rule ≡ self.old.track_rule }
         ensures err { OnErr result (self.new ≡ self.old) }
-        ensures cause { IfErr result (λ kind. (kind ≡ OutOfMemory) ⊎ IsAdditionCause (addition self.old.features self.old.graph «package» span_offset) kind) }
-        ensures refuses { (kind : ResolveErrorKind) → IsAdditionCause (addition self.old.features self.old.graph «package» span_offset) kind → OnOk result ⊥ }
+        ensures cause { IfErr result (λ kind.
+            (kind ≡ OutOfMemory)
+            ⊎ IsAdditionCause (addition self.old.features self.old.graph «package» span_offset)
+            kind) }
+        ensures refuses { (kind : ResolveErrorKind)
+            → IsAdditionCause (addition self.old.features self.old.graph «package» span_offset) kind
+            → OnOk result ⊥ }
     {
         append_kept(
             alloc,
@@ -297,7 +319,9 @@ impl Resolve {
         requires shaped { IsGroupShaped group }
         ensures ok { IfOk result (λ id. PushesGroups self.old group [] id self.new) }
         ensures err { IfErr result (λ kind. RefusesGroups self.old group [] kind self.new) }
-        ensures refuses { (kind : ResolveErrorKind) → IsGroupsCause self.old.features self.old.graph self.old.source_map.end (group ∷ []) kind → OnOk result ⊥ }
+        ensures refuses { (kind : ResolveErrorKind)
+            → IsGroupsCause self.old.features self.old.graph self.old.source_map.end (group ∷ [])
+            kind → OnOk result ⊥ }
     {
         self.push_groups(alloc, group, Items::new(alloc))
     }
@@ -321,7 +345,9 @@ impl Resolve {
         requires shaped { AllByRecursion IsGroupShaped (main ∷ deps) }
         ensures ok { IfOk result (λ id. PushesGroups self.old main deps id self.new) }
         ensures err { IfErr result (λ kind. RefusesGroups self.old main deps kind self.new) }
-        ensures refuses { (kind : ResolveErrorKind) → IsGroupsCause self.old.features self.old.graph self.old.source_map.end (main ∷ deps) kind → OnOk result ⊥ }
+        ensures refuses { (kind : ResolveErrorKind)
+            → IsGroupsCause self.old.features self.old.graph self.old.source_map.end (main ∷ deps)
+            kind → OnOk result ⊥ }
     {
         let name = main.main.name.try_clone()?;
         let files = self.source_map.len();
@@ -355,7 +381,9 @@ impl Resolve {
     pub fn merge(&mut self, alloc: Global, mut other: Resolve) -> ResolveResult<Remap>
         ensures ok { IfOk result (λ remap. Merges self.old other remap self.new) }
         ensures err { IfErr result (λ kind. RefusesMerge self.old other kind self.new) }
-        ensures refuses { (kind : ResolveErrorKind) → IsMergeCause (merge_of self.old other) kind ⊎ FilesPass self.old other kind → OnOk result ⊥ }
+        ensures refuses { (kind : ResolveErrorKind)
+            → IsMergeCause (merge_of self.old other) kind ⊎ FilesPass self.old other kind
+            → OnOk result ⊥ }
     {
         let len = self.source_map.len();
         let end = self.source_map.end();
@@ -383,9 +411,12 @@ impl Resolve {
         main_packages: &[PackageId],
         world: Option<&str>,
     ) -> ResolveResult<WorldId>
-        ensures ok { IfOk result (λ id. selected_world self.now.graph main_packages.now (option_copied world.entry) ≡ Ok id) }
+        ensures ok { IfOk result (λ id.
+            selected_world self.now.graph main_packages.now (option_copied world.entry)
+            ≡ Ok id) }
         ensures within { IfOk result (λ id. id < length self.now.graph.worlds) }
-        ensures err { IfErr result (IsSelectionError (selected_world self.now.graph main_packages.now (option_copied world.entry))) }
+        ensures err { IfErr result (IsSelectionError
+            (selected_world self.now.graph main_packages.now (option_copied world.entry))) }
     {
         select_world(alloc, self.graph(), main_packages, world)
     }
@@ -395,7 +426,9 @@ impl Resolve {
     ///
     /// Source: `id_of` of wit-parser 0.263.0.
     pub fn id_of(&self, alloc: Global, id: InterfaceId) -> ResolveResult<Option<String>>
-        ensures text { IfOk result (λ text. option_map string_bytes text ≡ interface_id_at self.now.graph.packages self.now.graph.interfaces id) }
+        ensures text { IfOk result (λ text.
+            option_map string_bytes text
+            ≡ interface_id_at self.now.graph.packages self.now.graph.interfaces id) }
         ensures err { IfErr result (λ kind. kind ≡ OutOfMemory) }
     {
         self.graph.id_of(alloc, id)
@@ -406,7 +439,8 @@ impl Resolve {
     ///
     /// Source: `id_of_name` of wit-parser 0.263.0.
     pub fn id_of_name(&self, alloc: Global, package: PackageId, name: &str) -> ResolveResult<String>
-        ensures text { IfOk result (λ text. string_bytes text ≡ id_text self.now.graph.packages «package» name.now) }
+        ensures text { IfOk result
+            (λ text. string_bytes text ≡ id_text self.now.graph.packages «package» name.now) }
         ensures err { IfErr result (λ kind. kind ≡ OutOfMemory) }
     {
         self.graph.id_of_name(alloc, package, name)
@@ -416,7 +450,9 @@ impl Resolve {
     ///
     /// Source: `name_world_key` of wit-parser 0.263.0.
     pub fn name_world_key(&self, alloc: Global, key: &WorldKey) -> ResolveResult<String>
-        ensures text { IfOk result (λ text. string_bytes text ≡ key_text self.now.graph.packages self.now.graph.interfaces key.now) }
+        ensures text { IfOk result (λ text.
+            string_bytes text
+            ≡ key_text self.now.graph.packages self.now.graph.interfaces key.now) }
         ensures err { IfErr result (λ kind. kind ≡ OutOfMemory) }
     {
         self.graph.name_world_key(alloc, key)
@@ -435,10 +471,18 @@ impl Resolve {
         out: Option<String>,
     ) -> ResolveResult<()>
         requires { world < length self.old.graph.worlds }
-        ensures ok { OnOk result (self.new ≡ record self.old { graph = transformed self.old.graph world (importized (option_map string_bytes out)) }) }
+        ensures ok { OnOk result (self.new
+            ≡ record self.old {
+              graph = transformed self.old.graph world
+                  (importized (option_map string_bytes out));
+            }) }
         ensures err { OnErr result (self.new ≡ self.old) }
-        ensures cause { IfErr result (λ kind. (kind ≡ OutOfMemory) ⊎ IsImportizeCause self.old.graph world (option_map string_bytes out) kind) }
-        ensures refuses { (kind : ResolveErrorKind) → IsImportizeCause self.old.graph world (option_map string_bytes out) kind → OnOk result ⊥ }
+        ensures cause { IfErr result (λ kind.
+            (kind ≡ OutOfMemory)
+            ⊎ IsImportizeCause self.old.graph world (option_map string_bytes out) kind) }
+        ensures refuses { (kind : ResolveErrorKind)
+            → IsImportizeCause self.old.graph world (option_map string_bytes out) kind
+            → OnOk result ⊥ }
     {
         importize_with(
             alloc,
@@ -463,13 +507,21 @@ impl Resolve {
     ) -> ResolveResult<()>
         requires world { world < length self.old.graph.worlds }
         requires filter { IfSome filter (λ f. F.IsAlwaysCallable f) }
-        ensures ok { OnOk result (Exportizes F.Fn filter self.old.graph world (option_map string_bytes out) self.new.graph) }
+        ensures ok { OnOk result (Exportizes F.Fn filter self.old.graph world
+            (option_map string_bytes out) self.new.graph) }
         ensures features { self.new.features ≡ self.old.features }
         ensures source_map { self.new.source_map ≡ self.old.source_map }
         ensures track_rule { self.new.track_rule ≡ self.old.track_rule }
         ensures err { OnErr result (self.new ≡ self.old) }
-        ensures cause { IfErr result (λ kind. (kind ≡ OutOfMemory) ⊎ RefusesExportize F.Fn filter self.old.graph world (option_map string_bytes out) kind) }
-        ensures refuses { ((answers : List Bool) → AreAnswers F.Fn filter (imports_at self.old.graph world) answers → (kind : ResolveErrorKind) × IsExportizeCause self.old.graph world answers (option_map string_bytes out) kind) → OnOk result ⊥ }
+        ensures cause { IfErr result (λ kind.
+            (kind ≡ OutOfMemory)
+            ⊎ RefusesExportize F.Fn filter self.old.graph world (option_map string_bytes out)
+            kind) }
+        ensures refuses { ((answers : List Bool)
+            → AreAnswers F.Fn filter (imports_at self.old.graph world) answers
+            → (kind : ResolveErrorKind)
+            × IsExportizeCause self.old.graph world answers (option_map string_bytes out) kind)
+            → OnOk result ⊥ }
     {
         exportize_with(
             alloc,
@@ -491,10 +543,19 @@ impl Resolve {
     ) -> ResolveResult<()>
         requires world { world < length self.old.graph.worlds }
         requires answers { length answers.now ≡ length (imports_at self.old.graph world) }
-        ensures ok { OnOk result (self.new ≡ record self.old { graph = transformed self.old.graph world (exportized answers.now (option_map string_bytes out)) }) }
+        ensures ok { OnOk result (self.new
+            ≡ record self.old {
+              graph = transformed self.old.graph world
+                  (exportized answers.now (option_map string_bytes out));
+            }) }
         ensures err { OnErr result (self.new ≡ self.old) }
-        ensures cause { IfErr result (λ kind. (kind ≡ OutOfMemory) ⊎ IsExportizeCause self.old.graph world answers.now (option_map string_bytes out) kind) }
-        ensures refuses { (kind : ResolveErrorKind) → IsExportizeCause self.old.graph world answers.now (option_map string_bytes out) kind → OnOk result ⊥ }
+        ensures cause { IfErr result (λ kind.
+            (kind ≡ OutOfMemory)
+            ⊎ IsExportizeCause self.old.graph world answers.now (option_map string_bytes out)
+            kind) }
+        ensures refuses { (kind : ResolveErrorKind)
+            → IsExportizeCause self.old.graph world answers.now (option_map string_bytes out) kind
+            → OnOk result ⊥ }
     {
         exportize_answered_with(
             alloc,
@@ -517,10 +578,15 @@ impl Resolve {
         world: WorldId,
     ) -> ResolveResult<()>
         requires { world < length self.old.graph.worlds }
-        ensures ok { OnOk result (self.new ≡ record self.old { graph = semver_merged self.old.track_rule self.old.graph world }) }
+        ensures ok { OnOk result (self.new
+            ≡ record self.old
+            { graph = semver_merged self.old.track_rule self.old.graph world }) }
         ensures err { OnErr result (self.new ≡ self.old) }
-        ensures cause { IfErr result (λ kind. (kind ≡ OutOfMemory) ⊎ IsSemverMergeCause self.old.track_rule self.old.graph world kind) }
-        ensures refuses { (kind : ResolveErrorKind) → IsSemverMergeCause self.old.track_rule self.old.graph world kind → OnOk result ⊥ }
+        ensures cause { IfErr result (λ kind.
+            (kind ≡ OutOfMemory)
+            ⊎ IsSemverMergeCause self.old.track_rule self.old.graph world kind) }
+        ensures refuses { (kind : ResolveErrorKind)
+            → IsSemverMergeCause self.old.track_rule self.old.graph world kind → OnOk result ⊥ }
     {
         merge_kept_by_track(
             alloc,

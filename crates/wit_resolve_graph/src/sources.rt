@@ -75,7 +75,8 @@ impl Resolve {
     ///
     /// Source: `render_location` of wit-parser 0.263.0.
     pub fn render_location(&self, alloc: Global, span: Span) -> ResolveResult<String>
-        ensures text { IfOk result (λ text. string_bytes text ≡ location_of self.now.source_map.files span) }
+        ensures text { IfOk result
+            (λ text. string_bytes text ≡ location_of self.now.source_map.files span) }
         ensures err { IfErr result (λ e. e ≡ OutOfMemory) }
     {
         Ok(self.source_map().render_location(alloc, span)?)
@@ -86,7 +87,8 @@ impl Resolve {
     ///
     /// Source: `render_error` of wit-parser 0.263.0.
     pub fn render_error(&self, alloc: Global, fault: &SourceFault) -> ResolveResult<String>
-        ensures text { IfOk result (λ text. string_bytes text ≡ fault_rendered self.now.source_map.files fault.now) }
+        ensures text { IfOk result
+            (λ text. string_bytes text ≡ fault_rendered self.now.source_map.files fault.now) }
         ensures err { IfErr result (λ e. e ≡ OutOfMemory) }
     {
         match fault {

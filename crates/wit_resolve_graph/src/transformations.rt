@@ -118,10 +118,19 @@ fn exportize_listed(
     keys: Option<Items<Text>>,
 ) -> ResolveResult<()>
     requires { world < length resolve.old.graph.worlds }
-    ensures ok { OnOk result (resolve.new ≡ record resolve.old { graph = transformed resolve.old.graph world (exportized (answers_at resolve.old keys world) out) }) }
+    ensures ok { OnOk result (resolve.new
+        ≡ record resolve.old {
+          graph = transformed resolve.old.graph world
+              (exportized (answers_at resolve.old keys world) out);
+        }) }
     ensures err { OnErr result (resolve.new ≡ resolve.old) }
-    ensures cause { IfErr result (λ kind. (kind ≡ OutOfMemory) ⊎ IsExportizeCause resolve.old.graph world (answers_at resolve.old keys world) out kind) }
-    ensures refuses { (kind : ResolveErrorKind) → IsExportizeCause resolve.old.graph world (answers_at resolve.old keys world) out kind → OnOk result ⊥ }
+    ensures cause { IfErr result (λ kind.
+        (kind ≡ OutOfMemory)
+        ⊎ IsExportizeCause resolve.old.graph world (answers_at resolve.old keys world) out
+        kind) }
+    ensures refuses { (kind : ResolveErrorKind)
+        → IsExportizeCause resolve.old.graph world (answers_at resolve.old keys world) out kind
+        → OnOk result ⊥ }
 {
     let answers = world_answers(alloc, resolve, world, &keys)?;
     drop(keys);

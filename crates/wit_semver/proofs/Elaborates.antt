@@ -22,15 +22,15 @@ use Rattle.wit_graph_theory.specs.facts.ListFacts.{from_row, in_row}
 use Rattle.wit_graph_theory.specs.facts.NamedUses.{used_is_named}
 use Rattle.wit_graph_theory.specs.facts.OptionFacts.{option_cases}
 use Rattle.wit_graph_theory.specs.facts.PackageCycleFacts.{used_package}
-use Rattle.wit_semver_spec.specs.SemverMerged.{semver_merged, types_with_new_targets, with_new_entries_at, SemverMerge, IsComplete, SemverMergeIsAccepted, SemverMergeCause, conflict_4, functions_disagree_25, interface_cycle_22, package_cycle_6, type_cycle_23, type_missing_25, semver_merge}
-use Rattle.wit_semver_spec.specs.steps.SemverMerged.{Agrees}
-use Rattle.wit_semver_spec.specs.facts.Accepting.{id_of_named, in_order, new_aliases, relisted_worlds, semver_merged_is}
-use Rattle.wit_semver_spec.specs.facts.TypesAfter.{type_after}
-use Rattle.wit_semver_spec.specs.facts.TypesGood.{refers_in_range, unnamed_plain}
+use Rattle.wit_semver.specs.SemverMerged.{semver_merged, types_with_new_targets, with_new_entries_at, SemverMerge, IsComplete, SemverMergeIsAccepted, SemverMergeCause, conflict_4, functions_disagree_25, interface_cycle_22, package_cycle_6, type_cycle_23, type_missing_25, semver_merge}
+use Rattle.wit_semver.specs.steps.SemverMerged.{Agrees}
+use Rattle.wit_semver.specs.facts.Accepting.{id_of_named, in_order, new_aliases, relisted_worlds, semver_merged_is}
+use Rattle.wit_semver.specs.facts.TypesAfter.{type_after}
+use Rattle.wit_semver.specs.facts.TypesGood.{refers_in_range, unnamed_plain}
 use Rattle.wit_transform.specs.steps.Reasons.{CanBeElaborated, ElaborationCause, IsSomeNamed}
 use Rattle.wit_transform.specs.steps.Reasons as settles
 use Rattle.wit_elaboration.specs.steps.Parts.{graph_package_uses}
-use Rattle.wit_semver_spec.specs.steps.Parts.{retargeted, new_target}
+use Rattle.wit_semver.specs.steps.Parts.{retargeted, new_target}
 
 module _ (u : SemverMerge) (valid : IsValid u.graph) (w : ℕ) (there : slice_get u.graph.worlds w ≡ Some u.world) where
   abbrev types : List TypeDef

@@ -10,10 +10,10 @@ use Rattle.wit_data.specs.contracts.world.WorldKeyPartialEq.TheImpl.{eq-value}
 use Rattle.wit_data.specs.declared.world.WorldKey.{WorldKey}
 use Rattle.wit_elaboration.specs.facts.Filters.{Contains-filter}
 use Rattle.wit_elaboration.specs.Entries.{Entry, key_interface}
-use Rattle.wit_semver_spec.specs.SemverMerged.{SemverMerge, is_replaced, newest}
+use Rattle.wit_semver.specs.SemverMerged.{SemverMerge, is_replaced, newest}
 use Rattle.wit_transform.specs.facts.Looked.{new_at}
 use Rattle.wit_semver.specs.steps.Replacing.{AreReplacements}
-use Rattle.wit_semver_spec.specs.steps.Parts.{is_replaced_entry}
+use Rattle.wit_semver.specs.steps.Parts.{is_replaced_entry}
 
 -- the tests of two that agree
 any_same : (p q : ℕ → Bool) → ((i : ℕ) → p i ≡ q i) → (ids : List ℕ) → list_any p ids ≡ list_any q ids

@@ -11,8 +11,8 @@ use Rattle.wit_elaboration.specs.Valid.{IsValid}
 use Rattle.wit_graph_data.specs.declared.graph.Graph.{Graph}
 use Rattle.wit_graph_data.specs.declared.error_kind.ResolveErrorKind.{ResolveErrorKind}
 use Rattle.wit_graph_data.specs.declared.error_kind.ResolveErrorKind.TheVariants.{OutOfMemory}
-use Rattle.wit_semver_spec.specs.SemverMerged.{IsSemverMergeCause, SemverMergeIsAccepted, SemverMerge, semver_merged, with_new_entries_at, semver_merge}
-use Rattle.wit_semver_spec.specs.laws.TrackLaws.{RetargetsNone, SemverMergesStayValid, SameTypesKeepWorlds}
+use Rattle.wit_semver.specs.SemverMerged.{IsSemverMergeCause, SemverMergeIsAccepted, SemverMerge, semver_merged, with_new_entries_at, semver_merge}
+use Rattle.wit_semver.specs.laws.TrackLaws.{RetargetsNone, SemverMergesStayValid, SameTypesKeepWorlds}
 use Rattle.wit_transform.specs.steps.Reasons.{CanBeElaborated, ElaborationCause}
 use Rattle.wit_semver.specs.steps.Replacing.{AreNewEntries, with_imports, with_lists}
 use Rattle.wit_semver.proofs.Elaborates.{accepted_from, can_settle, cause_from, semver_merged_from}

@@ -22,9 +22,9 @@ use Rattle.wit_elaboration.specs.Valid.{IsValid}
 use Rattle.wit_graph_data.specs.declared.graph.Graph.{Graph}
 use Rattle.wit_graph_theory.specs.facts.EntryFacts.{key_entry}
 use Rattle.wit_graph_theory.specs.facts.ListFacts.{found_at, place_of}
-use Rattle.wit_semver_spec.specs.SemverMerged.{SemverMerge, entry_types, kept_imports, newest_type, types_of_new_entries, types_with_new_targets, semver_merge, with_new_entries_at}
+use Rattle.wit_semver.specs.SemverMerged.{SemverMerge, entry_types, kept_imports, newest_type, types_of_new_entries, types_with_new_targets, semver_merge, with_new_entries_at}
 use Rattle.wit_semver.specs.steps.Replacing.{IsFilled, with_lists, with_targets}
-use Rattle.wit_semver_spec.specs.steps.Parts.{types_of, retargeted, new_target}
+use Rattle.wit_semver.specs.steps.Parts.{types_of, retargeted, new_target}
 
 -- ---- what is named is there
 

@@ -20,12 +20,12 @@ use Rattle.wit_names.specs.PackageName.{same_package}
 use Rattle.wit_names.specs.declared.track.TrackRule.{TrackRule}
 use Rattle.wit_elaboration.specs.Valid.{IsValid}
 use Rattle.wit_graph_data.specs.declared.graph.Graph.{Graph}
-use Rattle.wit_semver_spec.specs.SemverMerged.{SemverMerge, Versioned, both, have_one_track, imported, is_replaced, newest, versioned}
-use Rattle.wit_semver_spec.specs.facts.Greatest.{any_of, any_with, below_itself, below_trans, both_from, both_into, both_true, inside, newest_stays, stays_from, track_into}
-use Rattle.wit_semver_spec.specs.facts.Merged.{equal_versions, one_track}
+use Rattle.wit_semver.specs.SemverMerged.{SemverMerge, Versioned, both, have_one_track, imported, is_replaced, newest, versioned}
+use Rattle.wit_semver.specs.facts.Greatest.{any_of, any_with, below_itself, below_trans, both_from, both_into, both_true, inside, newest_stays, stays_from, track_into}
+use Rattle.wit_semver.specs.facts.Merged.{equal_versions, one_track}
 use Rattle.wit_semver.specs.steps.Replacing.{IsNewestTable, is_newer, is_smaller, key_at, key_of, replacement, same_track}
 use Rattle.wit_semver.specs.declared.tracks.TrackKey.{TrackKey}
-use Rattle.wit_semver_spec.specs.steps.Parts.{is_below, is_older_than}
+use Rattle.wit_semver.specs.steps.Parts.{is_below, is_older_than}
 
 -- ---- keys of tracks
 

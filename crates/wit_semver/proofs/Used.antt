@@ -5,9 +5,9 @@ use Rattle.std.proofs.lemmas.Option.{slice_get_read}
 use Rattle.wit_digraph.specs.facts.MemberFacts.{Contains-cons_cases, Contains-nil}
 use Rattle.wit_data.specs.declared.interface.Interface.{Interface}
 use Rattle.wit_remap_spec.specs.FunctionMismatch.{HaveFunctionMismatch}
-use Rattle.wit_semver_spec.specs.SemverMerged.{Disagrees, LacksType, SemverMerge, is_replaced, newest, semver_merge_text}
+use Rattle.wit_semver.specs.SemverMerged.{Disagrees, LacksType, SemverMerge, is_replaced, newest, semver_merge_text}
 use Rattle.wit_semver.specs.steps.Replacing.{AreReplacements, LackTypes}
-use Rattle.wit_semver_spec.specs.steps.Parts.{disagreement_text}
+use Rattle.wit_semver.specs.steps.Parts.{disagreement_text}
 
 -- what is read at a place of a list that is lent stands there
 pub stands : (ids lent : List ℕ) (i id : ℕ) → lent ≡ ids → i < length lent → id ≡ get_or lent i id → slice_get ids i ≡ Some id

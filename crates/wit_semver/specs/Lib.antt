@@ -1,1 +1,4 @@
+pub mod SemverMerged
+pub mod facts
+pub mod laws
 pub mod steps

@@ -2,8 +2,8 @@
 ghost use Rattle.std.specs.Prelude.{◌≡◌, ◌⊎◌, ℕ, List, IfErr, None, OnOk};
 ghost use Rattle.wit_graph_data.specs.declared.cause.Cause.TheVariants as cause;
 ghost use Rattle.wit_graph_data.specs.declared.error_kind.ResolveErrorKind.TheVariants.{OutOfMemory, Semantic};
-ghost use Rattle.wit_semver_spec.specs.SemverMerged.{Disagrees};
-ghost use Rattle.wit_semver_spec.specs.steps.SemverMerged.{Agrees};
+ghost use Rattle.wit_semver.specs.SemverMerged.{Disagrees};
+ghost use Rattle.wit_semver.specs.steps.SemverMerged.{Agrees};
 ghost use Rattle.wit_semver.specs.steps.Replacing.{IsSemverMergeReady, semver_merge_of};
 
 use crate::refusal::functions_disagree;
@@ -19,7 +19,10 @@ impl<'a> SemverMergePlan<'a> {
     pub(crate) fn check_functions(&self, alloc: Global) -> ResolveResult<()>
         requires ready { IsSemverMergeReady self.now }
         ensures agree { OnOk result (Agrees (semver_merge_of self.now)) }
-        ensures cause { IfErr result (λ e. (e ≡ OutOfMemory) ⊎ ((f : ℕ) × (message : List ℕ) × Disagrees (semver_merge_of self.now) f message × (e ≡ Semantic None message cause.UpgradeMismatch))) }
+        ensures cause { IfErr result (λ e.
+            (e ≡ OutOfMemory)
+            ⊎ ((f : ℕ) × (message : List ℕ) × Disagrees (semver_merge_of self.now) f message
+            × (e ≡ Semantic None message cause.UpgradeMismatch))) }
     {
         for index in 0..self.replaced.len() {
             self.check_interface(alloc, InterfaceId::from_index(index))?;
@@ -30,8 +33,12 @@ impl<'a> SemverMergePlan<'a> {
     /// The same of one interface.
     fn check_interface(&self, alloc: Global, old: InterfaceId) -> ResolveResult<()>
         requires ready { IsSemverMergeReady self.now }
-        ensures agree { OnOk result ((message : List ℕ) → Disagrees (semver_merge_of self.now) old message → ⊥) }
-        ensures cause { IfErr result (λ e. (e ≡ OutOfMemory) ⊎ ((message : List ℕ) × Disagrees (semver_merge_of self.now) old message × (e ≡ Semantic None message cause.UpgradeMismatch))) }
+        ensures agree { OnOk result
+            ((message : List ℕ) → Disagrees (semver_merge_of self.now) old message → ⊥) }
+        ensures cause { IfErr result (λ e.
+            (e ≡ OutOfMemory)
+            ⊎ ((message : List ℕ) × Disagrees (semver_merge_of self.now) old message
+            × (e ≡ Semantic None message cause.UpgradeMismatch))) }
     {
         let Some(new) = replacement_of(&self.replaced, old) else {
             return Ok(());

@@ -5,7 +5,7 @@ ghost use Rattle.std.specs.Map.{lookup};
 ghost use Rattle.wit_data.specs.contracts.world.WorldKeyPartialEq.TheImpl.{eq-value};
 ghost use Rattle.wit_data.specs.declared.world.WorldKey.{WorldKey};
 ghost use Rattle.wit_elaboration.specs.Entries.{key_interface};
-ghost use Rattle.wit_semver_spec.specs.SemverMerged.{entry_types, kept_imports};
+ghost use Rattle.wit_semver.specs.SemverMerged.{entry_types, kept_imports};
 ghost use Rattle.wit_semver.specs.steps.Replacing.{IsSemverMergeReady, semver_merge_of};
 
 use crate::semver_merge_plan::{SemverMergePlan, replacement_of};
@@ -35,7 +35,8 @@ impl<'a> SemverMergePlan<'a> {
 
 /// Whether a key is that of a replaced interface.
 fn is_replaced(replaced: &Items<Option<InterfaceId>>, key: &WorldKey) -> bool
-    ensures { result ≡ list_any (λ i. is_some (get_or replaced.now i None)) (key_interface key.now) }
+    ensures { result
+        ≡ list_any (λ i. is_some (get_or replaced.now i None)) (key_interface key.now) }
 {
     match key {
         WorldKey::Interface(id) => replacement_of(replaced, *id).is_some(),
@@ -63,7 +64,10 @@ pub(crate) fn types_of_entries(
     imports: &Table<WorldKey, WorldItem>,
     exports: &Table<WorldKey, WorldItem>,
 ) -> Result<Items<TypeId>, AllocError>
-    ensures { IfOk result (λ ids. ids ≡ flat_map (entry_types graph.now.interfaces) imports.now ++ flat_map (entry_types graph.now.interfaces) exports.now) }
+    ensures { IfOk result (λ ids.
+        ids
+        ≡ flat_map (entry_types graph.now.interfaces) imports.now
+        ++ flat_map (entry_types graph.now.interfaces) exports.now) }
 {
     let mut ids = Items::new(alloc);
     push_entries(graph, imports, &mut ids)?;
@@ -77,7 +81,8 @@ fn push_entries(
     entries: &Table<WorldKey, WorldItem>,
     ids: &mut Items<TypeId>,
 ) -> Result<(), AllocError>
-    ensures { OnOk result (ids.new ≡ ids.old ++ flat_map (entry_types graph.now.interfaces) entries.now) }
+    ensures { OnOk result
+        (ids.new ≡ ids.old ++ flat_map (entry_types graph.now.interfaces) entries.now) }
 {
     for (_, item) in entries.iter() {
         push_item(graph, item, ids)?;
@@ -87,7 +92,8 @@ fn push_entries(
 
 /// Adds the types of an item.
 fn push_item(graph: &Graph, item: &WorldItem, ids: &mut Items<TypeId>) -> Result<(), AllocError>
-    ensures { OnOk result ((k : WorldKey) → ids.new ≡ ids.old ++ entry_types graph.now.interfaces (k, item.now)) }
+    ensures { OnOk result
+        ((k : WorldKey) → ids.new ≡ ids.old ++ entry_types graph.now.interfaces (k, item.now)) }
 {
     match item {
         WorldItem::Interface { id, .. } => match graph.interfaces.get(id.index()) {

@@ -4,6 +4,7 @@
 
 mod agreement;
 mod kept_imports;
+pub mod laws;
 mod merging;
 mod new_entries;
 mod newest;

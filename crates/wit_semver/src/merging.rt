@@ -4,17 +4,17 @@ ghost use Rattle.std.specs.List.{list_any};
 ghost use Rattle.wit_elaboration.specs.Valid.{IsValid};
 ghost use Rattle.wit_graph_data.specs.declared.error_kind.ResolveErrorKind.{ResolveErrorKind};
 ghost use Rattle.wit_graph_data.specs.declared.error_kind.ResolveErrorKind.TheVariants.{OutOfMemory};
-ghost use Rattle.wit_semver_spec.specs.SemverMerged.{semver_merged, types_of_new_entries, with_new_entries, IsSemverMergeCause};
+ghost use Rattle.wit_semver.specs.SemverMerged.{semver_merged, types_of_new_entries, with_new_entries, IsSemverMergeCause};
 ghost use Rattle.wit_semver.specs.steps.Merging.{graph_after};
 ghost use Rattle.wit_semver.specs.steps.Replacing.{AreNewEntries, HasNewEntries, IsSemverMergeReady, semver_merge_of, with_imports};
 
 use crate::kept_imports::types_of_entries;
+use crate::laws::{same_types_keep_worlds, semver_merges_stay_valid};
 use crate::new_entries::with_new_entries;
 use crate::semver_merge_plan::SemverMergePlan;
 use std::alloc::{AllocError, Global};
 use wit_data::{Items, Table, TrackRule, TypeId, WorldId, WorldItem, WorldKey};
 use wit_graph_data::{Graph, ResolveResult};
-use wit_semver_spec::laws::{same_types_keep_worlds, semver_merges_stay_valid};
 use wit_transform::check_and_elaborate;
 
 /// What a world lists after its imports are merged, the types that this brings, and what each type of the graph names then,
@@ -39,7 +39,8 @@ pub enum SemverChange {
 /// interface they use of the newest, where that has a type of the name.
 fn new_entries(alloc: Global, plan: &SemverMergePlan<'_>) -> Result<NewEntries, AllocError>
     requires ready { IsSemverMergeReady plan.now }
-    requires in_range { (t : ℕ) → Contains (types_of_new_entries (semver_merge_of plan.now)) t → t < length plan.now.graph.now.types }
+    requires in_range { (t : ℕ) → Contains (types_of_new_entries (semver_merge_of plan.now)) t
+        → t < length plan.now.graph.now.types }
     ensures { IfOk result (λ entries. HasNewEntries (semver_merge_of plan.now) entries) }
 {
     let imports = plan.kept_imports(alloc)?;
@@ -62,8 +63,10 @@ fn checked_entries(
 ) -> ResolveResult<NewEntries>
     requires valid { IsValid graph.now }
     requires world { world < length graph.now.worlds }
-    ensures ok { IfOk result (λ entries. AreNewEntries rule graph.now world entries.imports entries.targets) }
-    ensures cause { IfErr result (λ e. (e ≡ OutOfMemory) ⊎ IsSemverMergeCause rule graph.now world e) }
+    ensures ok { IfOk result
+        (λ entries. AreNewEntries rule graph.now world entries.imports entries.targets) }
+    ensures cause { IfErr result
+        (λ e. (e ≡ OutOfMemory) ⊎ IsSemverMergeCause rule graph.now world e) }
 {
     let current = graph.worlds.at(world.index());
     let plan = SemverMergePlan::new(alloc, graph, current, rule)?;
@@ -125,10 +128,13 @@ pub fn find_semver_merge(
 ) -> ResolveResult<SemverChange>
     requires valid { IsValid graph.now }
     requires world { world < length graph.now.worlds }
-    ensures ok { IfOk result (λ merge. graph_after graph.now world merge ≡ semver_merged rule graph.now world) }
+    ensures ok { IfOk result
+        (λ merge. graph_after graph.now world merge ≡ semver_merged rule graph.now world) }
     ensures valid { IfOk result (λ merge. IsValid (graph_after graph.now world merge)) }
-    ensures cause { IfErr result (λ e. (e ≡ OutOfMemory) ⊎ IsSemverMergeCause rule graph.now world e) }
-    ensures refuses { (e : ResolveErrorKind) → IsSemverMergeCause rule graph.now world e → OnOk result ⊥ }
+    ensures cause { IfErr result
+        (λ e. (e ≡ OutOfMemory) ⊎ IsSemverMergeCause rule graph.now world e) }
+    ensures refuses { (e : ResolveErrorKind) → IsSemverMergeCause rule graph.now world e
+        → OnOk result ⊥ }
 {
     semver_merges_stay_valid();
     same_types_keep_worlds();
@@ -170,8 +176,10 @@ pub fn merge_by_track(
     ensures ok { OnOk result (graph.new ≡ semver_merged rule graph.old world) }
     ensures valid { OnOk result (IsValid graph.new) }
     ensures err { OnErr result (graph.new ≡ graph.old) }
-    ensures cause { IfErr result (λ e. (e ≡ OutOfMemory) ⊎ IsSemverMergeCause rule graph.old world e) }
-    ensures refuses { (e : ResolveErrorKind) → IsSemverMergeCause rule graph.old world e → OnOk result ⊥ }
+    ensures cause { IfErr result
+        (λ e. (e ≡ OutOfMemory) ⊎ IsSemverMergeCause rule graph.old world e) }
+    ensures refuses { (e : ResolveErrorKind) → IsSemverMergeCause rule graph.old world e
+        → OnOk result ⊥ }
 {
     let merge = find_semver_merge(alloc, graph, world, rule)?;
     match merge {

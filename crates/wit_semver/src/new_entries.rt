@@ -1,7 +1,7 @@
 //! The graph whose types name what they name after semver merging, and whose world lists what stays.
 ghost use Rattle.std.specs.Prelude.{◌≡◌, ◌<◌, IfOk, length};
 ghost use Rattle.wit_semver.specs.steps.Replacing.{with_lists, with_targets};
-ghost use Rattle.wit_semver_spec.specs.steps.Parts.{retargeted};
+ghost use Rattle.wit_semver.specs.steps.Parts.{retargeted};
 
 use std::alloc::{AllocError, Global};
 use std::mem;

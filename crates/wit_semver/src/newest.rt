@@ -17,7 +17,8 @@ pub(crate) fn newest_by_track(
     rule: TrackRule,
     entries: &Table<WorldKey, WorldItem>,
 ) -> Result<IndexMap<TrackKey, InterfaceId>, AllocError>
-    ensures { IfOk result (λ newest. IsNewestTable rule graph.now (keyed_interfaces entries.now) newest.entries) }
+    ensures { IfOk result
+        (λ newest. IsNewestTable rule graph.now (keyed_interfaces entries.now) newest.entries) }
 {
     let mut newest = IndexMap::new(alloc);
     for (key, _) in entries.iter() {
@@ -37,7 +38,8 @@ fn note(
     newest: &mut IndexMap<TrackKey, InterfaceId>,
     id: InterfaceId,
 ) -> Result<(), AllocError>
-    ensures { OnOk result ((ids : List ℕ) → IsNewestTable rule graph.now ids newest.old.entries → IsNewestTable rule graph.now (ids ++ id ∷ []) newest.new.entries) }
+    ensures { OnOk result ((ids : List ℕ) → IsNewestTable rule graph.now ids newest.old.entries
+        → IsNewestTable rule graph.now (ids ++ id ∷ []) newest.new.entries) }
 {
     if let Some(interface) = versioned(graph, id) {
         let key = interface.track_key(alloc, rule)?;

@@ -2,8 +2,8 @@
 ghost use Rattle.std.specs.Prelude.{◌≡◌, IfErr, IfOk, None};
 ghost use Rattle.wit_graph_data.specs.declared.cause.Cause.TheVariants as cause;
 ghost use Rattle.wit_graph_data.specs.declared.error_kind.ResolveErrorKind.TheVariants.{OutOfMemory, Semantic};
-ghost use Rattle.wit_semver_spec.specs.SemverMerged.{semver_merge_text};
-ghost use Rattle.wit_semver_spec.specs.steps.Parts.{missing_text, disagreement_text};
+ghost use Rattle.wit_semver.specs.SemverMerged.{semver_merge_text};
+ghost use Rattle.wit_semver.specs.steps.Parts.{missing_text, disagreement_text};
 
 use std::alloc::Global;
 use wit_data::{InterfaceId, Span, Text, WorldKey};
@@ -17,7 +17,10 @@ pub(crate) fn type_missing(
     new: InterfaceId,
     name: &Text,
 ) -> ResolveResult<ResolveError>
-    ensures error { IfOk result (λ e. e ≡ Semantic None (semver_merge_text graph.now old new (missing_text name.now)) cause.UpgradeMismatch) }
+    ensures error { IfOk result (λ e.
+        e
+        ≡ Semantic None (semver_merge_text graph.now old new (missing_text name.now))
+        cause.UpgradeMismatch) }
     ensures err { IfErr result (λ e. e ≡ OutOfMemory) }
 {
     let reason = format!(in alloc; "type `{name}` is missing")?;
@@ -32,7 +35,10 @@ pub(crate) fn functions_disagree(
     new: InterfaceId,
     mismatch: &str,
 ) -> ResolveResult<ResolveError>
-    ensures error { IfOk result (λ e. e ≡ Semantic None (semver_merge_text graph.now old new (disagreement_text mismatch.now)) cause.UpgradeMismatch) }
+    ensures error { IfOk result (λ e.
+        e
+        ≡ Semantic None (semver_merge_text graph.now old new (disagreement_text mismatch.now))
+        cause.UpgradeMismatch) }
     ensures err { IfErr result (λ e. e ≡ OutOfMemory) }
 {
     let reason = format!(in alloc; "failed to merge interfaces: {mismatch}")?;
@@ -47,7 +53,10 @@ fn upgrade_mismatch(
     new: InterfaceId,
     reason: &str,
 ) -> ResolveResult<ResolveError>
-    ensures error { IfOk result (λ e. e ≡ Semantic None (semver_merge_text graph.now old new reason.now) cause.UpgradeMismatch) }
+    ensures error { IfOk result (λ e.
+        e
+        ≡ Semantic None (semver_merge_text graph.now old new reason.now)
+        cause.UpgradeMismatch) }
     ensures err { IfErr result (λ e. e ≡ OutOfMemory) }
 {
     let old = graph.name_world_key(alloc, &WorldKey::Interface(old))?;

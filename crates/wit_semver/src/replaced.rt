@@ -4,9 +4,9 @@ ghost use Rattle.std.specs.Option.{option_map_or};
 ghost use Rattle.wit_elaboration.specs.Valid.{IsValid};
 ghost use Rattle.wit_elaboration.specs.Entries.{keyed_interfaces};
 ghost use Rattle.wit_data.specs.declared.world.World.{World};
-ghost use Rattle.wit_semver_spec.specs.SemverMerged.{versioned, semver_merge};
+ghost use Rattle.wit_semver.specs.SemverMerged.{versioned, semver_merge};
 ghost use Rattle.wit_semver.specs.steps.Replacing.{AreReplacements, IsNewestTable, replacement, told};
-ghost use Rattle.wit_semver_spec.specs.steps.Parts.{is_below};
+ghost use Rattle.wit_semver.specs.steps.Parts.{is_below};
 
 use crate::newest::newest_by_track;
 use crate::tracks::{TrackKey, VersionedInterface, versioned};
@@ -24,7 +24,8 @@ pub(crate) fn replacements(
     rule: TrackRule,
 ) -> Result<Items<Option<InterfaceId>>, AllocError>
     requires valid { IsValid graph.now }
-    requires in_range { (i : ℕ) → Contains (keyed_interfaces world.now.imports) i → i < length graph.now.interfaces }
+    requires in_range { (i : ℕ) → Contains (keyed_interfaces world.now.imports) i
+        → i < length graph.now.interfaces }
     ensures { IfOk result (λ found. AreReplacements (semver_merge rule graph.now world.now) found) }
 {
     let newest = newest_by_track(alloc, graph, rule, &world.imports)?;
@@ -50,7 +51,11 @@ fn replacement(
     id: InterfaceId,
 ) -> Result<Option<InterfaceId>, AllocError>
     requires valid { IsValid graph.now }
-    ensures { IfOk result (λ by. (world : World) → IsNewestTable rule graph.now (keyed_interfaces world.imports) newest.now.entries → Contains (keyed_interfaces world.imports) id → by ≡ replacement (semver_merge rule graph.now world) id) }
+    ensures { IfOk result (λ by.
+        (world : World)
+        → IsNewestTable rule graph.now (keyed_interfaces world.imports) newest.now.entries
+        → Contains (keyed_interfaces world.imports) id
+        → by ≡ replacement (semver_merge rule graph.now world) id) }
 {
     let Some(interface) = versioned(graph, id) else {
         return Ok(None);
@@ -67,7 +72,8 @@ fn replacement(
 
 /// Whether an interface is of a greater version than another.
 fn is_greater(graph: &Graph, id: InterfaceId, interface: &VersionedInterface<'_>) -> bool
-    ensures { result ≡ option_map_or (is_below (told interface.now)) (versioned graph.now id) false }
+    ensures { result
+        ≡ option_map_or (is_below (told interface.now)) (versioned graph.now id) false }
 {
     match versioned(graph, id) {
         Some(other) => interface.is_below(&other),

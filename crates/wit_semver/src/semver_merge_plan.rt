@@ -2,7 +2,7 @@
 ghost use Rattle.std.specs.Prelude.{◌≡◌, ◌<◌, ℕ, Contains, IfOk, None, get_or, length};
 ghost use Rattle.wit_elaboration.specs.Entries.{keyed_interfaces};
 ghost use Rattle.wit_elaboration.specs.Valid.{IsValid};
-ghost use Rattle.wit_semver_spec.specs.SemverMerged.{semver_merge};
+ghost use Rattle.wit_semver.specs.SemverMerged.{semver_merge};
 ghost use Rattle.wit_semver.specs.steps.Replacing.{IsSemverMergeReady, semver_merge_of};
 
 use crate::replaced::replacements;
@@ -29,9 +29,11 @@ impl<'a> SemverMergePlan<'a> {
         rule: TrackRule,
     ) -> Result<SemverMergePlan<'a>, AllocError>
         requires valid { IsValid graph.now }
-        requires in_range { (i : ℕ) → Contains (keyed_interfaces world.now.imports) i → i < length graph.now.interfaces }
+        requires in_range { (i : ℕ) → Contains (keyed_interfaces world.now.imports) i
+            → i < length graph.now.interfaces }
         ensures ready { IfOk result (λ plan. IsSemverMergeReady plan) }
-        ensures of { IfOk result (λ plan. semver_merge_of plan ≡ semver_merge rule graph.now world.now) }
+        ensures of { IfOk result
+            (λ plan. semver_merge_of plan ≡ semver_merge rule graph.now world.now) }
     {
         let replaced = replacements(alloc, graph, world, rule)?;
         Ok(SemverMergePlan {

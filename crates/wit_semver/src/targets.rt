@@ -3,9 +3,9 @@ ghost use Rattle.std.specs.Prelude.{◌≡◌, ◌⊎◌, ◌<◌, ℕ, List, Co
 ghost use Rattle.std.specs.Option.{option_copied};
 ghost use Rattle.wit_graph_data.specs.declared.cause.Cause.TheVariants as cause;
 ghost use Rattle.wit_graph_data.specs.declared.error_kind.ResolveErrorKind.TheVariants.{OutOfMemory, Semantic};
-ghost use Rattle.wit_semver_spec.specs.SemverMerged.{LacksType, newest_type, target_name};
+ghost use Rattle.wit_semver.specs.SemverMerged.{LacksType, newest_type, target_name};
 ghost use Rattle.wit_semver.specs.steps.Replacing.{IsFilled, IsSemverMergeReady, LackTypes, semver_merge_of};
-ghost use Rattle.wit_semver_spec.specs.steps.Parts.{interface_type};
+ghost use Rattle.wit_semver.specs.steps.Parts.{interface_type};
 
 use crate::refusal::type_missing;
 use crate::semver_merge_plan::{SemverMergePlan, replacement_of};
@@ -25,8 +25,11 @@ impl<'a> SemverMergePlan<'a> {
         types_of_new_entries: &Items<TypeId>,
     ) -> Result<Items<Option<TypeId>>, AllocError>
         requires ready { IsSemverMergeReady self.now }
-        requires in_range { (t : ℕ) → Contains types_of_new_entries.now t → t < length self.now.graph.now.types }
-        ensures { IfOk result (λ targets. IsFilled (newest_type (semver_merge_of self.now)) types_of_new_entries.now (length self.now.graph.now.types) targets) }
+        requires in_range { (t : ℕ) → Contains types_of_new_entries.now t
+            → t < length self.now.graph.now.types }
+        ensures { IfOk result (λ targets.
+            IsFilled (newest_type (semver_merge_of self.now)) types_of_new_entries.now
+            (length self.now.graph.now.types) targets) }
     {
         let mut targets = Items::from_vec(vec![in alloc; None; self.graph.types.len()]?);
         for id in types_of_new_entries.as_slice() {
@@ -55,8 +58,13 @@ impl<'a> SemverMergePlan<'a> {
         types_of_new_entries: &Items<TypeId>,
     ) -> ResolveResult<()>
         requires ready { IsSemverMergeReady self.now }
-        ensures complete { OnOk result ((message : List ℕ) → LackTypes (semver_merge_of self.now) types_of_new_entries.now message → ⊥) }
-        ensures cause { IfErr result (λ e. (e ≡ OutOfMemory) ⊎ ((message : List ℕ) × LackTypes (semver_merge_of self.now) types_of_new_entries.now message × (e ≡ Semantic None message cause.UpgradeMismatch))) }
+        ensures complete { OnOk result ((message : List ℕ)
+            → LackTypes (semver_merge_of self.now) types_of_new_entries.now message → ⊥) }
+        ensures cause { IfErr result (λ e.
+            (e ≡ OutOfMemory)
+            ⊎ ((message : List ℕ)
+            × LackTypes (semver_merge_of self.now) types_of_new_entries.now message
+            × (e ≡ Semantic None message cause.UpgradeMismatch))) }
     {
         for id in types_of_new_entries.as_slice() {
             self.check_type(alloc, *id)?;
@@ -67,8 +75,12 @@ impl<'a> SemverMergePlan<'a> {
     /// The same of one type.
     fn check_type(&self, alloc: Global, id: TypeId) -> ResolveResult<()>
         requires ready { IsSemverMergeReady self.now }
-        ensures complete { OnOk result ((message : List ℕ) → LacksType (semver_merge_of self.now) id message → ⊥) }
-        ensures cause { IfErr result (λ e. (e ≡ OutOfMemory) ⊎ ((message : List ℕ) × LacksType (semver_merge_of self.now) id message × (e ≡ Semantic None message cause.UpgradeMismatch))) }
+        ensures complete { OnOk result
+            ((message : List ℕ) → LacksType (semver_merge_of self.now) id message → ⊥) }
+        ensures cause { IfErr result (λ e.
+            (e ≡ OutOfMemory)
+            ⊎ ((message : List ℕ) × LacksType (semver_merge_of self.now) id message
+            × (e ≡ Semantic None message cause.UpgradeMismatch))) }
     {
         let types = self.graph.types.as_slice();
         let Some(old) = type_interface_dep(types, id) else {

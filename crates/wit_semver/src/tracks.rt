@@ -1,9 +1,9 @@
 //! Tracks of interfaces: what is the same for all on one track, and which of two is of a greater version.
 ghost use Rattle.std.specs.Prelude.{◌≡◌, IfOk};
 ghost use Rattle.std.specs.Option.{option_map};
-ghost use Rattle.wit_semver_spec.specs.SemverMerged.{versioned};
+ghost use Rattle.wit_semver.specs.SemverMerged.{versioned};
 ghost use Rattle.wit_semver.specs.steps.Replacing.{key_of, told};
-ghost use Rattle.wit_semver_spec.specs.steps.Parts.{is_below};
+ghost use Rattle.wit_semver.specs.steps.Parts.{is_below};
 
 use std::alloc::{AllocError, Global};
 use wit_data::{InterfaceId, PackageName, Text, TrackRule, Version};

@@ -53,7 +53,9 @@ importized out world = record {
 
 -- the entries for which this was answered, where there is an answer for each in order
 abbrev pub entries_by_answer : Bool → List Entry → List Bool → List Entry
-entries_by_answer answer entries answers = filter_map (λ (p : Entry × Bool). if (if answer then p.1 else not p.1) then Some p.0 else None) (zip entries answers)
+entries_by_answer answer entries answers =
+    filter_map (λ (p : Entry × Bool). if (if answer then p.1 else not p.1) then Some p.0 else None)
+    (zip entries answers)
 
 -- the imports for which true was answered become the exports, the others stay; the former exports are dropped
 abbrev pub exportized : List Bool → Option (List ℕ) → World → WorldLists
@@ -69,18 +71,27 @@ exportized answers out world = record {
 abbrev pub with_renamed : List Package → Option ℕ → ℕ → List ℕ → List Package
 with_renamed packages None w name = packages
 with_renamed packages (Some p) w name =
-    option_map_or (λ (home : Package). slice_set packages p (record home { worlds = filter (λ (e : List ℕ × ℕ). not (nat_eq e.1 w)) home.worlds ++ (name, w) ∷ [] })) (slice_get packages p) packages
+    option_map_or (λ (home : Package).
+    slice_set packages p (record home {
+      worlds = filter
+          (λ (e : List ℕ × ℕ). not (nat_eq e.1 w)) home.worlds ++ (name, w) ∷ [];
+    }))
+    (slice_get packages p) packages
 
 -- the graph with world w transformed: the world under its new name, elaborated, and last in the table of its package
 abbrev pub transformed_at : Graph → ℕ → World → WorldLists → Graph
 transformed_at g w world lists = record g {
-  worlds = slice_set g.worlds w (elaborated_world g (record world { name = lists.name; imports = lists.imports; exports = lists.exports }));
+  worlds =
+      slice_set g.worlds w (elaborated_world g
+      (record world { name = lists.name; imports = lists.imports; exports = lists.exports }));
   packages = with_renamed g.packages world.package w lists.name;
 }
 
 -- the graph with world w transformed, and as it was where there is no such world
 abbrev pub transformed : Graph → ℕ → (World → WorldLists) → Graph
-transformed g w lists = option_map_or (λ (world : World). transformed_at g w world (lists world)) (slice_get g.worlds w) g
+transformed g w lists =
+    option_map_or (λ (world : World). transformed_at g w world (lists world)) (slice_get g.worlds w)
+    g
 
 -- Why a transformation of a world is refused. After a refusal by 19, 20 or 21 there is no transformed world, so no
 -- conflict (4) is a reason beside these. Of what the new exports refuse the first is told; else, of several reasons any
@@ -90,13 +101,18 @@ transformed g w lists = option_map_or (λ (world : World). transformed_at g w wo
 
 -- 20: the package has another world of the new name
 abbrev pub name_taken_text : List ℕ → PackageName → List ℕ
-name_taken_text name home = codes "world `" ++ (name ++ (codes "` is already defined in package `" ++ (package_name_text home ++ codes "`")))
+name_taken_text name home =
+    codes "world `"
+    ++ (name
+    ++ (codes "` is already defined in package `" ++ (package_name_text home ++ codes "`")))
 
 -- ---- what holds against a transformation
 
 -- the package of world w is `home`, and has another world of this name
 abbrev pub HasNameTaken : Graph → ℕ → World → List ℕ → Package → Type 0
-HasNameTaken g w world name home = (p : ℕ) × (world.package ≡ Some p) × (slice_get g.packages p ≡ Some home) × ((v : ℕ) × Contains home.worlds (name, v) × (v ≢ w))
+HasNameTaken g w world name home =
+    (p : ℕ) × (world.package ≡ Some p) × (slice_get g.packages p ≡ Some home)
+    × ((v : ℕ) × Contains home.worlds (name, v) × (v ≢ w))
 
 -- ---- what exports are refused for
 
@@ -108,7 +124,11 @@ first_refusal (Some error ∷ rest) = Some error
 
 -- 21: a type would be exported
 abbrev pub type_refusal : WorldKey → WorldItem → Option ResolveErrorKind
-type_refusal (key.Name label) held = if is_type held then Some (Semantic None (codes "type import `" ++ (label ++ codes "` cannot be exported")) TypeExported) else None
+type_refusal (key.Name label) held =
+    if is_type held
+    then Some (Semantic None (codes "type import `" ++ (label ++ codes "` cannot be exported"))
+    TypeExported)
+    else None
 type_refusal (key.Interface i) held = None
 
 -- why these can't be the exports of a world: the refusal of the first of them that can't be one
@@ -120,28 +140,43 @@ export_refusal exports = first_refusal (map (λ (e : Entry). type_refusal e.0 e.
 -- why exports of a world can't become its imports
 pub data ImportizeCause (g : Graph) (w : ℕ) (world : World) (lists : WorldLists) (error : ResolveErrorKind) : Type 0 where
   -- 19: an export has the label of a type import
-  label_clash : (label : List ℕ) → Contains (keys_of world.exports) (key.Name label) × Contains (keys_of (type_entries world.imports)) (key.Name label) → error ≡ Semantic None (codes "world export `" ++ (label ++ codes "` conflicts with import of same name")) LabelClash → ImportizeCause g w world lists error
+  label_clash : (label : List ℕ)
+      → Contains (keys_of world.exports) (key.Name label)
+      × Contains (keys_of (type_entries world.imports)) (key.Name label)
+      → error
+      ≡ Semantic None
+      (codes "world export `" ++ (label ++ codes "` conflicts with import of same name"))
+      LabelClash → ImportizeCause g w world lists error
   -- 20: the new name is another world's of the package
   importized_name_taken : (home : Package) → HasNameTaken g w world lists.name home → error ≡ Semantic None (name_taken_text lists.name home.name) NameTaken → ImportizeCause g w world lists error
 
 -- why imports of a world can't become its exports
 pub data ExportizeCause (g : Graph) (w : ℕ) (world : World) (lists : WorldLists) (error : ResolveErrorKind) : Type 0 where
   -- 4: the new exports are in conflict, where there is a transformed world
-  export_conflict : (name : List ℕ) → ((home : Package) → HasNameTaken g w world lists.name home → ⊥) → export_refusal lists.exports ≡ None
-      → HasTransitiveConflict (graph_uses g) lists.exports → IsRefusedName g.packages g.interfaces (graph_uses g) lists.exports name
+  export_conflict : (name : List ℕ)
+      → ((home : Package) → HasNameTaken g w world lists.name home → ⊥)
+      → export_refusal lists.exports ≡ None
+      → HasTransitiveConflict (graph_uses g) lists.exports
+      → IsRefusedName g.packages g.interfaces (graph_uses g) lists.exports name
       → error ≡ InvalidTransitiveDependency world.span name → ExportizeCause g w world lists error
   -- 20: the new name is another world's of the package
-  exportized_name_taken : (home : Package) → HasNameTaken g w world lists.name home → error ≡ Semantic None (name_taken_text lists.name home.name) NameTaken → ExportizeCause g w world lists error
+  exportized_name_taken : (home : Package) → HasNameTaken g w world lists.name home
+      → error ≡ Semantic None (name_taken_text lists.name home.name) NameTaken
+      → ExportizeCause g w world lists error
   -- 21: the new exports can't be
   not_exported : export_refusal lists.exports ≡ Some error → ExportizeCause g w world lists error
 
 -- a cause of importizing world w
 abbrev pub IsImportizeCause : Graph → ℕ → Option (List ℕ) → ResolveErrorKind → Type 0
-IsImportizeCause g w out error = (world : World) × (slice_get g.worlds w ≡ Some world) × ImportizeCause g w world (importized out world) error
+IsImportizeCause g w out error =
+    (world : World) × (slice_get g.worlds w ≡ Some world)
+    × ImportizeCause g w world (importized out world) error
 
 -- a cause of exportizing world w by these answers
 abbrev pub IsExportizeCause : Graph → ℕ → List Bool → Option (List ℕ) → ResolveErrorKind → Type 0
-IsExportizeCause g w answers out error = (world : World) × (slice_get g.worlds w ≡ Some world) × ExportizeCause g w world (exportized answers out world) error
+IsExportizeCause g w answers out error =
+    (world : World) × (slice_get g.worlds w ≡ Some world)
+    × ExportizeCause g w world (exportized answers out world) error
 
 -- ---- the same of the world at a place
 
@@ -166,9 +201,11 @@ module _ {F : Type 0} (calls : Shared F (Bor WorldKey × (Bor WorldItem × Unit 
   MayAnswer (Some f) e answer = MayGive f e answer
 
   -- one answer for each entry, in order
-  pub record AreAnswers (filter : Option F) (entries : List Entry) (answers : List Bool) : Type 0 where
-    pub count : length answers ≡ length entries
-    pub each : (i : ℕ) (e : Entry) (answer : Bool) → slice_get entries i ≡ Some e → slice_get answers i ≡ Some answer → MayAnswer filter e answer
+  pub record AreAnswers (filter : Option F) (entries : List Entry) (answers : List Bool) : Type 0
+    where
+      pub count : length answers ≡ length entries
+      pub each : (i : ℕ) (e : Entry) (answer : Bool) → slice_get entries i ≡ Some e
+          → slice_get answers i ≡ Some answer → MayAnswer filter e answer
 
   -- the filter gave answers, by which a transformation is refused with this error
   pub record RefusesExportize (filter : Option F) (old : Graph) (w : ℕ) (out : Option (List ℕ)) (error : ResolveErrorKind) : Type 0 where

@@ -57,7 +57,8 @@ fn are_of_one_sort(from: &Type_, into: &Type_) -> bool
 /// What a parameter disagrees in with the one at the same index: its name, or else its type. None where they
 /// agree.
 fn param_mismatch(alloc: Global, from: &Param, into: &Param) -> Result<Option<String>, AllocError>
-    ensures some { IfOk result (λ found. IfSome found (λ text. ParamMismatch from.now into.now (string_bytes text))) }
+    ensures some { IfOk result
+        (λ found. IfSome found (λ text. ParamMismatch from.now into.now (string_bytes text))) }
     ensures none { IfOk result (λ found. IfNone found (ParamAgrees from.now into.now)) }
 {
     let name = &from.name;
@@ -83,8 +84,10 @@ fn params_mismatch(
     into: &Function,
 ) -> Result<Option<String>, AllocError>
     requires { length from.now.params ≡ length into.now.params }
-    ensures some { IfOk result (λ found. IfSome found (λ text. FunctionMismatch from.now into.now (string_bytes text))) }
-    ensures none { IfOk result (λ found. IfNone found (ParamsAgree from.now.params into.now.params)) }
+    ensures some { IfOk result
+        (λ found. IfSome found (λ text. FunctionMismatch from.now into.now (string_bytes text))) }
+    ensures none { IfOk result
+        (λ found. IfNone found (ParamsAgree from.now.params into.now.params)) }
 {
     for index in 0..from.params.len() {
         let (param, other) = (from.params.at(index), into.params.at(index));
@@ -102,8 +105,10 @@ fn result_mismatch(
     from: &Function,
     into: &Function,
 ) -> Result<Option<String>, AllocError>
-    ensures some { IfOk result (λ found. IfSome found (λ text. FunctionMismatch from.now into.now (string_bytes text))) }
-    ensures none { IfOk result (λ found. IfNone found (ResultsAgree from.now.result_ into.now.result_)) }
+    ensures some { IfOk result
+        (λ found. IfSome found (λ text. FunctionMismatch from.now into.now (string_bytes text))) }
+    ensures none { IfOk result
+        (λ found. IfNone found (ResultsAgree from.now.result_ into.now.result_)) }
 {
     match (&from.result_, &into.result_) {
         (Some(ty), Some(other)) => {
@@ -133,8 +138,10 @@ pub fn function_mismatch(
     from: &Function,
     into: &Function,
 ) -> Result<Option<String>, AllocError>
-    ensures some { IfOk result (λ found. IfSome found (λ text. FunctionMismatch from.now into.now (string_bytes text))) }
-    ensures none { IfOk result (λ found. IfNone found ((text : List ℕ) → FunctionMismatch from.now into.now text → ⊥)) }
+    ensures some { IfOk result
+        (λ found. IfSome found (λ text. FunctionMismatch from.now into.now (string_bytes text))) }
+    ensures none { IfOk result
+        (λ found. IfNone found ((text : List ℕ) → FunctionMismatch from.now into.now text → ⊥)) }
 {
     if !are_of_one_kind(&from.kind, &into.kind) {
         return Ok(Some(String::from_str(alloc, "different function kind types")?));

@@ -15,7 +15,8 @@ fn named_mismatch(
     function: &Function,
     into: &Interface,
 ) -> Result<Option<String>, AllocError>
-    ensures some { IfOk result (λ found. IfSome found (λ text. DisagreesIn into.now name.now function.now (string_bytes text))) }
+    ensures some { IfOk result (λ found.
+        IfSome found (λ text. DisagreesIn into.now name.now function.now (string_bytes text))) }
     ensures none { IfOk result (λ found. IfNone found (AgreesIn into.now name.now function.now)) }
 {
     into.functions.keys_differ();
@@ -37,8 +38,10 @@ pub fn interface_mismatch(
     from: &Interface,
     into: &Interface,
 ) -> Result<Option<String>, AllocError>
-    ensures some { IfOk result (λ found. IfSome found (λ text. HaveFunctionMismatch from.now into.now (string_bytes text))) }
-    ensures none { IfOk result (λ found. IfNone found ((text : List ℕ) → HaveFunctionMismatch from.now into.now text → ⊥)) }
+    ensures some { IfOk result (λ found.
+        IfSome found (λ text. HaveFunctionMismatch from.now into.now (string_bytes text))) }
+    ensures none { IfOk result (λ found.
+        IfNone found ((text : List ℕ) → HaveFunctionMismatch from.now into.now text → ⊥)) }
 {
     for (name, function) in from.functions.iter() {
         if let Some(text) = named_mismatch(alloc, name, function, into)? {

@@ -42,7 +42,8 @@ pub(crate) fn name_taken(
     name: &Text,
     home: &Package,
 ) -> Result<ResolveError, AllocError>
-    ensures { IfOk result (λ e. e ≡ Semantic None (name_taken_text name.now home.now.name) cause.NameTaken) }
+    ensures { IfOk result
+        (λ e. e ≡ Semantic None (name_taken_text name.now home.now.name) cause.NameTaken) }
 {
     let package = &home.name;
     let message = format!(in alloc; "world `{name}` is already defined in package `{package}`")?;
@@ -51,7 +52,8 @@ pub(crate) fn name_taken(
 
 /// 21: a type would be exported.
 fn type_exported(alloc: Global, label: &Text) -> Result<ResolveError, AllocError>
-    ensures { IfOk result (λ e. e ≡ Semantic None (type_exported_text label.now) cause.TypeExported) }
+    ensures { IfOk result
+        (λ e. e ≡ Semantic None (type_exported_text label.now) cause.TypeExported) }
 {
     let message = format!(in alloc; "type import `{label}` cannot be exported")?;
     Ok(semantic(message, Cause::TypeExported))
@@ -103,7 +105,8 @@ fn common_label<'a>(
     exports: &'a Table<WorldKey, WorldItem>,
 ) -> Option<&'a Text>
     ensures some { IfSome result (λ label. IsFirstCommon entries.now exports.now label.now) }
-    ensures none { IfNone result ((label : List ℕ) → Contains (keys_of exports.now) (key.Name label) → Contains (keys_of entries.now) (key.Name label) → ⊥) }
+    ensures none { IfNone result ((label : List ℕ) → Contains (keys_of exports.now) (key.Name label)
+        → Contains (keys_of entries.now) (key.Name label) → ⊥) }
 {
     for (key, _) in exports.iter() {
         match key {
@@ -123,7 +126,8 @@ fn add_copies(
     entries: &mut Table<WorldKey, WorldItem>,
     more: &Table<WorldKey, WorldItem>,
 ) -> Result<(), AllocError>
-    requires { (k : WorldKey) → Contains (keys_of more.now) k → Contains (keys_of entries.old) k → ⊥ }
+    requires { (k : WorldKey) → Contains (keys_of more.now) k → Contains (keys_of entries.old) k
+        → ⊥ }
     ensures { OnOk result (entries.new ≡ entries.old ++ more.now) }
 {
     for (key, item) in more.iter() {
@@ -136,10 +140,14 @@ fn add_copies(
 /// type import (19).
 pub(crate) fn importized_lists(alloc: Global, world: &World) -> ResolveResult<Lists>
     requires { AreUnderLabels (type_entries world.now.imports) }
-    ensures imports { IfOk result (λ lists. lists.imports ≡ type_entries world.now.imports ++ world.now.exports) }
+    ensures imports { IfOk result
+        (λ lists. lists.imports ≡ type_entries world.now.imports ++ world.now.exports) }
     ensures exports { IfOk result (λ lists. lists.exports ≡ []) }
     ensures no_clash { OnOk result ((label : List ℕ) → HasClash world.now label → ⊥) }
-    ensures cause { IfErr result (λ e. (e ≡ OutOfMemory) ⊎ ((label : List ℕ) × HasClash world.now label × (e ≡ Semantic None (label_clash_text label) cause.LabelClash))) }
+    ensures cause { IfErr result (λ e.
+        (e ≡ OutOfMemory)
+        ⊎ ((label : List ℕ) × HasClash world.now label
+        × (e ≡ Semantic None (label_clash_text label) cause.LabelClash))) }
 {
     let mut imports = types_of(alloc, &world.imports)?;
     match common_label(&imports, &world.exports) {
@@ -224,10 +232,15 @@ pub(crate) fn exportized_lists(
     answers: &Items<bool>,
 ) -> ResolveResult<Lists>
     requires { length answers.now ≡ length world.now.imports }
-    ensures imports { IfOk result (λ lists. lists.imports ≡ entries_by_answer false world.now.imports answers.now) }
-    ensures exports { IfOk result (λ lists. lists.exports ≡ entries_by_answer true world.now.imports answers.now) }
-    ensures none { OnOk result (export_refusal (entries_by_answer true world.now.imports answers.now) ≡ None) }
-    ensures cause { IfErr result (λ e. (e ≡ OutOfMemory) ⊎ (export_refusal (entries_by_answer true world.now.imports answers.now) ≡ Some e)) }
+    ensures imports { IfOk result
+        (λ lists. lists.imports ≡ entries_by_answer false world.now.imports answers.now) }
+    ensures exports { IfOk result
+        (λ lists. lists.exports ≡ entries_by_answer true world.now.imports answers.now) }
+    ensures none { OnOk result
+        (export_refusal (entries_by_answer true world.now.imports answers.now) ≡ None) }
+    ensures cause { IfErr result (λ e.
+        (e ≡ OutOfMemory)
+        ⊎ (export_refusal (entries_by_answer true world.now.imports answers.now) ≡ Some e)) }
 {
     let exports = with_answer(alloc, &world.imports, answers, true)?;
     if let Some(refusal) = export_refusal(alloc, &exports)? {

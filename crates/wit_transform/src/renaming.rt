@@ -15,7 +15,8 @@ pub(crate) fn renamed(
     out: Option<String>,
     suffix: &str,
 ) -> Result<Text, AllocError>
-    ensures { IfOk result (λ new. new ≡ new_name suffix.now (option_map string_bytes out) name.now) }
+    ensures { IfOk result
+        (λ new. new ≡ new_name suffix.now (option_map string_bytes out) name.now) }
 {
     match out {
         Some(out) => Ok(Text::from_string(out)),
@@ -53,7 +54,8 @@ pub(crate) fn rename_last(
     requires listed { Contains home.old.worlds (old_name.now, world) }
     requires once { Each (λ e. e.1 ≡ world → e.0 ≡ old_name.now) home.old.worlds }
     requires free { ¬ (NameIsTakenIn home.old world name.now) }
-    ensures ok { OnOk result (home.new ≡ record home.old { worlds = put_last home.old.worlds world name.now }) }
+    ensures ok { OnOk result
+        (home.new ≡ record home.old { worlds = put_last home.old.worlds world name.now }) }
     ensures err { OnErr result (home.new ≡ home.old) }
 {
     home.worlds.keys_differ();

@@ -46,9 +46,13 @@ fn free_name(
     suffix: &str,
 ) -> ResolveResult<Text>
     requires world { HasPackageAt graph.now world }
-    ensures ok { IfOk result (λ name. (current : World) × (slice_get graph.now.worlds world ≡ Some current) × (name ≡ new_name suffix.now (option_map string_bytes out) current.name)) }
+    ensures ok { IfOk result (λ name.
+        (current : World) × (slice_get graph.now.worlds world ≡ Some current)
+        × (name ≡ new_name suffix.now (option_map string_bytes out) current.name)) }
     ensures free { IfOk result (λ name. NameIsFreeAt graph.now world name) }
-    ensures cause { IfErr result (λ e. (e ≡ OutOfMemory) ⊎ HasNameTakenAt graph.now world suffix.now (option_map string_bytes out) e) }
+    ensures cause { IfErr result (λ e.
+        (e ≡ OutOfMemory)
+        ⊎ HasNameTakenAt graph.now world suffix.now (option_map string_bytes out) e) }
 {
     let current = graph.worlds.at(world.index());
     let home = graph.packages.at(home_of(current).index());
@@ -61,7 +65,10 @@ fn free_name(
 
 /// A world of these lists, of which the rest is as of another.
 fn with_lists(world: &World, name: Text, lists: Lists) -> Result<World, AllocError>
-    ensures { IfOk result (λ new. new ≡ listed_world world.now (record { name = name; imports = lists.imports; exports = lists.exports })) }
+    ensures { IfOk result (λ new.
+        new
+        ≡ listed_world world.now
+        (record { name = name; imports = lists.imports; exports = lists.exports })) }
 {
     let (docs, stability, includes) = try_clone_three(
         &world.docs,
@@ -89,9 +96,11 @@ fn elaborated(
 ) -> ResolveResult<World>
     requires uses { elaborator.old ≡ graph_uses graph.now }
     requires acyclic { IsAcyclic (graph_uses graph.now) }
-    requires listed { HasSoundEntries graph.now.types (length graph.now.interfaces) world.imports world.exports }
+    requires listed { HasSoundEntries graph.now.types (length graph.now.interfaces) world.imports
+        world.exports }
     ensures ok { IfOk result (λ new. new ≡ elaborated_world graph.now world) }
-    ensures no_conflict { OnOk result (HasTransitiveConflict (graph_uses graph.now) world.exports → ⊥) }
+    ensures no_conflict { OnOk result
+        (HasTransitiveConflict (graph_uses graph.now) world.exports → ⊥) }
     ensures cause { IfErr result (λ e. (e ≡ OutOfMemory) ⊎ IsConflictError graph.now world e) }
     ensures same { elaborator.new ≡ elaborator.old }
 {
@@ -131,12 +140,17 @@ fn transform(
     requires world { world < length graph.old.worlds }
     requires tables { HasTables graph.old.packages graph.old.interfaces graph.old.worlds }
     requires acyclic { IsAcyclic (graph_uses graph.old) }
-    requires listed { HasSoundEntries graph.old.types (length graph.old.interfaces) lists.imports lists.exports }
+    requires listed { HasSoundEntries graph.old.types (length graph.old.interfaces) lists.imports
+        lists.exports }
     requires free { NameIsFreeAt graph.old world name }
-    ensures ok { OnOk result (graph.new ≡ transformed graph.old world (λ _. record { name = name; imports = lists.imports; exports = lists.exports })) }
-    ensures no_conflict { OnOk result (HasTransitiveConflict (graph_uses graph.old) lists.exports → ⊥) }
+    ensures ok { OnOk result (graph.new
+        ≡ transformed graph.old world
+        (λ _. record { name = name; imports = lists.imports; exports = lists.exports })) }
+    ensures no_conflict { OnOk result
+        (HasTransitiveConflict (graph_uses graph.old) lists.exports → ⊥) }
     ensures err { OnErr result (graph.new ≡ graph.old) }
-    ensures cause { IfErr result (λ e. (e ≡ OutOfMemory) ⊎ ExportsAreInConflict graph.old world lists.exports e) }
+    ensures cause { IfErr result
+        (λ e. (e ≡ OutOfMemory) ⊎ ExportsAreInConflict graph.old world lists.exports e) }
     ensures same { elaborator.new ≡ elaborator.old }
 {
     let listed = with_lists(graph.worlds.at(world.index()), name, lists)?;
@@ -168,11 +182,14 @@ pub fn importize(
 ) -> ResolveResult<()>
     requires valid { IsValid graph.old }
     requires world { world < length graph.old.worlds }
-    ensures ok { OnOk result (graph.new ≡ transformed graph.old world (importized (option_map string_bytes out))) }
+    ensures ok { OnOk result
+        (graph.new ≡ transformed graph.old world (importized (option_map string_bytes out))) }
     ensures valid { IsValid graph.new }
     ensures err { OnErr result (graph.new ≡ graph.old) }
-    ensures cause { IfErr result (λ e. (e ≡ OutOfMemory) ⊎ IsImportizeCause graph.old world (option_map string_bytes out) e) }
-    ensures refuses { (e : ResolveErrorKind) → IsImportizeCause graph.old world (option_map string_bytes out) e → OnOk result ⊥ }
+    ensures cause { IfErr result (λ e.
+        (e ≡ OutOfMemory) ⊎ IsImportizeCause graph.old world (option_map string_bytes out) e) }
+    ensures refuses { (e : ResolveErrorKind)
+        → IsImportizeCause graph.old world (option_map string_bytes out) e → OnOk result ⊥ }
 {
     let mut elaborator = elaborator_of(alloc, graph)?;
     importize_with(alloc, graph, &mut elaborator, world, out)
@@ -192,11 +209,14 @@ pub fn importize_with(
     requires valid { IsValid graph.old }
     requires uses { elaborator.old ≡ graph_uses graph.old }
     requires world { world < length graph.old.worlds }
-    ensures ok { OnOk result (graph.new ≡ transformed graph.old world (importized (option_map string_bytes out))) }
+    ensures ok { OnOk result
+        (graph.new ≡ transformed graph.old world (importized (option_map string_bytes out))) }
     ensures valid { IsValid graph.new }
     ensures err { OnErr result (graph.new ≡ graph.old) }
-    ensures cause { IfErr result (λ e. (e ≡ OutOfMemory) ⊎ IsImportizeCause graph.old world (option_map string_bytes out) e) }
-    ensures refuses { (e : ResolveErrorKind) → IsImportizeCause graph.old world (option_map string_bytes out) e → OnOk result ⊥ }
+    ensures cause { IfErr result (λ e.
+        (e ≡ OutOfMemory) ⊎ IsImportizeCause graph.old world (option_map string_bytes out) e) }
+    ensures refuses { (e : ResolveErrorKind)
+        → IsImportizeCause graph.old world (option_map string_bytes out) e → OnOk result ⊥ }
     ensures same { elaborator.new ≡ elaborator.old }
 {
     importized_stay_valid();
@@ -265,11 +285,16 @@ pub fn exportize_answered_with(
     requires uses { elaborator.old ≡ graph_uses graph.old }
     requires world { world < length graph.old.worlds }
     requires answers { length answers.now ≡ length (imports_at graph.old world) }
-    ensures ok { OnOk result (graph.new ≡ transformed graph.old world (exportized answers.now (option_map string_bytes out))) }
+    ensures ok { OnOk result (graph.new
+        ≡ transformed graph.old world (exportized answers.now (option_map string_bytes out))) }
     ensures valid { IsValid graph.new }
     ensures err { OnErr result (graph.new ≡ graph.old) }
-    ensures cause { IfErr result (λ e. (e ≡ OutOfMemory) ⊎ IsExportizeCause graph.old world answers.now (option_map string_bytes out) e) }
-    ensures refuses { (e : ResolveErrorKind) → IsExportizeCause graph.old world answers.now (option_map string_bytes out) e → OnOk result ⊥ }
+    ensures cause { IfErr result (λ e.
+        (e ≡ OutOfMemory)
+        ⊎ IsExportizeCause graph.old world answers.now (option_map string_bytes out) e) }
+    ensures refuses { (e : ResolveErrorKind)
+        → IsExportizeCause graph.old world answers.now (option_map string_bytes out) e
+        → OnOk result ⊥ }
     ensures same { elaborator.new ≡ elaborator.old }
 {
     exportized_stay_valid();
@@ -299,11 +324,18 @@ pub fn exportize<F: Fn(&WorldKey, &WorldItem) -> bool + Drop>(
     requires valid { IsValid graph.old }
     requires world { world < length graph.old.worlds }
     requires filter { IfSome filter (λ f. F.IsAlwaysCallable f) }
-    ensures ok { OnOk result (Exportizes F.Fn filter graph.old world (option_map string_bytes out) graph.new) }
+    ensures ok { OnOk result
+        (Exportizes F.Fn filter graph.old world (option_map string_bytes out) graph.new) }
     ensures valid { IsValid graph.new }
     ensures err { OnErr result (graph.new ≡ graph.old) }
-    ensures cause { IfErr result (λ e. (e ≡ OutOfMemory) ⊎ RefusesExportize F.Fn filter graph.old world (option_map string_bytes out) e) }
-    ensures refuses { ((answers : List Bool) → AreAnswers F.Fn filter (imports_at graph.old world) answers → (e : ResolveErrorKind) × IsExportizeCause graph.old world answers (option_map string_bytes out) e) → OnOk result ⊥ }
+    ensures cause { IfErr result (λ e.
+        (e ≡ OutOfMemory)
+        ⊎ RefusesExportize F.Fn filter graph.old world (option_map string_bytes out) e) }
+    ensures refuses { ((answers : List Bool)
+        → AreAnswers F.Fn filter (imports_at graph.old world) answers
+        → (e : ResolveErrorKind)
+        × IsExportizeCause graph.old world answers (option_map string_bytes out) e)
+        → OnOk result ⊥ }
 {
     let mut elaborator = elaborator_of(alloc, graph)?;
     exportize_with(alloc, graph, &mut elaborator, world, out, filter)
@@ -325,11 +357,18 @@ pub fn exportize_with<F: Fn(&WorldKey, &WorldItem) -> bool + Drop>(
     requires uses { elaborator.old ≡ graph_uses graph.old }
     requires world { world < length graph.old.worlds }
     requires filter { IfSome filter (λ f. F.IsAlwaysCallable f) }
-    ensures ok { OnOk result (Exportizes F.Fn filter graph.old world (option_map string_bytes out) graph.new) }
+    ensures ok { OnOk result
+        (Exportizes F.Fn filter graph.old world (option_map string_bytes out) graph.new) }
     ensures valid { IsValid graph.new }
     ensures err { OnErr result (graph.new ≡ graph.old) }
-    ensures cause { IfErr result (λ e. (e ≡ OutOfMemory) ⊎ RefusesExportize F.Fn filter graph.old world (option_map string_bytes out) e) }
-    ensures refuses { ((answers : List Bool) → AreAnswers F.Fn filter (imports_at graph.old world) answers → (e : ResolveErrorKind) × IsExportizeCause graph.old world answers (option_map string_bytes out) e) → OnOk result ⊥ }
+    ensures cause { IfErr result (λ e.
+        (e ≡ OutOfMemory)
+        ⊎ RefusesExportize F.Fn filter graph.old world (option_map string_bytes out) e) }
+    ensures refuses { ((answers : List Bool)
+        → AreAnswers F.Fn filter (imports_at graph.old world) answers
+        → (e : ResolveErrorKind)
+        × IsExportizeCause graph.old world answers (option_map string_bytes out) e)
+        → OnOk result ⊥ }
     ensures same { elaborator.new ≡ elaborator.old }
 {
     let answers = answers_of(alloc, &graph.worlds.at(world.index()).imports, &filter)?;

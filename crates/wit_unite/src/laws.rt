@@ -8,7 +8,7 @@ pub use wit_merge_laws::laws::{
     old_worlds_stay, resources_stay, shared_worlds_keep_imports,
 };
 pub use wit_merge_spec::laws::examples_of_structure;
-pub use wit_semver_spec::laws::{
+pub use wit_semver::laws::{
     aliases_keep_names, aliases_name_newest, exports_are_kept, keys_are_exact, labels_are_kept,
     newest_is_greatest, one_on_each_track, same_types_keep_worlds, semver_merges_keep,
     semver_merges_once, semver_merges_stay_valid, worlds_are_elaborated,

@@ -27,7 +27,8 @@ use Rattle.wit_ways.specs.declared.entries.WorldSide.TheVariants as side
 
 -- `namespace:package/name`, and `@version` where there is one
 abbrev pub item_text : PackageName → List ℕ → List ℕ
-item_text p name = p.namespace ++ (codes ":" ++ (p.name ++ (codes "/" ++ (name ++ version_suffix p.version))))
+item_text p name =
+    p.namespace ++ (codes ":" ++ (p.name ++ (codes "/" ++ (name ++ version_suffix p.version))))
 
 -- what interface i is called, by the names of interfaces
 abbrev pub called : List (Option (List ℕ)) → ℕ → Option (List ℕ)
@@ -39,7 +40,8 @@ placed offset span = if nat_lt (end_of span + offset) (2 ^ 32) then moved_by off
 
 -- from one name to another, where both are there and differ
 abbrev pub arrow_between : Option (List ℕ) → OptionalSpan → Option (List ℕ) → Option Arrow
-arrow_between (Some from) span (Some to) = if bytes_eq from to then None else Some (record { from = from; to = to; span = span })
+arrow_between (Some from) span (Some to) =
+    if bytes_eq from to then None else Some (record { from = from; to = to; span = span })
 arrow_between _ span _ = None
 
 -- ---- interfaces: under features, by types and by names of interfaces, at spans so many positions further on
@@ -53,13 +55,19 @@ use_arrow features offset types names i id =
     (slice_get types id)
 
 -- what interface i uses
-abbrev pub interface_arrows : Features → ℕ → List TypeDef → List Interface → List (Option (List ℕ)) → ℕ → List Arrow
+abbrev pub interface_arrows : Features → ℕ → List TypeDef → List Interface → List (Option (List ℕ))
+    → ℕ → List Arrow
 interface_arrows features offset types interfaces names i =
-    option_map_or (λ (interface : Interface). filter_map (λ (e : List ℕ × ℕ). use_arrow features offset types names i e.1) interface.types) (slice_get interfaces i) []
+    option_map_or (λ (interface : Interface).
+    filter_map (λ (e : List ℕ × ℕ). use_arrow features offset types names i e.1)
+    interface.types) (slice_get interfaces i) []
 
 -- what all use
-abbrev pub uses_in : Features → ℕ → List TypeDef → List Interface → List (Option (List ℕ)) → List Arrow
-uses_in features offset types interfaces names = flat_map (interface_arrows features offset types interfaces names) (range_with_len 0 (length interfaces))
+abbrev pub uses_in : Features → ℕ → List TypeDef → List Interface → List (Option (List ℕ))
+    → List Arrow
+uses_in features offset types interfaces names =
+    flat_map (interface_arrows features offset types interfaces names)
+    (range_with_len 0 (length interfaces))
 
 -- ---- worlds
 
@@ -75,14 +83,22 @@ listed_by side.Imports world = world.imports
 listed_by side.Exports world = world.exports
 
 -- that a label of the world of a name in a package is that of an interface, where the entry is active
-abbrev pub held_by : Features → ℕ → List (Option (List ℕ)) → PackageName → List ℕ → Entry → Option Arrow
+abbrev pub held_by : Features → ℕ → List (Option (List ℕ)) → PackageName → List ℕ → Entry
+    → Option Arrow
 held_by features offset names home world (k, item.Interface i stability docs span external_id) =
-    if is_active features stability then option_map (λ to. record { from = item_text home (holder world k); to = to; span = placed offset span }) (called names i) else None
+    if is_active features stability
+    then option_map (λ to.
+    record
+    { from = item_text home (holder world k); to = to; span = placed offset span })
+    (called names i)
+    else None
 held_by features offset names home world (k, _) = None
 
 -- what a world of a package has on a side
-abbrev pub world_arrows : Features → ℕ → List (Option (List ℕ)) → WorldSide → PackageName → World → List Arrow
-world_arrows features offset names on home world = filter_map (held_by features offset names home world.name) (listed_by on world)
+abbrev pub world_arrows : Features → ℕ → List (Option (List ℕ)) → WorldSide → PackageName → World
+    → List Arrow
+world_arrows features offset names on home world =
+    filter_map (held_by features offset names home world.name) (listed_by on world)
 
 -- ---- graphs
 
@@ -92,7 +108,8 @@ all_on = record { names = []; all = true }
 
 -- the name of the package of an id, and its text
 abbrev pub home_of : List Package → Option ℕ → Option PackageName
-home_of packages p = option_map (λ (home : Package). home.name) (option_and_then (slice_get packages) p)
+home_of packages p =
+    option_map (λ (home : Package). home.name) (option_and_then (slice_get packages) p)
 
 abbrev pub home_text : List Package → Option ℕ → Option (List ℕ)
 home_text packages p = option_map package_name_text (home_of packages p)
@@ -103,14 +120,20 @@ home_texts g = map (λ (interface : Interface). home_text g.packages interface.p
 
 -- what each interface is called: by its package and its name, where it has both
 abbrev pub interface_text : List Package → Interface → Option (List ℕ)
-interface_text packages interface = option_and_then (λ name. option_map (λ home. item_text home name) (home_of packages interface.package)) interface.name
+interface_text packages interface =
+    option_and_then
+    (λ name. option_map (λ home. item_text home name) (home_of packages interface.package))
+    interface.name
 
 abbrev pub interface_texts : Graph → List (Option (List ℕ))
 interface_texts g = map (interface_text g.packages) g.interfaces
 
 -- what package p depends on, by whatever lines
 abbrev pub package_arrows : Graph → ℕ → List Arrow
-package_arrows g p = filter_map (λ q. arrow_between (home_text g.packages (Some p)) None (home_text g.packages (Some q))) (package_direct_deps g.types g.interfaces g.worlds g.packages p)
+package_arrows g p =
+    filter_map
+    (λ q. arrow_between (home_text g.packages (Some p)) None (home_text g.packages (Some q)))
+    (package_direct_deps g.types g.interfaces g.worlds g.packages p)
 
 -- what the packages of a graph depend on
 abbrev pub dependencies_in : Graph → List Arrow
@@ -123,19 +146,28 @@ named_by g (item.Type_ id span) = option_map (λ used. (used, span)) (type_inter
 named_by g _ = None
 
 -- that a package depends on another by an entry of a world, where the entry stands somewhere
-abbrev pub dependency_of : ℕ → Graph → List (Option (List ℕ)) → Option (List ℕ) → WorldItem → Option Arrow
+abbrev pub dependency_of : ℕ → Graph → List (Option (List ℕ)) → Option (List ℕ) → WorldItem
+    → Option Arrow
 dependency_of offset g homes from entry =
-    option_and_then (λ (named : ℕ × OptionalSpan). option_and_then (λ range. arrow_between from (placed offset (Some range)) (called homes named.0)) named.1) (named_by g entry)
+    option_and_then (λ (named : ℕ × OptionalSpan).
+    option_and_then
+    (λ range. arrow_between from (placed offset (Some range)) (called homes named.0))
+    named.1) (named_by g entry)
 
 -- which package depends on which by an entry of a world on a side
 abbrev pub world_dependencies : ℕ → Graph → List (Option (List ℕ)) → WorldSide → List Arrow
 world_dependencies offset g homes on =
-    flat_map (λ (world : World). filter_map (λ (e : Entry). dependency_of offset g homes (home_text g.packages world.package) e.1) (listed_by on world)) g.worlds
+    flat_map (λ (world : World).
+    filter_map
+    (λ (e : Entry). dependency_of offset g homes (home_text g.packages world.package) e.1)
+    (listed_by on world)) g.worlds
 
 -- what the worlds of a graph have on a side
 abbrev pub entries_in : Features → ℕ → Graph → List (Option (List ℕ)) → WorldSide → List Arrow
 entries_in features offset g names on =
-    flat_map (λ (world : World). option_map_or (λ home. world_arrows features offset names on home world) (home_of g.packages world.package) []) g.worlds
+    flat_map (λ (world : World).
+    option_map_or (λ home. world_arrows features offset names on home world)
+    (home_of g.packages world.package) []) g.worlds
 
 -- what leads where in a graph: which package depends on which, once more by entries of worlds and by types that are used,
 -- which interface uses which, and what worlds have on a side

@@ -6,7 +6,7 @@ use Rattle.wit_graph_data.specs.declared.graph.Graph.{Graph}
 use Rattle.wit_resolve_graph.specs.State.{State}
 use Rattle.wit_resolve_graph.specs.declared.command.Command.{Command}
 use Rattle.wit_resolve_graph.specs.declared.command.Command.TheVariants as command
-use Rattle.wit_semver_spec.specs.SemverMerged.{with_new_entries}
+use Rattle.wit_semver.specs.SemverMerged.{with_new_entries}
 use Rattle.wit_ways.specs.Arrows.{graph_arrows}
 use Rattle.wit_ways.specs.Coming.{coming_graph, coming_packages, placed_packages}
 use Rattle.wit_ways.specs.declared.arrow.Arrow.{Arrow}
@@ -19,7 +19,8 @@ use Rattle.wit_ways.specs.declared.world_name.WorldPlace.{WorldPlace}
 
 -- what a command asks in a state and brings, its files behind those that are there
 abbrev pub asked_of : State → Command → Asked
-asked_of state (command.PushGroups main deps) = asks.Push (coming_packages state.features (placed_packages state.source_map.end (main ∷ deps)))
+asked_of state (command.PushGroups main deps) =
+    asks.Push (coming_packages state.features (placed_packages state.source_map.end (main ∷ deps)))
 asked_of state (command.Merge other) = asks.Merge (coming_graph state.source_map.end other.graph)
 asked_of state (command.Exportize home world out keys) = asks.Exportize keys
 asked_of state (command.Semver home world) = asks.Semver home world
@@ -52,9 +53,12 @@ asked_side _ = side.Exports
 
 -- of `semver` the graph with its new entries, of which the causes 4, 6, 22 and 23 are; else the graph as it is
 abbrev pub asked_graph : State → Asked → Graph
-asked_graph state (asks.Semver home world) = option_map_or (with_new_entries state.track_rule state.graph) (world_named state.graph home world) state.graph
+asked_graph state (asks.Semver home world) =
+    option_map_or (with_new_entries state.track_rule state.graph)
+    (world_named state.graph home world) state.graph
 asked_graph state _ = state.graph
 
 -- what leads where: in that graph, and in what comes
 abbrev pub known_arrows : State → Asked → List Arrow
-known_arrows state asked = graph_arrows 0 (asked_graph state asked) (asked_side asked) ++ coming_arrows asked
+known_arrows state asked =
+    graph_arrows 0 (asked_graph state asked) (asked_side asked) ++ coming_arrows asked

@@ -12,7 +12,13 @@ use Rattle.wit_ways.specs.declared.entries.WorldSide.TheVariants.{Exports}
 
 -- a graph, with spans so many positions further on
 abbrev pub coming_graph : ℕ → Graph → Coming
-coming_graph offset g = record { dependencies = []; arrows = graph_arrows offset g Exports; includes = []; worlds = graph_worlds offset g }
+coming_graph offset g =
+    record {
+      dependencies = [];
+      arrows = graph_arrows offset g Exports;
+      includes = [];
+      worlds = graph_worlds offset g;
+    }
 
 -- packages, each with the position at which its files begin, under features
 abbrev pub coming_packages : Features → List (ℕ × UnresolvedPackage) → Coming
@@ -40,4 +46,7 @@ packages_at offset group = map (λ p. (offset, p)) (group.nested ++ group.main �
 -- past 4294967295 are left out
 abbrev pub placed_packages : ℕ → List UnresolvedPackageGroup → List (ℕ × UnresolvedPackage)
 placed_packages at [] = []
-placed_packages at (group ∷ groups) = if nat_lt at (2 ^ 32) then packages_at at group ++ placed_packages (at + group.source_map.end) groups else []
+placed_packages at (group ∷ groups) =
+    if nat_lt at (2 ^ 32)
+    then packages_at at group ++ placed_packages (at + group.source_map.end) groups
+    else []

@@ -30,16 +30,21 @@ exported_by labels arrows = with_names [] (filter_map (export_of labels) arrows)
 
 -- a label, and those of included worlds that it is
 abbrev pub AreSameLabels : List Arrow → List ℕ → List (List ℕ) → Type 0
-AreSameLabels included start labels = (former : List (List ℕ)) × AreReached included start former × (labels ≡ with_name former start)
+AreSameLabels included start labels =
+    (former : List (List ℕ)) × AreReached included start former × (labels ≡ with_name former start)
 
 -- what a world exports under own keys, itself or by a world that it includes, by its empty label
 abbrev pub AreExports : List Include → List Arrow → List ℕ → List (List ℕ) → Type 0
-AreExports includes arrows own names = (labels : List (List ℕ)) × AreSameLabels (included_labels includes []) own labels × (names ≡ exported_by labels arrows)
+AreExports includes arrows own names =
+    (labels : List (List ℕ)) × AreSameLabels (included_labels includes []) own labels
+    × (names ≡ exported_by labels arrows)
 
 -- what is exported where exports are in conflict: what an `exportize` chooses, or what this world exports
-abbrev pub AreExported : Asked → List Arrow → Option WorldName → Option (List (List ℕ)) → List (List ℕ) → Type 0
+abbrev pub AreExported : Asked → List Arrow → Option WorldName → Option (List (List ℕ))
+    → List (List ℕ) → Type 0
 AreExported asked arrows world (Some keys) names = names ≡ with_names [] keys
-AreExported asked arrows (Some world) None names = AreExports (coming_includes asked) arrows (label_text world []) names
+AreExported asked arrows (Some world) None names =
+    AreExports (coming_includes asked) arrows (label_text world []) names
 AreExported asked arrows None None names = names ≡ []
 
 -- ---- the way
@@ -49,11 +54,15 @@ AreExported asked arrows None None names = names ≡ []
 abbrev pub IsLabelWay : List Arrow → List Arrow → List (List ℕ) → List ℕ → List Arrow → Type 0
 IsLabelWay arrows included exported start way =
     (labels : List (List ℕ)) × AreSameLabels included start labels
-    × IsChosen (arrows ++ included) (with_names (with_names exported labels) (exported_by labels arrows)) start false way
+    × IsChosen (arrows ++ included)
+    (with_names (with_names exported labels) (exported_by labels arrows)) start false way
 
 -- from the label of a name of a world, where there is one
-abbrev pub IsWorldWay : Asked → List Arrow → List (List ℕ) → List ℕ → Option WorldName → List Arrow → Type 0
-IsWorldWay asked arrows exported name (Some world) way = IsLabelWay arrows (included_labels (coming_includes asked) name) exported (label_text world name) way
+abbrev pub IsWorldWay : Asked → List Arrow → List (List ℕ) → List ℕ → Option WorldName → List Arrow
+    → Type 0
+IsWorldWay asked arrows exported name (Some world) way =
+    IsLabelWay arrows (included_labels (coming_includes asked) name) exported
+    (label_text world name) way
 IsWorldWay asked arrows exported name None way = way ≡ []
 
 -- 4: from an interface of the name that is told, or where there is no way from it from the label of this name of the world that
@@ -63,4 +72,5 @@ IsConflictWay state asked span name way =
     let arrows = known_arrows state asked in
     let world = world_at state.graph (coming_worlds asked) span in
     (exported : List (List ℕ)) × AreExported asked arrows world (chosen_keys asked) exported
-    × ((IsChosen arrows exported name false way × (0 < length way)) ⊎ (IsChosen arrows exported name false [] × IsWorldWay asked arrows exported name world way))
+    × ((IsChosen arrows exported name false way × (0 < length way))
+    ⊎ (IsChosen arrows exported name false [] × IsWorldWay asked arrows exported name world way))

@@ -35,18 +35,29 @@ names_item it items = list_any (λ (named : ForeignItem). is_item it named.1.0) 
 
 -- the name of the package of an interface or a world: the other one of which it is named, or else this one
 abbrev pub item_home : UnresolvedPackage → AstItem → PackageName
-item_home p it = option_map_or (λ (e : PackageName × List ForeignItem). e.0) (find (λ (e : PackageName × List ForeignItem). names_item it e.1) p.foreign_deps) p.name
+item_home p it =
+    option_map_or (λ (e : PackageName × List ForeignItem). e.0)
+    (find (λ (e : PackageName × List ForeignItem). names_item it e.1) p.foreign_deps) p.name
 
 -- what interface i is called: by its package and its name, where it has one
 abbrev pub interface_name : UnresolvedPackage → ℕ → Option (List ℕ)
-interface_name p i = option_and_then (λ (interface : Interface). option_map (item_text (item_home p (item.Interface i))) interface.name) (slice_get p.interfaces i)
+interface_name p i =
+    option_and_then (λ (interface : Interface).
+    option_map (item_text (item_home p (item.Interface i))) interface.name)
+    (slice_get p.interfaces i)
 
 abbrev pub interface_names : UnresolvedPackage → List (Option (List ℕ))
 interface_names p = map (interface_name p) (range_with_len 0 (length p.interfaces))
 
 -- where world w stands, by its package and its name
 abbrev pub package_world : ℕ → UnresolvedPackage → ℕ → Option WorldPlace
-package_world offset p w = option_map (λ (world : World). record { span = placed offset world.span; world = record { «package» = item_home p (item.World w); name = world.name } }) (slice_get p.worlds w)
+package_world offset p w =
+    option_map (λ (world : World).
+    record {
+      span = placed offset world.span;
+      world = record { «package» = item_home p (item.World w); name = world.name };
+    })
+    (slice_get p.worlds w)
 
 -- ---- arrows
 
@@ -54,15 +65,19 @@ package_world offset p w = option_map (λ (world : World). record { span = place
 abbrev pub dependencies_by : ℕ → List ℕ → ForeignItems → List OptionalSpan → List Arrow
 dependencies_by offset from [] spans = []
 dependencies_by offset from (e ∷ deps) [] = []
-dependencies_by offset from (e ∷ deps) (span ∷ spans) = record { from = from; to = package_name_text e.0; span = placed offset span } ∷ dependencies_by offset from deps spans
+dependencies_by offset from (e ∷ deps) (span ∷ spans) =
+    record { from = from; to = package_name_text e.0; span = placed offset span }
+    ∷ dependencies_by offset from deps spans
 
 abbrev pub package_dependencies : ℕ → UnresolvedPackage → List Arrow
-package_dependencies offset p = dependencies_by offset (package_name_text p.name) p.foreign_deps p.foreign_dep_spans
+package_dependencies offset p =
+    dependencies_by offset (package_name_text p.name) p.foreign_deps p.foreign_dep_spans
 
 -- which interface uses which, and what worlds export, where that is active
 abbrev pub package_arrows : Features → ℕ → UnresolvedPackage → List Arrow
 package_arrows features offset p =
-    uses_in features offset p.types p.interfaces (interface_names p) ++ flat_map (world_arrows features offset (interface_names p) Exports p.name) p.worlds
+    uses_in features offset p.types p.interfaces (interface_names p)
+    ++ flat_map (world_arrows features offset (interface_names p) Exports p.name) p.worlds
 
 -- ---- worlds
 
@@ -74,9 +89,17 @@ package_worlds offset p = filter_map (package_world offset p) (range_with_len 0 
 abbrev pub include_of : Features → ℕ → UnresolvedPackage → World → WorldInclude → Option Include
 include_of features offset p world i =
     if is_active features i.stability
-    then option_map (λ (it : WorldPlace). record { world = record { «package» = p.name; name = world.name }; included = it.world; names = i.names; span = placed offset i.span }) (package_world offset p i.id)
+    then option_map (λ (it : WorldPlace).
+    record {
+      world = record { «package» = p.name; name = world.name };
+      included = it.world;
+      names = i.names;
+      span = placed offset i.span;
+    }) (package_world offset p i.id)
     else None
 
 -- what worlds include
 abbrev pub package_includes : Features → ℕ → UnresolvedPackage → List Include
-package_includes features offset p = flat_map (λ (world : World). filter_map (include_of features offset p world) world.includes) p.worlds
+package_includes features offset p =
+    flat_map (λ (world : World). filter_map (include_of features offset p world) world.includes)
+    p.worlds

@@ -14,7 +14,10 @@ use Rattle.wit_ways.specs.declared.arrow.Arrow.{Arrow}
 -- a type of interface i: `namespace:package/interface.type`, and `@version` where there is one
 abbrev pub member_text : Graph → List ℕ → ℕ → Option (List ℕ)
 member_text g name i =
-    option_and_then (λ (x : Interface). option_and_then (λ own. option_map (λ home. item_text home (own ++ (codes "." ++ name))) (home_of g.packages x.package)) x.name)
+    option_and_then (λ (x : Interface).
+    option_and_then (λ own.
+    option_map (λ home. item_text home (own ++ (codes "." ++ name)))
+    (home_of g.packages x.package)) x.name)
     (slice_get g.interfaces i)
 
 -- a type of this owner and name
@@ -24,7 +27,10 @@ named_text g _ _ = None
 
 -- a type: by its name in its interface, or else by its number
 abbrev pub type_text : Graph → ℕ → List ℕ
-type_text g id = unwrap_or (option_and_then (λ (def : TypeDef). named_text g def.owner def.name) (slice_get g.types id)) (codes "type " ++ decimal id)
+type_text g id =
+    unwrap_or
+    (option_and_then (λ (def : TypeDef). named_text g def.owner def.name) (slice_get g.types id))
+    (codes "type " ++ decimal id)
 
 -- that type id refers to type s, where it stands
 abbrev pub reference_to : Graph → ℕ → TypeDef → ℕ → Arrow
@@ -32,7 +38,9 @@ reference_to g id def s = record { from = type_text g id; to = type_text g s; sp
 
 -- what a type refers to
 abbrev pub references_of : Graph → ℕ → List Arrow
-references_of g id = option_map_or (λ (def : TypeDef). map (reference_to g id def) (referred def.kind)) (slice_get g.types id) []
+references_of g id =
+    option_map_or (λ (def : TypeDef). map (reference_to g id def) (referred def.kind))
+    (slice_get g.types id) []
 
 -- which type of a graph refers to which
 abbrev pub type_arrows : Graph → List Arrow

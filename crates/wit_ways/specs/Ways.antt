@@ -10,12 +10,17 @@ is_among names name = list_any (bytes_eq name) names
 -- before them, and whether it was after them
 abbrev pub IsWay : List Arrow → List (List ℕ) → List ℕ → Bool → List Arrow → List ℕ → Bool → Type 0
 IsWay arrows goals name met [] end met_then = (name ≡ end) × (met ≡ met_then)
-IsWay arrows goals name met (a ∷ way) end met_then = Contains arrows a × (a.from ≡ name) × IsWay arrows goals a.to (met || not (is_among goals a.to)) way end met_then
+IsWay arrows goals name met (a ∷ way) end met_then =
+    Contains arrows a × (a.from ≡ name)
+    × IsWay arrows goals a.to (met || not (is_among goals a.to)) way end met_then
 
 -- a way of one arrow or more to a goal, past something that is none; no arrow where there is no such way
 abbrev pub IsChosen : List Arrow → List (List ℕ) → List ℕ → Bool → List Arrow → Type 0
-IsChosen arrows goals name met [] = (a : Arrow) (way : List Arrow) (end : List ℕ) → IsWay arrows goals name met (a ∷ way) end true → is_among goals end ≡ true → ⊥
-IsChosen arrows goals name met (a ∷ way) = (end : List ℕ) × IsWay arrows goals name met (a ∷ way) end true × (is_among goals end ≡ true)
+IsChosen arrows goals name met [] =
+    (a : Arrow) (way : List Arrow) (end : List ℕ) → IsWay arrows goals name met (a ∷ way) end true
+    → is_among goals end ≡ true → ⊥
+IsChosen arrows goals name met (a ∷ way) =
+    (end : List ℕ) × IsWay arrows goals name met (a ∷ way) end true × (is_among goals end ≡ true)
 
 -- a way that leads back to where it begins
 abbrev pub IsRound : List Arrow → List ℕ → List Arrow → Type 0
@@ -23,7 +28,10 @@ IsRound arrows name way = IsChosen arrows (name ∷ []) name true way
 
 -- these names are all to which a way of one arrow or more leads from one
 abbrev pub AreReached : List Arrow → List ℕ → List (List ℕ) → Type 0
-AreReached arrows from names = (name : List ℕ) → (is_among names name ≡ true) ↔ ((a : Arrow) × (way : List Arrow) × IsWay arrows [] from true (a ∷ way) name true)
+AreReached arrows from names =
+    (name : List ℕ)
+    → (is_among names name ≡ true)
+    ↔ ((a : Arrow) × (way : List Arrow) × IsWay arrows [] from true (a ∷ way) name true)
 
 -- ` -> ` and where an arrow leads
 abbrev pub step_text : Arrow → List ℕ

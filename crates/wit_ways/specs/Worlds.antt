@@ -14,7 +14,13 @@ label_text world label = item_text world.«package» (world.name ++ (codes "." +
 
 -- where a world of a graph stands, so many positions further on, if it is in a package
 abbrev pub world_place : ℕ → Graph → World → Option WorldPlace
-world_place offset g world = option_map (λ home. record { span = placed offset world.span; world = record { «package» = home; name = world.name } }) (home_of g.packages world.«package»)
+world_place offset g world =
+    option_map (λ home.
+    record {
+      span = placed offset world.span;
+      world = record { «package» = home; name = world.name };
+    })
+    (home_of g.packages world.«package»)
 
 -- where the worlds of a graph stand
 abbrev pub graph_worlds : ℕ → Graph → List WorldPlace
@@ -31,7 +37,8 @@ stands_at span place = same_span span place.span
 
 -- the first of some worlds that stands at a span
 abbrev pub find_world : List WorldPlace → OptionalSpan → Option WorldName
-find_world worlds span = option_map (λ (place : WorldPlace). place.world) (find (stands_at span) worlds)
+find_world worlds span =
+    option_map (λ (place : WorldPlace). place.world) (find (stands_at span) worlds)
 
 -- the world that stands at a span: of a graph, or else of what comes
 abbrev pub world_at : Graph → List WorldPlace → OptionalSpan → Option WorldName

@@ -115,7 +115,8 @@ pub fn asked_graph(
     resolve: &Resolve,
     asked: &Asked,
 ) -> Result<Option<Graph>, AllocError>
-    ensures { IfOk result (λ made. asked_graph resolve.now asked.now ≡ unwrap_or made resolve.now.graph) }
+    ensures { IfOk result
+        (λ made. asked_graph resolve.now asked.now ≡ unwrap_or made resolve.now.graph) }
 {
     let Asked::Semver { package, world } = asked else {
         return Ok(None);

@@ -56,7 +56,9 @@ impl Coming {
         main: &UnresolvedPackageGroup,
         deps: &[UnresolvedPackageGroup],
     ) -> Result<Coming, AllocError>
-        ensures { IfOk result (λ coming. coming ≡ coming_packages features.now (placed_packages offset (main.now ∷ deps.now))) }
+        ensures { IfOk result (λ coming.
+            coming
+            ≡ coming_packages features.now (placed_packages offset (main.now ∷ deps.now))) }
     {
         let mut coming = Coming::new(alloc);
         coming.add_group(alloc, features, offset, main)?;
@@ -79,7 +81,8 @@ impl Coming {
         offset: u32,
         group: &UnresolvedPackageGroup,
     ) -> Result<(), AllocError>
-        ensures { OnOk result (self.new ≡ joined self.old (coming_packages features.now (packages_at offset group.now))) }
+        ensures { OnOk result (self.new
+            ≡ joined self.old (coming_packages features.now (packages_at offset group.now))) }
     {
         for package in group.nested.as_slice() {
             self.add_package(alloc, features, offset, package)?;
@@ -95,7 +98,8 @@ impl Coming {
         offset: u32,
         package: &UnresolvedPackage,
     ) -> Result<(), AllocError>
-        ensures { OnOk result (self.new ≡ joined self.old (coming_packages features.now ((offset, «package».now) ∷ []))) }
+        ensures { OnOk result (self.new
+            ≡ joined self.old (coming_packages features.now ((offset, «package».now) ∷ []))) }
     {
         let dependencies = package_dependencies(alloc, offset, package)?;
         self.dependencies.append(dependencies)?;

@@ -79,7 +79,8 @@ fn exported(
     arrows: &[Arrow],
     world: &Option<WorldName>,
 ) -> Result<NameSet, AllocError>
-    ensures { IfOk result (λ names. AreExported asked.now arrows.now world.now (chosen_keys asked.now) names) }
+    ensures { IfOk result
+        (λ names. AreExported asked.now arrows.now world.now (chosen_keys asked.now) names) }
 {
     if let Some(keys) = asked.keys() {
         return names_of(alloc, keys.as_slice());

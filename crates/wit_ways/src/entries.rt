@@ -27,7 +27,8 @@ pub fn add_entries(
     world: &World,
     arrows: &mut Items<Arrow>,
 ) -> Result<(), AllocError>
-    ensures { OnOk result (arrows.new ≡ arrows.old ++ world_arrows features.now offset names.now side home.now world.now) }
+    ensures { OnOk result (arrows.new
+        ≡ arrows.old ++ world_arrows features.now offset names.now side home.now world.now) }
 {
     let name = &world.name;
     for (key, item) in entries_of(world, side).iter() {
@@ -60,7 +61,8 @@ fn held_by(
     key: &WorldKey,
     item: &WorldItem,
 ) -> Result<Option<Arrow>, AllocError>
-    ensures { IfOk result (λ arrow. arrow ≡ held_by features.now offset names.now home.now world.now (key.now, item.now)) }
+    ensures { IfOk result (λ arrow.
+        arrow ≡ held_by features.now offset names.now home.now world.now (key.now, item.now)) }
 {
     let WorldItem::Interface {
         id,

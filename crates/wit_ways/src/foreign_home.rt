@@ -39,7 +39,9 @@ impl ForeignHomes {
         place: usize,
         items: &Names<(AstItem, Items<Stability>)>,
     ) -> Result<(), AllocError>
-        ensures { OnOk result ((it : AstItem) → home_place self.new it ≡ or_place (home_place self.old it) (names_item it items.now) place) }
+        ensures { OnOk result ((it : AstItem)
+            → home_place self.new it
+            ≡ or_place (home_place self.old it) (names_item it items.now) place) }
     {
         for (_, named) in items.iter() {
             self.add_item(place, &named.0)?;
@@ -49,7 +51,9 @@ impl ForeignHomes {
 
     /// Notes that an item is named of the package at a place, where none is noted yet.
     fn add_item(&mut self, place: usize, item: &AstItem) -> Result<(), AllocError>
-        ensures { OnOk result ((it : AstItem) → home_place self.new it ≡ or_place (home_place self.old it) (is_item it item.now) place) }
+        ensures { OnOk result ((it : AstItem)
+            → home_place self.new it
+            ≡ or_place (home_place self.old it) (is_item it item.now) place) }
     {
         match item {
             AstItem::Interface(id) => {

@@ -149,7 +149,8 @@ fn dependency_on(
     from: &Option<Text>,
     used: PackageId,
 ) -> Result<Option<Arrow>, AllocError>
-    ensures { IfOk result (λ arrow. arrow ≡ arrow_between from.now None (home_text graph.now.packages (Some used))) }
+    ensures { IfOk result (λ arrow.
+        arrow ≡ arrow_between from.now None (home_text graph.now.packages (Some used))) }
 {
     let Some(from) = from else {
         return Ok(None);
@@ -187,7 +188,12 @@ fn add_world(
     world: &World,
     arrows: &mut Items<Arrow>,
 ) -> Result<(), AllocError>
-    ensures { OnOk result (arrows.new ≡ arrows.old ++ filter_map (λ (e : Entry). dependency_of offset graph.now homes.now (home_text graph.now.packages world.now.«package») e.1) (listed_by side world.now)) }
+    ensures { OnOk result (arrows.new
+        ≡ arrows.old
+        ++ filter_map (λ (e : Entry).
+        dependency_of offset graph.now homes.now
+        (home_text graph.now.packages world.now.«package») e.1)
+        (listed_by side world.now)) }
 {
     let from = home_text(alloc, graph, world.package)?;
     for (_, item) in entries_of(world, side).iter() {
@@ -206,7 +212,8 @@ fn dependency_by(
     from: &Option<Text>,
     item: &WorldItem,
 ) -> Result<Option<Arrow>, AllocError>
-    ensures { IfOk result (λ arrow. arrow ≡ dependency_of offset graph.now homes.now from.now item.now) }
+    ensures { IfOk result
+        (λ arrow. arrow ≡ dependency_of offset graph.now homes.now from.now item.now) }
 {
     let Some((used, span)) = named_by(graph, item) else {
         return Ok(None);
@@ -246,7 +253,8 @@ fn entries_in(
     names: &[Option<Text>],
     side: WorldSide,
 ) -> Result<Items<Arrow>, AllocError>
-    ensures { IfOk result (λ arrows. arrows ≡ entries_in features.now offset graph.now names.now side) }
+    ensures { IfOk result
+        (λ arrows. arrows ≡ entries_in features.now offset graph.now names.now side) }
 {
     let mut arrows = Items::new(alloc);
     for world in graph.worlds.as_slice() {

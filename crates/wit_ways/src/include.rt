@@ -52,7 +52,8 @@ fn former_labels(
 
 /// Notes the labels in whose place others stand.
 fn add_names(names: &Items<IncludeName>, labels: &mut Items<Text>) -> Result<(), AllocError>
-    ensures { OnOk result (labels.new ≡ labels.old ++ map (λ (name : IncludeName). name.name) names.now) }
+    ensures { OnOk result
+        (labels.new ≡ labels.old ++ map (λ (name : IncludeName). name.name) names.now) }
 {
     for name in names.as_slice() {
         labels.push(name.name.try_clone()?)?;

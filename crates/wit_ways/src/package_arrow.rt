@@ -165,7 +165,8 @@ pub fn add_includes(
     includes: &mut Items<Include>,
 ) -> Result<(), AllocError>
     requires { AreHomes «package».now homes.now }
-    ensures { OnOk result (includes.new ≡ includes.old ++ package_includes features.now offset «package».now) }
+    ensures { OnOk result
+        (includes.new ≡ includes.old ++ package_includes features.now offset «package».now) }
 {
     for world in package.worlds.as_slice() {
         add_own_includes(features, offset, package, homes, world, includes)?;
@@ -183,7 +184,10 @@ fn add_own_includes(
     includes: &mut Items<Include>,
 ) -> Result<(), AllocError>
     requires { AreHomes «package».now homes.now }
-    ensures { OnOk result (includes.new ≡ includes.old ++ filter_map (include_of features.now offset «package».now world.now) world.now.includes) }
+    ensures { OnOk result (includes.new
+        ≡ includes.old
+        ++ filter_map (include_of features.now offset «package».now world.now)
+        world.now.includes) }
 {
     for include in world.includes.as_slice() {
         if let Some(include) = include_of(features, offset, package, homes, world, include)? {
@@ -203,7 +207,8 @@ fn include_of(
     include: &WorldInclude,
 ) -> Result<Option<Include>, AllocError>
     requires { AreHomes «package».now homes.now }
-    ensures { IfOk result (λ made. made ≡ include_of features.now offset «package».now world.now include.now) }
+    ensures { IfOk result
+        (λ made. made ≡ include_of features.now offset «package».now world.now include.now) }
 {
     if !is_active(features, &include.stability) {
         return Ok(None);

@@ -83,7 +83,9 @@ fn interface_round(
     asked: &Asked,
     message: &str,
 ) -> Result<Items<Arrow>, AllocError>
-    ensures { IfOk result (λ way. (name : List ℕ) → message.now ≡ interface_cycle_text name → IsRound (known_arrows resolve.now asked.now) name way) }
+    ensures { IfOk result (λ way.
+        (name : List ℕ) → message.now ≡ interface_cycle_text name
+        → IsRound (known_arrows resolve.now asked.now) name way) }
 {
     let Some(name) = between(message, "interface `", "` would depend on itself") else {
         return Ok(Items::new(alloc));
@@ -100,7 +102,10 @@ fn type_round(
     asked: &Asked,
     message: &str,
 ) -> Result<Items<Arrow>, AllocError>
-    ensures { IfOk result (λ way. (name : List ℕ) → message.now ≡ type_cycle_text name → IsTypeRound (asked_graph resolve.now asked.now) (type_arrows (asked_graph resolve.now asked.now)) name way) }
+    ensures { IfOk result (λ way.
+        (name : List ℕ) → message.now ≡ type_cycle_text name
+        → IsTypeRound (asked_graph resolve.now asked.now)
+        (type_arrows (asked_graph resolve.now asked.now)) name way) }
 {
     let Some(name) = between(message, "type `", "` would refer to itself") else {
         return Ok(Items::new(alloc));
@@ -160,7 +165,8 @@ fn is_called(def: &TypeDef, name: &str) -> bool
 
 /// What stands between a front and an end.
 fn between<'a>(text: &'a str, front: &str, end: &str) -> Option<&'a str>
-    ensures { MatchOption result ((name : List ℕ) → text.now ≡ front.now ++ (name ++ end.now) → ⊥) (λ name. text.now ≡ front.now ++ (name.now ++ end.now)) }
+    ensures { MatchOption result ((name : List ℕ) → text.now ≡ front.now ++ (name ++ end.now) → ⊥)
+        (λ name. text.now ≡ front.now ++ (name.now ++ end.now)) }
 {
     let rest = text.strip_prefix(front)?;
     rest.strip_suffix(end)

@@ -44,7 +44,8 @@ fn add_references(
     def: &TypeDef,
     arrows: &mut Items<Arrow>,
 ) -> Result<(), AllocError>
-    ensures { OnOk result (arrows.new ≡ arrows.old ++ map (reference_to graph.now id def.now) (referred def.now.kind)) }
+    ensures { OnOk result (arrows.new
+        ≡ arrows.old ++ map (reference_to graph.now id def.now) (referred def.now.kind)) }
 {
     let others = referred(alloc, &def.kind)?;
     for other in others.as_slice() {

@@ -18,7 +18,8 @@ pub fn uses_in(
     interfaces: &Items<Interface>,
     names: &[Option<Text>],
 ) -> Result<Items<Arrow>, AllocError>
-    ensures { IfOk result (λ arrows. arrows ≡ uses_in features.now offset types.now interfaces.now names.now) }
+    ensures { IfOk result
+        (λ arrows. arrows ≡ uses_in features.now offset types.now interfaces.now names.now) }
 {
     let mut arrows = Items::new(alloc);
     for index in 0..interfaces.len() {
@@ -46,7 +47,9 @@ fn add_uses(
     user: InterfaceId,
     arrows: &mut Items<Arrow>,
 ) -> Result<(), AllocError>
-    ensures { OnOk result (arrows.new ≡ arrows.old ++ interface_arrows features.now offset types.now interfaces.now names.now user) }
+    ensures { OnOk result (arrows.new
+        ≡ arrows.old
+        ++ interface_arrows features.now offset types.now interfaces.now names.now user) }
 {
     match interfaces.get(user.index()) {
         Some(interface) => {
@@ -67,7 +70,11 @@ fn add_types(
     own: &Names<TypeId>,
     arrows: &mut Items<Arrow>,
 ) -> Result<(), AllocError>
-    ensures { OnOk result (arrows.new ≡ arrows.old ++ filter_map (λ (e : List ℕ × ℕ). use_arrow features.now offset types.now names.now user e.1) own.now) }
+    ensures { OnOk result (arrows.new
+        ≡ arrows.old
+        ++ filter_map
+        (λ (e : List ℕ × ℕ). use_arrow features.now offset types.now names.now user e.1)
+        own.now) }
 {
     for (_, id) in own.iter() {
         if let Some(arrow) = use_arrow(features, offset, types, names, user, *id)? {
@@ -86,7 +93,8 @@ fn use_arrow(
     user: InterfaceId,
     id: TypeId,
 ) -> Result<Option<Arrow>, AllocError>
-    ensures { IfOk result (λ arrow. arrow ≡ use_arrow features.now offset types.now names.now user id) }
+    ensures { IfOk result
+        (λ arrow. arrow ≡ use_arrow features.now offset types.now names.now user id) }
 {
     let Some(def) = types.get(id.index()) else {
         return Ok(None);

@@ -142,7 +142,8 @@ impl Search {
         before: Option<usize>,
     ) -> Result<(), AllocError>
         requires { IsIndexOf arrows.now index.now }
-        ensures on { OnOk result (GoesOn arrows.now goals.now from.now met before self.old self.new) }
+        ensures on { OnOk result
+            (GoesOn arrows.now goals.now from.now met before self.old self.new) }
         ensures closed { OnOk result (IsClosed arrows.now goals.now self.new from.now met) }
     {
         let mut next = index.last_from(from);
@@ -180,9 +181,15 @@ impl Search {
 
     /// The first goal that is reached past something else.
     fn goal(&self, arrows: &[Arrow], goals: &NameSet) -> Option<usize>
-        requires { (q : ℕ) (r : Reached) → slice_get self.now.reached q ≡ Some r → r.arrow < length arrows.now }
-        ensures some { IfSome result (λ q. (r : Reached) × (a : Arrow) × (slice_get self.now.reached q ≡ Some r) × (slice_get arrows.now r.arrow ≡ Some a) × (r.met ≡ true) × (is_among goals.now a.to ≡ true)) }
-        ensures none { IfNone result ((q : ℕ) (r : Reached) (a : Arrow) → slice_get self.now.reached q ≡ Some r → slice_get arrows.now r.arrow ≡ Some a → r.met ≡ true → is_among goals.now a.to ≡ true → ⊥) }
+        requires { (q : ℕ) (r : Reached) → slice_get self.now.reached q ≡ Some r
+            → r.arrow < length arrows.now }
+        ensures some { IfSome result (λ q.
+            (r : Reached) × (a : Arrow) × (slice_get self.now.reached q ≡ Some r)
+            × (slice_get arrows.now r.arrow ≡ Some a) × (r.met ≡ true)
+            × (is_among goals.now a.to ≡ true)) }
+        ensures none { IfNone result ((q : ℕ) (r : Reached) (a : Arrow)
+            → slice_get self.now.reached q ≡ Some r → slice_get arrows.now r.arrow ≡ Some a
+            → r.met ≡ true → is_among goals.now a.to ≡ true → ⊥) }
     {
         for index in 0..self.reached.len() {
             let reached = *self.reached.at(index);
@@ -195,9 +202,14 @@ impl Search {
 
     /// The arrows that lead to what was reached at a place.
     fn way_to(&self, alloc: Global, arrows: &[Arrow], at: usize) -> Result<Items<Arrow>, AllocError>
-        requires search { (goals : List (List ℕ)) × (start : List ℕ) × (first : Bool) × IsSearching arrows.now goals start first self.now }
+        requires search { (goals : List (List ℕ)) × (start : List ℕ) × (first : Bool)
+            × IsSearching arrows.now goals start first self.now }
         requires at { at < length self.now.reached }
-        ensures { IfOk result (λ way. (goals : List (List ℕ)) (start name : List ℕ) (first met : Bool) → IsSearching arrows.now goals start first self.now → IsAt arrows.now start first self.now.reached (Some at) name met → IsWay arrows.now goals start first way name met × (0 < length way)) }
+        ensures { IfOk result (λ way.
+            (goals : List (List ℕ)) (start name : List ℕ) (first met : Bool)
+            → IsSearching arrows.now goals start first self.now
+            → IsAt arrows.now start first self.now.reached (Some at) name met
+            → IsWay arrows.now goals start first way name met × (0 < length way)) }
     {
         let mut way = Items::new(alloc);
         let mut next = Some(at);

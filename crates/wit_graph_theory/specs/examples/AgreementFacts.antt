@@ -39,7 +39,9 @@ kind_number (StaticSetter r) = 12
 abbrev kind_numbered : ℕ → FunctionKind
 kind_numbered n =
     get_or
-    (Freestanding ∷ AsyncFreestanding ∷ Method 0 ∷ AsyncMethod 0 ∷ Static 0 ∷ AsyncStatic 0 ∷ Constructor 0 ∷ Getter ∷ Setter ∷ MethodGetter 0 ∷ MethodSetter 0 ∷ StaticGetter 0 ∷ StaticSetter 0 ∷ [])
+    (Freestanding ∷ AsyncFreestanding ∷ Method 0 ∷ AsyncMethod 0 ∷ Static 0 ∷ AsyncStatic 0
+    ∷ Constructor 0 ∷ Getter ∷ Setter ∷ MethodGetter 0 ∷ MethodSetter 0 ∷ StaticGetter 0
+    ∷ StaticSetter 0 ∷ [])
     n Freestanding
 
 numbered_kind : (k : FunctionKind) → function_kind_image one_place k ≡ kind_numbered (kind_number k)
@@ -81,7 +83,8 @@ sort_number (type.Id t) = 14
 abbrev sort_numbered : ℕ → Type_
 sort_numbered n =
     get_or
-    (type.Bool ∷ type.U8 ∷ type.U16 ∷ type.U32 ∷ type.U64 ∷ type.S8 ∷ type.S16 ∷ type.S32 ∷ type.S64 ∷ type.F32 ∷ type.F64 ∷ type.Char ∷ type.String ∷ type.ErrorContext ∷ type.Id 0 ∷ [])
+    (type.Bool ∷ type.U8 ∷ type.U16 ∷ type.U32 ∷ type.U64 ∷ type.S8 ∷ type.S16 ∷ type.S32 ∷ type.S64
+    ∷ type.F32 ∷ type.F64 ∷ type.Char ∷ type.String ∷ type.ErrorContext ∷ type.Id 0 ∷ [])
     n type.Bool
 
 numbered_sort : (ty : Type_) → value_image one_place ty ≡ sort_numbered (sort_number ty)
@@ -107,7 +110,8 @@ same_sorts ty ty' same = numbered_sort ty ∙ (ap sort_numbered (eqb-true (sort_
 -- do the parameters agree?
 abbrev params_agree : List Param → List Param → Bool
 params_agree [] [] = true
-params_agree (p ∷ ps) (q ∷ qs) = bytes_eq p.name q.name && (nat_eq (sort_number p.ty) (sort_number q.ty) && params_agree ps qs)
+params_agree (p ∷ ps) (q ∷ qs) =
+    bytes_eq p.name q.name && (nat_eq (sort_number p.ty) (sort_number q.ty) && params_agree ps qs)
 params_agree [] (q ∷ qs) = false
 params_agree (p ∷ ps) [] = false
 
@@ -151,7 +155,9 @@ both_there (Some x) None all = absurd (false≢true all)
 
 -- do two functions agree?
 abbrev pub agree : Function → Function → Bool
-agree f g = nat_eq (kind_number f.kind) (kind_number g.kind) && (params_agree f.params g.params && results_agree f.result_ g.result_)
+agree f g =
+    nat_eq (kind_number f.kind) (kind_number g.kind)
+    && (params_agree f.params g.params && results_agree f.result_ g.result_)
 
 pub functions_accepted : (f g : Function) → agree f g ≡ true → (text : List ℕ) → FunctionMismatch f g text → ⊥
 functions_accepted f g all text c = by c
@@ -174,7 +180,10 @@ functions_accepted f g all text c = by c
 
 -- do the functions of one name agree?
 abbrev pub functions_pass : Interface → Interface → Bool
-functions_pass from into = list_all (λ (e : List ℕ × Function). list_all (λ (e' : List ℕ × Function). implies (bytes_eq e.0 e'.0) (agree e.1 e'.1)) into.functions) from.functions
+functions_pass from into =
+    list_all (λ (e : List ℕ × Function).
+    list_all (λ (e' : List ℕ × Function). implies (bytes_eq e.0 e'.0) (agree e.1 e'.1))
+    into.functions) from.functions
 
 pub interfaces_accepted : (from into : Interface) → functions_pass from into ≡ true → (text : List ℕ) → HaveFunctionMismatch from into text → ⊥
 interfaces_accepted from into all text have =

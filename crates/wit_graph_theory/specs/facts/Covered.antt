@@ -24,14 +24,15 @@ use Rattle.wit_graph_theory.specs.steps.Sources.{IsCarriedFunction, IsCarriedTyp
 -- ---- types
 
 -- type t' comes of a type of a source
-pub record TypeComes {K : Type 0} (at : K → Source) (g : Graph) (t' : ℕ) (new : TypeDef) : Type 0 where
-  pub source : K
-  pub t : ℕ
-  pub old : TypeDef
-  pub there : slice_get (at source).graph.types t ≡ Some old
-  pub takes : (at source).types t ≡ true
-  pub place : t' ≡ (at source).maps.types t
-  pub carried : IsCarriedType (at source) g old new
+pub record TypeComes {K : Type 0} (at : K → Source) (g : Graph) (t' : ℕ) (new : TypeDef) : Type 0
+  where
+    pub source : K
+    pub t : ℕ
+    pub old : TypeDef
+    pub there : slice_get (at source).graph.types t ≡ Some old
+    pub takes : (at source).types t ≡ true
+    pub place : t' ≡ (at source).maps.types t
+    pub carried : IsCarriedType (at source) g old new
 
 -- or is an unnamed `own` of the image of one
 pub record IsOwnMade {K : Type 0} (at : K → Source) (new : TypeDef) : Type 0 where
@@ -60,13 +61,14 @@ pub record ListedComes {K : Type 0} (at : K → Source) (f' : ℕ) (e : List ℕ
   pub takes : (at source).types t ≡ true
   pub place : e.1 ≡ (at source).maps.types t
 
-pub record FunctionComes {K : Type 0} (at : K → Source) (f' : ℕ) (e : List ℕ × Function) : Type 0 where
-  pub source : K
-  pub from : InterfaceAt (at source) f'
-  pub old : Function
-  pub listed : Contains from.old.functions (e.0, old)
-  pub name : e.1.name ≡ old.name
-  pub carried : IsCarriedFunction (at source) old e.1
+pub record FunctionComes {K : Type 0} (at : K → Source) (f' : ℕ) (e : List ℕ × Function) : Type 0
+  where
+    pub source : K
+    pub from : InterfaceAt (at source) f'
+    pub old : Function
+    pub listed : Contains from.old.functions (e.0, old)
+    pub name : e.1.name ≡ old.name
+    pub carried : IsCarriedFunction (at source) old e.1
 
 -- interface f' comes of interfaces of sources
 pub record InterfaceComes {K : Type 0} (at : K → Source) (f' : ℕ) (new : Interface) : Type 0 where
@@ -91,8 +93,11 @@ pub record WorldAt (s : Source) (w' : ℕ) : Type 0 where
 -- an item comes of another: the same interface at its place with whatever data, a function under its label,
 -- the same type at its place
 abbrev pub ItemComes : Source → ℕ → WorldItem → WorldItem → Type 0
-ItemComes s w (item.Interface i stability docs span external_id) new = item_interface new ≡ s.maps.interfaces i ∷ []
-ItemComes s w (item.Function f) new = (f' : Function) × (new ≡ item.Function f') × (f'.name ≡ s.maps.labels w f.name) × IsCarriedFunction s f f'
+ItemComes s w (item.Interface i stability docs span external_id) new =
+    item_interface new ≡ s.maps.interfaces i ∷ []
+ItemComes s w (item.Function f) new =
+    (f' : Function) × (new ≡ item.Function f') × (f'.name ≡ s.maps.labels w f.name)
+    × IsCarriedFunction s f f'
 ItemComes s w (item.Type_ t span) new = (span' : _) × (new ≡ item.Type_ (s.maps.types t) span')
 
 -- an entry comes of an import or an export of a world that goes to w'
@@ -118,18 +123,24 @@ IsNoType (item.Function f) = Unit {0}
 IsNoType (item.Type_ t span) = ⊥
 
 -- world w' comes of worlds of sources; what was exported may be imported and, but for types, the other way
-pub record WorldComes {K : Type 0} (at : K → Source) (g : Graph) (w' : ℕ) (new : World) : Type 0 where
-  pub imports : Each (λ (e : Entry). EntryComes at w' e ⊎ IsDependency g.interfaces e) new.imports
-  pub exports : Each (λ (e : Entry). (EntryComes at w' e × IsNoType e.1) ⊎ IsDependency g.interfaces e) new.exports
-  pub distinct_imports : HasDistinctKeys new.imports
-  pub distinct_exports : HasDistinctKeys new.exports
-  pub no_includes : new.includes ≡ []
+pub record WorldComes {K : Type 0} (at : K → Source) (g : Graph) (w' : ℕ) (new : World) : Type 0
+  where
+    pub imports : Each (λ (e : Entry). EntryComes at w' e ⊎ IsDependency g.interfaces e) new.imports
+    pub exports : Each
+        (λ (e : Entry). (EntryComes at w' e × IsNoType e.1) ⊎ IsDependency g.interfaces e)
+        new.exports
+    pub distinct_imports : HasDistinctKeys new.imports
+    pub distinct_exports : HasDistinctKeys new.exports
+    pub no_includes : new.includes ≡ []
 
 -- ---- the graph
 
 -- every thing of g that is selected comes from a source. Of a finished graph that is everything; while worlds
 -- are finished one by one, it is what belongs to no world that is still to come
 pub record IsCovered {K : Type 0} (kept : KeptIds) (at : K → Source) (g : Graph) : Type 0 where
-  pub types : EachAt (λ t' (new : TypeDef). kept.types t' ≡ true → TypeComes at g t' new ⊎ IsOwnMade at new) g.types
-  pub interfaces : EachAt (λ f' (new : Interface). kept.interfaces f' ≡ true → InterfaceComes at f' new) g.interfaces
+  pub types : EachAt
+      (λ t' (new : TypeDef). kept.types t' ≡ true → TypeComes at g t' new ⊎ IsOwnMade at new)
+      g.types
+  pub interfaces : EachAt
+      (λ f' (new : Interface). kept.interfaces f' ≡ true → InterfaceComes at f' new) g.interfaces
   pub worlds : EachAt (λ w' (new : World). kept.worlds w' ≡ true → WorldComes at g w' new) g.worlds

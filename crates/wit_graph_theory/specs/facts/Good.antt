@@ -88,4 +88,5 @@ pub record IsGoodAsAWhole (g : Graph) : Type 0 where
   pub package_names : HasPackageNames g.packages g.package_names
   pub once : StandOnce g.interfaces g.worlds
   pub no_cycles : HasNoCycles g
-  pub canonical : Each (λ (world : World). Elaborated g.types (uses_of g.types g.interfaces) world world) g.worlds
+  pub canonical : Each
+      (λ (world : World). Elaborated g.types (uses_of g.types g.interfaces) world world) g.worlds

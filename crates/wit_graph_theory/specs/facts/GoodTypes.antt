@@ -44,7 +44,9 @@ from_if P (Some y) x h is = let same : y ≡ x = cc in subst P same h
 
 -- what an alias of this owner may name
 abbrev pub IsAliased : List TypeDef → List Interface → TypeOwner → ℕ → Type 0
-IsAliased types interfaces by target = SomeAt types target (λ (named : TypeDef). IsSome named.name × ((named.owner ≡ by) ⊎ IsNamedInterface interfaces named.owner))
+IsAliased types interfaces by target =
+    SomeAt types target (λ (named : TypeDef).
+    IsSome named.name × ((named.owner ≡ by) ⊎ IsNamedInterface interfaces named.owner))
 
 module _ (s : Source) (g : Graph) (closed : IsClosed s) (carries : Carries s g) where
   -- a named interface that is selected has a name in the target

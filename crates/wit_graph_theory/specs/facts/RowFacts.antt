@@ -49,7 +49,8 @@ pub record GrowsByRank (Rank : ℕ → ℕ → Type 0) (old rows : List (List �
   pub in_range : (i : ℕ) → All (λ j. j < length rows) (direct rows i)
   pub stays : (i j : ℕ) → i < length old → Contains (direct rows i) j → Contains (direct old i) j
   pub ranked : (i : ℕ) → length old ≤ i → (j : ℕ) → Contains (direct rows i) j → (r : ℕ) × Rank i r
-  pub down : (i r j : ℕ) → length old ≤ i → Rank i r → Contains (direct rows i) j → (j < length old) ⊎ ((s : ℕ) × Rank j s × (s < r))
+  pub down : (i r j : ℕ) → length old ≤ i → Rank i r → Contains (direct rows i) j
+      → (j < length old) ⊎ ((s : ℕ) × Rank j s × (s < r))
 
 module _ (Rank : ℕ → ℕ → Type 0) (old rows : List (List ℕ)) (acyclic : IsAcyclic old) (grows : GrowsByRank Rank old rows) where
   old_path : (i : ℕ) (path : List ℕ) (j : ℕ) → i < length old → IsPath rows i path j → IsPath old i path j × (j < length old)

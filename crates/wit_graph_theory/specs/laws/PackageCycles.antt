@@ -17,13 +17,17 @@ use Rattle.wit_graph_data.specs.declared.graph.Package.{Package}
 
 -- the world imports or exports interface j under its own key
 abbrev pub ListsKey : World → ℕ → Type 0
-ListsKey world j = Contains (keyed_interfaces world.imports) j ⊎ Contains (keyed_interfaces world.exports) j
+ListsKey world j =
+    Contains (keyed_interfaces world.imports) j ⊎ Contains (keyed_interfaces world.exports) j
 
 -- what an interface without a name uses, the world in which it stands lists: such an interface is in no table, so
 -- its uses count for no package
-pub record ListsUses (interfaces : List Interface) (uses : List (List ℕ)) (world : World) : Type 0 where
-  pub imports : (e : Entry) (f j : ℕ) → Contains world.imports e → Contains (item_interface e.1) f → is_unnamed interfaces f ≡ true → Contains (direct uses f) j → ListsKey world j
-  pub exports : (e : Entry) (f j : ℕ) → Contains world.exports e → Contains (item_interface e.1) f → is_unnamed interfaces f ≡ true → Contains (direct uses f) j → ListsKey world j
+pub record ListsUses (interfaces : List Interface) (uses : List (List ℕ)) (world : World) : Type 0
+  where
+    pub imports : (e : Entry) (f j : ℕ) → Contains world.imports e → Contains (item_interface e.1) f
+        → is_unnamed interfaces f ≡ true → Contains (direct uses f) j → ListsKey world j
+    pub exports : (e : Entry) (f j : ℕ) → Contains world.exports e → Contains (item_interface e.1) f
+        → is_unnamed interfaces f ≡ true → Contains (direct uses f) j → ListsKey world j
 
 -- a world is elaborated from the one that was listed at its place
 pub record IsElaboratedFrom (types : List TypeDef) (interfaces : List Interface) (listed : List World) (w : ℕ) (new : World) : Type 0 where
@@ -43,5 +47,8 @@ pub record AreElaboratedFrom (types : List TypeDef) (interfaces : List Interface
 
 -- packages that were acyclic with the worlds as they were listed are so with the elaborated ones
 abbrev pub PackagesStayAcyclic : Type 0
-PackagesStayAcyclic = (types : List TypeDef) (interfaces : List Interface) (packages : List Package) (listed done : List World) → AreElaboratedFrom types interfaces packages listed done
-    → IsAcyclic (package_uses types interfaces listed packages) → IsAcyclic (package_uses types interfaces done packages)
+PackagesStayAcyclic =
+    (types : List TypeDef) (interfaces : List Interface) (packages : List Package)
+    (listed done : List World) → AreElaboratedFrom types interfaces packages listed done
+    → IsAcyclic (package_uses types interfaces listed packages)
+    → IsAcyclic (package_uses types interfaces done packages)

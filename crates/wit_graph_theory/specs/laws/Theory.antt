@@ -18,5 +18,7 @@ pub record HasGoodTables (g : Graph) : Type 0 where
 -- tables and what is about the whole are in order. (Of numbered sources, so that a contract can say it: the
 -- lemmas are over any family.)
 abbrev pub CoveredGraphsAreValid : Type 0
-CoveredGraphsAreValid = (at : ℕ → Source) (g : Graph) → ((k : ℕ) → IsGoodSource (at k)) → ((k : ℕ) → Carries (at k) g) → IsCovered everything at g
+CoveredGraphsAreValid =
+    (at : ℕ → Source) (g : Graph) → ((k : ℕ) → IsGoodSource (at k)) → ((k : ℕ) → Carries (at k) g)
+    → IsCovered everything at g
     → HasGoodTables g → IsGoodAsAWhole g → IsValid g

@@ -60,20 +60,31 @@ ItemIsActive s (item.Type_ t span) = s.types t ≡ true
 pub record IsClosed (s : Source) : Type 0 where
   pub in_range : (t : ℕ) → s.types t ≡ true → t < length s.graph.types
   pub interfaces_in_range : (f : ℕ) → s.interfaces f ≡ true → f < length s.graph.interfaces
-  pub references : (t : ℕ) (def : TypeDef) → slice_get s.graph.types t ≡ Some def → s.types t ≡ true → TakePart s (referred def.kind)
-  pub owners : (t : ℕ) (def : TypeDef) → slice_get s.graph.types t ≡ Some def → s.types t ≡ true → OwnerIsActive s def.owner
-  pub functions : (f : ℕ) (interface : Interface) (e : List ℕ × Function) → slice_get s.graph.interfaces f ≡ Some interface → s.interfaces f ≡ true
+  pub references : (t : ℕ) (def : TypeDef) → slice_get s.graph.types t ≡ Some def → s.types t ≡ true
+      → TakePart s (referred def.kind)
+  pub owners : (t : ℕ) (def : TypeDef) → slice_get s.graph.types t ≡ Some def → s.types t ≡ true
+      → OwnerIsActive s def.owner
+  pub functions : (f : ℕ) (interface : Interface) (e : List ℕ × Function)
+      → slice_get s.graph.interfaces f ≡ Some interface → s.interfaces f ≡ true
       → Contains interface.functions e → TakePart s (function_references e.1)
-  pub imports : (w : ℕ) (world : World) (e : Entry) → slice_get s.graph.worlds w ≡ Some world → s.worlds w ≡ true → Contains world.imports e → ItemIsActive s e.1
-  pub exports : (w : ℕ) (world : World) (e : Entry) → slice_get s.graph.worlds w ≡ Some world → s.worlds w ≡ true → Contains world.exports e → ItemIsActive s e.1
+  pub imports : (w : ℕ) (world : World) (e : Entry) → slice_get s.graph.worlds w ≡ Some world
+      → s.worlds w ≡ true → Contains world.imports e → ItemIsActive s e.1
+  pub exports : (w : ℕ) (world : World) (e : Entry) → slice_get s.graph.worlds w ≡ Some world
+      → s.worlds w ≡ true → Contains world.exports e → ItemIsActive s e.1
 
 -- what is selected is good
 pub record IsGoodSource (s : Source) : Type 0 where
   pub closed : IsClosed s
-  pub types : (t : ℕ) (def : TypeDef) → slice_get s.graph.types t ≡ Some def → s.types t ≡ true → IsGoodType s.graph.types s.graph.interfaces s.graph.worlds t def
-  pub interfaces : (f : ℕ) (interface : Interface) → slice_get s.graph.interfaces f ≡ Some interface → s.interfaces f ≡ true → IsGoodInterface s.graph.types f interface
-  pub imports : (w : ℕ) (world : World) → slice_get s.graph.worlds w ≡ Some world → s.worlds w ≡ true → Each (IsGoodImport s.graph.types s.graph.interfaces w world) world.imports
-  pub exports : (w : ℕ) (world : World) → slice_get s.graph.worlds w ≡ Some world → s.worlds w ≡ true → Each (IsGoodExport s.graph.types s.graph.interfaces w world) world.exports
+  pub types : (t : ℕ) (def : TypeDef) → slice_get s.graph.types t ≡ Some def → s.types t ≡ true
+      → IsGoodType s.graph.types s.graph.interfaces s.graph.worlds t def
+  pub interfaces : (f : ℕ) (interface : Interface) → slice_get s.graph.interfaces f ≡ Some interface
+      → s.interfaces f ≡ true → IsGoodInterface s.graph.types f interface
+  pub imports : (w : ℕ) (world : World) → slice_get s.graph.worlds w ≡ Some world
+      → s.worlds w ≡ true
+      → Each (IsGoodImport s.graph.types s.graph.interfaces w world) world.imports
+  pub exports : (w : ℕ) (world : World) → slice_get s.graph.worlds w ≡ Some world
+      → s.worlds w ≡ true
+      → Each (IsGoodExport s.graph.types s.graph.interfaces w world) world.exports
 
 -- ---- standing in a target
 
@@ -86,26 +97,34 @@ pub record Stands (m : Maps) (old new : TypeDef) : Type 0 where
 -- an interface stands as another, which may list more: its types are listed under their names
 pub record InterfaceStands (s : Source) (old new : Interface) : Type 0 where
   pub name : new.name ≡ old.name
-  pub types : (name : List ℕ) (t : ℕ) → Contains old.types (name, t) → s.types t ≡ true → Contains new.types (name, s.maps.types t)
+  pub types : (name : List ℕ) (t : ℕ) → Contains old.types (name, t) → s.types t ≡ true
+      → Contains new.types (name, s.maps.types t)
   pub home : old.name ≡ None → new.package ≡ s.maps.home old.package
 
 -- so does a world; its types are listed under their labels
 pub record WorldStands (s : Source) (w : ℕ) (old new : World) : Type 0 where
-  pub types : (name : List ℕ) (t : ℕ) → Contains (world_types old) (name, t) → s.types t ≡ true → Contains (world_types new) (s.maps.labels w name, s.maps.types t)
+  pub types : (name : List ℕ) (t : ℕ) → Contains (world_types old) (name, t) → s.types t ≡ true
+      → Contains (world_types new) (s.maps.labels w name, s.maps.types t)
   pub home : new.package ≡ s.maps.home old.package
 
 -- type h is an unnamed `own` of type t
 abbrev pub IsOwnOf : List TypeDef → ℕ → ℕ → Type 0
-IsOwnOf types h t = SomeAt types h (λ (def : TypeDef). (def.name ≡ None) × (def.owner ≡ owner.None) × (def.kind ≡ kind.Handle (Own t)))
+IsOwnOf types h t =
+    SomeAt types h (λ (def : TypeDef).
+    (def.name ≡ None) × (def.owner ≡ owner.None) × (def.kind ≡ kind.Handle (Own t)))
 
 -- all that is selected stands in the target, and where values go is the image or, of a named type, an `own` of it
 pub record Carries (s : Source) (g : Graph) : Type 0 where
-  pub types : (t : ℕ) (def : TypeDef) → slice_get s.graph.types t ≡ Some def → s.types t ≡ true → SomeAt g.types (s.maps.types t) (Stands s.maps def)
+  pub types : (t : ℕ) (def : TypeDef) → slice_get s.graph.types t ≡ Some def → s.types t ≡ true
+      → SomeAt g.types (s.maps.types t) (Stands s.maps def)
   pub values : (t : ℕ) (def : TypeDef) → slice_get s.graph.types t ≡ Some def → s.types t ≡ true
-      → (s.maps.values t ≡ s.maps.types t) ⊎ (IsSome def.name × IsOwnOf g.types (s.maps.values t) (s.maps.types t))
-  pub interfaces : (f : ℕ) (interface : Interface) → slice_get s.graph.interfaces f ≡ Some interface → s.interfaces f ≡ true
+      → (s.maps.values t ≡ s.maps.types t)
+      ⊎ (IsSome def.name × IsOwnOf g.types (s.maps.values t) (s.maps.types t))
+  pub interfaces : (f : ℕ) (interface : Interface) → slice_get s.graph.interfaces f ≡ Some interface
+      → s.interfaces f ≡ true
       → SomeAt g.interfaces (s.maps.interfaces f) (InterfaceStands s interface)
-  pub worlds : (w : ℕ) (world : World) → slice_get s.graph.worlds w ≡ Some world → s.worlds w ≡ true → SomeAt g.worlds (s.maps.worlds w) (WorldStands s w world)
+  pub worlds : (w : ℕ) (world : World) → slice_get s.graph.worlds w ≡ Some world → s.worlds w ≡ true
+      → SomeAt g.worlds (s.maps.worlds w) (WorldStands s w world)
 
 -- ---- being carried
 
@@ -113,7 +132,8 @@ pub record Carries (s : Source) (g : Graph) : Type 0 where
 abbrev pub AliasCarried : Source → Graph → TypeDef → TypeDef → Type 0
 AliasCarried s g old new = (t' : ℕ) → alias_target new.kind ≡ Some t'
     → ((t : ℕ) × (alias_target old.kind ≡ Some t) × (t' ≡ s.maps.types t))
-    ⊎ SomeAt g.types t' (λ (named : TypeDef). IsSome named.name × IsNamedInterface g.interfaces named.owner)
+    ⊎ SomeAt g.types t'
+    (λ (named : TypeDef). IsSome named.name × IsNamedInterface g.interfaces named.owner)
 
 -- a type comes of another: it refers to nothing but the same things at their places
 pub record IsCarriedType (s : Source) (g : Graph) (old new : TypeDef) : Type 0 where

@@ -20,7 +20,8 @@ pub record Holds (worlds : List World) (w : ℕ) (exported : Bool) (i : ℕ) (f 
 -- no interface without a name has two places
 abbrev pub StandsOnceOnly : List Interface → List World → Type 0
 StandsOnceOnly interfaces worlds =
-    (f w w' : ℕ) (b b' : Bool) (i i' : ℕ) → is_unnamed interfaces f ≡ true → Holds worlds w b i f → Holds worlds w' b' i' f → (w ≡ w') × (b ≡ b') × (i ≡ i')
+    (f w w' : ℕ) (b b' : Bool) (i i' : ℕ) → is_unnamed interfaces f ≡ true → Holds worlds w b i f
+    → Holds worlds w' b' i' f → (w ≡ w') × (b ≡ b') × (i ≡ i')
 
 -- a place of the target over a place of a source
 pub record Origin (s : Source) (f' w' : ℕ) (k' : WorldKey) : Type 0 where
@@ -39,6 +40,10 @@ pub record Origin (s : Source) (f' w' : ℕ) (k' : WorldKey) : Type 0 where
 -- sources do (a merge matches them by their labels) they come to one label of one world; and one entry doesn't
 -- come to stand among the imports and among the exports
 pub record StayApart {K : Type 0} (at : K → Source) (g : Graph) : Type 0 where
-  pub injective : (k : K) (f e : ℕ) → (at k).interfaces f ≡ true → (at k).interfaces e ≡ true → (at k).maps.interfaces f ≡ (at k).maps.interfaces e → is_unnamed (at k).graph.interfaces f ≡ true → f ≡ e
-  pub meet : (f' w' v' : ℕ) (c d : WorldKey) (k l : K) → is_unnamed g.interfaces f' ≡ true → Origin (at k) f' w' c → Origin (at l) f' v' d → (k ≡ l) ⊎ ((w' ≡ v') × (c ≡ d))
-  pub one_side : (w' i' j' f' : ℕ) → is_unnamed g.interfaces f' ≡ true → Holds g.worlds w' false i' f' → Holds g.worlds w' true j' f' → ⊥
+  pub injective : (k : K) (f e : ℕ) → (at k).interfaces f ≡ true → (at k).interfaces e ≡ true
+      → (at k).maps.interfaces f ≡ (at k).maps.interfaces e
+      → is_unnamed (at k).graph.interfaces f ≡ true → f ≡ e
+  pub meet : (f' w' v' : ℕ) (c d : WorldKey) (k l : K) → is_unnamed g.interfaces f' ≡ true
+      → Origin (at k) f' w' c → Origin (at l) f' v' d → (k ≡ l) ⊎ ((w' ≡ v') × (c ≡ d))
+  pub one_side : (w' i' j' f' : ℕ) → is_unnamed g.interfaces f' ≡ true
+      → Holds g.worlds w' false i' f' → Holds g.worlds w' true j' f' → ⊥

@@ -9,4 +9,5 @@ caches_mark_of caches = record { interfaces = length caches.elaborator; met = le
 
 -- what is known of so many
 abbrev pub caches_cut_at : CachesMark → GraphCaches → GraphCaches
-caches_cut_at mark caches = record { elaborator = take mark.interfaces caches.elaborator; met = take mark.met caches.met }
+caches_cut_at mark caches =
+    record { elaborator = take mark.interfaces caches.elaborator; met = take mark.met caches.met }

@@ -11,7 +11,8 @@ use Rattle.wit_remap.specs.declared.worlds.UpdatedWorld.{UpdatedWorld}
 
 -- an include with the id and the span that it has in the graph
 abbrev pub include_at : NewIds → ℕ → WorldInclude → WorldInclude
-include_at new_ids offset include = record include { id = goes new_ids.worlds include.id; span = moved_by offset include.span }
+include_at new_ids offset include =
+    record include { id = goes new_ids.worlds include.id; span = moved_by offset include.span }
 
 -- a world with such includes
 abbrev pub world_with : NewIds → ℕ → UpdatedWorld → UpdatedWorld
@@ -19,7 +20,9 @@ world_with new_ids offset p = record p { includes = map (include_at new_ids offs
 
 -- a world that is active, as it is added
 abbrev pub ready_world : Addition → ℕ × World → UpdatedWorld
-ready_world a e = record { id = e.0; world = world_image (addition_maps a) e.0 e.1; includes = updated_includes a e.1 }
+ready_world a e =
+    record
+    { id = e.0; world = world_image (addition_maps a) e.0 e.1; includes = updated_includes a e.1 }
 
 -- all of them
 abbrev pub ready_worlds : Addition → List UpdatedWorld

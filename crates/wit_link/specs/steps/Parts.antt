@@ -11,10 +11,15 @@ use Rattle.wit_link.specs.GroupOrder.{Unresolved, IsOnPackageCycle, PassesLastPo
 -- the unresolved packages that a package names things of, in the order in which it does; one that isn't handed
 -- in is passed over
 abbrev pub group_deps : List PackageName → UnresolvedPackage → List ℕ
-group_deps names u = filter_map (λ (e : PackageName × List ForeignItem). position (same_package e.0) names) u.foreign_deps
+group_deps names u =
+    filter_map (λ (e : PackageName × List ForeignItem). position (same_package e.0) names)
+    u.foreign_deps
 
 -- 27: a place that would be told is too far
 abbrev pub HasSpanOverflow : List Unresolved → Type 0
 HasSpanOverflow unresolved =
-    ((name : PackageName) × (span1 : OptionalSpan) × (span2 : OptionalSpan) × IsDefinedTwice unresolved name span1 span2 × (PassesLastPosition span1 ⊎ PassesLastPosition span2))
-    ⊎ ((span : OptionalSpan) × (home : PackageName) × IsOnPackageCycle unresolved span home × PassesLastPosition span)
+    ((name : PackageName) × (span1 : OptionalSpan) × (span2 : OptionalSpan)
+    × IsDefinedTwice unresolved name span1 span2
+    × (PassesLastPosition span1 ⊎ PassesLastPosition span2))
+    ⊎ ((span : OptionalSpan) × (home : PackageName) × IsOnPackageCycle unresolved span home
+    × PassesLastPosition span)

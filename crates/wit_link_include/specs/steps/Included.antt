@@ -57,7 +57,8 @@ goes table id = unwrap_or (lookup (nat_eq id) table) id
 
 -- the maps that copies stand for
 abbrev pub maps_of : Copies → Maps
-maps_of c = include_maps (goes c.types) (goes c.interfaces) (renamed_label c.names) c.from c.into c.home
+maps_of c =
+    include_maps (goes c.types) (goes c.interfaces) (renamed_label c.names) c.from c.into c.home
 
 -- the graph with images of some of its types and interfaces behind them
 abbrev pub with_images : Graph → Maps → (ℕ → Bool) → (ℕ → Bool) → Graph
@@ -68,26 +69,33 @@ with_images g m types interfaces = record g {
 
 -- no type with a name that doesn't go with the world refers to one that does, through whatever others
 abbrev pub StayApart : Graph → ℕ → World → Type 0
-StayApart g w world = (t o : ℕ) → is_unnamed_type g t ≡ false → is_owned_within g w world t ≡ false →
+StayApart g w world =
+    (t o : ℕ) → is_unnamed_type g t ≡ false → is_owned_within g w world t ≡ false →
     Reaches (type_references g.types) t o → is_owned_within g w world o ≡ false
 
 -- the entries of world w name what belongs to it
 abbrev pub NamesBelonging : Graph → ℕ → World → Type 0
-NamesBelonging g w world = (t : ℕ) → is_owned_within g w world t ≡ true → Contains (named_types g world) t
+NamesBelonging g w world =
+    (t : ℕ) → is_owned_within g w world t ≡ true → Contains (named_types g world) t
 
 -- the types that the entries of a world name are there
 abbrev pub NamesThere : Graph → World → Type 0
-NamesThere g world = (t : ℕ) → Contains (flat_map (entry_mentions g world) (world.imports ++ world.exports)) t → t < length g.types
+NamesThere g world =
+    (t : ℕ) → Contains (flat_map (entry_mentions g world) (world.imports ++ world.exports)) t
+    → t < length g.types
 
 -- ---- how it is found
 
 -- the table has the interfaces that go with the world
 abbrev pub IsOrigin : Origin → Type 0
-IsOrigin o = (i : ℕ) → is_some (lookup (nat_eq i) o.belonging_interfaces.now) ≡ belongs_to o.graph.now o.world.now i
+IsOrigin o =
+    (i : ℕ)
+    → is_some (lookup (nat_eq i) o.belonging_interfaces.now) ≡ belongs_to o.graph.now o.world.now i
 
 -- the types that the entries of the world name
 abbrev pub roots_of : Origin → List ℕ
-roots_of o = flat_map (entry_mentions o.graph.now o.world.now) (o.world.now.imports ++ o.world.now.exports)
+roots_of o =
+    flat_map (entry_mentions o.graph.now o.world.now) (o.world.now.imports ++ o.world.now.exports)
 
 -- a type that may refer to what goes with the world: it goes with it itself, or has no name
 abbrev pub is_open_in : Origin → TypeDef → Bool
@@ -102,7 +110,9 @@ open_rows o = map (open_row o) o.graph.now.types
 
 -- does a type lead to one that goes with the world?
 abbrev pub leads : Origin → ℕ → Bool
-leads o t = list_any (is_owned_within o.graph.now o.id o.world.now) (post_order (type_references o.graph.now.types) t)
+leads o t =
+    list_any (is_owned_within o.graph.now o.id o.world.now)
+    (post_order (type_references o.graph.now.types) t)
 
 -- the same by what is known of the types that it refers to
 abbrev pub said : List (ℕ × Bool) → ℕ → Bool
@@ -110,30 +120,36 @@ said known t = unwrap_or (lookup (nat_eq t) known) false
 
 abbrev pub def_leads_by : Origin → List (ℕ × Bool) → TypeDef → Bool
 def_leads_by o known def =
-    if owner_belongs_to o.graph.now o.id o.world.now def.owner then true else (if is_some def.name then false else list_any (said known) (referred def.kind))
+    if owner_belongs_to o.graph.now o.id o.world.now def.owner then true
+    else (if is_some def.name then false else list_any (said known) (referred def.kind))
 
 abbrev pub leads_by : Origin → List (ℕ × Bool) → ℕ → Bool
 leads_by o known t = option_map_or (def_leads_by o known) (slice_get o.graph.now.types t) false
 
 -- what is known of type t when all that some roots reach through such types is known
 abbrev pub known_of : Origin → List ℕ → ℕ → Option Bool
-known_of o roots t = if list_any (nat_eq t) (flat_map (post_order (open_rows o)) roots) then Some (leads o t) else None
+known_of o roots t =
+    if list_any (nat_eq t) (flat_map (post_order (open_rows o)) roots) then Some (leads o t)
+    else None
 
 -- each renaming is of some label of the world
 abbrev pub AreRenamed : World → List IncludeName → Type 0
 AreRenamed world names = Each (IsRenamed world) names
 
 -- 16: this renaming is the first that is of no label of the world
-pub record IsFirstUnmatched (world : World) (names : List IncludeName) (name : IncludeName) : Type 0 where
-  pub j : ℕ
-  pub is : slice_get names j ≡ Some name
-  pub earlier : AreRenamed world (take j names)
-  pub unmatched : IsRenamed world name → ⊥
+pub record IsFirstUnmatched (world : World) (names : List IncludeName) (name : IncludeName) : Type 0
+  where
+    pub j : ℕ
+    pub is : slice_get names j ≡ Some name
+    pub earlier : AreRenamed world (take j names)
+    pub unmatched : IsRenamed world name → ⊥
 
 -- the word of a label that a renaming has to be of: what stands behind its groups, up to the first dot; none where
 -- a bracket that isn't closed stands there
 abbrev pub word_of : List ℕ → Option (List ℕ)
-word_of label = if begins_group (rest_of label) then None else Some (before_first (λ b. b == 46) (rest_of label))
+word_of label =
+    if begins_group (rest_of label) then None
+    else Some (before_first (λ b. b == 46) (rest_of label))
 
 -- is the key a label with this word?
 abbrev pub has_word : List ℕ → WorldKey → Bool
@@ -148,7 +164,11 @@ copied_entries copies entries = map (entry_image (maps_of copies) copies.from) e
 
 -- a world with entries joined to its lists
 abbrev pub with_joined : Bool → World → List Entry → List Entry → World
-with_joined other world imports exports = record world { imports = joined_entries other world.imports imports; exports = joined_entries other world.exports exports }
+with_joined other world imports exports =
+    record world {
+      imports = joined_entries other world.imports imports;
+      exports = joined_entries other world.exports exports;
+    }
 
 -- the world that an include names is there
 abbrev pub IsIncluded : PartiallyLinked → WorldInclude → World → Type 0
@@ -161,7 +181,8 @@ pub record HaveOwnKeys (lists : EntryLists) : Type 0 where
 
 -- the world that is included can be
 abbrev pub CanBeIncluded : PartiallyLinked → WorldInclude → Type 0
-CanBeIncluded b include = (old : World) → IsIncluded b include old → CanInclude b.graph include.id old
+CanBeIncluded b include =
+    (old : World) → IsIncluded b include old → CanInclude b.graph include.id old
 
 -- ---- all includes of a world, one after another
 
@@ -174,26 +195,34 @@ pub record StopsAtInclude (home : ℕ) (g : Graph) (world : World) (includes : L
 
 -- each of the includes can be made, where those before it are accepted
 pub record CanIncludeAll (home : ℕ) (g : Graph) (world : World) (includes : List WorldInclude) : Type 0 where
-  pub there : (j : ℕ) (include : WorldInclude) → slice_get includes j ≡ Some include → ((i : ℕ) → i < j → IsAcceptedAt home g world includes i) → include.id < length g.worlds
+  pub there : (j : ℕ) (include : WorldInclude) → slice_get includes j ≡ Some include
+      → ((i : ℕ) → i < j → IsAcceptedAt home g world includes i) → include.id < length g.worlds
   pub own_keys : HaveOwnKeys (lists_of world)
-  pub each : (j : ℕ) (include : WorldInclude) → slice_get includes j ≡ Some include → ((i : ℕ) → i < j → IsAcceptedAt home g world includes i) → CanBeIncluded (with_several home g world (take j includes)) include
+  pub each : (j : ℕ) (include : WorldInclude) → slice_get includes j ≡ Some include
+      → ((i : ℕ) → i < j → IsAcceptedAt home g world includes i)
+      → CanBeIncluded (with_several home g world (take j includes)) include
 
 -- ---- a world, finished
 
 -- the world can be begun, and finished where its includes are accepted
-pub record CanBeAdded (home : ℕ) (g : Graph) (world : World) (includes : List WorldInclude) : Type 0 where
-  pub graph : IsPartiallyLinked g
-  pub begins : CanIncludeAll home g world includes
-  pub finishes : ((j : ℕ) → IsAcceptedAt home g world includes j) → CanBeLinked (with_several home g world includes)
+pub record CanBeAdded (home : ℕ) (g : Graph) (world : World) (includes : List WorldInclude) : Type 0
+  where
+    pub graph : IsPartiallyLinked g
+    pub begins : CanIncludeAll home g world includes
+    pub finishes : ((j : ℕ) → IsAcceptedAt home g world includes j)
+        → CanBeLinked (with_several home g world includes)
 
 -- no interface comes twice under its own key
 abbrev pub ComeOnce : List Entry → Type 0
-ComeOnce brought = (i j n : ℕ) (v w : WorldItem) → slice_get brought i ≡ Some (key.Interface n, v) → slice_get brought j ≡ Some (key.Interface n, w) → i ≡ j
+ComeOnce brought =
+    (i j n : ℕ) (v w : WorldItem) → slice_get brought i ≡ Some (key.Interface n, v)
+    → slice_get brought j ≡ Some (key.Interface n, w) → i ≡ j
 
 -- under the key of interface i stands an interface with this stability
 abbrev pub StandsWith : List Entry → ℕ → Stability → Type 0
 StandsWith entries i stability =
-    (id : ℕ) × (docs : Docs) × (place : OptionalSpan) × (external_id : Option (List ℕ)) × Contains entries (key.Interface i, item.Interface id stability docs place external_id)
+    (id : ℕ) × (docs : Docs) × (place : OptionalSpan) × (external_id : Option (List ℕ))
+    × Contains entries (key.Interface i, item.Interface id stability docs place external_id)
 
 -- the stabilities of an interface that is there and comes again disagree; `other` tells whether it comes from a world
 -- of another package, whose `@since` says nothing here
@@ -212,13 +241,17 @@ ItemsAgree other from into = Unit {0}
 -- the error of two items whose stabilities disagree
 abbrev pub IsItemError : Bool → OptionalSpan → WorldItem → WorldItem → ResolveErrorKind → Type 0
 IsItemError other span (item.Interface i from docs place external_id) (item.Interface i' into docs' place' external_id') kind =
-    (kind ≡ StabilityMismatch span from into) × Disagree from into × (include_stability other from into ≡ from)
+    (kind ≡ StabilityMismatch span from into) × Disagree from into
+    × (include_stability other from into ≡ from)
 IsItemError other span from into kind = ⊥
 
 -- `IsJoinCause` of a list and of copies that are brought to it
 pub data IsJoinError (other : Bool) (span : OptionalSpan) (word : List ℕ) (current brought : List Entry) : ResolveErrorKind → Type 0 where
-  item_shadowing_7 : (name : List ℕ) → IsShadowed current (keys_of brought) name → IsJoinError other span word current brought (ItemShadowing span word name)
-  stability_mismatch_8 : (brings has : Stability) → StabilitiesDiffer other current brought brings has → IsJoinError other span word current brought (StabilityMismatch span brings has)
+  item_shadowing_7 : (name : List ℕ) → IsShadowed current (keys_of brought) name
+      → IsJoinError other span word current brought (ItemShadowing span word name)
+  stability_mismatch_8 : (brings has : Stability)
+      → StabilitiesDiffer other current brought brings has
+      → IsJoinError other span word current brought (StabilityMismatch span brings has)
 
 -- no cause holds against joining them
 pub record JoinIsAccepted (other : Bool) (span : OptionalSpan) (word : List ℕ) (current brought : List Entry) : Type 0 where

@@ -44,12 +44,16 @@ use Rattle.wit_link_spec.specs.steps.Parts.{some_active, function_is_active, inc
 -- interface i is the package's own and its gate is active
 abbrev pub own_interface_flag : Features → UnresolvedPackage → ℕ → Bool
 own_interface_flag features u i =
-    not (is_foreign_interface u i) && option_map_or (λ (interface : Interface). is_active features interface.stability) (slice_get u.interfaces i) false
+    not (is_foreign_interface u i)
+    && option_map_or (λ (interface : Interface). is_active features interface.stability)
+    (slice_get u.interfaces i) false
 
 -- so is world w
 abbrev pub own_world_flag : Features → UnresolvedPackage → ℕ → Bool
 own_world_flag features u w =
-    not (is_foreign_world u w) && option_map_or (λ (world : World). is_active features world.stability) (slice_get u.worlds w) false
+    not (is_foreign_world u w)
+    && option_map_or (λ (world : World). is_active features world.stability)
+    (slice_get u.worlds w) false
 
 -- what is active where nothing that is named of other packages is
 abbrev pub own_activity : Features → UnresolvedPackage → Activity
@@ -66,7 +70,8 @@ HasFlag activity (named.World id) = id < length activity.worlds
 
 -- the item is active
 abbrev pub with_item : Activity → AstItem → Activity
-with_item activity (named.Interface id) = record activity { interfaces = slice_set activity.interfaces id true }
+with_item activity (named.Interface id) =
+    record activity { interfaces = slice_set activity.interfaces id true }
 with_item activity (named.World id) = record activity { worlds = slice_set activity.worlds id true }
 
 -- the item is thing i of its sort, and is named under an active gate
@@ -74,15 +79,18 @@ abbrev pub is_marked : Features → (AstItem → List ℕ) → ℕ → ForeignIt
 is_marked features id i item = list_any (nat_eq i) (id item.1.0) && some_active features item.1.1
 
 -- flags are as before, and set for what is named under an active gate
-abbrev pub AreNamedFlags : Features → (AstItem → List ℕ) → List ForeignItem → List Bool → List Bool → Type 0
+abbrev pub AreNamedFlags : Features → (AstItem → List ℕ) → List ForeignItem → List Bool → List Bool
+    → Type 0
 AreNamedFlags features id items old new =
     (length new ≡ length old)
-    × ((i : ℕ) (flag : Bool) → slice_get old i ≡ Some flag → slice_get new i ≡ Some (flag || list_any (is_marked features id i) items))
+    × ((i : ℕ) (flag : Bool) → slice_get old i ≡ Some flag
+    → slice_get new i ≡ Some (flag || list_any (is_marked features id i) items))
 
-pub record IsMarked (features : Features) (items : List ForeignItem) (old new : Activity) : Type 0 where
-  pub types : new.types ≡ old.types
-  pub interfaces : AreNamedFlags features interface_id items old.interfaces new.interfaces
-  pub worlds : AreNamedFlags features world_id items old.worlds new.worlds
+pub record IsMarked (features : Features) (items : List ForeignItem) (old new : Activity) : Type 0
+  where
+    pub types : new.types ≡ old.types
+    pub interfaces : AreNamedFlags features interface_id items old.interfaces new.interfaces
+    pub worlds : AreNamedFlags features world_id items old.worlds new.worlds
 
 -- ---- the checker
 
@@ -103,7 +111,8 @@ MayRefuse checker kind = (kind ≡ OutOfMemory) ⊎ IsAdditionCause (seen checke
 
 -- the gate is asked, there
 abbrev pub Asks : Checker → Stability → OptionalSpan → Type 0
-Asks checker note place = IsAsked checker.addition.features.now checker.addition.unresolved.now note place
+Asks checker note place =
+    IsAsked checker.addition.features.now checker.addition.unresolved.now note place
 
 -- a package of this version, or of none, has what came with another one
 abbrev pub HasReached : Option Parts → Parts → Type 0
@@ -113,16 +122,19 @@ HasReached (Some version) since = version_cmp version since ≢ Less
 -- the package meets the gate
 abbrev pub IsMet : Checker → Stability → Type 0
 IsMet checker Unknown = Unit {0}
-IsMet checker (Stable since deprecated) = HasReached checker.addition.unresolved.now.name.version since
+IsMet checker (Stable since deprecated) =
+    HasReached checker.addition.unresolved.now.name.version since
 IsMet checker (Unstable feature deprecated) = Unit {0}
 
 -- the gate of an entry, where it has one of its own, is asked
 abbrev pub AsksItem : Checker → WorldItem → Type 0
-AsksItem checker item = (note : Stability) (place : OptionalSpan) → HasOwnGate item note place → Asks checker note place
+AsksItem checker item =
+    (note : Stability) (place : OptionalSpan) → HasOwnGate item note place → Asks checker note place
 
 -- the package meets it
 abbrev pub MeetsItem : Checker → WorldItem → Type 0
-MeetsItem checker item = (note : Stability) (place : OptionalSpan) → HasOwnGate item note place → IsMet checker note
+MeetsItem checker item =
+    (note : Stability) (place : OptionalSpan) → HasOwnGate item note place → IsMet checker note
 
 -- the item is there
 abbrev pub IsThere : Checker → AstItem → Type 0
@@ -131,17 +143,22 @@ IsThere checker (named.World id) = id < length checker.addition.unresolved.now.w
 
 -- the item is at that place
 abbrev pub IsAt : Checker → AstItem → OptionalSpan → Type 0
-IsAt checker (named.Interface id) place = SomeAt checker.addition.unresolved.now.interfaces id (λ (interface : Interface). place ≡ interface.span)
-IsAt checker (named.World id) place = SomeAt checker.addition.unresolved.now.worlds id (λ (world : World). place ≡ world.span)
+IsAt checker (named.Interface id) place =
+    SomeAt checker.addition.unresolved.now.interfaces id
+    (λ (interface : Interface). place ≡ interface.span)
+IsAt checker (named.World id) place =
+    SomeAt checker.addition.unresolved.now.worlds id (λ (world : World). place ≡ world.span)
 
 -- the package meets those gates of a foreign item that are asked
 abbrev pub MeetsForeign : Checker → ForeignItem → Type 0
-MeetsForeign checker item = Each (IsMet checker) (asked_gates checker.addition.features.now item.1.1)
+MeetsForeign checker item =
+    Each (IsMet checker) (asked_gates checker.addition.features.now item.1.1)
 
 -- the package meets the gates of the functions of an interface that is active
 abbrev pub MeetsFunctions : Checker → ℕ → Interface → Type 0
 MeetsFunctions checker i interface =
-    interface_is_active checker.addition.features.now checker.addition.unresolved.now i ≡ true → Each (λ (e : List ℕ × Function). IsMet checker e.1.stability) interface.functions
+    interface_is_active checker.addition.features.now checker.addition.unresolved.now i ≡ true
+    → Each (λ (e : List ℕ × Function). IsMet checker e.1.stability) interface.functions
 
 -- the package meets the gates of the parts of a world that is active
 pub record PartsAreMet (checker : Checker) (world : World) : Type 0 where
@@ -150,7 +167,9 @@ pub record PartsAreMet (checker : Checker) (world : World) : Type 0 where
   pub includes : Each (λ (i : WorldInclude). IsMet checker i.stability) world.includes
 
 abbrev pub MeetsParts : Checker → ℕ → World → Type 0
-MeetsParts checker w world = world_is_active checker.addition.features.now checker.addition.unresolved.now w ≡ true → PartsAreMet checker world
+MeetsParts checker w world =
+    world_is_active checker.addition.features.now checker.addition.unresolved.now w ≡ true
+    → PartsAreMet checker world
 
 -- a thing that is needed, as reasons speak of it
 abbrev pub thing_of : Needed → Thing
@@ -178,15 +197,20 @@ IsReferred checker thing place = RefersTo (seen checker) thing place
 pub record IsActiveType (checker : Checker) (def : TypeDef) : Type 0 where
   pub t : ℕ
   pub at : slice_get checker.addition.unresolved.now.types t ≡ Some def
-  pub active : type_is_active checker.addition.features.now checker.addition.unresolved.now.types t ≡ true
+  pub active : type_is_active checker.addition.features.now checker.addition.unresolved.now.types t
+      ≡ true
 
 -- what its kind names is referred to
 abbrev pub KindRefers : Checker → TypeDef → Type 0
-KindRefers checker def = (t : ℕ) (place : OptionalSpan) → Contains (kind_references def.kind def.span) (t, place) → IsReferred checker (AType t) place
+KindRefers checker def =
+    (t : ℕ) (place : OptionalSpan) → Contains (kind_references def.kind def.span) (t, place)
+    → IsReferred checker (AType t) place
 
 -- and is not left out
 abbrev pub KindStays : Checker → TypeDef → Type 0
-KindStays checker def = (t : ℕ) (place : OptionalSpan) → Contains (kind_references def.kind def.span) (t, place) → Stays checker (AType t)
+KindStays checker def =
+    (t : ℕ) (place : OptionalSpan) → Contains (kind_references def.kind def.span) (t, place)
+    → Stays checker (AType t)
 
 -- the interface of a foreign type is not left out
 abbrev pub ForeignStays : Checker → TypeDef → Type 0
@@ -203,11 +227,14 @@ pub record TypeStays (checker : Checker) (def : TypeDef) : Type 0 where
   pub own : def.kind ≢ kind.Unknown → OwnerStays checker def
 
 abbrev pub TypesStay : Checker → ℕ → TypeDef → Type 0
-TypesStay checker t def = type_is_active checker.addition.features.now checker.addition.unresolved.now.types t ≡ true → TypeStays checker def
+TypesStay checker t def =
+    type_is_active checker.addition.features.now checker.addition.unresolved.now.types t ≡ true
+    → TypeStays checker def
 
 -- what a field names is referred to
 abbrev pub RefersInField : Checker → Field → Type 0
-RefersInField checker field = (t : ℕ) → Contains (named_type field.ty) t → IsReferred checker (AType t) field.span
+RefersInField checker field =
+    (t : ℕ) → Contains (named_type field.ty) t → IsReferred checker (AType t) field.span
 
 -- and is not left out
 abbrev pub FieldStays : Checker → Field → Type 0
@@ -217,17 +244,20 @@ FieldStays checker field = (t : ℕ) → Contains (named_type field.ty) t → St
 
 -- the function is active where its gate lets it
 abbrev pub MayBeActive : Checker → Function → Type 0
-MayBeActive checker f = function_is_active checker.addition.features.now f ≡ true → IsActiveFunction (seen checker) f
+MayBeActive checker f =
+    function_is_active checker.addition.features.now f ≡ true → IsActiveFunction (seen checker) f
 
 -- what it needs is not left out where it is active
 abbrev pub FunctionStays : Checker → Function → Type 0
 FunctionStays checker f =
-    function_is_active checker.addition.features.now f ≡ true → Each (λ t. Stays checker (AType t)) (function_references f)
+    function_is_active checker.addition.features.now f ≡ true
+    → Each (λ t. Stays checker (AType t)) (function_references f)
 
 -- an entry refers to what it holds where its gate lets it
 abbrev pub RefersByItem : Checker → WorldItem → Type 0
 RefersByItem checker (item.Interface id stability docs span external_id) =
-    is_active checker.addition.features.now stability ≡ true → IsReferred checker (AnInterface id) span
+    is_active checker.addition.features.now stability ≡ true
+    → IsReferred checker (AnInterface id) span
 RefersByItem checker (item.Function f) = MayBeActive checker f
 RefersByItem checker (item.Type_ id span) = Unit {0}
 
@@ -240,18 +270,22 @@ ItemStays checker (item.Type_ id span) = Unit {0}
 
 -- an include refers to its world where its gate lets it
 abbrev pub RefersByInclude : Checker → WorldInclude → Type 0
-RefersByInclude checker i = include_is_active checker.addition.features.now i ≡ true → IsReferred checker (AWorld i.id) i.span
+RefersByInclude checker i =
+    include_is_active checker.addition.features.now i ≡ true
+    → IsReferred checker (AWorld i.id) i.span
 
 -- and that is not left out
 abbrev pub IncludeStays : Checker → WorldInclude → Type 0
-IncludeStays checker i = include_is_active checker.addition.features.now i ≡ true → Stays checker (AWorld i.id)
+IncludeStays checker i =
+    include_is_active checker.addition.features.now i ≡ true → Stays checker (AWorld i.id)
 
 -- ---- interfaces and worlds
 
 -- what the functions of an interface that is active need is not left out
 abbrev pub FunctionsStay : Checker → ℕ → Interface → Type 0
 FunctionsStay checker i interface =
-    interface_is_active checker.addition.features.now checker.addition.unresolved.now i ≡ true → Each (λ (e : List ℕ × Function). FunctionStays checker e.1) interface.functions
+    interface_is_active checker.addition.features.now checker.addition.unresolved.now i ≡ true
+    → Each (λ (e : List ℕ × Function). FunctionStays checker e.1) interface.functions
 
 -- what the parts of a world need is not left out
 pub record PartsAreAccepted (checker : Checker) (world : World) : Type 0 where
@@ -260,4 +294,6 @@ pub record PartsAreAccepted (checker : Checker) (world : World) : Type 0 where
   pub includes : Each (IncludeStays checker) world.includes
 
 abbrev pub PartsStay : Checker → ℕ → World → Type 0
-PartsStay checker w world = world_is_active checker.addition.features.now checker.addition.unresolved.now w ≡ true → PartsAreAccepted checker world
+PartsStay checker w world =
+    world_is_active checker.addition.features.now checker.addition.unresolved.now w ≡ true
+    → PartsAreAccepted checker world

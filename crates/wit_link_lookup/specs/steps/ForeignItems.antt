@@ -68,7 +68,9 @@ pub record IsHome (a : Addition) (place : ℕ) (name : PackageName) (items : Lis
 
 -- none of the first n packages of which something is named is missing
 abbrev pub ArePackagesThere : Addition → ℕ → Type 0
-ArePackagesThere a n = (span : OptionalSpan) (requested : PackageName) (known : List PackageName) (lacks : LacksPackage a span requested known) → lacks.at < n → ⊥
+ArePackagesThere a n =
+    (span : OptionalSpan) (requested : PackageName) (known : List PackageName)
+    (lacks : LacksPackage a span requested known) → lacks.at < n → ⊥
 
 -- this item is named of a package that is there
 pub record NamesItem (a : Addition) (name : PackageName) (home : Option ℕ) (requested : List ℕ) (it : AstItem) : Type 0 where
@@ -80,7 +82,9 @@ pub record NamesItem (a : Addition) (name : PackageName) (home : Option ℕ) (re
 
 -- of these items none is missing that is active
 abbrev pub AreThere : Addition → List NamedItem → Type 0
-AreThere a named = (e : NamedItem) → Contains named e → named_is_active a e.2.1.0 ≡ true → found_item a e ≡ None → ⊥
+AreThere a named =
+    (e : NamedItem) → Contains named e → named_is_active a e.2.1.0 ≡ true → found_item a e ≡ None
+    → ⊥
 
 -- a look-up in a graph, to which a package of a name is added: of a name in the package of a name
 abbrev pub Lookup : Type 0
@@ -88,13 +92,18 @@ Lookup = Graph → PackageName → PackageName → List ℕ → Option ℕ
 
 -- where the first of these items is that has this id, by the ids and the look-up of its sort
 abbrev pub first_among : (AstItem → List ℕ) → Lookup → Addition → List NamedItem → ℕ → Option ℕ
-first_among ids look_up a named id = option_and_then (λ (e : NamedItem). look_up a.graph a.unresolved.name e.1 e.2.0) (find (λ (e : NamedItem). list_any (nat_eq id) (ids e.2.1.0)) named)
+first_among ids look_up a named id =
+    option_and_then (λ (e : NamedItem). look_up a.graph a.unresolved.name e.1 e.2.0)
+    (find (λ (e : NamedItem). list_any (nat_eq id) (ids e.2.1.0)) named)
 
 -- where the graph has the interfaces and worlds of a package, as far as these items tell
 abbrev pub found_among : Addition → List NamedItem → Found
 found_among a named = record {
-  interfaces = map (first_among interface_id find_interface a named) (range_with_len 0 (length a.unresolved.interfaces));
-  worlds = map (first_among world_id find_world a named) (range_with_len 0 (length a.unresolved.worlds));
+  interfaces =
+      map (first_among interface_id find_interface a named)
+      (range_with_len 0 (length a.unresolved.interfaces));
+  worlds =
+      map (first_among world_id find_world a named) (range_with_len 0 (length a.unresolved.worlds));
 }
 
 -- there is an entry for the item
@@ -104,7 +113,8 @@ HasEntryFor found (item.World w) = w < length found.worlds
 
 -- what is found, with where an item is
 abbrev pub with_item : Found → AstItem → Option ℕ → Found
-with_item found (item.Interface i) there = record found { interfaces = slice_set found.interfaces i there }
+with_item found (item.Interface i) there =
+    record found { interfaces = slice_set found.interfaces i there }
 with_item found (item.World w) there = record found { worlds = slice_set found.worlds w there }
 
 -- ---- what things are remapped to
@@ -123,12 +133,17 @@ has_new_id active found = active && is_none found
 abbrev pub assigned_ids : ℕ → List Bool → List (Option ℕ) → List (Option ℕ)
 assigned_ids next [] found = []
 assigned_ids next (b ∷ active) [] = []
-assigned_ids next (b ∷ active) (o ∷ found) = goes b o next ∷ assigned_ids (after (has_new_id b o) next) active found
+assigned_ids next (b ∷ active) (o ∷ found) =
+    goes b o next ∷ assigned_ids (after (has_new_id b o) next) active found
 
 -- type t isn't missing
 abbrev pub IsTypeThere : Addition → ℕ → Type 0
-IsTypeThere a t = (span : OptionalSpan) (message : List ℕ) (lacks : ForeignTypeMissing a span message) → lacks.t ≡ t → ⊥
+IsTypeThere a t =
+    (span : OptionalSpan) (message : List ℕ) (lacks : ForeignTypeMissing a span message)
+    → lacks.t ≡ t → ⊥
 
 -- none of the first n types is missing
 abbrev pub AreTypesThere : Addition → ℕ → Type 0
-AreTypesThere a n = (span : OptionalSpan) (message : List ℕ) (lacks : ForeignTypeMissing a span message) → lacks.t < n → ⊥
+AreTypesThere a n =
+    (span : OptionalSpan) (message : List ℕ) (lacks : ForeignTypeMissing a span message)
+    → lacks.t < n → ⊥

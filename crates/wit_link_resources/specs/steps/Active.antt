@@ -36,18 +36,22 @@ active_entries features entries = flat_map (λ (e : Entry). active_item features
 abbrev pub interface_functions : Addition → ℕ → List Function
 interface_functions a i =
     if interface_is_active a.features a.unresolved i
-    then option_map_or (λ (interface : Interface). active_named a.features interface.functions) (slice_get a.unresolved.interfaces i) [] else []
+    then option_map_or (λ (interface : Interface). active_named a.features interface.functions)
+    (slice_get a.unresolved.interfaces i) [] else []
 
 -- those of world w, where it is active
 abbrev pub world_functions : Addition → ℕ → List Function
 world_functions a w =
     if world_is_active a.features a.unresolved w
-    then option_map_or (λ (world : World). active_entries a.features world.imports ++ active_entries a.features world.exports) (slice_get a.unresolved.worlds w) [] else []
+    then option_map_or (λ (world : World).
+    active_entries a.features world.imports ++ active_entries a.features world.exports)
+    (slice_get a.unresolved.worlds w) [] else []
 
 -- all that are active
 abbrev pub active_functions : Addition → List Function
 active_functions a =
-    flat_map (interface_functions a) (range_with_len 0 (length a.unresolved.interfaces)) ++ flat_map (world_functions a) (range_with_len 0 (length a.unresolved.worlds))
+    flat_map (interface_functions a) (range_with_len 0 (length a.unresolved.interfaces))
+    ++ flat_map (world_functions a) (range_with_len 0 (length a.unresolved.worlds))
 
 -- functions that are looked at
 abbrev pub seen : List (Bor Function) → List Function

@@ -23,7 +23,10 @@ pub record AreFree (rows : List (List ℕ)) (Bad : ℕ → Type 0) (ids : List �
 
 -- type t of the package is a borrow, or goes to a type of the graph that holds one
 abbrev pub IsBorrowThere : Addition → ℕ → Type 0
-IsBorrowThere a t = IsBorrow a.unresolved.types t ⊎ ((t' : ℕ) × (type_is_active a.features a.unresolved.types t ≡ true) × (foreign_type_id a.graph a.unresolved t ≡ Some t') × HoldsBorrow a.graph.types t')
+IsBorrowThere a t =
+    IsBorrow a.unresolved.types t
+    ⊎ ((t' : ℕ) × (type_is_active a.features a.unresolved.types t ≡ true)
+    × (foreign_type_id a.graph a.unresolved t ≡ Some t') × HoldsBorrow a.graph.types t')
 
 -- these types of the graph hold no borrow
 abbrev pub AreFreeTypes : List TypeDef → List ℕ → Type 0
@@ -40,4 +43,6 @@ ReturnsNone a f = (t : ℕ) → Contains (named_option f.result_) t → MayHoldB
 -- a message at a place that moves by an offset, or that the place would pass the end
 abbrev pub IsErrorAtSpan : OptionalSpan → ℕ → List ℕ → Cause → ResolveErrorKind → Type 0
 IsErrorAtSpan place offset message cause kind =
-    ((kind ≡ OffsetOverflow) × ((range : ℕ × ℕ) × (place ≡ Some range) × (2 ^ 32 ≤ range.1 + offset))) ⊎ (kind ≡ Semantic (moved_by offset place) message cause)
+    ((kind ≡ OffsetOverflow)
+    × ((range : ℕ × ℕ) × (place ≡ Some range) × (2 ^ 32 ≤ range.1 + offset)))
+    ⊎ (kind ≡ Semantic (moved_by offset place) message cause)

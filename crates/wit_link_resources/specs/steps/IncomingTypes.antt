@@ -32,8 +32,10 @@ pub record CanCome (old types : List TypeDef) (new_ids : List (Option ℕ)) : Ty
   pub old_acyclic : IsAcyclic (type_references old)
   pub acyclic : IsAcyclic (type_references types)
   pub long : length new_ids ≡ length types
-  pub next : (t t' : ℕ) → slice_get new_ids t ≡ Some (Some t') → (t' < length old) ⊎ (t' ≡ length old + rank (is_new (length old) new_ids) t)
-  pub aliases : (t u : ℕ) (def : TypeDef) → is_new (length old) new_ids t ≡ true → slice_get types t ≡ Some def → alias_target def.kind ≡ Some u → IsRemapped new_ids u
+  pub next : (t t' : ℕ) → slice_get new_ids t ≡ Some (Some t')
+      → (t' < length old) ⊎ (t' ≡ length old + rank (is_new (length old) new_ids) t)
+  pub aliases : (t u : ℕ) (def : TypeDef) → is_new (length old) new_ids t ≡ true
+      → slice_get types t ≡ Some def → alias_target def.kind ≡ Some u → IsRemapped new_ids u
 
 abbrev pub CanComeIn : Incoming → Type 0
 CanComeIn s = CanCome s.graph_types.now s.types.now s.ids.now
@@ -42,7 +44,9 @@ CanComeIn s = CanCome s.graph_types.now s.types.now s.ids.now
 
 -- the types at those of new types and of functions
 abbrev pub positions_of : Incoming → List Function → List ℕ
-positions_of s functions = flat_map (λ (def : TypeDef). value_positions def.kind) (selected (new_of s) s.types.now) ++ flat_map signature_types functions
+positions_of s functions =
+    flat_map (λ (def : TypeDef). value_positions def.kind) (selected (new_of s) s.types.now)
+    ++ flat_map signature_types functions
 
 -- ---- the remap
 
@@ -69,12 +73,17 @@ leads_in r t = leads_to_resource (types_without_owns r) (r.ids.types t)
 
 -- what is known of types is so
 abbrev pub AreTold : ValueRemap → List (Option Bool) → Type 0
-AreTold r known = (t : ℕ) (answer : Bool) → slice_get known t ≡ Some (Some answer) → leads_in r t ≡ answer
+AreTold r known =
+    (t : ℕ) (answer : Bool) → slice_get known t ≡ Some (Some answer) → leads_in r t ≡ answer
 
 -- nothing is known of type t, which is new and names type u as an alias
 abbrev pub NamesNext : Incoming → List (Option Bool) → ℕ → ℕ → Type 0
-NamesNext s known t u = (slice_get known t ≡ Some None) × (new_of s t ≡ true) × ((def : TypeDef) × (slice_get s.types.now t ≡ Some def) × (alias_target def.kind ≡ Some u))
+NamesNext s known t u =
+    (slice_get known t ≡ Some None) × (new_of s t ≡ true)
+    × ((def : TypeDef) × (slice_get s.types.now t ≡ Some def) × (alias_target def.kind ≡ Some u))
 
 -- if nothing is known of type t and it is new, it is no alias
 abbrev pub EndsWay : Incoming → List (Option Bool) → ℕ → Type 0
-EndsWay s known t = slice_get known t ≡ Some None → new_of s t ≡ true → (def : TypeDef) → slice_get s.types.now t ≡ Some def → alias_target def.kind ≡ None
+EndsWay s known t =
+    slice_get known t ≡ Some None → new_of s t ≡ true → (def : TypeDef)
+    → slice_get s.types.now t ≡ Some def → alias_target def.kind ≡ None

@@ -124,7 +124,10 @@ module _ (a : Addition) (valid : IsValid a.graph) (shaped : IsShaped a.unresolve
     longer_interfaces = let more = map (interface_image (addition_maps a)) (own_interfaces a) in let long = ap length are.interfaces_are in omega (arith, long, length-append a.graph.interfaces more)
 
     abbrev ListsImages : ℕ → Interface → Interface → Type 0
-    ListsImages k interface new = Each (λ (e : List ℕ × ℕ). (t : ℕ) × Contains interface.types (e.0, t) × ((sources a k).types t ≡ true) × (e.1 ≡ (sources a k).maps.types t)) new.types
+    ListsImages k interface new =
+        Each (λ (e : List ℕ × ℕ).
+        (t : ℕ) × Contains interface.types (e.0, t) × ((sources a k).types t ≡ true)
+        × (e.1 ≡ (sources a k).maps.types t)) new.types
 
     lists_images : (k f : ℕ) (interface : Interface) → slice_get (sources a k).graph.interfaces f ≡ Some interface → (sources a k).interfaces f ≡ true → length a.graph.interfaces ≤ (sources a k).maps.interfaces f
         → SomeAt interfaces ((sources a k).maps.interfaces f) (ListsImages k interface)

@@ -30,7 +30,8 @@ use Rattle.wit_elaboration.specs.steps.Parts.{type_role}
 
 -- the interface that what an alias names belongs to, where that isn't its own owner
 abbrev pub named_dep : List TypeDef → TypeOwner → ℕ → Option ℕ
-named_dep types by target = option_and_then (λ (named : TypeDef). other_owner by named.owner) (slice_get types target)
+named_dep types by target =
+    option_and_then (λ (named : TypeDef). other_owner by named.owner) (slice_get types target)
 
 pub dep_of : (types : List TypeDef) (id : ℕ) (def : TypeDef) → slice_get types id ≡ Some def → type_interface_dep types id ≡ option_and_then (named_dep types def.owner) (alias_target def.kind)
 dep_of types id def at = ap (λ (o : Option TypeDef). option_and_then (λ (d : TypeDef). option_and_then (named_dep types d.owner) (alias_target d.kind)) o) at

@@ -43,7 +43,8 @@ is_mentioned g world t = list_any (nat_eq t) (named_types g world)
 
 -- has interface f a name?
 abbrev pub has_name : List Interface → ℕ → Bool
-has_name interfaces f = option_map_or (λ (interface : Interface). is_some interface.name) (slice_get interfaces f) false
+has_name interfaces f =
+    option_map_or (λ (interface : Interface). is_some interface.name) (slice_get interfaces f) false
 
 -- an entry that is a type is mentioned where the type is
 abbrev pub item_mentioned : Graph → World → WorldItem → Bool

@@ -43,8 +43,10 @@ use Rattle.wit_link_spec.specs.steps.Parts.{interface_copy}
 
 -- nothing is shadowed
 pub record IsUnshadowed (g : Graph) (i : Including g) : Type 0 where
-  pub imports : (n : List ℕ) → IsShadowed i.host.imports (map (λ (e : Entry). renamed_key i.names e.0) i.old.imports) n → ⊥
-  pub exports : (n : List ℕ) → IsShadowed i.host.exports (map (λ (e : Entry). renamed_key i.names e.0) i.old.exports) n → ⊥
+  pub imports : (n : List ℕ)
+      → IsShadowed i.host.imports (map (λ (e : Entry). renamed_key i.names e.0) i.old.imports) n → ⊥
+  pub exports : (n : List ℕ)
+      → IsShadowed i.host.exports (map (λ (e : Entry). renamed_key i.names e.0) i.old.exports) n → ⊥
 
 -- a type that is there stays as it is where a list is joined
 joined_type : (other : Bool) (brought : List Entry) (e : Entry) (name : List ℕ) (t : ℕ) → ListsType e name t → joined_entry other brought e ≡ e

@@ -105,7 +105,9 @@ module _ (laws : LawsOfElaboration) (g : Graph) (stands : IsSoundSoFar g) (into 
       Contains-flat_map (λ (x : Entry). entry_type x.0 x.1) done.imports type_entry e import (Contains-here e [])
 
   abbrev Stays : World → World → Type 0
-  Stays world there = (there.package ≡ world.package) × ((e : List ℕ × ℕ) → Contains (world_types world) e → Contains (world_types there) e)
+  Stays world there =
+      (there.package ≡ world.package)
+      × ((e : List ℕ × ℕ) → Contains (world_types world) e → Contains (world_types there) e)
 
   world_stays : (w : ℕ) (world : World) → slice_get g.worlds w ≡ Some world → SomeAt worlds w (λ (there : World). (there.package ≡ world.package) × ((e : List ℕ × ℕ) → Contains (world_types world) e → Contains (world_types there) e))
   world_stays w world at = elim (cases_Bool (nat_eq w into)) [

@@ -32,11 +32,13 @@ pub record IsGrown (a : Addition) (count : ℕ) (new : Graph) : Type 0 where
   pub interfaces_are : new.interfaces ≡ (with_parts a).interfaces ++ interfaces
   pub copies : Each (IsCopy (length a.graph.packages)) interfaces
   pub packages_are : new.packages ≡ a.graph.packages ++ new_package a ∷ []
-  pub names_are : new.package_names ≡ a.graph.package_names ++ (a.unresolved.name, length a.graph.packages) ∷ []
+  pub names_are : new.package_names
+      ≡ a.graph.package_names ++ (a.unresolved.name, length a.graph.packages) ∷ []
   pub done : List World
   pub worlds_are : new.worlds ≡ a.graph.worlds ++ done
   pub many : length done ≡ count
-  pub called : (i : ℕ) (e : ℕ × World) → i < count → slice_get (own_worlds a) i ≡ Some e → SomeAt done i (IsCalled a e)
+  pub called : (i : ℕ) (e : ℕ × World) → i < count → slice_get (own_worlds a) i ≡ Some e
+      → SomeAt done i (IsCalled a e)
 
 module _ (a : Addition) where
   grown_next : (k : ℕ) (e : ℕ × World) → slice_get (own_worlds a) k ≡ Some e → IsGrown a k (with_worlds a k) → IsGrown a (suc k) (with_world a (with_worlds a k) e)
@@ -90,7 +92,9 @@ module _ (a : Addition) where
 
   module _ (count : ℕ) (new : Graph) (are : IsGrown a count new) where
     abbrev pub more_types : List TypeDef
-    more_types = (map (type_image (addition_maps a)) (own_types a) ++ owns (remap_of_addition a)) ++ are.types
+    more_types =
+        (map (type_image (addition_maps a)) (own_types a) ++ owns (remap_of_addition a))
+        ++ are.types
 
     abbrev pub more_interfaces : List Interface
     more_interfaces = map (interface_image (addition_maps a)) (own_interfaces a) ++ are.interfaces

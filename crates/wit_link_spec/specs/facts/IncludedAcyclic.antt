@@ -81,7 +81,10 @@ module _ (g : Graph) (stands : IsSoundSoFar g) (i : Including g) (new : Graph) (
   uses_rank b f = length (post_order (uses_of g.types g.interfaces) f)
 
   abbrev ListsImages : Bool → Interface → Interface → Type 0
-  ListsImages b one there = Each (λ (e : List ℕ × ℕ). (t : ℕ) × Contains one.types (e.0, t) × ((sources g stands i b).types t ≡ true) × (e.1 ≡ (sources g stands i b).maps.types t)) there.types
+  ListsImages b one there =
+      Each (λ (e : List ℕ × ℕ).
+      (t : ℕ) × Contains one.types (e.0, t) × ((sources g stands i b).types t ≡ true)
+      × (e.1 ≡ (sources g stands i b).maps.types t)) there.types
 
   going : (f : ℕ) (one : Interface) → slice_get g.interfaces f ≡ Some one → length g.interfaces ≤ interface_copy g i.old f → belongs_to g i.old f ≡ true
   going f one at past = behind_goes g stands i f (slice_get_within g.interfaces f one at) past

@@ -42,7 +42,10 @@ joined_world g i = record i.host { imports = joined_imports g i; exports = joine
 
 -- the graph behind it: copies at the ends, and the world that includes with joined lists
 pub record IsIncluded (g : Graph) (i : Including g) (new : Graph) : Type 0 where
-  pub types_are : new.types ≡ g.types ++ map (type_image (maps g i)) (selected (is_copied g i.from i.old) g.types)
-  pub interfaces_are : new.interfaces ≡ g.interfaces ++ map (interface_image (maps g i)) (selected (belongs_to g i.old) g.interfaces)
+  pub types_are : new.types
+      ≡ g.types ++ map (type_image (maps g i)) (selected (is_copied g i.from i.old) g.types)
+  pub interfaces_are : new.interfaces
+      ≡ g.interfaces
+      ++ map (interface_image (maps g i)) (selected (belongs_to g i.old) g.interfaces)
   pub joined_at : slice_get new.worlds i.into ≡ Some (joined_world g i)
   pub others : (w : ℕ) → (w ≡ i.into → ⊥) → slice_get new.worlds w ≡ slice_get g.worlds w

@@ -46,8 +46,10 @@ new_labelled false n held = refl
 pub record JoinsList (g : Graph) (i : Including g) (current entries : List Entry) : Type 0 where
   pub distinct_current : HasDistinctKeys current
   pub distinct_entries : HasDistinctKeys entries
-  pub named : (e : Entry) (f : ℕ) → Contains entries e → e.0 ≡ key.Interface f → IsNamed g.interfaces f
-  pub unshadowed : (n : List ℕ) → IsShadowed current (map (λ (e : Entry). renamed_key i.names e.0) entries) n → ⊥
+  pub named : (e : Entry) (f : ℕ) → Contains entries e → e.0 ≡ key.Interface f
+      → IsNamed g.interfaces f
+  pub unshadowed : (n : List ℕ)
+      → IsShadowed current (map (λ (e : Entry). renamed_key i.names e.0) entries) n → ⊥
 
 module _ (g : Graph) (stands : IsSoundSoFar g) (i : Including g) (current entries : List Entry) (joins : JoinsList g i current entries) where
   -- the key under which an entry is brought

@@ -100,7 +100,12 @@ pub record TableEntry (a : Addition) (j : ℕ) (e : List ℕ × ℕ) : Type 0 wh
   pub own : own_interface a f ≡ true
   pub name : interface.name ≡ Some e.0
   pub place : remapped_interface a f ≡ e.1
-  pub at : j ≡ length (filter_map (λ (e : ℕ × Interface). option_map (λ (name : List ℕ). let r : List ℕ × ℕ = (name, remapped_interface a e.0) in r) e.1.name) (take (rank (own_interface a) f) (selected_with_index (own_interface a) a.unresolved.interfaces)))
+  pub at : j
+      ≡ length (filter_map (λ (e : ℕ × Interface).
+      option_map
+      (λ (name : List ℕ). let r : List ℕ × ℕ = (name, remapped_interface a e.0) in r)
+      e.1.name) (take (rank (own_interface a) f)
+      (selected_with_index (own_interface a) a.unresolved.interfaces)))
 
 entry_parts : (o : Option (List ℕ)) (id : ℕ) (e : List ℕ × ℕ) → option_map (λ (name : List ℕ). let r : List ℕ × ℕ = (name, id) in r) o ≡ Some e → (o ≡ Some e.0) × (id ≡ e.1)
 entry_parts None id e is = cc

@@ -9,6 +9,10 @@ use Rattle.wit_remap_spec.specs.steps.Parts.{owns}
 use Rattle.wit_link_spec.specs.steps.Parts.{own_types}
 
 -- those of the graph, and behind them the images of the package's own and the `own`s that values ask for
-pub record HasParts (a : Addition) (types : List TypeDef) (interfaces : List Interface) : Type 0 where
-  pub types_are : types ≡ a.graph.types ++ (map (type_image (addition_maps a)) (own_types a) ++ owns (remap_of_addition a))
-  pub interfaces_are : interfaces ≡ a.graph.interfaces ++ map (interface_image (addition_maps a)) (own_interfaces a)
+pub record HasParts (a : Addition) (types : List TypeDef) (interfaces : List Interface) : Type 0
+  where
+    pub types_are : types
+        ≡ a.graph.types
+        ++ (map (type_image (addition_maps a)) (own_types a) ++ owns (remap_of_addition a))
+    pub interfaces_are : interfaces
+        ≡ a.graph.interfaces ++ map (interface_image (addition_maps a)) (own_interfaces a)

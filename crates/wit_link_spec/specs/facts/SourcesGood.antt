@@ -21,7 +21,9 @@ sources a = add_sources (part a) a.graph a.unresolved (addition_maps a)
 
 -- the package as a source
 abbrev pub package_source : Addition → Source
-package_source a = cut_source (part a) a.unresolved.types a.unresolved.interfaces a.unresolved.worlds (addition_maps a)
+package_source a =
+    cut_source (part a) a.unresolved.types a.unresolved.interfaces a.unresolved.worlds
+    (addition_maps a)
 
 -- both are good
 pub sources_good : (a : Addition) → IsValid a.graph → IsShaped a.unresolved → IsResolved a → (k : ℕ) → IsGoodSource (sources a k)

@@ -39,12 +39,18 @@ others_stay (z ∷ xs) ys x y (suc w) apart = others_stay xs ys x y w (λ same. 
 
 -- the stage: `before` stand finished, the world is begun, and behind it stand those to come
 abbrev pub staged : Addition → List World → ℕ → ℕ × World → PartiallyLinked → Graph
-staged a before k e b = record b.graph { worlds = before ++ unfinished_world a e.0 e.1 b.lists ∷ drop (suc k) (listed_images a) }
+staged a before k e b =
+    record b.graph
+    { worlds = before ++ unfinished_world a e.0 e.1 b.lists ∷ drop (suc k) (listed_images a) }
 
 -- nothing is shadowed where a world comes into what is begun
 pub record IsFree (b : PartiallyLinked) (include : WorldInclude) (old : World) : Type 0 where
-  pub imports : (n : List ℕ) → IsShadowed b.lists.imports (map (λ (e : Entry). renamed_key include.names e.0) old.imports) n → ⊥
-  pub exports : (n : List ℕ) → IsShadowed b.lists.exports (map (λ (e : Entry). renamed_key include.names e.0) old.exports) n → ⊥
+  pub imports : (n : List ℕ)
+      → IsShadowed b.lists.imports (map (λ (e : Entry). renamed_key include.names e.0) old.imports)
+      n → ⊥
+  pub exports : (n : List ℕ)
+      → IsShadowed b.lists.exports (map (λ (e : Entry). renamed_key include.names e.0) old.exports)
+      n → ⊥
 
 module _ (a : Addition) (before : List World) (k : ℕ) (e : ℕ × World) (b : PartiallyLinked) (include : WorldInclude) where
   abbrev from : ℕ
@@ -54,7 +60,8 @@ module _ (a : Addition) (before : List World) (k : ℕ) (e : ℕ × World) (b : 
   later = drop (suc k) (listed_images a)
 
   -- a finished world that is included
-  abbrev pub including : (old : World) → slice_get before from ≡ Some old → Including (staged a before k e b)
+  abbrev pub including : (old : World) → slice_get before from ≡ Some old
+      → Including (staged a before k e b)
   including old at = record {
     from = from;
     old = old;

@@ -40,7 +40,8 @@ use Rattle.wit_link_spec.specs.steps.Parts.{before_includes, image_at, with_one,
 
 -- the stage before world k
 abbrev pub stage : Addition → ℕ → Graph
-stage a k = record (with_worlds a k) { worlds = (with_worlds a k).worlds ++ drop k (listed_images a) }
+stage a k =
+    record (with_worlds a k) { worlds = (with_worlds a k).worlds ++ drop k (listed_images a) }
 
 -- ---- one more
 

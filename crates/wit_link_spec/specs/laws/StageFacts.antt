@@ -34,31 +34,45 @@ pub record IsPartiallyLinked (g : Graph) : Type 0 where
 pub record CanInclude (g : Graph) (from : ℕ) (old : World) : Type 0 where
   pub graph : IsPartiallyLinked g
   pub world : IsGoodWorld g.types g.interfaces from old
-  pub apart : (t r : ℕ) (def : TypeDef) → slice_get g.types t ≡ Some def → IsSome def.name → is_owned_within g from old t ≡ false
+  pub apart : (t r : ℕ) (def : TypeDef) → slice_get g.types t ≡ Some def → IsSome def.name
+      → is_owned_within g from old t ≡ false
       → Reaches (type_references g.types) t r → is_owned_within g from old r ≡ false
   pub belonging : (t : ℕ) → is_owned_within g from old t ≡ true → Contains (named_types g old) t
 
 -- before each include that is reached
 abbrev pub IncludesCanBe : Type 0
-IncludesCanBe = (a : Addition) (k j : ℕ) → IsValid a.graph → IsShaped a.unresolved → IncludeIsReached a k j → (at : AtWorld a k) (include : WorldInclude) → slice_get (updated_includes a at.world) j ≡ Some include
-    → (old : World) → slice_get (begun a k j at).graph.worlds include.id ≡ Some old → CanInclude (begun a k j at).graph include.id old
+IncludesCanBe =
+    (a : Addition) (k j : ℕ) → IsValid a.graph → IsShaped a.unresolved → IncludeIsReached a k j
+    → (at : AtWorld a k) (include : WorldInclude)
+    → slice_get (updated_includes a at.world) j ≡ Some include
+    → (old : World) → slice_get (begun a k j at).graph.worlds include.id ≡ Some old
+    → CanInclude (begun a k j at).graph include.id old
 
 -- the world that it names is there: one of the graph, or one of the package that is finished
 abbrev pub IncludedAreThere : Type 0
-IncludedAreThere = (a : Addition) (k j : ℕ) → IsValid a.graph → IsShaped a.unresolved → IncludeIsReached a k j → (at : AtWorld a k) (include : WorldInclude) → slice_get (updated_includes a at.world) j ≡ Some include
+IncludedAreThere =
+    (a : Addition) (k j : ℕ) → IsValid a.graph → IsShaped a.unresolved → IncludeIsReached a k j
+    → (at : AtWorld a k) (include : WorldInclude)
+    → slice_get (updated_includes a at.world) j ≡ Some include
     → (old : World) × (slice_get (begun a k j at).graph.worlds include.id ≡ Some old)
 
 -- what is begun of a world can be finished: the graph is partially linked, and the keys and ids of the lists are in order
 pub record CanBeLinked (b : PartiallyLinked) : Type 0 where
   pub graph : IsPartiallyLinked b.graph
-  pub listed : HasSoundEntries b.graph.types (length b.graph.interfaces) (setters_placed b.lists.imports) (setters_placed b.lists.exports)
+  pub listed : HasSoundEntries b.graph.types (length b.graph.interfaces)
+      (setters_placed b.lists.imports) (setters_placed b.lists.exports)
 
 -- before each world that is reached is finished, where its includes are accepted
 abbrev pub WorldsCanBe : Type 0
-WorldsCanBe = (a : Addition) (k : ℕ) → IsValid a.graph → IsShaped a.unresolved → IsResolved a → IsReached a k → ((j : ℕ) → IncludeIsAccepted a k j) → (at : AtWorld a k)
+WorldsCanBe =
+    (a : Addition) (k : ℕ) → IsValid a.graph → IsShaped a.unresolved → IsResolved a → IsReached a k
+    → ((j : ℕ) → IncludeIsAccepted a k j) → (at : AtWorld a k)
     → CanBeLinked (begun_whole a k at)
 
 -- a valid graph to which a package is added is valid, where the package has its shape and an image in the graph, the
 -- graph doesn't have it yet, and each of its worlds is accepted
 abbrev pub PushesStayValid : Type 0
-PushesStayValid = (a : Addition) → IsValid a.graph → IsShaped a.unresolved → IsResolved a → (HasPackage a.graph a.unresolved.name → ⊥) → IsReached a (length (own_worlds a)) → IsValid (added a)
+PushesStayValid =
+    (a : Addition) → IsValid a.graph → IsShaped a.unresolved → IsResolved a
+    → (HasPackage a.graph a.unresolved.name → ⊥) → IsReached a (length (own_worlds a))
+    → IsValid (added a)

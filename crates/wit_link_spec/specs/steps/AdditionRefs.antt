@@ -12,14 +12,25 @@ use Rattle.wit_link_spec.specs.steps.Parts.{active_type_id, active_interface_id,
 
 -- the addition of a package that is being added
 abbrev pub addition_of : AdditionRef → Addition
-addition_of adding = record { features = adding.features.now; graph = adding.graph.now; unresolved = adding.unresolved.now; offset = adding.offset }
+addition_of adding =
+    record {
+      features = adding.features.now;
+      graph = adding.graph.now;
+      unresolved = adding.unresolved.now;
+      offset = adding.offset;
+    }
 
 -- what is active of the package
 abbrev pub activity_of : Addition → Activity
 activity_of a = record {
-  types = map (type_is_active a.features a.unresolved.types) (range_with_len 0 (length a.unresolved.types));
-  interfaces = map (interface_is_active a.features a.unresolved) (range_with_len 0 (length a.unresolved.interfaces));
-  worlds = map (world_is_active a.features a.unresolved) (range_with_len 0 (length a.unresolved.worlds));
+  types =
+      map (type_is_active a.features a.unresolved.types)
+      (range_with_len 0 (length a.unresolved.types));
+  interfaces =
+      map (interface_is_active a.features a.unresolved)
+      (range_with_len 0 (length a.unresolved.interfaces));
+  worlds =
+      map (world_is_active a.features a.unresolved) (range_with_len 0 (length a.unresolved.worlds));
 }
 
 -- what its things are remapped to

@@ -44,16 +44,25 @@ use Rattle.wit_elaboration.specs.Imported.{HasTransitiveConflict, IsRefusedName}
 abbrev pub MayHoldBorrow : Addition → ℕ → Type 0
 MayHoldBorrow a t =
     HoldsBorrow a.unresolved.types t
-    ⊎ ((s : ℕ) × (s' : ℕ) × Reaches (type_contents a.unresolved.types) t s × (type_is_active a.features a.unresolved.types s ≡ true) × (foreign_type_id a.graph a.unresolved s ≡ Some s') × HoldsBorrow a.graph.types s')
+    ⊎ ((s : ℕ) × (s' : ℕ) × Reaches (type_contents a.unresolved.types) t s
+    × (type_is_active a.features a.unresolved.types s ≡ true)
+    × (foreign_type_id a.graph a.unresolved s ≡ Some s') × HoldsBorrow a.graph.types s')
 
 -- 9: a `@since` in a package without a version
 abbrev pub gate_without_version_text : PackageName → List ℕ
-gate_without_version_text name = codes "package [" ++ (package_name_text name ++ codes "] contains a feature gate with a version specifier, so it must have a version")
+gate_without_version_text name =
+    codes "package ["
+    ++ (package_name_text name
+    ++ codes "] contains a feature gate with a version specifier, so it must have a version")
 
 -- 10: a `@since` past the package's version
 abbrev pub gate_unreleased_text : Parts → PackageName → Parts → List ℕ
 gate_unreleased_text since name version =
-    codes "feature gate cannot reference unreleased version " ++ (parts_text since ++ (codes " of package [" ++ (package_name_text name ++ (codes "] (current version " ++ (parts_text version ++ codes ")")))))
+    codes "feature gate cannot reference unreleased version "
+    ++ (parts_text since
+    ++ (codes " of package ["
+    ++ (package_name_text name
+    ++ (codes "] (current version " ++ (parts_text version ++ codes ")")))))
 
 -- 13: a type that its interface doesn't have
 abbrev pub type_not_defined_text : List ℕ → List ℕ
@@ -86,10 +95,13 @@ own_types a = selected (own_type a) a.unresolved.types
 -- is type t on a way from what an entry of world w names to a type that belongs to the world? It is reached from the
 -- one, and the other from it
 abbrev pub is_on_way : Graph → ℕ → World → ℕ → Bool
-is_on_way g w world t = list_any (nat_eq t) (named_types g world) && list_any (is_owned_within g w world) (post_order (type_references g.types) t)
+is_on_way g w world t =
+    list_any (nat_eq t) (named_types g world)
+    && list_any (is_owned_within g w world) (post_order (type_references g.types) t)
 
 abbrev pub interface_copy : Graph → World → ℕ → ℕ
-interface_copy g world i = if belongs_to g world i then length g.interfaces + rank (belongs_to g world) i else i
+interface_copy g world i =
+    if belongs_to g world i then length g.interfaces + rank (belongs_to g world) i else i
 
 -- does a list have an entry under this key?
 abbrev pub has_key : List Entry → WorldKey → Bool
@@ -101,12 +113,15 @@ active_includes a world = filter (include_is_active a.features) world.includes
 
 -- an include of the package with the id and the span that it has in the graph
 abbrev pub updated_include : Addition → WorldInclude → WorldInclude
-updated_include a include = record include { id = remapped_world a include.id; span = moved_by a.offset include.span }
+updated_include a include =
+    record include { id = remapped_world a include.id; span = moved_by a.offset include.span }
 
 -- a graph and the lists of the world that comes next, with world `from` included, or as they are where there is no
 -- such world
 abbrev pub with_include_of : ℕ → ℕ → List IncludeName → ℕ → PartiallyLinked → PartiallyLinked
-with_include_of home into names from b = option_map_or (λ (world : World). with_world_included home into names from world b) (slice_get b.graph.worlds from) b
+with_include_of home into names from b =
+    option_map_or (λ (world : World). with_world_included home into names from world b)
+    (slice_get b.graph.worlds from) b
 
 -- what is begun of a world, with an include more
 abbrev pub with_one : ℕ → PartiallyLinked → WorldInclude → PartiallyLinked
@@ -118,7 +133,8 @@ before_includes g world = record { graph = g; lists = lists_of world }
 
 -- a world with its setters after their getters
 abbrev pub with_setters_placed : World → World
-with_setters_placed world = record world { imports = setters_placed world.imports; exports = setters_placed world.exports }
+with_setters_placed world =
+    record world { imports = setters_placed world.imports; exports = setters_placed world.exports }
 
 -- the graph with a world behind its worlds, finished
 abbrev pub with_finished : Graph → World → Graph
@@ -126,7 +142,9 @@ with_finished g world = record g { worlds = g.worlds ++ finished_world g world �
 
 -- the graph with a world behind its worlds that has these includes
 abbrev pub with_including : ℕ → Graph → World → List WorldInclude → Graph
-with_including home g world includes = let b = with_several home g world includes in with_finished b.graph (with_entry_lists world b.lists)
+with_including home g world includes =
+    let b = with_several home g world includes in
+    with_finished b.graph (with_entry_lists world b.lists)
 
 -- ---- worlds of a package
 
@@ -146,19 +164,28 @@ pub record AtWorld (a : Addition) (k : ℕ) : Type 0 where
 
 -- what is begun of it with so many of its includes
 abbrev pub begun : (a : Addition) (k j : ℕ) → AtWorld a k → PartiallyLinked
-begun a k j at = with_several (home_of a) (with_worlds a k) (image_at a at.id at.world) (take j (updated_includes a at.world))
+begun a k j at =
+    with_several (home_of a) (with_worlds a k) (image_at a at.id at.world)
+    (take j (updated_includes a at.world))
 
 -- and with all
 abbrev pub begun_whole : (a : Addition) (k : ℕ) → AtWorld a k → PartiallyLinked
-begun_whole a k at = with_several (home_of a) (with_worlds a k) (image_at a at.id at.world) (updated_includes a at.world)
+begun_whole a k at =
+    with_several (home_of a) (with_worlds a k) (image_at a at.id at.world)
+    (updated_includes a at.world)
 
 -- 16: a renaming of nothing
 abbrev pub rename_text : List ℕ → List ℕ
-rename_text name = codes "no import or export kebab-name `" ++ (name ++ codes "`. Note that an ID does not support renaming")
+rename_text name =
+    codes "no import or export kebab-name `"
+    ++ (name ++ codes "`. Note that an ID does not support renaming")
 
 -- include j of world k is accepted: no cause holds against it
 abbrev pub IncludeIsAccepted : Addition → ℕ → ℕ → Type 0
-IncludeIsAccepted a k j = (at : AtWorld a k) → IsAcceptedAt (home_of a) (with_worlds a k) (image_at a at.id at.world) (updated_includes a at.world) j
+IncludeIsAccepted a k j =
+    (at : AtWorld a k)
+    → IsAcceptedAt (home_of a) (with_worlds a k) (image_at a at.id at.world)
+    (updated_includes a at.world) j
 
 -- world k is accepted: no cause holds against it
 abbrev pub WorldIsAccepted : Addition → ℕ → Type 0
@@ -173,7 +200,8 @@ AdditionIsAccepted a = NoCause (IsAdditionCause a)
 abbrev pub active_type_id : Addition → ℕ → Option ℕ
 active_type_id a t =
     if type_is_active a.features a.unresolved.types t
-    then (if is_foreign_type a.unresolved t then foreign_type_id a.graph a.unresolved t else Some (length a.graph.types + rank (own_type a) t))
+    then (if is_foreign_type a.unresolved t then foreign_type_id a.graph a.unresolved t
+    else Some (length a.graph.types + rank (own_type a) t))
     else None
 
 -- the id of interface i of the package in the graph: of an active foreign one where it is found, of an own active one
@@ -181,7 +209,8 @@ active_type_id a t =
 abbrev pub active_interface_id : Addition → ℕ → Option ℕ
 active_interface_id a i =
     if interface_is_active a.features a.unresolved i
-    then (if is_foreign_interface a.unresolved i then foreign_interface_id a.graph a.unresolved i else Some (length a.graph.interfaces + rank (own_interface a) i))
+    then (if is_foreign_interface a.unresolved i then foreign_interface_id a.graph a.unresolved i
+    else Some (length a.graph.interfaces + rank (own_interface a) i))
     else None
 
 -- the id of world w of the package in the graph: of an active foreign one where it is found, of an own active one the
@@ -189,7 +218,8 @@ active_interface_id a i =
 abbrev pub active_world_id : Addition → ℕ → Option ℕ
 active_world_id a w =
     if world_is_active a.features a.unresolved w
-    then (if is_foreign_world a.unresolved w then foreign_world_id a.graph a.unresolved w else Some (length a.graph.worlds + rank (own_world a) w))
+    then (if is_foreign_world a.unresolved w then foreign_world_id a.graph a.unresolved w
+    else Some (length a.graph.worlds + rank (own_world a) w))
     else None
 
 -- every world before world k is accepted
@@ -198,7 +228,9 @@ IsReached a k = (i : ℕ) → i < k → NoCause (IsCauseAtWorld a i)
 
 -- the types that an interface names: those of its list, and those that its functions refer to
 abbrev pub interface_mentions : Interface → List ℕ
-interface_mentions interface = map (λ (e : List ℕ × ℕ). e.1) interface.types ++ flat_map (λ (e : List ℕ × Function). function_references e.1) interface.functions
+interface_mentions interface =
+    map (λ (e : List ℕ × ℕ). e.1) interface.types
+    ++ flat_map (λ (e : List ℕ × Function). function_references e.1) interface.functions
 
 -- a span of the package would end past 4294967295
 pub record AdditionOverflows (a : Addition) : Type 0 where
@@ -210,4 +242,5 @@ pub record AdditionOverflows (a : Addition) : Type 0 where
 -- 4: what its exports need from outside is exported; by the name of the first export that leads there
 pub record WorldIsInConflict (g : Graph) (world : World) (name : List ℕ) : Type 0 where
   pub conflict : HasTransitiveConflict (graph_uses g) (setters_placed world.exports)
-  pub name_is : IsRefusedName g.packages g.interfaces (graph_uses g) (setters_placed world.exports) name
+  pub name_is : IsRefusedName g.packages g.interfaces (graph_uses g) (setters_placed world.exports)
+      name

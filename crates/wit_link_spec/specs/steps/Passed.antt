@@ -17,9 +17,12 @@ pub record NeedsNothingExcluded (a : Addition) : Type 0 where
 
 -- 1, 2, 3, 13: all that is named of other packages is found
 pub record IsAllFound (a : Addition) : Type 0 where
-  pub packages : (span : OptionalSpan) (requested : PackageName) (known : List PackageName) → LacksPackage a span requested known → ⊥
-  pub worlds : (span : OptionalSpan) (requested : List ℕ) (home : PackageName) → LacksWorld a span requested home → ⊥
-  pub interfaces : (span : OptionalSpan) (requested : List ℕ) (home : PackageName) → LacksInterface a span requested home → ⊥
+  pub packages : (span : OptionalSpan) (requested : PackageName) (known : List PackageName)
+      → LacksPackage a span requested known → ⊥
+  pub worlds : (span : OptionalSpan) (requested : List ℕ) (home : PackageName)
+      → LacksWorld a span requested home → ⊥
+  pub interfaces : (span : OptionalSpan) (requested : List ℕ) (home : PackageName)
+      → LacksInterface a span requested home → ⊥
   pub types : (span : OptionalSpan) (message : List ℕ) → ForeignTypeMissing a span message → ⊥
 
 -- 14: what has to be a resource is one

@@ -30,14 +30,17 @@ use Rattle.wit_merge_spec.specs.steps.Parts.{moved_interfaces, moves_package}
 
 -- the names of packages that move, with where these go
 abbrev pub new_names : GraphMerge → List (PackageName × ℕ)
-new_names m = map (λ (e : PackageName × ℕ). (e.0, merged_package m e.1)) (filter (λ (e : PackageName × ℕ). moves_package m e.1) m.other.package_names)
+new_names m =
+    map (λ (e : PackageName × ℕ). (e.0, merged_package m e.1))
+    (filter (λ (e : PackageName × ℕ). moves_package m e.1) m.other.package_names)
 
 -- all that moves, where it goes
 pub record IsComing (m : GraphMerge) (coming : Coming) : Type 0 where
   pub types : coming.types ≡ types_behind (value_remap m)
   pub interfaces : coming.interfaces ≡ map (interface_image (merge_maps m)) (moved_interfaces m)
   pub worlds : coming.worlds ≡ new_worlds m
-  pub packages : coming.packages ≡ map (package_image m) (selected (moves_package m) m.other.packages)
+  pub packages : coming.packages
+      ≡ map (package_image m) (selected (moves_package m) m.other.packages)
   pub package_names : coming.package_names ≡ new_names m
 
 -- ---- behind a graph
@@ -54,19 +57,27 @@ with_coming g coming = record {
 
 -- the same, with the worlds that come elaborated
 abbrev pub with_elaborated : Graph → Coming → Graph
-with_elaborated g coming = record (with_coming g coming) { worlds = g.worlds ++ map (elaborated_world (with_coming g coming)) coming.worlds }
+with_elaborated g coming =
+    record (with_coming g coming)
+    { worlds = g.worlds ++ map (elaborated_world (with_coming g coming)) coming.worlds }
 
 -- the functions of interfaces and of worlds
 abbrev pub functions_of : List Interface → List World → List Function
-functions_of interfaces worlds = flat_map (λ (interface : Interface). map (λ (e : List ℕ × Function). e.1) interface.functions) interfaces ++ flat_map world_functions worlds
+functions_of interfaces worlds =
+    flat_map (λ (interface : Interface). map (λ (e : List ℕ × Function). e.1) interface.functions)
+    interfaces ++ flat_map world_functions worlds
 
 -- the results of some functions are there
 abbrev pub AreReturned : List TypeDef → List Function → Type 0
-AreReturned types functions = (f : Function) (t : ℕ) → Contains functions f → Contains (named_option f.result_) t → t < length types
+AreReturned types functions =
+    (f : Function) (t : ℕ) → Contains functions f → Contains (named_option f.result_) t
+    → t < length types
 
 -- and hold no borrow
 abbrev pub ReturnNoBorrow : List TypeDef → List Function → Type 0
-ReturnNoBorrow types functions = (f : Function) (t : ℕ) → Contains functions f → Contains (named_option f.result_) t → HoldsBorrow types t → ⊥
+ReturnNoBorrow types functions =
+    (f : Function) (t : ℕ) → Contains functions f → Contains (named_option f.result_) t
+    → HoldsBorrow types t → ⊥
 
 -- an error tells that one of some functions returns a borrow
 pub record ReturnsBorrow (types : List TypeDef) (functions : List Function) (kind : ResolveErrorKind) : Type 0 where
@@ -79,26 +90,35 @@ pub record ReturnsBorrow (types : List TypeDef) (functions : List Function) (kin
 
 -- the lists of some worlds are in order over a graph
 abbrev pub AreListed : Graph → List World → Type 0
-AreListed g worlds = (world : World) → Contains worlds world → HasSoundEntries g.types (length g.interfaces) world.imports world.exports
+AreListed g worlds =
+    (world : World) → Contains worlds world
+    → HasSoundEntries g.types (length g.interfaces) world.imports world.exports
 
 -- and none of them is in conflict
 abbrev pub AreClear : Graph → List World → Type 0
-AreClear g worlds = (world : World) → Contains worlds world → HasTransitiveConflict (graph_uses g) world.exports → ⊥
+AreClear g worlds =
+    (world : World) → Contains worlds world → HasTransitiveConflict (graph_uses g) world.exports → ⊥
 
 -- what comes can be put behind a graph
 pub record CanAppend (g : Graph) (coming : Coming) : Type 0 where
   pub names : HasDistinctKeys (g.package_names ++ coming.package_names)
   pub types : IsAcyclic (type_references (with_coming g coming).types)
-  pub rows : graph_uses g ≡ uses_of (with_coming g coming).types (take (length (graph_uses g)) (with_coming g coming).interfaces)
+  pub rows : graph_uses g
+      ≡ uses_of (with_coming g coming).types
+      (take (length (graph_uses g)) (with_coming g coming).interfaces)
   pub uses : IsAcyclic (graph_uses (with_coming g coming))
-  pub returned : AreReturned (with_coming g coming).types (functions_of coming.interfaces coming.worlds)
+  pub returned : AreReturned (with_coming g coming).types
+      (functions_of coming.interfaces coming.worlds)
   pub listed : AreListed (with_coming g coming) coming.worlds
 
 -- nothing speaks against it: no function that comes returns a borrow, and no world that comes is in conflict
 pub record IsFine (g : Graph) (coming : Coming) : Type 0 where
-  pub borrows : ReturnNoBorrow (with_coming g coming).types (functions_of coming.interfaces coming.worlds)
+  pub borrows : ReturnNoBorrow (with_coming g coming).types
+      (functions_of coming.interfaces coming.worlds)
   pub worlds : AreClear (with_coming g coming) coming.worlds
 
 -- one does, or one is
 abbrev pub IsAppendCause : Graph → Coming → ResolveErrorKind → Type 0
-IsAppendCause g coming kind = ReturnsBorrow (with_coming g coming).types (functions_of coming.interfaces coming.worlds) kind ⊎ IsRefusedWorld (record (with_coming g coming) { worlds = coming.worlds }) kind
+IsAppendCause g coming kind =
+    ReturnsBorrow (with_coming g coming).types (functions_of coming.interfaces coming.worlds) kind
+    ⊎ IsRefusedWorld (record (with_coming g coming) { worlds = coming.worlds }) kind

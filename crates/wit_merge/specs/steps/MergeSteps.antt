@@ -39,7 +39,9 @@ use Rattle.wit_merge_spec.specs.steps.Parts.{moves_interface, moves_world, Merge
 
 -- the place of the first one, from place n on, that is matched with thing x'
 abbrev pub first_from : ℕ → List (Option ℕ) → ℕ → Option ℕ
-first_from n found x' = option_map (λ (e : ℕ × Option ℕ). e.0) (find (λ (e : ℕ × Option ℕ). option_eq nat_eq e.1 (Some x')) (enumerate_from n found))
+first_from n found x' =
+    option_map (λ (e : ℕ × Option ℕ). e.0)
+    (find (λ (e : ℕ × Option ℕ). option_eq nat_eq e.1 (Some x')) (enumerate_from n found))
 
 -- of each of so many things the first that is matched with it
 abbrev pub firsts_from : ℕ → List (Option ℕ) → ℕ → List (Option ℕ)
@@ -47,7 +49,8 @@ firsts_from n found count = map (first_from n found) (range_with_len 0 count)
 
 -- a thing with its place, where there is one
 abbrev pub placed_at : {X : Type 0} → List X → Option ℕ → Option (ℕ × X)
-placed_at {X} xs place = option_and_then (λ x. option_map (λ (it : X). (x, it)) (slice_get xs x)) place
+placed_at {X} xs place =
+    option_and_then (λ x. option_map (λ (it : X). (x, it)) (slice_get xs x)) place
 
 -- the merge
 abbrev pub merging_of : MergePlan → GraphMerge
@@ -69,7 +72,8 @@ pub record CanMerge (u : MergePlan) : Type 0 where
 
 -- with which interface of the other graph each one of the graph is matched
 abbrev pub KnowsCounterparts : MergePlan → List (Option ℕ) → Type 0
-KnowsCounterparts u counterparts = counterparts ≡ firsts_from 0 u.matches.now.interfaces (length u.graph.now.interfaces)
+KnowsCounterparts u counterparts =
+    counterparts ≡ firsts_from 0 u.matches.now.interfaces (length u.graph.now.interfaces)
 
 -- nothing differs that has to agree, all stabilities can be joined, and all spans can be moved
 pub record DoAgree (m : GraphMerge) : Type 0 where
@@ -79,7 +83,8 @@ pub record DoAgree (m : GraphMerge) : Type 0 where
 
 -- what a function returns where it goes holds no borrow
 pub record ReturnsFree (m : GraphMerge) (f : Function) : Type 0 where
-  pub none : (t' : ℕ) → Contains (named_option (function_image (merge_maps m) f).result_) t' → HoldsBorrow (joined_graph m).types t' → ⊥
+  pub none : (t' : ℕ) → Contains (named_option (function_image (merge_maps m) f).result_) t'
+      → HoldsBorrow (joined_graph m).types t' → ⊥
 
 -- an error tells that a function that moves returns a borrow
 pub record IsBorrowError (m : GraphMerge) (kind : ResolveErrorKind) : Type 0 where
@@ -103,7 +108,9 @@ OwnerWithin interfaces worlds owner.None = Unit {0}
 
 -- the entries of a table whose things move, with what these are remapped to
 abbrev pub moved_names : List (Option ℕ) → List (Option ℕ) → List (List ℕ × ℕ) → List (List ℕ × ℕ)
-moved_names found new_ids from = map (λ (e : List ℕ × ℕ). (e.0, goes new_ids e.1)) (filter (λ (e : List ℕ × ℕ). moves found e.1) from)
+moved_names found new_ids from =
+    map (λ (e : List ℕ × ℕ). (e.0, goes new_ids e.1))
+    (filter (λ (e : List ℕ × ℕ). moves found e.1) from)
 
 -- ---- types
 
@@ -126,11 +133,14 @@ FunctionsMove m functions = (e : List ℕ × Function) → Contains functions e 
 
 -- functions under names, at their places
 abbrev pub functions_image : GraphMerge → List (List ℕ × Function) → List (List ℕ × Function)
-functions_image m functions = map (λ (e : List ℕ × Function). (e.0, function_image (merge_maps m) e.1)) functions
+functions_image m functions =
+    map (λ (e : List ℕ × Function). (e.0, function_image (merge_maps m) e.1)) functions
 
 -- those of some functions whose names aren't among known ones
-abbrev pub brought_matched : List (List ℕ × Function) → List (List ℕ × Function) → List (List ℕ × Function)
-brought_matched known from = filter (λ (e : List ℕ × Function). not (is_some (lookup (bytes_eq e.0) known))) from
+abbrev pub brought_matched : List (List ℕ × Function) → List (List ℕ × Function)
+    → List (List ℕ × Function)
+brought_matched known from =
+    filter (λ (e : List ℕ × Function). not (is_some (lookup (bytes_eq e.0) known))) from
 
 -- an interface can move: it is of a package that is there, and so is what it lists
 pub record InterfaceMoves (m : GraphMerge) (interface : Interface) : Type 0 where
@@ -161,8 +171,10 @@ pub record PackageJoins (m : GraphMerge) (from into : Package) : Type 0 where
 pub record PackageMoves (m : GraphMerge) (home : Package) : Type 0 where
   pub interfaces_apart : HasDistinctKeys home.interfaces
   pub worlds_apart : HasDistinctKeys home.worlds
-  pub interfaces : (e : List ℕ × ℕ) → Contains home.interfaces e → (e.1 < length m.other.interfaces) × (moves_interface m e.1 ≡ true)
-  pub worlds : (e : List ℕ × ℕ) → Contains home.worlds e → (e.1 < length m.other.worlds) × (moves_world m e.1 ≡ true)
+  pub interfaces : (e : List ℕ × ℕ) → Contains home.interfaces e
+      → (e.1 < length m.other.interfaces) × (moves_interface m e.1 ≡ true)
+  pub worlds : (e : List ℕ × ℕ) → Contains home.worlds e
+      → (e.1 < length m.other.worlds) × (moves_world m e.1 ≡ true)
 
 -- ---- worlds
 
@@ -172,17 +184,21 @@ stability_of (item.Interface i stability docs span external_id) = Some stability
 stability_of held = None
 
 abbrev pub stability_under : List (Option ℕ) → List Entry → WorldKey → Option Stability
-stability_under counterparts from (key.Interface i') = option_and_then (λ i. option_and_then stability_of (lookup (same_key (key.Interface i)) from)) (get_or counterparts i' None)
+stability_under counterparts from (key.Interface i') =
+    option_and_then (λ i. option_and_then stability_of (lookup (same_key (key.Interface i)) from))
+    (get_or counterparts i' None)
 stability_under counterparts from (key.Name label) = None
 
 -- an item, with a stability joined to it where it is an interface
 abbrev pub stability_joined : Option Stability → WorldItem → WorldItem
-stability_joined (Some from) (item.Interface i into docs span external_id) = item.Interface i (joined_stability from into) docs span external_id
+stability_joined (Some from) (item.Interface i into docs span external_id) =
+    item.Interface i (joined_stability from into) docs span external_id
 stability_joined from held = held
 
 -- an entry, with the stability joined to it of what stands under its key among entries of the other graph
 abbrev pub entry_joined : List (Option ℕ) → List Entry → Entry → Entry
-entry_joined counterparts from e = (e.0, stability_joined (stability_under counterparts from e.0) e.1)
+entry_joined counterparts from e =
+    (e.0, stability_joined (stability_under counterparts from e.0) e.1)
 
 -- the ids of an entry are there
 abbrev pub KeyWithin : ℕ → WorldKey → Type 0
@@ -203,8 +219,10 @@ pub record WorldMoves (m : GraphMerge) (world : World) : Type 0 where
   pub home : ℕ
   pub home_is : world.package ≡ Some home
   pub there : home < length m.other.packages
-  pub imports : (e : Entry) → Contains world.imports e → EntryWithin (length m.other.types) (length m.other.interfaces) e
-  pub exports : (e : Entry) → Contains world.exports e → EntryWithin (length m.other.types) (length m.other.interfaces) e
+  pub imports : (e : Entry) → Contains world.imports e
+      → EntryWithin (length m.other.types) (length m.other.interfaces) e
+  pub exports : (e : Entry) → Contains world.exports e
+      → EntryWithin (length m.other.types) (length m.other.interfaces) e
   pub imports_apart : HasDistinctKeys (map (entry_image (merge_maps m) 0) world.imports)
   pub exports_apart : HasDistinctKeys (map (entry_image (merge_maps m) 0) world.exports)
   pub includes : world.includes ≡ []

@@ -77,8 +77,18 @@ module _ (g h : Graph) (a b : ℕ) (valid : IsValid g) (valid_other : IsValid h)
   -- ---- interfaces
 
   -- two that are matched are so the other way round, and of one name
-  abbrev pair_back : Pair (counterpart_interface back) g.interfaces h.interfaces → Pair (counterpart_interface there) h.interfaces g.interfaces
-  pair_back p = record { x = p.x'; from = p.into; x' = p.x; into = p.from; from_is = p.into_is; matched = interface_back h g b a valid_other valid p.x p.x' p.matched; into_is = p.from_is }
+  abbrev pair_back : Pair (counterpart_interface back) g.interfaces h.interfaces
+      → Pair (counterpart_interface there) h.interfaces g.interfaces
+  pair_back p =
+      record {
+        x = p.x';
+        from = p.into;
+        x' = p.x;
+        into = p.from;
+        from_is = p.into_is;
+        matched = interface_back h g b a valid_other valid p.x p.x' p.matched;
+        into_is = p.from_is;
+      }
 
   pair_name : (p : Pair (counterpart_interface back) g.interfaces h.interfaces) → p.into.name ≡ p.from.name
   pair_name p =

@@ -30,10 +30,14 @@ pub record InBothOrders (g h : Graph) (offset back : ℕ) : Type 0 where
   pub valid_other : IsValid h
   pub one : HasNoMismatch (merge_of_graphs g h offset)
   pub one_back : HasNoMismatch (merge_of_graphs h g back)
-  pub interface_back : (i i' : ℕ) → counterpart_interface (merge_of_graphs g h offset) i ≡ Some i' → counterpart_interface (merge_of_graphs h g back) i' ≡ Some i
-  pub interface_there : (i i' : ℕ) → counterpart_interface (merge_of_graphs h g back) i ≡ Some i' → counterpart_interface (merge_of_graphs g h offset) i' ≡ Some i
-  pub world_back : (w w' : ℕ) → counterpart_world (merge_of_graphs g h offset) w ≡ Some w' → counterpart_world (merge_of_graphs h g back) w' ≡ Some w
-  pub world_there : (w w' : ℕ) → counterpart_world (merge_of_graphs h g back) w ≡ Some w' → counterpart_world (merge_of_graphs g h offset) w' ≡ Some w
+  pub interface_back : (i i' : ℕ) → counterpart_interface (merge_of_graphs g h offset) i ≡ Some i'
+      → counterpart_interface (merge_of_graphs h g back) i' ≡ Some i
+  pub interface_there : (i i' : ℕ) → counterpart_interface (merge_of_graphs h g back) i ≡ Some i'
+      → counterpart_interface (merge_of_graphs g h offset) i' ≡ Some i
+  pub world_back : (w w' : ℕ) → counterpart_world (merge_of_graphs g h offset) w ≡ Some w'
+      → counterpart_world (merge_of_graphs h g back) w' ≡ Some w
+  pub world_there : (w w' : ℕ) → counterpart_world (merge_of_graphs h g back) w ≡ Some w'
+      → counterpart_world (merge_of_graphs g h offset) w' ≡ Some w
   pub aliases : AliasesMatched (merge_of_graphs g h offset)
   pub aliases_back : AliasesMatched (merge_of_graphs h g back)
 
@@ -56,8 +60,10 @@ other_way g h offset back both = record {
 
 -- interface i of g with h, and interface j of h with g: both come of one interface of g, or of one of h
 pub data Corresponds (g h : Graph) (offset back i j : ℕ) : Type 0 where
-  of_graph : i < length g.interfaces → j ≡ merged_interface (merge_of_graphs h g back) i → Corresponds g h offset back i j
-  of_other : j < length h.interfaces → i ≡ merged_interface (merge_of_graphs g h offset) j → Corresponds g h offset back i j
+  of_graph : i < length g.interfaces → j ≡ merged_interface (merge_of_graphs h g back) i
+      → Corresponds g h offset back i j
+  of_other : j < length h.interfaces → i ≡ merged_interface (merge_of_graphs g h offset) j
+      → Corresponds g h offset back i j
 
 pub flip : (g h : Graph) (offset back i j : ℕ) → Corresponds g h offset back i j → Corresponds h g back offset j i
 flip g h offset back i j (of_graph within place) = of_other within place

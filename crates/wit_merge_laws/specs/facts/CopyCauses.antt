@@ -253,7 +253,9 @@ module _ (g : Graph) (offset : ℕ) (valid : IsValid g) where
 
   -- named types of this owner are matched with themselves
   abbrev AreSelf : TypeOwner → Type 0
-  AreSelf by = (u : ℕ) (def : TypeDef) → slice_get g.types u ≡ Some def → IsSome def.name → def.owner ≡ by → counterpart_type m u ≡ Some u
+  AreSelf by =
+      (u : ℕ) (def : TypeDef) → slice_get g.types u ≡ Some def → IsSome def.name → def.owner ≡ by
+      → counterpart_type m u ≡ Some u
 
   named_at : (u : ℕ) (def : TypeDef) → slice_get g.types u ≡ Some def → is_named g.types u ≡ is_some def.name
   named_at u def at = ap (λ (o : Option TypeDef). option_map_or (λ (d : TypeDef). is_some d.name) o false) at
@@ -286,7 +288,10 @@ module _ (g : Graph) (offset : ℕ) (valid : IsValid g) where
   referred_there t def p u at among has = get_at g.types u (refers_within g.types valid.no_cycles.types t def p u at among has).1
 
   abbrev IsAlikeUnnamed : ℕ → Type 0
-  IsAlikeUnnamed t = (by : TypeOwner) → AreSelf by → ((other : TypeOwner) → NamesThroughUnnamed g.types t other → other ≡ by) → is_named g.types t ≡ false → mine t ≡ theirs t
+  IsAlikeUnnamed t =
+      (by : TypeOwner) → AreSelf by
+      → ((other : TypeOwner) → NamesThroughUnnamed g.types t other → other ≡ by)
+      → is_named g.types t ≡ false → mine t ≡ theirs t
 
   unnamed_step : (t : ℕ) (def : TypeDef) → slice_get g.types t ≡ Some def → ((u : ℕ) → Contains (direct (type_references g.types) t) u → IsAlikeUnnamed u) → IsAlikeUnnamed t
   unnamed_step t def at below by own only unnamed = alike_at t def at (λ p among. held_alike p.ty (named_parts p among) (unnamed_parts p among))

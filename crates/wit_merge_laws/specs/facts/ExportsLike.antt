@@ -79,8 +79,10 @@ module _ (old new : World) (keeps : KeepsEntries old new) where
 
 -- to what one world exports, what another exports corresponds
 record ExportsLike (g h : Graph) (offset back : ℕ) (x y : World) : Type 0 where
-  held : (i : ℕ) → Contains (exported_interfaces x.exports) i → (j : ℕ) × Corresponds g h offset back i j × Contains (exported_interfaces y.exports) j
-  keys : (i : ℕ) → Contains (exported_keys x.exports) i → (j : ℕ) × Corresponds g h offset back i j × Contains (exported_keys y.exports) j
+  held : (i : ℕ) → Contains (exported_interfaces x.exports) i
+      → (j : ℕ) × Corresponds g h offset back i j × Contains (exported_interfaces y.exports) j
+  keys : (i : ℕ) → Contains (exported_keys x.exports) i
+      → (j : ℕ) × Corresponds g h offset back i j × Contains (exported_keys y.exports) j
 
 -- so it is both ways
 record ExportAlike (g h : Graph) (offset back : ℕ) (x y : World) : Type 0 where

@@ -96,7 +96,8 @@ spotted_here w exported label (item.Type_ t span) i is = cc
 
 -- those of the imports or the exports of a world
 abbrev labels_of_side : ℕ → Bool → World → List (ℕ × WorldLabel)
-labels_of_side w exported world = flat_map (λ (e : Entry). interface_at_label w exported e.0 e.1) (entries_of exported world)
+labels_of_side w exported world =
+    flat_map (λ (e : Entry). interface_at_label w exported e.0 e.1) (entries_of exported world)
 
 -- and of all worlds
 pub label_there : (worlds : List World) (w : ℕ) (exported : Bool) (label : List ℕ) (world : World) (held : WorldItem) (i : ℕ) → slice_get worlds w ≡ Some world → Contains (entries_of exported world) (entry (key.Name label) held)

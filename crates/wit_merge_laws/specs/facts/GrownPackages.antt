@@ -250,7 +250,8 @@ module _ (m : GraphMerge) (valid : IsValid m.graph) (valid_other : IsValid m.oth
     new = package_image m old
 
     abbrev by_new_interfaces : List ℕ × ℕ → List ℕ
-    by_new_interfaces e = option_map_or (interface_uses joined.types) (slice_get joined.interfaces e.1) []
+    by_new_interfaces e =
+        option_map_or (interface_uses joined.types) (slice_get joined.interfaces e.1) []
 
     abbrev by_new_worlds : List ℕ × ℕ → List ℕ
     by_new_worlds e = option_map_or (world_interfaces joined.types) (slice_get joined.worlds e.1) []

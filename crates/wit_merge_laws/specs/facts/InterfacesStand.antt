@@ -112,8 +112,11 @@ module _ (m : GraphMerge) where
 
   -- what stands there is one of these
   pub data InterfaceFrom (f' : ℕ) (new : Interface) : Type 0 where
-    of_graph : (old : Interface) → slice_get m.graph.interfaces f' ≡ Some old → joined_interface m (f', old) ≡ new → InterfaceFrom f' new
-    of_other : (i : ℕ) (old : Interface) → slice_get m.other.interfaces i ≡ Some old → moves_interface m i ≡ true → f' ≡ merged_interface m i → interface_image (merge_maps m) old ≡ new → InterfaceFrom f' new
+    of_graph : (old : Interface) → slice_get m.graph.interfaces f' ≡ Some old
+        → joined_interface m (f', old) ≡ new → InterfaceFrom f' new
+    of_other : (i : ℕ) (old : Interface) → slice_get m.other.interfaces i ≡ Some old
+        → moves_interface m i ≡ true → f' ≡ merged_interface m i
+        → interface_image (merge_maps m) old ≡ new → InterfaceFrom f' new
 
   pub interface_at_from : (f' : ℕ) (new : Interface) → slice_get (joined_graph m).interfaces f' ≡ Some new → InterfaceFrom f' new
   interface_at_from f' new at =
@@ -220,16 +223,19 @@ module _ (m : GraphMerge) (valid : IsValid m.graph) (valid_other : IsValid m.oth
   at = merge_sources m.graph m.other (merge_maps m)
 
   -- the interface of the graph at its place, and the one of the other that is matched with it
-  abbrev here : (f' : ℕ) (into : Interface) → slice_get m.graph.interfaces f' ≡ Some into → InterfaceAt (at 0) f'
+  abbrev here : (f' : ℕ) (into : Interface) → slice_get m.graph.interfaces f' ≡ Some into
+      → InterfaceAt (at 0) f'
   here f' into there = record {
     f = f';
     old = into;
     there = interface_at m.graph valid identity f' into there;
-    takes = lt-ltb f' (length m.graph.interfaces) (slice_get_within m.graph.interfaces f' into there);
+    takes =
+        lt-ltb f' (length m.graph.interfaces) (slice_get_within m.graph.interfaces f' into there);
     place = refl;
   }
 
-  abbrev beside : (i f' : ℕ) (from : Interface) → slice_get m.other.interfaces i ≡ Some from → f' ≡ merged_interface m i → InterfaceAt (at 1) f'
+  abbrev beside : (i f' : ℕ) (from : Interface) → slice_get m.other.interfaces i ≡ Some from
+      → f' ≡ merged_interface m i → InterfaceAt (at 1) f'
   beside i f' from there place = record {
     f = i;
     old = from;
@@ -267,7 +273,8 @@ module _ (m : GraphMerge) (valid : IsValid m.graph) (valid_other : IsValid m.oth
       imaged e = (e.0, function_image (merge_maps m) e.1)
 
       abbrev from_there : InterfaceAt (at 1) f'
-      from_there = beside i f' from other_there (sym (goes_to (counterpart_interface m i) _ f' found))
+      from_there =
+          beside i f' from other_there (sym (goes_to (counterpart_interface m i) _ f' found))
 
       new_listed : (e : List ℕ × ℕ) → Contains (map typed (brought_types m from)) e → ListedComes at f' e
       new_listed e has =

@@ -24,7 +24,8 @@ use Rattle.wit_merge_laws.specs.facts.WorldsStand.{joined_covered, joined_stands
 -- in two graphs as one no interface uses itself, and no world is in conflict
 pub record MergeCanElaborate (m : GraphMerge) : Type 0 where
   pub acyclic : IsAcyclic (graph_uses (joined_graph m))
-  pub clear : (world : World) → Contains (joined_graph m).worlds world → HasTransitiveConflict (graph_uses (joined_graph m)) world.exports → ⊥
+  pub clear : (world : World) → Contains (joined_graph m).worlds world
+      → HasTransitiveConflict (graph_uses (joined_graph m)) world.exports → ⊥
 
 module _ (m : GraphMerge) (valid : IsValid m.graph) (valid_other : IsValid m.other) (one : HasNoMismatch m) where
   abbrev g : Graph

@@ -144,8 +144,12 @@ module _ (laws : LawsOfElaboration) (m : GraphMerge) (valid : IsValid m.graph) (
 
   -- what stood under the label, in a world of the graph or in one that moves
   pub data SortFrom (w' : ℕ) (exported : Bool) (label : List ℕ) (held : WorldItem) : Type 0 where
-    sort_of_graph : (old : World) (d : WorldItem) → slice_get m.graph.worlds w' ≡ Some old → Contains (entries_of exported old) (entry (key.Name label) d) → sort_of d ≡ sort_of held → SortFrom w' exported label held
-    sort_of_other : (w : ℕ) (old : World) (d : WorldItem) → slice_get m.other.worlds w ≡ Some old → moves_world m w ≡ true → w' ≡ merged_world m w → Contains (entries_of exported old) (entry (key.Name label) d) → sort_of d ≡ sort_of held
+    sort_of_graph : (old : World) (d : WorldItem) → slice_get m.graph.worlds w' ≡ Some old
+        → Contains (entries_of exported old) (entry (key.Name label) d) → sort_of d ≡ sort_of held
+        → SortFrom w' exported label held
+    sort_of_other : (w : ℕ) (old : World) (d : WorldItem) → slice_get m.other.worlds w ≡ Some old
+        → moves_world m w ≡ true → w' ≡ merged_world m w
+        → Contains (entries_of exported old) (entry (key.Name label) d) → sort_of d ≡ sort_of held
         → SortFrom w' exported label held
 
   pub sort_from : (w' : ℕ) (exported : Bool) (label : List ℕ) (held : WorldItem) → HasLabel (merged m) w' exported label held → SortFrom w' exported label held

@@ -77,8 +77,11 @@ module _ (m : GraphMerge) where
 
   -- what stands there is one of these
   pub data WorldFrom (w' : ℕ) (new : World) : Type 0 where
-    of_graph : (old : World) → slice_get m.graph.worlds w' ≡ Some old → joined_world m (w', old) ≡ new → WorldFrom w' new
-    of_other : (w : ℕ) (old : World) → slice_get m.other.worlds w ≡ Some old → moves_world m w ≡ true → w' ≡ merged_world m w → world_image (merge_maps m) w old ≡ new → WorldFrom w' new
+    of_graph : (old : World) → slice_get m.graph.worlds w' ≡ Some old
+        → joined_world m (w', old) ≡ new → WorldFrom w' new
+    of_other : (w : ℕ) (old : World) → slice_get m.other.worlds w ≡ Some old
+        → moves_world m w ≡ true → w' ≡ merged_world m w → world_image (merge_maps m) w old ≡ new
+        → WorldFrom w' new
 
   pub world_at_from : (w' : ℕ) (new : World) → slice_get (joined_graph m).worlds w' ≡ Some new → WorldFrom w' new
   world_at_from w' new at =

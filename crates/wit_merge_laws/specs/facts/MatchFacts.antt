@@ -135,7 +135,8 @@ pub record StandsAt (worlds : List World) (i : ℕ) (world_label : WorldLabel) :
   pub is : item_interface held ≡ i ∷ []
 
 -- what stands at a label of a world of these entries
-record Spotted (w : ℕ) (exported : Bool) (k : WorldKey) (held : WorldItem) (i : ℕ) (world_label : WorldLabel) : Type 0 where
+record Spotted (w : ℕ) (exported : Bool) (k : WorldKey) (held : WorldItem) (i : ℕ)
+    (world_label : WorldLabel) : Type 0 where
   world : world_label.world ≡ w
   side : world_label.exported ≡ exported
   key_is : k ≡ key.Name world_label.label
@@ -221,7 +222,8 @@ pub record LabelMatch (m : GraphMerge) (i i' : ℕ) : Type 0 where
   pub world_label_is : lookup (nat_eq i) (world_labels m.other.worlds) ≡ Some world_label
   pub matched : counterpart_world m world_label.world ≡ Some w'
   pub there_is : slice_get m.graph.worlds w' ≡ Some there
-  pub listed : lookup (same_key (key.Name world_label.label)) (entries_of world_label.exported there) ≡ Some held
+  pub listed : lookup (same_key (key.Name world_label.label))
+      (entries_of world_label.exported there) ≡ Some held
   pub is : item_interface held ≡ i' ∷ []
   pub unnamed : is_unnamed m.graph.interfaces i' ≡ true
 

@@ -116,10 +116,15 @@ module _ (g : Graph) (valid : IsValid g) where
 
 module _ (m : GraphMerge) where
   abbrev package_interfaces : Package → List TypePair
-  package_interfaces home = flat_map (λ (e : List ℕ × ℕ). interface_pairs m (part_links home.name (codes "interface") e.0) e.1) home.interfaces
+  package_interfaces home =
+      flat_map
+      (λ (e : List ℕ × ℕ). interface_pairs m (part_links home.name (codes "interface") e.0) e.1)
+      home.interfaces
 
   abbrev package_worlds : Package → List TypePair
-  package_worlds home = flat_map (λ (e : List ℕ × ℕ). world_pairs m (part_links home.name (codes "world") e.0) e.1) home.worlds
+  package_worlds home =
+      flat_map (λ (e : List ℕ × ℕ). world_pairs m (part_links home.name (codes "world") e.0) e.1)
+      home.worlds
 
   abbrev of_interfaces : List TypePair
   of_interfaces = flat_map package_interfaces (in_package_order m.other)
@@ -243,7 +248,9 @@ module _ (m : GraphMerge) (valid : IsValid m.graph) (valid_other : IsValid m.oth
 
   -- two types are a pair
   abbrev pub ArePaired : ℕ → ℕ → Type 0
-  ArePaired t t' = (links : List (List ℕ)) × Contains (type_pairs m) (record { from = t; into = t'; links = links })
+  ArePaired t t' =
+      (links : List (List ℕ))
+      × Contains (type_pairs m) (record { from = t; into = t'; links = links })
 
   -- of an interface
   of_interface : (t t' i : ℕ) (name : List ℕ) → SomeAt m.other.interfaces i (λ (interface : Interface). Contains interface.types (name, t)) → counterpart_type_by m (Some name) (owner.Interface i) ≡ Some t' → ArePaired t t'

@@ -90,9 +90,15 @@ module _ (laws : LawsOfElaboration) (m : GraphMerge) (valid : IsValid m.graph) (
   -- ---- what stands under a label of a merged world
 
   data LabelFrom (w' : ℕ) (exported : Bool) (label : List ℕ) (held : WorldItem) : Type 0 where
-    under_graph : (old : World) (d : WorldItem) → slice_get m.graph.worlds w' ≡ Some old → Contains (entries_of exported old) (entry (key.Name label) d) → item_interface held ≡ item_interface d → LabelFrom w' exported label held
-    under_other : (w : ℕ) (old : World) (d : WorldItem) → slice_get m.other.worlds w ≡ Some old → moves_world m w ≡ true → w' ≡ merged_world m w → Contains (entries_of exported old) (entry (key.Name label) d)
-        → ((i' : ℕ) → item_interface held ≡ i' ∷ [] → (i : ℕ) × (item_interface d ≡ i ∷ []) × (i' ≡ merged_interface m i)) → LabelFrom w' exported label held
+    under_graph : (old : World) (d : WorldItem) → slice_get m.graph.worlds w' ≡ Some old
+        → Contains (entries_of exported old) (entry (key.Name label) d)
+        → item_interface held ≡ item_interface d → LabelFrom w' exported label held
+    under_other : (w : ℕ) (old : World) (d : WorldItem) → slice_get m.other.worlds w ≡ Some old
+        → moves_world m w ≡ true → w' ≡ merged_world m w
+        → Contains (entries_of exported old) (entry (key.Name label) d)
+        → ((i' : ℕ) → item_interface held ≡ i' ∷ []
+        → (i : ℕ) × (item_interface d ≡ i ∷ []) × (i' ≡ merged_interface m i))
+        → LabelFrom w' exported label held
 
   stands_from : (w' : ℕ) (exported : Bool) (label : List ℕ) (held : WorldItem) → HasLabel (merged m) w' exported label held → LabelFrom w' exported label held
   stands_from w' exported label held has =

@@ -24,20 +24,26 @@ use Rattle.wit_merge_laws.specs.facts.WorldsStand.{entry}
 pub record InterfaceRemap (packages : ℕ → ℕ) (old new : Interface) : Type 0 where
   pub name : new.name ≡ old.name
   pub home : (p : ℕ) → old.package ≡ Some p → new.package ≡ Some (packages p)
-  pub types : (name : List ℕ) (t : ℕ) → Contains old.types (name, t) → (t' : ℕ) × Contains new.types (name, t')
-  pub functions : (name : List ℕ) (f : Function) → Contains old.functions (name, f) → (f' : Function) × Contains new.functions (name, f')
+  pub types : (name : List ℕ) (t : ℕ) → Contains old.types (name, t)
+      → (t' : ℕ) × Contains new.types (name, t')
+  pub functions : (name : List ℕ) (f : Function) → Contains old.functions (name, f)
+      → (f' : Function) × Contains new.functions (name, f')
 
 -- an item that is an interface goes to one that is it, at its place
 abbrev pub ItemRemap : (ℕ → ℕ) → WorldItem → WorldItem → Type 0
-ItemRemap interfaces old new = (i : ℕ) → item_interface old ≡ i ∷ [] → item_interface new ≡ interfaces i ∷ []
+ItemRemap interfaces old new =
+    (i : ℕ) → item_interface old ≡ i ∷ [] → item_interface new ≡ interfaces i ∷ []
 
 -- so does a world, with its labels and what it exports
 pub record WorldRemap (packages interfaces : ℕ → ℕ) (old new : World) : Type 0 where
   pub name : new.name ≡ old.name
   pub home : (p : ℕ) → old.package ≡ Some p → new.package ≡ Some (packages p)
-  pub labels : (exported : Bool) (label : List ℕ) (held : WorldItem) → Contains (entries_of exported old) (entry (key.Name label) held)
-      → (there : WorldItem) × Contains (entries_of exported new) (entry (key.Name label) there) × ItemRemap interfaces held there
-  pub exports : (i : ℕ) (held : WorldItem) → Contains old.exports (entry (key.Interface i) held) → (there : WorldItem) × Contains new.exports (entry (key.Interface (interfaces i)) there)
+  pub labels : (exported : Bool) (label : List ℕ) (held : WorldItem)
+      → Contains (entries_of exported old) (entry (key.Name label) held)
+      → (there : WorldItem) × Contains (entries_of exported new) (entry (key.Name label) there)
+      × ItemRemap interfaces held there
+  pub exports : (i : ℕ) (held : WorldItem) → Contains old.exports (entry (key.Interface i) held)
+      → (there : WorldItem) × Contains new.exports (entry (key.Interface (interfaces i)) there)
 
 -- what things are remapped to
 pub record NewIds : Type 0 where
@@ -47,9 +53,12 @@ pub record NewIds : Type 0 where
 
 -- the things of h go to these places of g
 pub record MapsInto (h g : Graph) (to : NewIds) : Type 0 where
-  pub packages_go : (p : ℕ) (old : Package) → slice_get h.packages p ≡ Some old → SomeAt g.packages (to.packages p) (λ (new : Package). new.name ≡ old.name)
-  pub interfaces_go : (i : ℕ) (old : Interface) → slice_get h.interfaces i ≡ Some old → SomeAt g.interfaces (to.interfaces i) (InterfaceRemap to.packages old)
-  pub worlds_go : (w : ℕ) (old : World) → slice_get h.worlds w ≡ Some old → SomeAt g.worlds (to.worlds w) (WorldRemap to.packages to.interfaces old)
+  pub packages_go : (p : ℕ) (old : Package) → slice_get h.packages p ≡ Some old
+      → SomeAt g.packages (to.packages p) (λ (new : Package). new.name ≡ old.name)
+  pub interfaces_go : (i : ℕ) (old : Interface) → slice_get h.interfaces i ≡ Some old
+      → SomeAt g.interfaces (to.interfaces i) (InterfaceRemap to.packages old)
+  pub worlds_go : (w : ℕ) (old : World) → slice_get h.worlds w ≡ Some old
+      → SomeAt g.worlds (to.worlds w) (WorldRemap to.packages to.interfaces old)
 
 pub home_is : (P : ℕ → Type 0) (o : Option ℕ) → IsSomeAnd o P → (p : ℕ) × (o ≡ Some p) × P p
 home_is P None h = absurd h
@@ -90,7 +99,8 @@ module _ (h g : Graph) (to : NewIds) (part : MapsInto h g to) where
   -- what stands under a label
   pub record LabelRemap (w : ℕ) (exported : Bool) (label : List ℕ) (held : WorldItem) : Type 0 where
     pub there : WorldItem
-    pub stands : SomeAt g.worlds (to.worlds w) (λ (world : World). Contains (entries_of exported world) (entry (key.Name label) there))
+    pub stands : SomeAt g.worlds (to.worlds w)
+        (λ (world : World). Contains (entries_of exported world) (entry (key.Name label) there))
     pub goes : ItemRemap to.interfaces held there
 
   pub label_goes : (w : ℕ) (exported : Bool) (label : List ℕ) (held : WorldItem) → SomeAt h.worlds w (λ (world : World). Contains (entries_of exported world) (entry (key.Name label) held)) → LabelRemap w exported label held

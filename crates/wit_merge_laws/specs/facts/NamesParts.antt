@@ -52,7 +52,8 @@ abbrev pub staying : NewIds
 staying = record { packages = λ p. p; interfaces = λ i. i; worlds = λ w. w }
 
 abbrev pub going_to : GraphMerge → NewIds
-going_to m = record { packages = merged_package m; interfaces = merged_interface m; worlds = merged_world m }
+going_to m =
+    record { packages = merged_package m; interfaces = merged_interface m; worlds = merged_world m }
 
 -- ---- interfaces
 

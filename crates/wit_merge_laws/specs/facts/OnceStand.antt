@@ -57,8 +57,16 @@ unnamed_cut g f = by g.interfaces f
 
 module _ (g : Graph) (valid : IsValid g) where
   -- a place in a source of which all is selected
-  abbrev holds_from : (m : Maps) (w : ℕ) (b : Bool) (i f : ℕ) → Holds (mapped_source g m).graph.worlds w b i f → Holds g.worlds w b i f
-  holds_from m w b i f h = record { world = h.world; there = world_from g valid m w h.world h.there; entry = h.entry; at = h.at; held = h.held }
+  abbrev holds_from : (m : Maps) (w : ℕ) (b : Bool) (i f : ℕ)
+      → Holds (mapped_source g m).graph.worlds w b i f → Holds g.worlds w b i f
+  holds_from m w b i f h =
+      record {
+        world = h.world;
+        there = world_from g valid m w h.world h.there;
+        entry = h.entry;
+        at = h.at;
+        held = h.held;
+      }
 
   -- what stands under a label stands nowhere else
   pub world_label_key : (i w v : ℕ) (b c : Bool) (j : ℕ) (world : World) (label : List ℕ) (held : WorldItem) → is_unnamed g.interfaces i ≡ true → slice_get g.worlds w ≡ Some world

@@ -86,8 +86,11 @@ module _ (m : GraphMerge) where
       (at_map (package_image m) (selected (moves_package m) m.other.packages) (rank (moves_package m) p) home (selected-at (moves_package m) m.other.packages p home at moves))
 
   pub data PackageFrom (p' : ℕ) (new : Package) : Type 0 where
-    of_graph : (old : Package) → slice_get m.graph.packages p' ≡ Some old → joined_package m (p', old) ≡ new → PackageFrom p' new
-    of_other : (p : ℕ) (old : Package) → slice_get m.other.packages p ≡ Some old → moves_package m p ≡ true → p' ≡ merged_package m p → package_image m old ≡ new → PackageFrom p' new
+    of_graph : (old : Package) → slice_get m.graph.packages p' ≡ Some old
+        → joined_package m (p', old) ≡ new → PackageFrom p' new
+    of_other : (p : ℕ) (old : Package) → slice_get m.other.packages p ≡ Some old
+        → moves_package m p ≡ true → p' ≡ merged_package m p → package_image m old ≡ new
+        → PackageFrom p' new
 
   pub package_at_from : (p' : ℕ) (new : Package) → slice_get (merged m).packages p' ≡ Some new → PackageFrom p' new
   package_at_from p' new at =
@@ -317,8 +320,10 @@ module _ (m : GraphMerge) (valid : IsValid m.graph) (valid_other : IsValid m.oth
   -- a package of the other graph stands at its place, and lists what moves
   pub record ListsMoved (old new : Package) : Type 0 where
     pub name : new.name ≡ old.name
-    interfaces : (e : List ℕ × ℕ) → Contains old.interfaces e → moves_interface m e.1 ≡ true → Contains new.interfaces (typed (merged_interface m) e)
-    worlds : (e : List ℕ × ℕ) → Contains old.worlds e → moves_world m e.1 ≡ true → Contains new.worlds (typed (merged_world m) e)
+    interfaces : (e : List ℕ × ℕ) → Contains old.interfaces e → moves_interface m e.1 ≡ true
+        → Contains new.interfaces (typed (merged_interface m) e)
+    worlds : (e : List ℕ × ℕ) → Contains old.worlds e → moves_world m e.1 ≡ true
+        → Contains new.worlds (typed (merged_world m) e)
 
   pub package_stands : (p : ℕ) (old : Package) → slice_get m.other.packages p ≡ Some old → SomeAt (merged m).packages (merged_package m p) (ListsMoved old)
   package_stands p old there = elim (cases_Bool (moves_package m p)) [
@@ -365,10 +370,12 @@ named_so (Some n) P Q weaker h = weaker n h
 module _ (m : GraphMerge) (valid : IsValid m.graph) (valid_other : IsValid m.other) where
   -- the table of a package has the interface under its name
   abbrev InTableOf : List Package → Option (List ℕ) → ℕ → ℕ → Type 0
-  InTableOf packages name i p = SomeAt packages p (λ (home : Package). IfSome name (λ n. Contains home.interfaces (n, i)))
+  InTableOf packages name i p =
+      SomeAt packages p (λ (home : Package). IfSome name (λ n. Contains home.interfaces (n, i)))
 
   abbrev WorldInTableOf : List Package → List ℕ → ℕ → ℕ → Type 0
-  WorldInTableOf packages name w p = SomeAt packages p (λ (home : Package). Contains home.worlds (name, w))
+  WorldInTableOf packages name w p =
+      SomeAt packages p (λ (home : Package). Contains home.worlds (name, w))
 
   old_in_table : (i : ℕ) (name : Option (List ℕ)) (p : ℕ) → InTableOf m.graph.packages name i p → InTableOf (merged m).packages name i p
   old_in_table i name p is =

@@ -118,10 +118,15 @@ module _ (m : GraphMerge) (valid : IsValid m.graph) (valid_other : IsValid m.oth
       common_entries_matched w from.0 into.0 from.1 into.1 links p into.2
 
   abbrev of_interfaces : Package → List TypePair
-  of_interfaces home = flat_map (λ (e : List ℕ × ℕ). interface_pairs m (part_links home.name (codes "interface") e.0) e.1) home.interfaces
+  of_interfaces home =
+      flat_map
+      (λ (e : List ℕ × ℕ). interface_pairs m (part_links home.name (codes "interface") e.0) e.1)
+      home.interfaces
 
   abbrev of_worlds : Package → List TypePair
-  of_worlds home = flat_map (λ (e : List ℕ × ℕ). world_pairs m (part_links home.name (codes "world") e.0) e.1) home.worlds
+  of_worlds home =
+      flat_map (λ (e : List ℕ × ℕ). world_pairs m (part_links home.name (codes "world") e.0) e.1)
+      home.worlds
 
   -- the types of each pair are matched
   pub pair_matched : (p : TypePair) → Contains (type_pairs m) p → counterpart_type m p.from ≡ Some p.into

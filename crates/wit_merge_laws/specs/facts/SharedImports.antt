@@ -112,7 +112,8 @@ key_root types uses (item.Type_ t span) i is = cc
 -- what a world imports under the key of an interface, it imports
 pub record Imports (g : Graph) (w i : ℕ) : Type 0 where
   pub held : WorldItem
-  pub has : SomeAt g.worlds w (λ (there : World). Contains there.imports (entry (key.Interface i) held))
+  pub has : SomeAt g.worlds w
+      (λ (there : World). Contains there.imports (entry (key.Interface i) held))
 
 pub imports_it : (g : Graph) (w : ℕ) (world : World) (i : ℕ) → slice_get g.worlds w ≡ Some world → Contains (keyed_interfaces world.imports) i → Imports g w i
 imports_it g w world i there has =
@@ -218,8 +219,11 @@ module _ (laws : LawsOfElaboration) (m : GraphMerge) (valid : IsValid m.graph) (
 
 -- so where the two agree and can be elaborated as one
 abbrev pub KeepSharedImports : GraphMerge → Type 0
-KeepSharedImports m = (home of : PackageName) (world name : List ℕ) → HasName m.graph (of_world home world) → HasName m.other (of_world home world)
-    → (HasImport (merged m) home world of name ↔ HasImport m.graph home world of name) × (HasImport m.other home world of name ↔ HasImport m.graph home world of name)
+KeepSharedImports m =
+    (home of : PackageName) (world name : List ℕ) → HasName m.graph (of_world home world)
+    → HasName m.other (of_world home world)
+    → (HasImport (merged m) home world of name ↔ HasImport m.graph home world of name)
+    × (HasImport m.other home world of name ↔ HasImport m.graph home world of name)
 
 pub imports_of_both : LawsOfElaboration → (m : GraphMerge) → IsValid m.graph → IsValid m.other → HasNoMismatch m → MergeCanElaborate m → KeepSharedImports m
 imports_of_both laws m valid valid_other one can home of world name (w', is_mine) (w, is_theirs) =

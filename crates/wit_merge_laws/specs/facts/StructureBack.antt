@@ -170,7 +170,8 @@ module _ (found found' : ℕ → Option ℕ) (inverse : (t t' : ℕ) → found' 
       λ i. one i ∷ more i
 
 -- what a list with a function is taken apart into comes of parts of it
-record Parts {X Y : Type 0} (f : X → Y) (xs : List X) (front : List Y) (y : Y) (rest : List Y) : Type 0 where
+record Parts {X Y : Type 0} (f : X → Y) (xs : List X) (front : List Y) (y : Y) (rest : List Y) :
+    Type 0 where
   before : List X
   at : X
   after : List X

@@ -67,7 +67,10 @@ resource_variant other is = cc
 module _ (types : List TypeDef) (matched : ℕ → Option ℕ) (acyclic : IsAcyclic (type_references types)) (t : ℕ) (def : TypeDef) (at : slice_get types t ≡ Some def) where
   -- what comes after the variant
   abbrev behind : TypeDefKind → List Feature
-  behind k = here (names (map (λ (p : KindPart). p.step) (kind_parts k))) ∷ option_map_or (λ len. here (fixed len) ∷ []) (fixed_length k) [] ++ flat_map (part_features types matched (structure types matched)) (kind_parts k)
+  behind k =
+      here (names (map (λ (p : KindPart). p.step) (kind_parts k)))
+      ∷ option_map_or (λ len. here (fixed len) ∷ []) (fixed_length k) []
+      ++ flat_map (part_features types matched (structure types matched)) (kind_parts k)
 
   pub structure_begins : (rest : List Feature) × (structure types matched t ≡ here (variant (variant_of def.kind)) ∷ rest)
   structure_begins = (behind def.kind, structure_at types matched acyclic t def (slice_get_within types t def at) at)

@@ -33,7 +33,9 @@ Keeps f = (x : Feature) → (f x).content ≡ x.content
 
 -- at whatever path they stand, and whatever comes after them, where lists begin with these two the two are the same
 abbrev pub AreRead : List Feature → List Feature → Type 0
-AreRead fs gs = (f : Feature → Feature) (xs ys : List Feature) → Keeps f → map f fs ++ xs ≡ map f gs ++ ys → (fs ≡ gs) × (xs ≡ ys)
+AreRead fs gs =
+    (f : Feature → Feature) (xs ys : List Feature) → Keeps f → map f fs ++ xs ≡ map f gs ++ ys
+    → (fs ≡ gs) × (xs ≡ ys)
 
 same_heads : (x y : Feature) (xs ys : List Feature) → x ∷ xs ≡ y ∷ ys → (x ≡ y) × (xs ≡ ys)
 same_heads x y xs ys same = (cc, cc)
@@ -158,7 +160,8 @@ module _ (others ours : List TypeDef) (found back : ℕ → Option ℕ) (acyclic
   leaf_apart : (c : Content) (v : Variant) → is_leaf c ≡ true → c ≡ variant v → ⊥
   leaf_apart c v leaf is = let no : false ≡ true = sym (ap is_leaf is) ∙ leaf in cc
 
-  data Holds (types : List TypeDef) (inner : ℕ → List Feature) (ty : Option Type_) (fs : List Feature) : Type 0 where
+  data Holds (types : List TypeDef) (inner : ℕ → List Feature) (ty : Option Type_)
+      (fs : List Feature) : Type 0 where
     a_leaf : (c : Content) → is_leaf c ≡ true → fs ≡ here c ∷ [] → Holds types inner ty fs
     a_type : (t : ℕ) → Contains (named_option ty) t → fs ≡ inner t → Holds types inner ty fs
 
@@ -202,8 +205,10 @@ module _ (others ours : List TypeDef) (found back : ℕ → Option ℕ) (acyclic
   their_part = part_features ours back theirs
 
   record PartsRead (ps ps' : List KindPart) : Type 0 where
-    read : (p : KindPart) → Contains ps p → (t : ℕ) → Contains (named_option p.ty) t → IsRead t × (t < length others)
-    inside : (p : KindPart) → Contains ps' p → (t : ℕ) → Contains (named_option p.ty) t → t < length ours
+    read : (p : KindPart) → Contains ps p → (t : ℕ) → Contains (named_option p.ty) t
+        → IsRead t × (t < length others)
+    inside : (p : KindPart) → Contains ps' p → (t : ℕ) → Contains (named_option p.ty) t
+        → t < length ours
 
   later : (p p' : KindPart) (ps ps' : List KindPart) → PartsRead (p ∷ ps) (p' ∷ ps') → PartsRead ps ps'
   later p p' ps ps' told = record { read = λ q has. told.read q (Contains-there p q ps has); inside = λ q has. told.inside q (Contains-there p' q ps' has) }
@@ -268,7 +273,9 @@ module _ (others ours : List TypeDef) (found back : ℕ → Option ℕ) (acyclic
 
   -- a part of the one holds what a part of the other does
   abbrev IsLike : List KindPart → KindPart → Type 0
-  IsLike ps p' = (p : KindPart) × Contains ps p × (held_features others found mine p.ty ≡ held_features ours back theirs p'.ty)
+  IsLike ps p' =
+      (p : KindPart) × Contains ps p
+      × (held_features others found mine p.ty ≡ held_features ours back theirs p'.ty)
 
   parts_alike : (ps ps' : List KindPart) → AreNamedSo ps ps' → PartsRead ps ps' → flat_map my_part ps ≡ flat_map their_part ps' → (p' : KindPart) → Contains ps' p' → IsLike ps p'
   parts_alike ps [] called told same q has = absurd (Contains-nil has)
@@ -313,9 +320,12 @@ module _ (others ours : List TypeDef) (found back : ℕ → Option ℕ) (acyclic
   held_as types matched inner t b is = ap (λ (c : Bool). if c then here (named (matched t)) ∷ [] else inner t) is
 
   data HeldBy (ty : Option Type_) : Type 0 where
-    no_type : (c : Content) → ((o : Option ℕ) → c ≡ named o → ⊥) → is_leaf c ≡ true → held_features others found mine ty ≡ here c ∷ [] → HeldBy ty
-    a_name : (t : ℕ) → Contains (named_option ty) t → held_features others found mine ty ≡ here (named (found t)) ∷ [] → HeldBy ty
-    a_structure : (t : ℕ) → Contains (named_option ty) t → held_features others found mine ty ≡ mine t → HeldBy ty
+    no_type : (c : Content) → ((o : Option ℕ) → c ≡ named o → ⊥) → is_leaf c ≡ true
+        → held_features others found mine ty ≡ here c ∷ [] → HeldBy ty
+    a_name : (t : ℕ) → Contains (named_option ty) t
+        → held_features others found mine ty ≡ here (named (found t)) ∷ [] → HeldBy ty
+    a_structure : (t : ℕ) → Contains (named_option ty) t
+        → held_features others found mine ty ≡ mine t → HeldBy ty
 
   held_by : (ty : Option Type_) → HeldBy ty
   held_by None = no_type absent (λ o is. cc) refl refl

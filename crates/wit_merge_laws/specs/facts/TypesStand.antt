@@ -109,8 +109,11 @@ module _ (m : GraphMerge) where
 
   -- what stands there is one of these
   pub data TypeFrom (t' : ℕ) (new : TypeDef) : Type 0 where
-    of_graph : (old : TypeDef) → slice_get m.graph.types t' ≡ Some old → joined_type m (t', old) ≡ new → TypeFrom t' new
-    of_other : (t : ℕ) (old : TypeDef) → slice_get m.other.types t ≡ Some old → moves_type m t ≡ true → t' ≡ merged_type m t → type_image (merge_maps m) old ≡ new → TypeFrom t' new
+    of_graph : (old : TypeDef) → slice_get m.graph.types t' ≡ Some old
+        → joined_type m (t', old) ≡ new → TypeFrom t' new
+    of_other : (t : ℕ) (old : TypeDef) → slice_get m.other.types t ≡ Some old
+        → moves_type m t ≡ true → t' ≡ merged_type m t → type_image (merge_maps m) old ≡ new
+        → TypeFrom t' new
     an_own : (t : ℕ) → t < length m.other.types → own_of (merged_type m t) ≡ new → TypeFrom t' new
 
   pub type_at_from : (t' : ℕ) (new : TypeDef) → slice_get (joined_graph m).types t' ≡ Some new → TypeFrom t' new

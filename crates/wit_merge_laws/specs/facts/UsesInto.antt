@@ -33,7 +33,9 @@ use Rattle.wit_merge_spec.specs.steps.Parts.{joined_type, joined_interface, move
 -- an alias that is matched names what that is matched with that its counterpart names
 abbrev pub AliasesMatched : GraphMerge → Type 0
 AliasesMatched m =
-    (t t' : ℕ) (def def' : TypeDef) → slice_get m.other.types t ≡ Some def → slice_get m.graph.types t' ≡ Some def' → counterpart_type m t ≡ Some t' → (u : ℕ) → alias_target def.kind ≡ Some u
+    (t t' : ℕ) (def def' : TypeDef) → slice_get m.other.types t ≡ Some def
+    → slice_get m.graph.types t' ≡ Some def' → counterpart_type m t ≡ Some t' → (u : ℕ)
+    → alias_target def.kind ≡ Some u
     → (u' : ℕ) × (alias_target def'.kind ≡ Some u') × (counterpart_type m u ≡ Some u')
 
 -- ---- what stays

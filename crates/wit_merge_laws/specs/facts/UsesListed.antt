@@ -85,7 +85,9 @@ one_held (item.Type_ t span) f is = cc
 -- what an interface without a name uses, where it stands on either side, the world lists
 abbrev ListsUse : List Interface → List (List ℕ) → World → Type 0
 ListsUse interfaces uses world =
-    (exported : Bool) (e : Entry) (f j : ℕ) → Contains (entries_of exported world) e → item_interface e.1 ≡ f ∷ [] → is_unnamed interfaces f ≡ true → Contains (direct uses f) j → ListsKey world j
+    (exported : Bool) (e : Entry) (f j : ℕ) → Contains (entries_of exported world) e
+    → item_interface e.1 ≡ f ∷ [] → is_unnamed interfaces f ≡ true → Contains (direct uses f) j
+    → ListsKey world j
 
 either_side : (interfaces : List Interface) (uses : List (List ℕ)) (world : World) → ListsUses interfaces uses world → ListsUse interfaces uses world
 either_side interfaces uses world lists false e f j has is unnamed edge = lists.imports e f j has (one_held e.1 f is) unnamed edge
@@ -107,8 +109,12 @@ valid_lists least g valid w world there =
 -- ---- a world with stabilities joined to its entries keeps their keys and what they hold
 
 pub record KeepsEntries (old new : World) : Type 0 where
-  pub from : (exported : Bool) (e : Entry) → Contains (entries_of exported new) e → (d : Entry) × Contains (entries_of exported old) d × (e.0 ≡ d.0) × (item_interface e.1 ≡ item_interface d.1)
-  pub into : (exported : Bool) (d : Entry) → Contains (entries_of exported old) d → (held : WorldItem) × Contains (entries_of exported new) (entry d.0 held) × (item_interface held ≡ item_interface d.1)
+  pub from : (exported : Bool) (e : Entry) → Contains (entries_of exported new) e
+      → (d : Entry) × Contains (entries_of exported old) d × (e.0 ≡ d.0)
+      × (item_interface e.1 ≡ item_interface d.1)
+  pub into : (exported : Bool) (d : Entry) → Contains (entries_of exported old) d
+      → (held : WorldItem) × Contains (entries_of exported new) (entry d.0 held)
+      × (item_interface held ≡ item_interface d.1)
 
 entries_from : (brought es : List Entry) (e : Entry) → Contains (map (joined_entry false brought) es) e → (d : Entry) × Contains es d × (e.0 ≡ d.0) × (item_interface e.1 ≡ item_interface d.1)
 entries_from brought es e has =

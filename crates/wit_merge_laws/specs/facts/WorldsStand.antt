@@ -111,7 +111,8 @@ module _ (m : GraphMerge) (valid : IsValid m.graph) (valid_other : IsValid m.oth
     abbrev is : WorldMatch m valid w w'
     is = world_is m valid w w' found
 
-    abbrev home : (there : Package) × (slice_get m.other.packages is.at.p ≡ Some there) × Contains there.worlds (is.from.name, w)
+    abbrev home : (there : Package) × (slice_get m.other.packages is.at.p ≡ Some there)
+        × Contains there.worlds (is.from.name, w)
     home = world_in_table m.other valid_other w is.from is.at.p is.from_is is.at.home_is
 
     -- an entry of it stands under its key there, and is of the same sort

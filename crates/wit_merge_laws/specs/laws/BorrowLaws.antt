@@ -19,4 +19,6 @@ pub record ReturnsItsBorrow (m : GraphMerge) : Type 0 where
 -- a merge refuses a result that holds a borrow (15) only where the incoming graph has a function of such a result; adding
 -- a package refuses those that are active
 abbrev pub MergesMakeNoBorrow : Type 0
-MergesMakeNoBorrow = (m : GraphMerge) (message : List ℕ) → IsValid m.graph → IsValid m.other → HasNoMismatch m → MergeReturnsBorrow m message → ReturnsItsBorrow m
+MergesMakeNoBorrow =
+    (m : GraphMerge) (message : List ℕ) → IsValid m.graph → IsValid m.other → HasNoMismatch m
+    → MergeReturnsBorrow m message → ReturnsItsBorrow m

@@ -23,7 +23,9 @@ use Rattle.wit_merge_laws.specs.laws.OrderLaws.{AreAlike}
 
 -- an empty graph into which a valid one goes has its names, labels and keys
 abbrev pub EmptyBecomesAlike : Type 0
-EmptyBecomesAlike = (g : Graph) (offset : ℕ) → IsValid g → AreAlike g (merged (merge_of_graphs empty_graph g offset))
+EmptyBecomesAlike =
+    (g : Graph) (offset : ℕ) → IsValid g
+    → AreAlike g (merged (merge_of_graphs empty_graph g offset))
 
 -- its packages and what stands in their tables are those of the other, and each thing keeps its id
 pub record KeepsIds (m : GraphMerge) : Type 0 where
@@ -55,21 +57,28 @@ pub record StaysItself (g : Graph) (m : GraphMerge) : Type 0 where
   pub packages : (merged m).packages ≡ g.packages
   pub package_names : (merged m).package_names ≡ g.package_names
   pub worlds : (joined_graph m).worlds ≡ g.worlds
-  pub interfaces : EachAt (λ i (interface : Interface). slice_get (merged m).interfaces i ≡ Some interface) g.interfaces
+  pub interfaces : EachAt
+      (λ i (interface : Interface). slice_get (merged m).interfaces i ≡ Some interface)
+      g.interfaces
   pub types : EachAt (λ t (def : TypeDef). slice_get (merged m).types t ≡ Some def) g.types
   pub package_ids : EachAt (λ p (home : Package). merged_package m p ≡ p) g.packages
   pub world_ids : EachAt (λ w (world : World). merged_world m w ≡ w) g.worlds
   pub interface_ids : (i : ℕ) → IsPlaced g i → merged_interface m i ≡ i
-  pub type_ids : EachAt (λ t (def : TypeDef). IsPlacedType g def.owner → merged_type m t ≡ t) g.types
+  pub type_ids : EachAt (λ t (def : TypeDef). IsPlacedType g def.owner → merged_type m t ≡ t)
+      g.types
 
 -- a copy of a valid graph goes into it thing by thing: packages, worlds, interfaces that are placed and their types, each
 -- to itself
 abbrev pub CopiesGoToThemselves : Type 0
-CopiesGoToThemselves = (g : Graph) (offset : ℕ) → IsValid g → StaysItself g (merge_of_graphs g g offset)
+CopiesGoToThemselves =
+    (g : Graph) (offset : ℕ) → IsValid g → StaysItself g (merge_of_graphs g g offset)
 
 -- where no cause holds against it, the graph keeps its names and its worlds, elaborated again
 abbrev pub AcceptedCopiesChangeNothing : Type 0
-AcceptedCopiesChangeNothing = (g : Graph) (offset : ℕ) → IsValid g → MergeIsAccepted (merge_of_graphs g g offset) → HaveSameNames g (merged (merge_of_graphs g g offset)) × ((merged (merge_of_graphs g g offset)).worlds ≡ g.worlds)
+AcceptedCopiesChangeNothing =
+    (g : Graph) (offset : ℕ) → IsValid g → MergeIsAccepted (merge_of_graphs g g offset)
+    → HaveSameNames g (merged (merge_of_graphs g g offset))
+    × ((merged (merge_of_graphs g g offset)).worlds ≡ g.worlds)
 
 -- it is refused for a borrow in a result (15) or for a position that is too large (27) alone
 abbrev pub CopiesAreRefusedFor : Type 0

@@ -27,10 +27,14 @@ use Rattle.wit_merge_spec.specs.steps.Parts.{moved_interfaces, with_type, MergeO
 
 -- what is matched leaves its counterpart as it is: it has no stability that this lacks, and nothing of it moves
 pub record BringsNothing (m : GraphMerge) : Type 0 where
-  pub types : (p : Pair (counterpart_type m) m.other.types m.graph.types) → with_type p.from p.into ≡ p.into
-  pub interfaces : (p : Pair (counterpart_interface m) m.other.interfaces m.graph.interfaces) → with_interface m p.from p.into ≡ p.into
-  pub worlds : (p : Pair (counterpart_world m) m.other.worlds m.graph.worlds) → with_world m (p.x, p.from) p.into ≡ p.into
-  pub packages : (p : Pair (counterpart_package m) m.other.packages m.graph.packages) → with_package m p.from p.into ≡ p.into
+  pub types : (p : Pair (counterpart_type m) m.other.types m.graph.types)
+      → with_type p.from p.into ≡ p.into
+  pub interfaces : (p : Pair (counterpart_interface m) m.other.interfaces m.graph.interfaces)
+      → with_interface m p.from p.into ≡ p.into
+  pub worlds : (p : Pair (counterpart_world m) m.other.worlds m.graph.worlds)
+      → with_world m (p.x, p.from) p.into ≡ p.into
+  pub packages : (p : Pair (counterpart_package m) m.other.packages m.graph.packages)
+      → with_package m p.from p.into ≡ p.into
 
 abbrev pub LeftByMatches : Type 0
 LeftByMatches = (m : GraphMerge) → BringsNothing m → LeavesGraph m
@@ -44,9 +48,14 @@ JoinedIsGrown = (m : GraphMerge) → LeavesGraph m → joined_graph m ≡ grown_
 -- the interfaces that were there use what they used: over the types of both, as the first rows of all uses, and with those
 -- of what comes behind them
 pub record OldUsesStay (m : GraphMerge) : Type 0 where
-  pub are : graph_uses m.graph ≡ uses_of (joined_graph m).types (take (length (graph_uses m.graph)) (joined_graph m).interfaces)
+  pub are : graph_uses m.graph
+      ≡ uses_of (joined_graph m).types
+      (take (length (graph_uses m.graph)) (joined_graph m).interfaces)
   pub begin : take (length m.graph.interfaces) (graph_uses (joined_graph m)) ≡ graph_uses m.graph
-  pub grown : graph_uses (joined_graph m) ≡ graph_uses m.graph ++ map (interface_uses (joined_graph m).types) (map (interface_image (merge_maps m)) (moved_interfaces m))
+  pub grown : graph_uses (joined_graph m)
+      ≡ graph_uses m.graph
+      ++ map (interface_uses (joined_graph m).types)
+      (map (interface_image (merge_maps m)) (moved_interfaces m))
 
 abbrev pub UsesGrow : Type 0
 UsesGrow = (m : GraphMerge) → IsValid m.graph → LeavesGraph m → OldUsesStay m
@@ -60,7 +69,9 @@ pub record HasNoNewCycles (m : GraphMerge) : Type 0 where
   pub packages : IsAcyclic (graph_package_uses (joined_graph m))
 
 abbrev pub NothingNewIsCyclic : Type 0
-NothingNewIsCyclic = (m : GraphMerge) → IsValid m.graph → IsValid m.other → HasNoMismatch m → LeavesGraph m → HasNoNewCycles m
+NothingNewIsCyclic =
+    (m : GraphMerge) → IsValid m.graph → IsValid m.other → HasNoMismatch m → LeavesGraph m
+    → HasNoNewCycles m
 
 -- ---- worlds
 
@@ -70,18 +81,25 @@ pub record WorldStays (m : GraphMerge) (world : World) : Type 0 where
   pub clear : HasTransitiveConflict (graph_uses (joined_graph m)) world.exports → ⊥
 
 abbrev pub OldWorldsStay : Type 0
-OldWorldsStay = (m : GraphMerge) (world : World) → IsValid m.graph → IsValid m.other → HasNoMismatch m → LeavesGraph m → Contains m.graph.worlds world → WorldStays m world
+OldWorldsStay =
+    (m : GraphMerge) (world : World) → IsValid m.graph → IsValid m.other → HasNoMismatch m
+    → LeavesGraph m → Contains m.graph.worlds world → WorldStays m world
 
 -- a world that comes can be elaborated
 abbrev pub NewWorldsAreSound : Type 0
-NewWorldsAreSound = (m : GraphMerge) (world : World) → IsValid m.graph → IsValid m.other → HasNoMismatch m → Contains (new_worlds m) world
-    → HasSoundEntries (joined_graph m).types (length (joined_graph m).interfaces) world.imports world.exports
+NewWorldsAreSound =
+    (m : GraphMerge) (world : World) → IsValid m.graph → IsValid m.other → HasNoMismatch m
+    → Contains (new_worlds m) world
+    → HasSoundEntries (joined_graph m).types (length (joined_graph m).interfaces) world.imports
+    world.exports
 
 -- ---- functions
 
 -- the functions that move are those of the interfaces and of the worlds that come
 abbrev pub FunctionsCome : Type 0
-FunctionsCome = (m : GraphMerge) → IsValid m.graph → IsValid m.other → LeavesGraph m → map (function_image (merge_maps m)) (moved_functions m) ≡ new_functions m
+FunctionsCome =
+    (m : GraphMerge) → IsValid m.graph → IsValid m.other → LeavesGraph m
+    → map (function_image (merge_maps m)) (moved_functions m) ≡ new_functions m
 
 -- the result of one of these holds a borrow
 pub record ReturnsNewBorrow (m : GraphMerge) (message : List ℕ) : Type 0 where
@@ -93,21 +111,29 @@ pub record ReturnsNewBorrow (m : GraphMerge) (message : List ℕ) : Type 0 where
   pub message_is : message ≡ borrow_text f.name
 
 abbrev pub BorrowsCome : Type 0
-BorrowsCome = (m : GraphMerge) (message : List ℕ) → IsValid m.graph → IsValid m.other → LeavesGraph m → MergeReturnsBorrow m message ↔ ReturnsNewBorrow m message
+BorrowsCome =
+    (m : GraphMerge) (message : List ℕ) → IsValid m.graph → IsValid m.other → LeavesGraph m
+    → MergeReturnsBorrow m message ↔ ReturnsNewBorrow m message
 
 -- ---- the whole
 
 -- only the worlds that come are elaborated; of the causes that read the two graphs as one none is a cycle, and a conflict is
 -- one of these worlds
 pub record GrowsAlone (m : GraphMerge) : Type 0 where
-  pub merged_is : merged m ≡ record (grown_graph m) { worlds = m.graph.worlds ++ map (elaborated_world (joined_graph m)) (new_worlds m) }
+  pub merged_is : merged m
+      ≡ record (grown_graph m)
+      { worlds = m.graph.worlds ++ map (elaborated_world (joined_graph m)) (new_worlds m) }
   pub no_use : (message : List ℕ) → UsesItself (joined_graph m) message → ⊥
   pub no_dependency : (home : PackageName) → DependsOnItself (joined_graph m) home → ⊥
-  pub conflict : (span : _) (name : List ℕ) → HasWorldInConflict (joined_graph m) span name → IsRefusedWorld (with_new_worlds m) (InvalidTransitiveDependency span name)
-  pub refused : (error : ResolveErrorKind) → IsRefusedWorld (with_new_worlds m) error → IsMergeCause m error
+  pub conflict : (span : _) (name : List ℕ) → HasWorldInConflict (joined_graph m) span name
+      → IsRefusedWorld (with_new_worlds m) (InvalidTransitiveDependency span name)
+  pub refused : (error : ResolveErrorKind) → IsRefusedWorld (with_new_worlds m) error
+      → IsMergeCause m error
 
 abbrev pub MergesGrow : Type 0
-MergesGrow = (m : GraphMerge) → IsValid m.graph → IsValid m.other → HasNoMismatch m → LeavesGraph m → GrowsAlone m
+MergesGrow =
+    (m : GraphMerge) → IsValid m.graph → IsValid m.other → HasNoMismatch m → LeavesGraph m
+    → GrowsAlone m
 
 -- of what is asked beside that nothing differs, all holds of what comes: stabilities can be joined, spans can be moved, no
 -- result holds a borrow, and no world that comes is in conflict
@@ -115,8 +141,11 @@ pub record CanCome (m : GraphMerge) : Type 0 where
   pub stabilities : (from into : Stability) → StabilitiesMismatch m from into → ⊥
   pub spans : MergeOverflows m → ⊥
   pub results : (message : List ℕ) → MergeReturnsBorrow m message → ⊥
-  pub worlds : (world : World) → Contains (new_worlds m) world → HasTransitiveConflict (graph_uses (joined_graph m)) world.exports → ⊥
+  pub worlds : (world : World) → Contains (new_worlds m) world
+      → HasTransitiveConflict (graph_uses (joined_graph m)) world.exports → ⊥
 
 -- then no cause holds
 abbrev pub GrowthIsAccepted : Type 0
-GrowthIsAccepted = (m : GraphMerge) → IsValid m.graph → IsValid m.other → HasNoMismatch m → LeavesGraph m → CanCome m → MergeIsAccepted m
+GrowthIsAccepted =
+    (m : GraphMerge) → IsValid m.graph → IsValid m.other → HasNoMismatch m → LeavesGraph m
+    → CanCome m → MergeIsAccepted m

@@ -35,7 +35,9 @@ pub record IsWorld (g : Graph) (home : PackageName) (name : List ℕ) (w : ℕ) 
 
 -- a world has this item under a label of its exports or its imports
 abbrev pub HasLabel : Graph → ℕ → Bool → List ℕ → WorldItem → Type 0
-HasLabel g w exported label held = SomeAt g.worlds w (λ (world : World). Contains (entries_of exported world) (key.Name label, held))
+HasLabel g w exported label held =
+    SomeAt g.worlds w
+    (λ (world : World). Contains (entries_of exported world) (key.Name label, held))
 
 -- a label of a world
 pub record Label : Type 0 where
@@ -80,11 +82,17 @@ abbrev pub HasName : Graph → Name → Type 0
 HasName g (of_package home) = (p : ℕ) × IsPackage g home p
 HasName g (of_interface name) = (i : ℕ) × IsNamedSo g name i
 HasName g (of_world home name) = (w : ℕ) × IsWorld g home name w
-HasName g (of_type owner name) = (i : ℕ) × (t : ℕ) × IsNamedSo g owner i × SomeAt g.interfaces i (λ (interface : Interface). Contains interface.types (name, t))
-HasName g (of_function owner name) = (i : ℕ) × (f : Function) × IsNamedSo g owner i × SomeAt g.interfaces i (λ (interface : Interface). Contains interface.functions (name, f))
-HasName g (of_label l) = (w : ℕ) × (held : WorldItem) × IsWorld g l.home l.world w × HasLabel g w l.exported l.label held
+HasName g (of_type owner name) =
+    (i : ℕ) × (t : ℕ) × IsNamedSo g owner i
+    × SomeAt g.interfaces i (λ (interface : Interface). Contains interface.types (name, t))
+HasName g (of_function owner name) =
+    (i : ℕ) × (f : Function) × IsNamedSo g owner i
+    × SomeAt g.interfaces i (λ (interface : Interface). Contains interface.functions (name, f))
+HasName g (of_label l) =
+    (w : ℕ) × (held : WorldItem) × IsWorld g l.home l.world w × HasLabel g w l.exported l.label held
 HasName g (of_export home world of name) =
-    (w : ℕ) × (i : ℕ) × (held : WorldItem) × IsWorld g home world w × IsInterface g of name i × SomeAt g.worlds w (λ (there : World). Contains there.exports (key.Interface i, held))
+    (w : ℕ) × (i : ℕ) × (held : WorldItem) × IsWorld g home world w × IsInterface g of name i
+    × SomeAt g.worlds w (λ (there : World). Contains there.exports (key.Interface i, held))
 
 -- two graphs have the same names
 abbrev pub HaveSameNames : Graph → Graph → Type 0
@@ -95,4 +103,5 @@ HaveSameNames g h = (name : Name) → HasName g name ↔ HasName h name
 -- a world imports an interface of this name under its own key
 abbrev pub HasImport : Graph → PackageName → List ℕ → PackageName → List ℕ → Type 0
 HasImport g home world of name =
-    (w : ℕ) × (i : ℕ) × (held : WorldItem) × IsWorld g home world w × IsInterface g of name i × SomeAt g.worlds w (λ (there : World). Contains there.imports (key.Interface i, held))
+    (w : ℕ) × (i : ℕ) × (held : WorldItem) × IsWorld g home world w × IsInterface g of name i
+    × SomeAt g.worlds w (λ (there : World). Contains there.imports (key.Interface i, held))

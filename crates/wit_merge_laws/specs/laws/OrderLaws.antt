@@ -20,7 +20,9 @@ use Rattle.wit_merge_laws.specs.laws.Names.{HasLabel, HaveSameNames, IsInterface
 
 -- if nothing differs between two graphs one way, nothing differs the other way
 abbrev pub AgreementIsSymmetric : Type 0
-AgreementIsSymmetric = (g h : Graph) (offset back : ℕ) → IsValid g → IsValid h → HasNoMismatch (merge_of_graphs g h offset) → HasNoMismatch (merge_of_graphs h g back)
+AgreementIsSymmetric =
+    (g h : Graph) (offset back : ℕ) → IsValid g → IsValid h
+    → HasNoMismatch (merge_of_graphs g h offset) → HasNoMismatch (merge_of_graphs h g back)
 
 -- ---- the order of a merge
 
@@ -53,23 +55,32 @@ pub record HasKey (g : Graph) (home : PackageName) (world : List ℕ) (exported 
 -- sort; each world with the same labels and keys
 pub record AreAlike (g h : Graph) : Type 0 where
   pub names : HaveSameNames g h
-  pub sorts : (l : Label) (held held' : WorldItem) → StandsUnder g l held → StandsUnder h l held' → same_sort held held' ≡ true
-  pub keys : (home : PackageName) (world : List ℕ) (exported : Bool) (under : Key) → HasKey g home world exported under ↔ HasKey h home world exported under
+  pub sorts : (l : Label) (held held' : WorldItem) → StandsUnder g l held → StandsUnder h l held'
+      → same_sort held held' ≡ true
+  pub keys : (home : PackageName) (world : List ℕ) (exported : Bool) (under : Key)
+      → HasKey g home world exported under ↔ HasKey h home world exported under
 
 -- where merging succeeds in either order, both orders give the same
 abbrev pub MergesAreAlike : Type 0
-MergesAreAlike = (g h : Graph) (offset back : ℕ) → IsValid g → IsValid h → MergeIsAccepted (merge_of_graphs g h offset) → MergeIsAccepted (merge_of_graphs h g back)
+MergesAreAlike =
+    (g h : Graph) (offset back : ℕ) → IsValid g → IsValid h
+    → MergeIsAccepted (merge_of_graphs g h offset) → MergeIsAccepted (merge_of_graphs h g back)
     → AreAlike (merged (merge_of_graphs g h offset)) (merged (merge_of_graphs h g back))
 
 -- so they do where two graphs agree, and in their merged graph no interface would use itself and no world is in conflict:
 -- whatever else refuses either order
 abbrev pub MergingIsOrderFree : Type 0
-MergingIsOrderFree = (g h : Graph) (offset back : ℕ) → IsValid g → IsValid h → HasNoMismatch (merge_of_graphs g h offset) → MergeCanElaborate (merge_of_graphs g h offset)
+MergingIsOrderFree =
+    (g h : Graph) (offset back : ℕ) → IsValid g → IsValid h
+    → HasNoMismatch (merge_of_graphs g h offset) → MergeCanElaborate (merge_of_graphs g h offset)
     → AreAlike (merged (merge_of_graphs g h offset)) (merged (merge_of_graphs h g back))
 
 -- since then the merged graph of the other order has neither
 abbrev pub EitherOrderElaborates : Type 0
-EitherOrderElaborates = (g h : Graph) (offset back : ℕ) → IsValid g → IsValid h → HasNoMismatch (merge_of_graphs g h offset) → MergeCanElaborate (merge_of_graphs g h offset) → MergeCanElaborate (merge_of_graphs h g back)
+EitherOrderElaborates =
+    (g h : Graph) (offset back : ℕ) → IsValid g → IsValid h
+    → HasNoMismatch (merge_of_graphs g h offset) → MergeCanElaborate (merge_of_graphs g h offset)
+    → MergeCanElaborate (merge_of_graphs h g back)
 
 -- ---- resources
 
@@ -77,4 +88,6 @@ EitherOrderElaborates = (g h : Graph) (offset back : ℕ) → IsValid g → IsVa
 -- does each that is the argument of an `own` or a `borrow`
 abbrev pub ResourcesStay : Type 0
 ResourcesStay = (m : GraphMerge) (t : ℕ) → IsValid m.graph → IsValid m.other → HasNoMismatch m
-    → (leads_to_resource m.graph.types t ≡ true → leads_to_resource (merged m).types t ≡ true) × (leads_to_resource m.other.types t ≡ true → leads_to_resource (merged m).types (merged_type m t) ≡ true)
+    → (leads_to_resource m.graph.types t ≡ true → leads_to_resource (merged m).types t ≡ true)
+    × (leads_to_resource m.other.types t ≡ true
+    → leads_to_resource (merged m).types (merged_type m t) ≡ true)

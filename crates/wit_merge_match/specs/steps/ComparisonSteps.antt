@@ -35,7 +35,9 @@ into_structure s = structure s.into.now Some
 
 -- and of both, those of the second behind those of the first
 abbrev pub structure_of : Sides → ℕ → List Feature
-structure_of s i = if nat_lt i (length s.from.now) then from_structure s i else into_structure s (i - length s.from.now)
+structure_of s i =
+    if nat_lt i (length s.from.now) then from_structure s i
+    else into_structure s (i - length s.from.now)
 
 -- what parts hold
 abbrev pub from_held : Sides → Option Type_ → List Feature
@@ -77,7 +79,9 @@ abbrev pub Compares : Sides → Option Type_ → Option Type_ → Held → Type 
 Compares s one other held.Same = from_held s one ≡ into_held s other
 Compares s one other (held.Apart e) = DifferHere (from_held s one) (into_held s other) e
 Compares s one other (held.Unnamed t t') =
-    (t < length s.from.now) × (t' < length s.into.now) × (from_held s one ≡ from_structure s t) × (into_held s other ≡ into_structure s t') × (head_features (kind_at s.from.now t) ≡ head_features (kind_at s.into.now t'))
+    (t < length s.from.now) × (t' < length s.into.now) × (from_held s one ≡ from_structure s t)
+    × (into_held s other ≡ into_structure s t')
+    × (head_features (kind_at s.from.now t) ≡ head_features (kind_at s.into.now t'))
 
 -- what a part names is there
 abbrev pub AreThere : List TypeDef → Option Type_ → Type 0

@@ -34,19 +34,25 @@ pub record DifferAt {X Y : Type 0} (found : ℕ → Option ℕ) (others ours : L
 -- interface i of the other graph isn't matched with interface i', or it is, has no name and disagrees in a function
 pub data HeldDiffer (m : GraphMerge) (i i' : ℕ) (text : List ℕ) : Type 0 where
   apart : counterpart_interface m i ≢ Some i' → text ≡ other_interface_text → HeldDiffer m i i' text
-  unnamed : (from into : Interface) → slice_get m.other.interfaces i ≡ Some from → slice_get m.graph.interfaces i' ≡ Some into → counterpart_interface m i ≡ Some i'
+  unnamed : (from into : Interface) → slice_get m.other.interfaces i ≡ Some from
+      → slice_get m.graph.interfaces i' ≡ Some into → counterpart_interface m i ≡ Some i'
       → from.name ≡ None → HaveFunctionMismatch from into text → HeldDiffer m i i' text
 
 -- there is no entry under a key among those of the matched world, or there is one that differs
 pub data EntryDiffers (m : GraphMerge) (word : List ℕ) (into : List Entry) (k : WorldKey) (held : WorldItem) (text : List ℕ) : Type 0 where
-  absent : counterpart_item m into k ≡ None → text ≡ absent_text word (key_text m.other.packages m.other.interfaces k) → EntryDiffers m word into k held text
-  apart : (there : WorldItem) (ending : List ℕ) → counterpart_item m into k ≡ Some there → ItemsDiffer m held there ending
-      → text ≡ linked (entry_link word (key_text m.other.packages m.other.interfaces k) ∷ []) ending → EntryDiffers m word into k held text
+  absent : counterpart_item m into k ≡ None
+      → text ≡ absent_text word (key_text m.other.packages m.other.interfaces k)
+      → EntryDiffers m word into k held text
+  apart : (there : WorldItem) (ending : List ℕ) → counterpart_item m into k ≡ Some there
+      → ItemsDiffer m held there ending
+      → text ≡ linked (entry_link word (key_text m.other.packages m.other.interfaces k) ∷ []) ending
+      → EntryDiffers m word into k held text
 
 -- the imports or the exports of two worlds differ
 pub record SidesDiffer (m : GraphMerge) (from into : World) (text : List ℕ) : Type 0 where
   pub exported : Bool
-  pub differ : EntriesDiffer m (side_word exported) (entries_of exported from) (entries_of exported into) text
+  pub differ : EntriesDiffer m (side_word exported) (entries_of exported from)
+      (entries_of exported into) text
 
 -- a thing of a name and of a package differs, which a message tells with the two; sort is `interface` or `world`
 pub record PartDiffers (packages : List Package) (sort : List ℕ) (home : Option ℕ) (name : Option (List ℕ)) (Differ : List ℕ → Type 0) (message : List ℕ) : Type 0 where
@@ -60,15 +66,20 @@ pub record PartDiffers (packages : List Package) (sort : List ℕ) (home : Optio
 
 -- two interfaces, the first of which has a name, disagree in a function
 abbrev pub InterfacesDiffer : GraphMerge → Interface → Interface → List ℕ → Type 0
-InterfacesDiffer m from into = PartDiffers m.other.packages (codes "interface") from.package from.name (HaveFunctionMismatch from into)
+InterfacesDiffer m from into =
+    PartDiffers m.other.packages (codes "interface") from.package from.name
+    (HaveFunctionMismatch from into)
 
 -- two worlds differ in their entries
 abbrev pub WorldsDiffer : GraphMerge → World → World → List ℕ → Type 0
-WorldsDiffer m from into = PartDiffers m.other.packages (codes "world") from.package (Some from.name) (SidesDiffer m from into)
+WorldsDiffer m from into =
+    PartDiffers m.other.packages (codes "world") from.package (Some from.name)
+    (SidesDiffer m from into)
 
 -- interface i of the other graph differs from the one with which it is matched
 abbrev pub InterfaceDiffersAt : GraphMerge → ℕ → List ℕ → Type 0
-InterfaceDiffersAt m = DifferAt (counterpart_interface m) m.other.interfaces m.graph.interfaces (InterfacesDiffer m)
+InterfaceDiffersAt m =
+    DifferAt (counterpart_interface m) m.other.interfaces m.graph.interfaces (InterfacesDiffer m)
 
 -- and so world w
 abbrev pub WorldDiffersAt : GraphMerge → ℕ → List ℕ → Type 0

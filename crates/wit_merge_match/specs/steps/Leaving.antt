@@ -24,8 +24,11 @@ abbrev pub Stays : Stability → Stability → Type 0
 Stays from into = joined_stability from into ≡ into
 
 -- thing i of a list leaves what it is matched with in another list as it is
-abbrev pub LeavesAt : {X : Type 0} → (ℕ → Option ℕ) → List X → List X → (X → X → Type 0) → ℕ → Type 0
-LeavesAt {X} found others ours Leaves i = (from into : X) → slice_get others i ≡ Some from → option_and_then (slice_get ours) (found i) ≡ Some into → Leaves from into
+abbrev pub LeavesAt : {X : Type 0} → (ℕ → Option ℕ) → List X → List X → (X → X → Type 0) → ℕ
+    → Type 0
+LeavesAt {X} found others ours Leaves i =
+    (from into : X) → slice_get others i ≡ Some from
+    → option_and_then (slice_get ours) (found i) ≡ Some into → Leaves from into
 
 -- ---- types and interfaces
 
@@ -42,7 +45,8 @@ pub record InterfaceLeaves (m : GraphMerge) (from into : Interface) : Type 0 whe
 
 -- the stability of an interface that stands under the key of one
 abbrev pub stability_under_id : WorldKey → WorldItem → Option Stability
-stability_under_id (key.Interface i) (item.Interface id stability docs span external_id) = Some stability
+stability_under_id (key.Interface i) (item.Interface id stability docs span external_id) =
+    Some stability
 stability_under_id k held = None
 
 -- the stability of an interface
@@ -52,7 +56,10 @@ interface_stability held = None
 
 -- an entry leaves the one under its key as it is
 abbrev pub EntryLeaves : GraphMerge → List Entry → WorldKey → WorldItem → Type 0
-EntryLeaves m into k held = (from there : Stability) → stability_under_id k held ≡ Some from → option_and_then interface_stability (counterpart_item m into k) ≡ Some there → Stays from there
+EntryLeaves m into k held =
+    (from there : Stability) → stability_under_id k held ≡ Some from
+    → option_and_then interface_stability (counterpart_item m into k) ≡ Some there
+    → Stays from there
 
 -- so do all of some entries; the keys of the others differ
 pub record EntriesLeave (m : GraphMerge) (from into : List Entry) : Type 0 where

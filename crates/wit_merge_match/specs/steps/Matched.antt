@@ -32,47 +32,71 @@ pub record AreFound (found : ℕ → Option ℕ) (count : ℕ) (list : List (Opt
 
 -- so of all packages, worlds, interfaces and types of the other graph
 pub record AreMatches (g other : Graph) (found : Matches) : Type 0 where
-  pub packages : AreFound (counterpart_package (merge_of_graphs g other)) (length other.packages) found.packages
-  pub worlds : AreFound (counterpart_world (merge_of_graphs g other)) (length other.worlds) found.worlds
-  pub interfaces : AreFound (counterpart_interface (merge_of_graphs g other)) (length other.interfaces) found.interfaces
+  pub packages : AreFound (counterpart_package (merge_of_graphs g other)) (length other.packages)
+      found.packages
+  pub worlds : AreFound (counterpart_world (merge_of_graphs g other)) (length other.worlds)
+      found.worlds
+  pub interfaces : AreFound (counterpart_interface (merge_of_graphs g other))
+      (length other.interfaces) found.interfaces
   pub types : AreFound (counterpart_type (merge_of_graphs g other)) (length other.types) found.types
 
 -- ---- what the steps hand on
 
 -- what stands under a name in a table of the package that is matched with this one
-abbrev pub under : (Package → List (List ℕ × ℕ)) → Graph → List (Option ℕ) → Option ℕ → List ℕ → Option ℕ
+abbrev pub under : (Package → List (List ℕ × ℕ)) → Graph → List (Option ℕ) → Option ℕ → List ℕ
+    → Option ℕ
 under table g packages home name =
-    option_and_then (λ p'. option_and_then (λ (there : Package). lookup (bytes_eq name) (table there)) (slice_get g.packages p')) (option_and_then (λ p. get_or packages p None) home)
+    option_and_then (λ p'.
+    option_and_then (λ (there : Package). lookup (bytes_eq name) (table there))
+    (slice_get g.packages p')) (option_and_then (λ p. get_or packages p None) home)
 
 -- the world of that name there
 abbrev pub world_under : Graph → List (Option ℕ) → World → Option ℕ
-world_under g packages world = under (λ (there : Package). there.worlds) g packages world.package world.name
+world_under g packages world =
+    under (λ (there : Package). there.worlds) g packages world.package world.name
 
 -- the interface of that name there; none of one without a name
 abbrev pub interface_under : Graph → List (Option ℕ) → Interface → Option ℕ
-interface_under g packages interface = option_and_then (under (λ (there : Package). there.interfaces) g packages interface.package) interface.name
+interface_under g packages interface =
+    option_and_then (under (λ (there : Package). there.interfaces) g packages interface.package)
+    interface.name
 
 -- the interface without a name under a key of a side of a world
 abbrev pub unnamed_at : Graph → Option ℕ → Bool → WorldKey → Option ℕ
-unnamed_at g w exported k = option_and_then (λ (there : World). option_and_then (unnamed_item g.interfaces) (lookup (same_key k) (entries_of exported there))) (option_and_then (slice_get g.worlds) w)
+unnamed_at g w exported k =
+    option_and_then (λ (there : World).
+    option_and_then (unnamed_item g.interfaces)
+    (lookup (same_key k) (entries_of exported there)))
+    (option_and_then (slice_get g.worlds) w)
 
 -- what is found of the worlds is known
 abbrev pub KnowsWorlds : LabelNotes → Type 0
-KnowsWorlds s = AreFound (counterpart_world (merge_of_graphs s.graph.now s.other.now)) (length s.other.now.worlds) s.worlds.now
+KnowsWorlds s =
+    AreFound (counterpart_world (merge_of_graphs s.graph.now s.other.now))
+    (length s.other.now.worlds) s.worlds.now
 
 -- interfaces are found by name, those without by the first of some labels of worlds
 pub record AreLabelled (g other : Graph) (named : List (Option ℕ)) (spots : List (ℕ × WorldLabel)) (found : List (Option ℕ)) : Type 0 where
   pub long : length found ≡ length other.interfaces
-  pub each : (i : ℕ) → get_or found i None ≡ (if is_unnamed other.interfaces i then option_and_then (counterpart_at_label (merge_of_graphs g other)) (lookup (nat_eq i) spots) else get_or named i None)
+  pub each : (i : ℕ)
+      → get_or found i None
+      ≡ (if is_unnamed other.interfaces i
+      then option_and_then (counterpart_at_label (merge_of_graphs g other))
+      (lookup (nat_eq i) spots)
+      else get_or named i None)
 
 -- the type of the name of another in what is matched with its owner
 abbrev pub owned_under : Graph → List (Option ℕ) → List (Option ℕ) → List ℕ → TypeOwner → Option ℕ
-owned_under g worlds interfaces name (owner.Interface i) = option_and_then (interface_type g name) (get_or interfaces i None)
-owned_under g worlds interfaces name (owner.World w) = option_and_then (λ (there : World). lookup (bytes_eq name) (world_types there)) (option_and_then (slice_get g.worlds) (get_or worlds w None))
+owned_under g worlds interfaces name (owner.Interface i) =
+    option_and_then (interface_type g name) (get_or interfaces i None)
+owned_under g worlds interfaces name (owner.World w) =
+    option_and_then (λ (there : World). lookup (bytes_eq name) (world_types there))
+    (option_and_then (slice_get g.worlds) (get_or worlds w None))
 owned_under g worlds interfaces name owner.None = None
 
 abbrev pub type_under : Graph → List (Option ℕ) → List (Option ℕ) → TypeDef → Option ℕ
-type_under g worlds interfaces def = option_and_then (λ name. owned_under g worlds interfaces name def.owner) def.name
+type_under g worlds interfaces def =
+    option_and_then (λ name. owned_under g worlds interfaces name def.owner) def.name
 
 -- a thing that isn't found moves
 abbrev pub moves : List (Option ℕ) → ℕ → Bool
@@ -85,6 +109,11 @@ new_id_from found first i = unwrap_or (get_or found i None) (first + rank (moves
 -- where all things go in a merge, as it finds them: the remap in two parts
 abbrev pub merge_ids_of : GraphMerge → MergeIds
 merge_ids_of m = record {
-  new_ids = record { types = (merge_remap m).types; interfaces = (merge_remap m).interfaces; worlds = (merge_remap m).worlds };
+  new_ids =
+      record {
+        types = (merge_remap m).types;
+        interfaces = (merge_remap m).interfaces;
+        worlds = (merge_remap m).worlds;
+      };
   packages = (merge_remap m).packages;
 }

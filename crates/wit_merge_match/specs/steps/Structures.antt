@@ -49,7 +49,9 @@ ListsThere types listed = (e : List ℕ × ℕ) → Contains listed e → e.1 < 
 
 -- none of some pairs differ
 abbrev pub NoneDiffer : GraphMerge → List TypePair → Type 0
-NoneDiffer m pairs = (p : TypePair) (ending : List ℕ) → Contains pairs p → StructuresDiffer m p.from p.into ending → ⊥
+NoneDiffer m pairs =
+    (p : TypePair) (ending : List ℕ) → Contains pairs p → StructuresDiffer m p.from p.into ending
+    → ⊥
 
 -- of some pairs the first that differ are told
 abbrev pub FirstMismatch : GraphMerge → List TypePair → List ℕ → Type 0
@@ -69,18 +71,21 @@ abbrev pub of_package : GraphMerge → (Package → List TypePair) → ℕ → L
 of_package m pairs p = option_map_or pairs (slice_get m.other.packages p) []
 
 abbrev pub package_interface_pairs : GraphMerge → ℕ → List TypePair
-package_interface_pairs m = of_package m (λ home. flat_map (interface_part m home.name) home.interfaces)
+package_interface_pairs m =
+    of_package m (λ home. flat_map (interface_part m home.name) home.interfaces)
 
 abbrev pub package_world_pairs : GraphMerge → ℕ → List TypePair
 package_world_pairs m = of_package m (λ home. flat_map (world_part m home.name) home.worlds)
 
 -- those of interfaces of some packages, and then those of worlds
 abbrev pub pairs_in_order : GraphMerge → List ℕ → List TypePair
-pairs_in_order m order = flat_map (package_interface_pairs m) order ++ flat_map (package_world_pairs m) order
+pairs_in_order m order =
+    flat_map (package_interface_pairs m) order ++ flat_map (package_world_pairs m) order
 
 -- that of a type under its name and of the one under it among others
 abbrev pub common_pair : List (List ℕ × ℕ) → List ℕ × ℕ → List TypePair
-common_pair others e = option_map_or (λ t'. paired [] e.0 e.1 t' ∷ []) (lookup (bytes_eq e.0) others) []
+common_pair others e =
+    option_map_or (λ t'. paired [] e.0 e.1 t' ∷ []) (lookup (bytes_eq e.0) others) []
 
 -- those of an interface, if it has no name
 abbrev pub unnamed_pairs : GraphMerge → ℕ → List TypePair

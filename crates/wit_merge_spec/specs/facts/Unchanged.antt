@@ -23,4 +23,5 @@ SameHome old new = new.package ≡ old.package
 
 -- of a package its name, and in front of its interfaces what it had
 abbrev pub SamePackage : Package → Package → Type 0
-SamePackage old new = (new.name ≡ old.name) × ((more : List (List ℕ × ℕ)) × (new.interfaces ≡ old.interfaces ++ more))
+SamePackage old new =
+    (new.name ≡ old.name) × ((more : List (List ℕ × ℕ)) × (new.interfaces ≡ old.interfaces ++ more))

@@ -16,7 +16,8 @@ use Rattle.wit_merge_spec.specs.steps.Parts.{moved_interfaces, joined_type, join
 -- each thing of the graph is what it was: what is matched with it brings nothing, and has no stability that it lacks
 pub record LeavesGraph (m : GraphMerge) : Type 0 where
   pub types : map (joined_type m) (enumerate_from 0 m.graph.types) ≡ m.graph.types
-  pub interfaces : map (joined_interface m) (enumerate_from 0 m.graph.interfaces) ≡ m.graph.interfaces
+  pub interfaces : map (joined_interface m) (enumerate_from 0 m.graph.interfaces)
+      ≡ m.graph.interfaces
   pub worlds : map (joined_world m) (enumerate_from 0 m.graph.worlds) ≡ m.graph.worlds
   pub packages : map (joined_package m) (enumerate_from 0 m.graph.packages) ≡ m.graph.packages
 
@@ -27,7 +28,9 @@ new_worlds m = map (λ (e : ℕ × World). world_image (merge_maps m) e.0 e.1) (
 -- their functions, behind those of the interfaces that move
 abbrev pub new_functions : GraphMerge → List Function
 new_functions m =
-    flat_map (λ (x : Interface). map (λ (e : List ℕ × Function). e.1) x.functions) (map (interface_image (merge_maps m)) (moved_interfaces m)) ++ flat_map world_functions (new_worlds m)
+    flat_map (λ (x : Interface). map (λ (e : List ℕ × Function). e.1) x.functions)
+    (map (interface_image (merge_maps m)) (moved_interfaces m))
+    ++ flat_map world_functions (new_worlds m)
 
 -- the graph with what comes behind it, with the lists of worlds as they were listed
 abbrev pub grown_graph : GraphMerge → Graph
@@ -35,8 +38,12 @@ grown_graph m = record {
   types = m.graph.types ++ types_behind (value_remap m);
   interfaces = m.graph.interfaces ++ map (interface_image (merge_maps m)) (moved_interfaces m);
   worlds = m.graph.worlds ++ new_worlds m;
-  packages = m.graph.packages ++ map (package_image m) (selected (moves_package m) m.other.packages);
-  package_names = m.graph.package_names ++ map (λ (e : PackageName × ℕ). (e.0, merged_package m e.1)) (filter (λ (e : PackageName × ℕ). moves_package m e.1) m.other.package_names);
+  packages =
+      m.graph.packages ++ map (package_image m) (selected (moves_package m) m.other.packages);
+  package_names =
+      m.graph.package_names
+      ++ map (λ (e : PackageName × ℕ). (e.0, merged_package m e.1))
+      (filter (λ (e : PackageName × ℕ). moves_package m e.1) m.other.package_names);
 }
 
 -- the two graphs as one, with the worlds that move alone

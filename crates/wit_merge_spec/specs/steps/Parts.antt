@@ -23,7 +23,9 @@ use Rattle.wit_merge_spec.specs.Cause.{AreJoined}
 
 -- the interfaces under labels of world w, each with its label
 abbrev pub labels_of_world : ℕ → World → List (ℕ × WorldLabel)
-labels_of_world w world = flat_map (λ (e : Entry). interface_at_label w false e.0 e.1) world.imports ++ flat_map (λ (e : Entry). interface_at_label w true e.0 e.1) world.exports
+labels_of_world w world =
+    flat_map (λ (e : Entry). interface_at_label w false e.0 e.1) world.imports
+    ++ flat_map (λ (e : Entry). interface_at_label w true e.0 e.1) world.exports
 
 -- what isn't matched moves
 abbrev pub moves_type : GraphMerge → ℕ → Bool
@@ -49,7 +51,9 @@ brought_types m from = filter (λ (e : List ℕ × ℕ). moves_type m e.1) from.
 
 -- those that an interface brings: all of one that moves, of a matched one those that its counterpart doesn't have
 abbrev pub interface_functions : GraphMerge → ℕ → Interface → List Function
-interface_functions m i from = map (λ (e : List ℕ × Function). e.1) (option_map_or (brought_functions from) (matched_interface m i) from.functions)
+interface_functions m i from =
+    map (λ (e : List ℕ × Function). e.1)
+    (option_map_or (brought_functions from) (matched_interface m i) from.functions)
 
 -- a type, with the stability of another joined to it
 abbrev pub with_type : TypeDef → TypeDef → TypeDef
@@ -61,7 +65,9 @@ StructuresDiffer m = DifferInStructure m.other.types m.graph.types (counterpart_
 
 -- all the spans of a graph
 abbrev pub graph_spans : Graph → List OptionalSpan
-graph_spans g = flat_map type_spans g.types ++ (flat_map interface_spans g.interfaces ++ flat_map world_spans g.worlds)
+graph_spans g =
+    flat_map type_spans g.types
+    ++ (flat_map interface_spans g.interfaces ++ flat_map world_spans g.worlds)
 
 -- in a type
 abbrev pub type_link : List ℕ → List ℕ
@@ -69,7 +75,8 @@ type_link name = codes "mismatch in type `" ++ (name ++ codes "`")
 
 -- not as many entries; word is `import` or `export`
 abbrev pub entry_count_text : List ℕ → List ℕ
-entry_count_text word = codes "world contains different number of " ++ (word ++ codes "s than expected")
+entry_count_text word =
+    codes "world contains different number of " ++ (word ++ codes "s than expected")
 
 -- no such entry, by what names its key in the incoming graph; word is `import` or `export`
 abbrev pub absent_text : List ℕ → List ℕ → List ℕ
@@ -84,33 +91,45 @@ abbrev pub other_sort_text : List ℕ
 other_sort_text = codes "world items do not have the same type"
 
 -- the features of a part
-abbrev pub part_features : List TypeDef → (ℕ → Option ℕ) → (ℕ → List Feature) → KindPart → List Feature
+abbrev pub part_features : List TypeDef → (ℕ → Option ℕ) → (ℕ → List Feature) → KindPart
+    → List Feature
 part_features types matched inner p = map (within p.step) (held_features types matched inner p.ty)
 
 -- a type of the graph, by its place and what it is: with the stability of what is matched with it joined to its own, if
 -- something is
 abbrev pub joined_type : GraphMerge → ℕ × TypeDef → TypeDef
-joined_type m e = option_map_or (λ (p : ℕ × TypeDef). record e.1 { stability = joined_stability p.1.stability e.1.stability }) (counterpart_of (counterpart_type m) m.other.types e.0) e.1
+joined_type m e =
+    option_map_or
+    (λ (p : ℕ × TypeDef). record e.1 { stability = joined_stability p.1.stability e.1.stability })
+    (counterpart_of (counterpart_type m) m.other.types e.0) e.1
 
 -- an interface of the graph, by its id and what it is: with what its counterpart brings, if it has one
 abbrev pub joined_interface : GraphMerge → ℕ × Interface → Interface
-joined_interface m e = option_map_or (λ (p : ℕ × Interface). with_interface m p.1 e.1) (counterpart_of (counterpart_interface m) m.other.interfaces e.0) e.1
+joined_interface m e =
+    option_map_or (λ (p : ℕ × Interface). with_interface m p.1 e.1)
+    (counterpart_of (counterpart_interface m) m.other.interfaces e.0) e.1
 
 -- a world of the graph, by its id and what it is: with the stabilities of its counterpart joined to its own, if it
 -- has one
 abbrev pub joined_world : GraphMerge → ℕ × World → World
-joined_world m e = option_map_or (λ (p : ℕ × World). with_world m p e.1) (counterpart_of (counterpart_world m) m.other.worlds e.0) e.1
+joined_world m e =
+    option_map_or (λ (p : ℕ × World). with_world m p e.1)
+    (counterpart_of (counterpart_world m) m.other.worlds e.0) e.1
 
 -- a package of the graph, by its id and what it is: with the interfaces and worlds that its counterpart brings, if it
 -- has one
 abbrev pub joined_package : GraphMerge → ℕ × Package → Package
-joined_package m e = option_map_or (λ (p : ℕ × Package). with_package m p.1 e.1) (counterpart_of (counterpart_package m) m.other.packages e.0) e.1
+joined_package m e =
+    option_map_or (λ (p : ℕ × Package). with_package m p.1 e.1)
+    (counterpart_of (counterpart_package m) m.other.packages e.0) e.1
 
 -- 27: a span of the incoming graph would end past 4294967295, whether it moves or not
 pub record MergeOverflows (m : GraphMerge) : Type 0 where
   pub from : ℕ
   pub to : ℕ
-  pub known : Contains (flat_map type_spans m.other.types ++ (flat_map interface_spans m.other.interfaces ++ flat_map world_spans m.other.worlds)) (Some (from, to))
+  pub known : Contains (flat_map type_spans m.other.types
+      ++ (flat_map interface_spans m.other.interfaces ++ flat_map world_spans m.other.worlds))
+      (Some (from, to))
   pub past : 2 ^ 32 ≤ to + m.offset
 
 -- 8: two that are joined are known and differ

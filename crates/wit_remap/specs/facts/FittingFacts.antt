@@ -133,7 +133,9 @@ module _ (offset : ℕ) where
   entries_fit entries all = Each-unflat (Fits offset) EntryFits entry_spans (λ e h. item_fits e.1 h) entries all
 
   abbrev world_rest : World → List OptionalSpan
-  world_rest world = flat_map entry_spans world.imports ++ (flat_map entry_spans world.exports ++ include_spans world.includes)
+  world_rest world =
+      flat_map entry_spans world.imports
+      ++ (flat_map entry_spans world.exports ++ include_spans world.includes)
 
   all_world : (world : World) → WholeWorldFits offset world → AllFit (world_spans world)
   all_world world fits =
@@ -161,7 +163,9 @@ module _ (offset : ℕ) where
   -- ---- types, interfaces and worlds together
 
   abbrev pub parts_spans : List TypeDef → List Interface → List World → List OptionalSpan
-  parts_spans types interfaces worlds = flat_map type_spans types ++ (flat_map interface_spans interfaces ++ flat_map world_spans worlds)
+  parts_spans types interfaces worlds =
+      flat_map type_spans types
+      ++ (flat_map interface_spans interfaces ++ flat_map world_spans worlds)
 
   pub all_parts : (types : List TypeDef) (interfaces : List Interface) (worlds : List World) → PartsFit offset types interfaces worlds → AllFit (parts_spans types interfaces worlds)
   all_parts types interfaces worlds fits =
@@ -182,7 +186,8 @@ module _ (offset : ℕ) where
 
   -- some span of these passes the end
   abbrev pub SomePasses : List OptionalSpan → Type 0
-  SomePasses spans = (from : ℕ) × (to : ℕ) × Contains spans (Some (from, to)) × (2 ^ 32 ≤ to + offset)
+  SomePasses spans =
+      (from : ℕ) × (to : ℕ) × Contains spans (Some (from, to)) × (2 ^ 32 ≤ to + offset)
 
   passes_later : (span : OptionalSpan) (spans : List OptionalSpan) → SomePasses spans → SomePasses (span ∷ spans)
   passes_later span spans passes = (passes.0, passes.1, Contains-append_right (span ∷ []) spans (Some (passes.0, passes.1)) passes.2, passes.3)

@@ -103,8 +103,10 @@ worlds_at m worlds = map (world_at m) worlds
 
 -- the keys of what is active still differ with their new ids
 pub record HasKeysApart (m : Maps) (kept : KeptIds) (world : World) : Type 0 where
-  pub imports : IsDistinct same_key (keys_of (map (entry_image m 0) (filter (λ (e : Entry). kept.items e.1) world.imports)))
-  pub exports : IsDistinct same_key (keys_of (map (entry_image m 0) (filter (λ (e : Entry). kept.items e.1) world.exports)))
+  pub imports : IsDistinct same_key
+      (keys_of (map (entry_image m 0) (filter (λ (e : Entry). kept.items e.1) world.imports)))
+  pub exports : IsDistinct same_key
+      (keys_of (map (entry_image m 0) (filter (λ (e : Entry). kept.items e.1) world.exports)))
 
 -- a world with new ids and spans, and what it includes
 abbrev pub updated_world : Maps → Part → ℕ × World → UpdatedWorld
@@ -116,11 +118,14 @@ updated_world m part e = record {
 
 -- the addition of a package to a graph
 abbrev pub addition : Part → Graph → UnresolvedPackage → ℕ → Addition
-addition part g u offset = record { features = part.features.now; graph = g; unresolved = u; offset = offset }
+addition part g u offset =
+    record { features = part.features.now; graph = g; unresolved = u; offset = offset }
 
 -- the worlds of its own of a package, with new ids and spans, each with the includes that are active
 abbrev pub added_world : Addition → ℕ × World → UpdatedWorld
-added_world a e = record { id = e.0; world = world_image (addition_maps a) e.0 e.1; includes = active_includes a e.1 }
+added_world a e =
+    record
+    { id = e.0; world = world_image (addition_maps a) e.0 e.1; includes = active_includes a e.1 }
 
 abbrev pub added_worlds : Addition → List UpdatedWorld
 added_worlds a = map (added_world a) (own_worlds a)
@@ -133,9 +138,12 @@ pub record CanMoveParts (new_ids : NewIds) (m : Maps) (kept : KeptIds) (g : Grap
   pub types : Each (TypeFits (Fits m.offset)) u.types
   pub interfaces : Each (InterfaceFits (Fits m.offset)) u.interfaces
   pub worlds : Each (WorldFits (Fits m.offset)) u.worlds
-  pub interface_names : IsDistinct bytes_eq (keys_of (interfaces_at m (selected_with_index (is_new (length g.interfaces) new_ids.interfaces) u.interfaces)))
-  pub world_names : IsDistinct bytes_eq (keys_of (worlds_at m (selected_with_index (is_new (length g.worlds) new_ids.worlds) u.worlds)))
-  pub keys : Each (λ (e : ℕ × World). HasKeysApart m kept e.1) (selected_with_index (is_new (length g.worlds) new_ids.worlds) u.worlds)
+  pub interface_names : IsDistinct bytes_eq (keys_of (interfaces_at m
+      (selected_with_index (is_new (length g.interfaces) new_ids.interfaces) u.interfaces)))
+  pub world_names : IsDistinct bytes_eq (keys_of
+      (worlds_at m (selected_with_index (is_new (length g.worlds) new_ids.worlds) u.worlds)))
+  pub keys : Each (λ (e : ℕ × World). HasKeysApart m kept e.1)
+      (selected_with_index (is_new (length g.worlds) new_ids.worlds) u.worlds)
 
 -- the package with the tables of what goes to new ids
 abbrev pub moved_package : Maps → UnresolvedPackage → (ℕ → Bool) → (ℕ → Bool) → Package
@@ -149,20 +157,36 @@ moved_package m u own_interface own_world = record {
 -- the graph with the parts that go to new ids
 abbrev pub moved_parts : NewIds → Maps → KeptIds → List TypeDef → UnresolvedPackage → Graph → Graph
 moved_parts new_ids m kept owns u g = record {
-  types = g.types ++ (map (type_image m) (selected (is_new (length g.types) new_ids.types) u.types) ++ owns);
-  interfaces = g.interfaces ++ map (interface_image m) (map (cut_interface kept) (selected (is_new (length g.interfaces) new_ids.interfaces) u.interfaces));
+  types =
+      g.types
+      ++ (map (type_image m) (selected (is_new (length g.types) new_ids.types) u.types) ++ owns);
+  interfaces =
+      g.interfaces
+      ++ map (interface_image m) (map (cut_interface kept)
+      (selected (is_new (length g.interfaces) new_ids.interfaces) u.interfaces));
   worlds = g.worlds;
-  packages = g.packages ++ moved_package m u (is_new (length g.interfaces) new_ids.interfaces) (is_new (length g.worlds) new_ids.worlds) ∷ [];
+  packages =
+      g.packages
+      ++ moved_package m u (is_new (length g.interfaces) new_ids.interfaces)
+      (is_new (length g.worlds) new_ids.worlds) ∷ [];
   package_names = g.package_names ++ (u.name, length g.packages) ∷ [];
 }
 
 -- the graph with its interfaces and the package, with a table of worlds
-abbrev pub with_interfaces : NewIds → Maps → KeptIds → UnresolvedPackage → List (List ℕ × ℕ) → Graph → Graph
+abbrev pub with_interfaces : NewIds → Maps → KeptIds → UnresolvedPackage → List (List ℕ × ℕ) → Graph
+    → Graph
 with_interfaces new_ids m kept u worlds g =
     let own = is_new (length g.interfaces) new_ids.interfaces in
-    let home : Package = record { name = u.name; docs = u.docs; interfaces = interfaces_at m (selected_with_index own u.interfaces); worlds = worlds } in
+    let home : Package = record {
+      name = u.name;
+      docs = u.docs;
+      interfaces = interfaces_at m (selected_with_index own u.interfaces);
+      worlds = worlds;
+    } in
     record g {
-      interfaces = g.interfaces ++ map (interface_image m) (map (cut_interface kept) (selected own u.interfaces));
+      interfaces =
+          g.interfaces
+          ++ map (interface_image m) (map (cut_interface kept) (selected own u.interfaces));
       packages = g.packages ++ home ∷ [];
       package_names = g.package_names ++ (u.name, length g.packages) ∷ [];
     }

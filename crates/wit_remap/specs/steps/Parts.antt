@@ -15,7 +15,8 @@ flag flags i = unwrap_or (slice_get flags i) false
 
 -- an entry of a world that is active, where it is told which types are
 abbrev pub has_item : Features → (ℕ → Bool) → WorldItem → Bool
-has_item features types (item.Interface id stability docs span external_id) = is_active features stability
+has_item features types (item.Interface id stability docs span external_id) =
+    is_active features stability
 has_item features types (item.Function function) = function_is_active features function
 has_item features types (item.Type_ id span) = types id
 

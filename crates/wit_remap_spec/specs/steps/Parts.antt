@@ -50,7 +50,8 @@ abbrev pub kind_image : Maps → TypeDefKind → TypeDefKind
 kind_image m = map_kind (role_remap m) (moved_by m.offset)
 
 abbrev pub param_image : Maps → Param → Param
-param_image m param = record param { ty = value_image m param.ty; span = moved_by m.offset param.span }
+param_image m param =
+    record param { ty = value_image m param.ty; span = moved_by m.offset param.span }
 
 -- the kind of a function under maps
 abbrev pub function_kind_image : Maps → FunctionKind → FunctionKind
@@ -74,11 +75,14 @@ one_place = record identity { types = λ t. 0; values = λ t. 0 }
 
 -- parameters in one place have different names
 abbrev pub parameter_names_text : List ℕ → List ℕ → List ℕ
-parameter_names_text a b = codes "different function parameter names: " ++ (a ++ (codes " != " ++ b))
+parameter_names_text a b =
+    codes "different function parameter names: " ++ (a ++ (codes " != " ++ b))
 
 -- or types of different sorts
 abbrev pub parameter_types_text : List ℕ → List ℕ
-parameter_types_text name = codes "different function parameter types for `" ++ (name ++ codes "`: different kinds of types")
+parameter_types_text name =
+    codes "different function parameter types for `"
+    ++ (name ++ codes "`: different kinds of types")
 
 -- a function with what it disagrees in
 abbrev pub function_mismatch_text : List ℕ → List ℕ → List ℕ
@@ -95,7 +99,9 @@ types_without_owns r = r.graph_types ++ map (type_image r.ids) r.new_types
 
 -- what a type is remapped to at a value position: to its `own` where it needs one
 abbrev pub value_id : ValueRemap → ℕ → ℕ
-value_id r t = if needs_own r t then length r.graph_types + length r.new_types + rank (needs_own r) t else r.ids.types t
+value_id r t =
+    if needs_own r t then length r.graph_types + length r.new_types + rank (needs_own r) t
+    else r.ids.types t
 
 -- the `own`s
 abbrev pub owns : ValueRemap → List TypeDef

@@ -18,11 +18,13 @@ use Rattle.wit_resolve_graph.specs.declared.command.Reply.TheVariants.{Done, NoW
 
 -- foo:NAME@MAJOR.MINOR.0
 abbrev pub versioned : List ℕ → ℕ → ℕ → PackageName
-versioned name major minor = record { namespace = codes "foo"; name = name; version = Some (major, minor, 0, [], []) }
+versioned name major minor =
+    record { namespace = codes "foo"; name = name; version = Some (major, minor, 0, [], []) }
 
 -- a package of this name with one world foo, at this id
 abbrev pub package_with : PackageName → ℕ → Package
-package_with name w = record { name = name; docs = no_docs; interfaces = []; worlds = (codes "foo", w) ∷ [] }
+package_with name w =
+    record { name = name; docs = no_docs; interfaces = []; worlds = (codes "foo", w) ∷ [] }
 
 -- a world foo of package p
 abbrev pub foo_in : ℕ → World
@@ -38,8 +40,12 @@ four_packages = record {
   types = [];
   interfaces = [];
   worlds = foo_in 0 ∷ foo_in 1 ∷ foo_in 2 ∷ foo_in 3 ∷ [];
-  packages = package_with (versioned (codes "bar") 0 1) 0 ∷ package_with (versioned (codes "baz") 0 1) 1 ∷ package_with (versioned (codes "baz") 0 2) 2 ∷ package_with foo_dummy 3 ∷ [];
-  package_names = (versioned (codes "bar") 0 1, 0) ∷ (versioned (codes "baz") 0 1, 1) ∷ (versioned (codes "baz") 0 2, 2) ∷ (foo_dummy, 3) ∷ [];
+  packages =
+      package_with (versioned (codes "bar") 0 1) 0 ∷ package_with (versioned (codes "baz") 0 1) 1
+      ∷ package_with (versioned (codes "baz") 0 2) 2 ∷ package_with foo_dummy 3 ∷ [];
+  package_names =
+      (versioned (codes "bar") 0 1, 0) ∷ (versioned (codes "baz") 0 1, 1)
+      ∷ (versioned (codes "baz") 0 2, 2) ∷ (foo_dummy, 3) ∷ [];
 }
 
 -- worlds that are chosen, and what is said where none is
@@ -48,10 +54,14 @@ pub record ExamplesOfSelection : Type 0 where
   pub only_version : selected_world four_packages (3 ∷ []) (Some (codes "foo:bar/foo")) ≡ Ok 0
   pub two_versions : selected_world four_packages (3 ∷ []) (Some (codes "foo:baz/foo"))
       ≡ Err (codes "package name `foo:baz` is available at both versions 0.1.0 and 0.2.0 but which is not specified")
-  pub plain_name : selected_world four_packages (3 ∷ []) (Some (codes "xx")) ≡ Err (codes "World `xx` not found in package `foo:dummy`")
-  pub empty_text : selected_world four_packages (3 ∷ []) (Some []) ≡ Err (codes "failed to parse world specifier ``: invalid use path")
-  pub no_main : selected_world four_packages [] (Some (codes "foo:bar/foo")) ≡ Err (codes "No main packages defined")
-  pub unknown : selected_world four_packages (3 ∷ []) (Some (codes "foo:nope/foo")) ≡ Err (codes "unknown package `foo:nope`")
+  pub plain_name : selected_world four_packages (3 ∷ []) (Some (codes "xx"))
+      ≡ Err (codes "World `xx` not found in package `foo:dummy`")
+  pub empty_text : selected_world four_packages (3 ∷ []) (Some [])
+      ≡ Err (codes "failed to parse world specifier ``: invalid use path")
+  pub no_main : selected_world four_packages [] (Some (codes "foo:bar/foo"))
+      ≡ Err (codes "No main packages defined")
+  pub unknown : selected_world four_packages (3 ∷ []) (Some (codes "foo:nope/foo"))
+      ≡ Err (codes "unknown package `foo:nope`")
   pub two_mains : selected_world four_packages (0 ∷ 3 ∷ []) (Some (codes "foo"))
       ≡ Err (codes "There are multiple main packages; a world must be explicitly chosen:\n  foo:bar/foo@0.1.0\n  foo:baz/foo@0.1.0\n  foo:baz/foo@0.2.0\n  foo:dummy/foo")
 
@@ -85,7 +95,11 @@ abbrev pub first_group : UnresolvedPackageGroup
 first_group = record {
   main = first_package;
   nested = [];
-  source_map = record { files = record { path = codes "f"; contents = codes "package x"; start = 0 } ∷ []; end = 10 };
+  source_map =
+      record {
+        files = record { path = codes "f"; contents = codes "package x"; start = 0 } ∷ [];
+        end = 10;
+      };
 }
 
 -- a graph with the package alone
@@ -105,16 +119,23 @@ with_first = record new_state { graph = with_foo_bar; source_map = first_group.s
 -- runs, and what no run is
 pub record ExamplesOfRuns : Type 0 where
   pub empty : Run new_state [] [] new_state
-  pub features : Run new_state (AddFeature (codes "f") ∷ AddFeature (codes "f") ∷ SetAllFeatures true ∷ []) (Done ∷ Done ∷ Done ∷ []) with_f
-  pub push_without_files : Run new_state (PushGroups first_group [] ∷ []) (Pushed 0 ∷ []) (record with_first { source_map = new_state.source_map }) → ⊥
+  pub features : Run new_state
+      (AddFeature (codes "f") ∷ AddFeature (codes "f") ∷ SetAllFeatures true ∷ [])
+      (Done ∷ Done ∷ Done ∷ []) with_f
+  pub push_without_files : Run new_state (PushGroups first_group [] ∷ []) (Pushed 0 ∷ [])
+      (record with_first { source_map = new_state.source_map }) → ⊥
   pub push_done : Run new_state (PushGroups first_group [] ∷ []) (Done ∷ []) with_first → ⊥
   pub no_world : Run new_state (Semver foo_bar (codes "w") ∷ []) (NoWorld ∷ []) new_state
-  pub no_turn : Run new_state (Importize foo_bar (codes "w") None ∷ Exportize foo_bar (codes "w") None None ∷ []) (NoWorld ∷ NoWorld ∷ []) new_state
+  pub no_turn : Run new_state
+      (Importize foo_bar (codes "w") None ∷ Exportize foo_bar (codes "w") None None ∷ [])
+      (NoWorld ∷ NoWorld ∷ []) new_state
   pub not_merged : Run new_state (Semver foo_bar (codes "w") ∷ []) (Done ∷ []) new_state → ⊥
   pub rule : Run new_state (SetTrackRule WithPrereleases ∷ []) (Done ∷ []) with_rule
   pub rule_not_left : Run new_state (SetTrackRule WithPrereleases ∷ []) (Done ∷ []) new_state → ⊥
-  pub rule_stays : Run with_f (SetAllFeatures true ∷ []) (Done ∷ []) (record with_f { track_rule = WithPrereleases }) → ⊥
-  pub turn_not_done : Run new_state (Importize foo_bar (codes "w") None ∷ []) (Done ∷ []) new_state → ⊥
+  pub rule_stays : Run with_f (SetAllFeatures true ∷ []) (Done ∷ [])
+      (record with_f { track_rule = WithPrereleases }) → ⊥
+  pub turn_not_done : Run new_state (Importize foo_bar (codes "w") None ∷ []) (Done ∷ []) new_state
+      → ⊥
   pub reply_missing : Run new_state (SetAllFeatures true ∷ []) [] new_state → ⊥
   pub wrong_reply : Run new_state (SetAllFeatures true ∷ []) (NoWorld ∷ []) new_state → ⊥
   pub not_done : Run new_state (SetAllFeatures true ∷ []) (Done ∷ []) new_state → ⊥

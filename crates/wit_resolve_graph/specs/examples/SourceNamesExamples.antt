@@ -3,7 +3,11 @@ use Rattle.std.specs.Prelude.{◌≡◌, ◌≢◌, [], ◌∷◌, None, Some}
 use Rattle.wit_resolve_graph.specs.SourceNames.{NamesOf, all_names, package_names}
 
 abbrev pub two_packages : NamesOf
-two_packages = record { sources = ((97 ∷ []) ∷ (98 ∷ []) ∷ []) ∷ ((98 ∷ []) ∷ (99 ∷ []) ∷ []) ∷ []; places = (0, 0) ∷ (1, 1) ∷ [] }
+two_packages =
+    record {
+      sources = ((97 ∷ []) ∷ (98 ∷ []) ∷ []) ∷ ((98 ∷ []) ∷ (99 ∷ []) ∷ []) ∷ [];
+      places = (0, 0) ∷ (1, 1) ∷ [];
+    }
 
 pub record ExamplesOfNames : Type 0 where
   pub all : all_names two_packages ≡ (97 ∷ []) ∷ (98 ∷ []) ∷ (99 ∷ []) ∷ []

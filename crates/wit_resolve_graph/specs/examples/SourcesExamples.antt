@@ -28,7 +28,8 @@ bad_at start end = fault.Parse (Some (start, end)) (codes "bad")
 
 pub record ExamplesOfSources : Type 0 where
   pub placed : IsPlaced once source (Some (13, 18)) (codes "bad") (bad_at 38 43) twice
-  pub shown : fault_rendered twice.source_map.files (bad_at 38 43) ≡ codes "bad\n     --> m.wit:2:1\n      |\n    2 | world w {}\n      | ^----"
+  pub shown : fault_rendered twice.source_map.files (bad_at 38 43)
+      ≡ codes "bad\n     --> m.wit:2:1\n      |\n    2 | world w {}\n      | ^----"
   pub no_room : IsNotPlaced full source (Some (13, 18)) (fault.Resolve OffsetOverflow) full
   -- near misses: the span left as it was, the file nowhere, 27 where there is room
   pub not_left : IsPlaced once source (Some (13, 18)) (codes "bad") (bad_at 13 18) twice → ⊥

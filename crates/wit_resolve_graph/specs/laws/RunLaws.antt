@@ -10,8 +10,8 @@ use Rattle.wit_data.specs.declared.world.World.{World}
 use Rattle.wit_graph_data.specs.declared.graph.Graph.{Graph}
 use Rattle.wit_graph_data.specs.declared.graph.Package.{Package}
 use Rattle.wit_merge_spec.specs.facts.Unchanged.{SameHome, SameInterface, SamePackage}
-use Rattle.wit_semver_spec.specs.laws.Unchanged.{SameKind}
-use Rattle.wit_semver_spec.specs.SemverMerged.{semver_merged}
+use Rattle.wit_semver.specs.laws.Unchanged.{SameKind}
+use Rattle.wit_semver.specs.SemverMerged.{semver_merged}
 use Rattle.wit_link_spec.specs.Addition.{Addition}
 use Rattle.wit_link.specs.Appending.{IsAdded}
 use Rattle.wit_merge_spec.specs.Matches.{GraphMerge}
@@ -33,14 +33,19 @@ pub record KeepsType (old new : TypeDef) : Type 0 where
 -- of their packages (a transformed world has another name and other lists), packages under their names with their interfaces
 pub record Keeps (old new : Graph) : Type 0 where
   pub types : EachAt (λ t (def : TypeDef). SomeAt new.types t (KeepsType def)) old.types
-  pub interfaces : EachAt (λ i (interface : Interface). SomeAt new.interfaces i (SameInterface interface)) old.interfaces
+  pub interfaces : EachAt
+      (λ i (interface : Interface). SomeAt new.interfaces i (SameInterface interface))
+      old.interfaces
   pub worlds : EachAt (λ w (world : World). SomeAt new.worlds w (SameHome world)) old.worlds
-  pub packages : EachAt (λ p (home : Package). SomeAt new.packages p (SamePackage home)) old.packages
+  pub packages : EachAt (λ p (home : Package). SomeAt new.packages p (SamePackage home))
+      old.packages
   pub names : (more : List (PackageName × ℕ)) × (new.package_names ≡ old.package_names ++ more)
 
 -- what was there before a run is there after it, with the same ids
 abbrev pub RunsKeep : Type 0
-RunsKeep = (old new : State) (commands : List Command) (replies : List Reply) → Run old commands replies new → Keeps old.graph new.graph
+RunsKeep =
+    (old new : State) (commands : List Command) (replies : List Reply)
+    → Run old commands replies new → Keeps old.graph new.graph
 
 -- ---- what single calls keep: what was there before is there after it, with the same ids
 
@@ -49,14 +54,19 @@ abbrev pub AdditionsKeep : Type 0
 AdditionsKeep = (a : Addition) (new : Graph) (id : ℕ) → IsAdded a new id → Keeps a.graph new
 
 abbrev pub GroupsKeep : Type 0
-GroupsKeep = (old new : State) (main : UnresolvedPackageGroup) (deps : List UnresolvedPackageGroup) (id : ℕ) → PushesGroups old main deps id new → Keeps old.graph new.graph
+GroupsKeep =
+    (old new : State) (main : UnresolvedPackageGroup) (deps : List UnresolvedPackageGroup) (id : ℕ)
+    → PushesGroups old main deps id new → Keeps old.graph new.graph
 
 abbrev pub SourcesKeep : Type 0
-SourcesKeep = (old new : State) (group : UnresolvedPackageGroup) (id : ℕ) → PushesAnswer old group id new → Keeps old.graph new.graph
+SourcesKeep =
+    (old new : State) (group : UnresolvedPackageGroup) (id : ℕ) → PushesAnswer old group id new
+    → Keeps old.graph new.graph
 
 -- a world is transformed, whatever a filter answers
 abbrev pub TransformationsKeep : Type 0
-TransformationsKeep = (g : Graph) (w : ℕ) (change : World → WorldLists) → Keeps g (transformed g w change)
+TransformationsKeep =
+    (g : Graph) (w : ℕ) (change : World → WorldLists) → Keeps g (transformed g w change)
 
 -- another graph is merged into it, or the imports of a world are merged by a rule of tracks
 abbrev pub MergesKeep : Type 0
@@ -92,7 +102,8 @@ RunsStayInOrder =
 
 -- so do single calls
 abbrev pub AdditionsStayInOrder : Type 0
-AdditionsStayInOrder = (a : Addition) (new : Graph) (id : ℕ) → IsAdded a new id → StaysInOrder a.graph new
+AdditionsStayInOrder =
+    (a : Addition) (new : Graph) (id : ℕ) → IsAdded a new id → StaysInOrder a.graph new
 
 abbrev pub GroupsStayInOrder : Type 0
 GroupsStayInOrder =
@@ -105,10 +116,12 @@ SourcesStayInOrder =
     → PushesAnswer old group id new → StaysInOrder old.graph new.graph
 
 abbrev pub TransformationsStayInOrder : Type 0
-TransformationsStayInOrder = (g : Graph) (w : ℕ) (change : World → WorldLists) → StaysInOrder g (transformed g w change)
+TransformationsStayInOrder =
+    (g : Graph) (w : ℕ) (change : World → WorldLists) → StaysInOrder g (transformed g w change)
 
 abbrev pub MergesStayInOrder : Type 0
 MergesStayInOrder = (m : GraphMerge) → HasNamesInOrder m.other → StaysInOrder m.graph (merged m)
 
 abbrev pub SemverMergesStayInOrder : Type 0
-SemverMergesStayInOrder = (rule : TrackRule) (g : Graph) (w : ℕ) → StaysInOrder g (semver_merged rule g w)
+SemverMergesStayInOrder =
+    (rule : TrackRule) (g : Graph) (w : ℕ) → StaysInOrder g (semver_merged rule g w)

@@ -10,7 +10,10 @@ use Rattle.std.specs.Option.{option_map_or}
 
 -- what names a key is listed; without a list all are
 abbrev pub is_listed_key : Graph → Option (List (List ℕ)) → WorldKey → Bool
-is_listed_key g keys k = option_map_or (λ (listed : List (List ℕ)). list_any (bytes_eq (key_text g.packages g.interfaces k)) listed) keys true
+is_listed_key g keys k =
+    option_map_or
+    (λ (listed : List (List ℕ)). list_any (bytes_eq (key_text g.packages g.interfaces k)) listed)
+    keys true
 
 -- for each of some entries, whether what names its key is listed
 abbrev pub listed_answers : Graph → Option (List (List ℕ)) → List Entry → List Bool

@@ -8,14 +8,14 @@ use Rattle.wit_data.specs.declared.types.TypeDef.{TypeDef}
 use Rattle.wit_data.specs.declared.world.World.{World}
 use Rattle.wit_elaboration.specs.Entries.{Entry}
 use Rattle.wit_graph_data.specs.declared.graph.Graph.{Graph}
-use Rattle.wit_semver_spec.specs.SemverMerged.{IsComplete, LacksType, SemverMerge, Versioned, both, is_replaced, kept_imports, newest, newest_type, types_of_new_entries, semver_merge, versioned}
-use Rattle.wit_semver_spec.specs.steps.SemverMerged.{Agrees}
+use Rattle.wit_semver.specs.SemverMerged.{IsComplete, LacksType, SemverMerge, Versioned, both, is_replaced, kept_imports, newest, newest_type, types_of_new_entries, semver_merge, versioned}
+use Rattle.wit_semver.specs.steps.SemverMerged.{Agrees}
 use Rattle.wit_semver.specs.contracts.tracks.TrackKeyPartialEq.TheImpl.{eq-value}
 use Rattle.wit_semver.specs.declared.merging.NewEntries.{NewEntries}
 use Rattle.wit_semver.specs.declared.tracks.TrackKey.{TrackKey}
 use Rattle.wit_semver.specs.declared.tracks.VersionedInterface.{VersionedInterface}
 use Rattle.wit_semver.specs.declared.semver_merge_plan.SemverMergePlan.{SemverMergePlan}
-use Rattle.wit_semver_spec.specs.steps.Parts.{is_below, retargeted, track_package}
+use Rattle.wit_semver.specs.steps.Parts.{is_below, retargeted, track_package}
 
 -- an interface with what is told of it
 abbrev pub told : VersionedInterface → Versioned
@@ -35,7 +35,8 @@ replacement u i = if is_replaced u i then Some (newest u i) else None
 
 -- a list tells of each interface what replaces it
 abbrev pub AreReplacements : SemverMerge → List (Option ℕ) → Type 0
-AreReplacements u found = (length found ≡ length u.graph.interfaces) × ((i : ℕ) → get_or found i None ≡ replacement u i)
+AreReplacements u found =
+    (length found ≡ length u.graph.interfaces) × ((i : ℕ) → get_or found i None ≡ replacement u i)
 
 -- ---- the greatest version on each track
 
@@ -54,14 +55,18 @@ is_newer g (Some j) v = option_map_or (λ w. is_below w v) (versioned g j) true
 
 -- a table tells of each track on which some interfaces are one of them, of which none is of a greater version
 pub record IsNewestTable (rule : TrackRule) (g : Graph) (ids : List ℕ) (table : List (TrackKey × ℕ)) : Type 0 where
-  pub from : (k : TrackKey) (j : ℕ) → lookup (same_track k) table ≡ Some j → Contains ids j × (key_at rule g j ≡ Some k)
-  pub into : (i : ℕ) (k : TrackKey) → Contains ids i → key_at rule g i ≡ Some k → (j : ℕ) × (lookup (same_track k) table ≡ Some j) × (is_smaller g j i ≡ false)
+  pub from : (k : TrackKey) (j : ℕ) → lookup (same_track k) table ≡ Some j
+      → Contains ids j × (key_at rule g j ≡ Some k)
+  pub into : (i : ℕ) (k : TrackKey) → Contains ids i → key_at rule g i ≡ Some k
+      → (j : ℕ) × (lookup (same_track k) table ≡ Some j) × (is_smaller g j i ≡ false)
 
 -- ---- values at places
 
 -- of so many places those among some have what f gives, and the others nothing
 abbrev pub IsFilled : (ℕ → Option ℕ) → List ℕ → ℕ → List (Option ℕ) → Type 0
-IsFilled f ids count found = (length found ≡ count) × ((i : ℕ) → get_or found i None ≡ (if list_any (nat_eq i) ids then f i else None))
+IsFilled f ids count found =
+    (length found ≡ count)
+    × ((i : ℕ) → get_or found i None ≡ (if list_any (nat_eq i) ids then f i else None))
 
 -- ---- a world whose imports are to be merged
 
@@ -81,22 +86,29 @@ LackTypes u ids message = (t : ℕ) × Contains ids t × LacksType u t message
 
 -- types that name what they are told to
 abbrev pub with_targets : List TypeDef → List (Option ℕ) → List TypeDef
-with_targets types targets = map (λ (e : ℕ × TypeDef). retargeted e.1 (get_or targets e.0 None)) (enumerate_from 0 types)
+with_targets types targets =
+    map (λ (e : ℕ × TypeDef). retargeted e.1 (get_or targets e.0 None)) (enumerate_from 0 types)
 
 -- the graph, of which world w lists these imports
 abbrev pub with_imports : Graph → ℕ → List Entry → Graph
 with_imports g w imports =
-    record g { worlds = option_map_or (λ (world : World). slice_set g.worlds w (record world { imports = imports })) (slice_get g.worlds w) g.worlds }
+    record g {
+      worlds = option_map_or
+          (λ (world : World). slice_set g.worlds w (record world { imports = imports }))
+          (slice_get g.worlds w) g.worlds;
+    }
 
 -- and such types
 abbrev pub with_lists : Graph → ℕ → List Entry → List (Option ℕ) → Graph
-with_lists g w imports targets = record (with_imports g w imports) { types = with_targets g.types targets }
+with_lists g w imports targets =
+    record (with_imports g w imports) { types = with_targets g.types targets }
 
 -- these are the new entries of a world whose imports are to be merged
 pub record HasNewEntries (u : SemverMerge) (entries : NewEntries) : Type 0 where
   pub imports_are : entries.imports ≡ kept_imports u
   pub types_are : entries.types ≡ types_of_new_entries u
-  pub targets_are : IsFilled (newest_type u) (types_of_new_entries u) (length u.graph.types) entries.targets
+  pub targets_are : IsFilled (newest_type u) (types_of_new_entries u) (length u.graph.types)
+      entries.targets
 
 -- nothing of what reads the graph as it was holds against merging the imports of world w, and this is what
 -- it lists then and what types name then
@@ -106,4 +118,5 @@ pub record AreNewEntries (rule : TrackRule) (g : Graph) (w : ℕ) (imports : Lis
   pub complete : IsComplete (semver_merge rule g world)
   pub agree : Agrees (semver_merge rule g world)
   pub imports_are : imports ≡ kept_imports (semver_merge rule g world)
-  pub targets_are : IsFilled (newest_type (semver_merge rule g world)) (types_of_new_entries (semver_merge rule g world)) (length g.types) targets
+  pub targets_are : IsFilled (newest_type (semver_merge rule g world))
+      (types_of_new_entries (semver_merge rule g world)) (length g.types) targets

@@ -27,8 +27,10 @@ use Rattle.wit_transform.specs.steps.Parts.{type_exported_text, HasClash}
 -- exported nor lost, and no entry is imported and exported
 pub record ComesFrom (old : World) (transform : WorldLists) : Type 0 where
   pub imports : (e : Entry) → Contains transform.imports e → Contains (old.imports ++ old.exports) e
-  pub exports : (e : Entry) → Contains transform.exports e → Contains (old.imports ++ old.exports) e × IsNoType e.1
-  pub types : (e : Entry) → Contains old.imports e → is_type e.1 ≡ true → Contains transform.imports e
+  pub exports : (e : Entry) → Contains transform.exports e
+      → Contains (old.imports ++ old.exports) e × IsNoType e.1
+  pub types : (e : Entry) → Contains old.imports e → is_type e.1 ≡ true
+      → Contains transform.imports e
   pub distinct_imports : HasDistinctKeys transform.imports
   pub distinct_exports : HasDistinctKeys transform.exports
   pub one_side : (e : Entry) → Contains transform.imports e → Contains transform.exports e → ⊥

@@ -36,15 +36,16 @@ without_span_instance (item.Function f) = refl
 without_span_instance (item.Type_ t span) = refl
 
 -- where an entry of the transformed world, under its key, stood in the old one
-record Stood (old : World) (transform : WorldLists) (exported : Bool) (e : Entry) (f : ℕ) : Type 0 where
-  pub side : Bool
-  pub place : ℕ
-  pub before : Entry
-  pub at : slice_get (entries_of side old) place ≡ Some before
-  pub held : item_interface before.1 ≡ f ∷ []
-  pub key : e.0 ≡ before.0
-  pub imported : exported ≡ false → Contains transform.imports before
-  pub exports : exported ≡ true → Contains transform.exports before
+record Stood (old : World) (transform : WorldLists) (exported : Bool) (e : Entry) (f : ℕ) : Type 0
+  where
+    pub side : Bool
+    pub place : ℕ
+    pub before : Entry
+    pub at : slice_get (entries_of side old) place ≡ Some before
+    pub held : item_interface before.1 ≡ f ∷ []
+    pub key : e.0 ≡ before.0
+    pub imported : exported ≡ false → Contains transform.imports before
+    pub exports : exported ≡ true → Contains transform.exports before
 
 stood_at : (old : World) (e : Entry) → Contains (old.imports ++ old.exports) e → (side : Bool) × (place : ℕ) × (slice_get (entries_of side old) place ≡ Some e)
 stood_at old e has =

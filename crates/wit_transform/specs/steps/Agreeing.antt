@@ -11,8 +11,10 @@ use Rattle.wit_remap_spec.specs.steps.Parts.{parameter_names_text, parameter_typ
 
 -- a parameter disagrees with another in its place, which this text tells
 pub data ParamMismatch (from into : Param) (text : List ℕ) : Type 0 where
-  names_differ : from.name ≢ into.name → text ≡ parameter_names_text from.name into.name → ParamMismatch from into text
-  types_differ : (AreOfOneSort from.ty into.ty → ⊥) → text ≡ parameter_types_text from.name → ParamMismatch from into text
+  names_differ : from.name ≢ into.name → text ≡ parameter_names_text from.name into.name
+      → ParamMismatch from into text
+  types_differ : (AreOfOneSort from.ty into.ty → ⊥) → text ≡ parameter_types_text from.name
+      → ParamMismatch from into text
 
 -- a parameter agrees with another in its place
 pub record ParamAgrees (from into : Param) : Type 0 where
@@ -21,7 +23,8 @@ pub record ParamAgrees (from into : Param) : Type 0 where
 
 -- parameters agree with those in their places
 abbrev pub ParamsAgree : List Param → List Param → Type 0
-ParamsAgree from into = (i : ℕ) (a b : Param) → slice_get from i ≡ Some a → slice_get into i ≡ Some b → ParamAgrees a b
+ParamsAgree from into =
+    (i : ℕ) (a b : Param) → slice_get from i ≡ Some a → slice_get into i ≡ Some b → ParamAgrees a b
 
 -- two functions have a result of one sort, or both have none
 pub record ResultsAgree (from into : Option Type_) : Type 0 where
@@ -40,4 +43,6 @@ pub record DisagreesIn (into : Interface) (name : List ℕ) (function : Function
 
 -- a function disagrees with none of this name in an interface
 abbrev pub AgreesIn : Interface → List ℕ → Function → Type 0
-AgreesIn into name function = (other : Function) → Contains into.functions (name, other) → (text : List ℕ) → FunctionMismatch function other text → ⊥
+AgreesIn into name function =
+    (other : Function) → Contains into.functions (name, other) → (text : List ℕ)
+    → FunctionMismatch function other text → ⊥

@@ -22,7 +22,8 @@ put_last table w name = filter (λ (e : List ℕ × ℕ). not (nat_eq e.1 w)) ta
 
 -- the world under its new name, with its new lists, before it is elaborated
 abbrev pub listed_world : World → WorldLists → World
-listed_world world lists = record world { name = lists.name; imports = lists.imports; exports = lists.exports }
+listed_world world lists =
+    record world { name = lists.name; imports = lists.imports; exports = lists.exports }
 
 -- the world under its new name, with its new lists elaborated
 abbrev pub transformed_world : Graph → World → WorldLists → World
@@ -30,11 +31,16 @@ transformed_world g world lists = elaborated_world g (listed_world world lists)
 
 -- the graph with this world in the place of world w, and last in the table of its package
 abbrev pub with_world : Graph → ℕ → World → Graph
-with_world g w world = record g { worlds = slice_set g.worlds w world; packages = with_renamed g.packages world.package w world.name }
+with_world g w world =
+    record g {
+      worlds = slice_set g.worlds w world;
+      packages = with_renamed g.packages world.package w world.name;
+    }
 
 -- 19: an export has the label of an import that stays
 abbrev pub label_clash_text : List ℕ → List ℕ
-label_clash_text label = codes "world export `" ++ (label ++ codes "` conflicts with import of same name")
+label_clash_text label =
+    codes "world export `" ++ (label ++ codes "` conflicts with import of same name")
 
 -- 21: a type would be exported
 abbrev pub type_exported_text : List ℕ → List ℕ
@@ -42,7 +48,9 @@ type_exported_text label = codes "type import `" ++ (label ++ codes "` cannot be
 
 -- an export has the label of a type among the imports
 abbrev pub HasClash : World → List ℕ → Type 0
-HasClash world label = Contains (keys_of world.exports) (key.Name label) × Contains (keys_of (type_entries world.imports)) (key.Name label)
+HasClash world label =
+    Contains (keys_of world.exports) (key.Name label)
+    × Contains (keys_of (type_entries world.imports)) (key.Name label)
 
 -- the package of world w has another world of this name
 abbrev pub NameIsTakenIn : Package → ℕ → List ℕ → Type 0
@@ -51,5 +59,6 @@ NameIsTakenIn home w name = (v : ℕ) × Contains home.worlds (name, v) × (v �
 -- another world of the package has the new name of world w, and the error says so
 abbrev pub HasNameTakenAt : Graph → ℕ → List ℕ → Option (List ℕ) → ResolveErrorKind → Type 0
 HasNameTakenAt g w suffix out error =
-    (world : World) × (home : Package) × (slice_get g.worlds w ≡ Some world) × HasNameTaken g w world (new_name suffix out world.name) home
+    (world : World) × (home : Package) × (slice_get g.worlds w ≡ Some world)
+    × HasNameTaken g w world (new_name suffix out world.name) home
     × (error ≡ Semantic None (name_taken_text (new_name suffix out world.name) home.name) NameTaken)

@@ -20,13 +20,15 @@ use Rattle.wit_elaboration.specs.AllElaborated.{DependsOnItself, HasWorldInConfl
 use Rattle.wit_elaboration.specs.steps.Parts.{graph_package_uses, interface_cycle_text, type_cycle_text}
 
 -- this interface uses itself
-pub record IsInterfaceCycleError (g : Graph) (interface : ℕ) (error : ResolveErrorKind) : Type 0 where
-  pub id : List ℕ
-  pub id_is : interface_id_at g.packages g.interfaces interface ≡ Some id
-  pub error_is : error ≡ Semantic None (interface_cycle_text id) cause.InterfaceCycle
+pub record IsInterfaceCycleError (g : Graph) (interface : ℕ) (error : ResolveErrorKind) : Type 0
+  where
+    pub id : List ℕ
+    pub id_is : interface_id_at g.packages g.interfaces interface ≡ Some id
+    pub error_is : error ≡ Semantic None (interface_cycle_text id) cause.InterfaceCycle
 
 -- one of these types, which has a name, refers to itself
-pub record IsTypeCycleError (types : List TypeDef) (ids : List ℕ) (error : ResolveErrorKind) : Type 0 where
+pub record IsTypeCycleError (types : List TypeDef) (ids : List ℕ) (error : ResolveErrorKind) : Type
+    0 where
   pub id : ℕ
   pub def : TypeDef
   pub name : List ℕ
@@ -37,14 +39,20 @@ pub record IsTypeCycleError (types : List TypeDef) (ids : List ℕ) (error : Res
 
 -- why a graph can't be checked for cycles and elaborated
 pub data ElaborationCause (g : Graph) : ResolveErrorKind → Type 0 where
-  conflict_4 : (span : Option (ℕ × ℕ)) (name : List ℕ) → HasWorldInConflict g span name → ElaborationCause g (InvalidTransitiveDependency span name)
-  package_cycle_6 : (home : PackageName) → DependsOnItself g home → ElaborationCause g (PackageCycle None home)
-  interface_cycle_22 : (message : List ℕ) → UsesItself g message → ElaborationCause g (Semantic None message cause.InterfaceCycle)
-  type_cycle_23 : (message : List ℕ) → RefersToItself g message → ElaborationCause g (Semantic None message cause.TypeCycle)
+  conflict_4 : (span : Option (ℕ × ℕ)) (name : List ℕ) → HasWorldInConflict g span name
+      → ElaborationCause g (InvalidTransitiveDependency span name)
+  package_cycle_6 : (home : PackageName) → DependsOnItself g home
+      → ElaborationCause g (PackageCycle None home)
+  interface_cycle_22 : (message : List ℕ) → UsesItself g message
+      → ElaborationCause g (Semantic None message cause.InterfaceCycle)
+  type_cycle_23 : (message : List ℕ) → RefersToItself g message
+      → ElaborationCause g (Semantic None message cause.TypeCycle)
 
 -- each interface that another uses, or that uses itself, has an id text
 abbrev pub UsedHaveNames : Graph → Type 0
-UsedHaveNames g = (i j : ℕ) → Contains (direct (graph_uses g) i) j → IsSome (interface_id_at g.packages g.interfaces j)
+UsedHaveNames g =
+    (i j : ℕ) → Contains (direct (graph_uses g) i) j
+    → IsSome (interface_id_at g.packages g.interfaces j)
 
 -- some of these types has a name
 pub record IsSomeNamed (types : List TypeDef) (ids : List ℕ) : Type 0 where
@@ -56,7 +64,9 @@ pub record IsSomeNamed (types : List TypeDef) (ids : List ℕ) : Type 0 where
 
 -- each cycle of types has one with a name on it
 abbrev pub CyclesHaveNames : List TypeDef → Type 0
-CyclesHaveNames types = (t k : ℕ) (path : List ℕ) → IsPath (type_references types) t (k ∷ path) t → IsSomeNamed types (t ∷ k ∷ path)
+CyclesHaveNames types =
+    (t k : ℕ) (path : List ℕ) → IsPath (type_references types) t (k ∷ path) t
+    → IsSomeNamed types (t ∷ k ∷ path)
 
 -- a graph, whose worlds have their new entries, can be checked for cycles and elaborated
 pub record CanBeElaborated (g : Graph) : Type 0 where
@@ -65,7 +75,8 @@ pub record CanBeElaborated (g : Graph) : Type 0 where
   pub packages_there : IsInRange (graph_package_uses g)
   pub used_named : UsedHaveNames g
   pub cycles_named : CyclesHaveNames g.types
-  pub listed : Each (λ (world : World). HasSoundEntries g.types (length g.interfaces) world.imports world.exports) g.worlds
+  pub listed : Each (λ (world : World).
+      HasSoundEntries g.types (length g.interfaces) world.imports world.exports) g.worlds
 
 -- each node uses the next one, and the last one the first
 pub record IsRound (uses : List (List ℕ)) (nodes : List ℕ) : Type 0 where

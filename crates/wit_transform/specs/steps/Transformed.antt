@@ -17,7 +17,8 @@ use Rattle.wit_transform.specs.Transformed.{HasNameTaken}
 
 -- no entry stands under the key of an interface
 abbrev pub AreUnderLabels : List Entry → Type 0
-AreUnderLabels entries = (k : WorldKey) → Contains (keys_of entries) k → (label : List ℕ) × (k ≡ key.Name label)
+AreUnderLabels entries =
+    (k : WorldKey) → Contains (keys_of entries) k → (label : List ℕ) × (k ≡ key.Name label)
 
 -- the first label of some exports that other entries have too
 pub record IsFirstCommon (entries exports : List Entry) (label : List ℕ) : Type 0 where
@@ -25,18 +26,24 @@ pub record IsFirstCommon (entries exports : List Entry) (label : List ℕ) : Typ
   pub item : WorldItem
   pub here : slice_get exports index ≡ Some (key.Name label, item)
   pub common : Contains (keys_of entries) (key.Name label)
-  pub first : (earlier : List ℕ) → Contains (keys_of (take index exports)) (key.Name earlier) → Contains (keys_of entries) (key.Name earlier) → ⊥
+  pub first : (earlier : List ℕ) → Contains (keys_of (take index exports)) (key.Name earlier)
+      → Contains (keys_of entries) (key.Name earlier) → ⊥
 
 -- world w has a package that is there
 abbrev pub HasPackageAt : Graph → ℕ → Type 0
-HasPackageAt g w = SomeAt g.worlds w (λ (world : World). IsSomeAnd world.package (λ p. p < length g.packages))
+HasPackageAt g w =
+    SomeAt g.worlds w (λ (world : World). IsSomeAnd world.package (λ p. p < length g.packages))
 
 -- no other world of world w's package has this name
 abbrev pub NameIsFreeAt : Graph → ℕ → List ℕ → Type 0
-NameIsFreeAt g w name = (world : World) (home : Package) → slice_get g.worlds w ≡ Some world → HasNameTaken g w world name home → ⊥
+NameIsFreeAt g w name =
+    (world : World) (home : Package) → slice_get g.worlds w ≡ Some world
+    → HasNameTaken g w world name home → ⊥
 
 -- these exports of world w are in conflict, and the error says so
 abbrev pub ExportsAreInConflict : Graph → ℕ → List Entry → ResolveErrorKind → Type 0
 ExportsAreInConflict g w exports error =
-    (world : World) × (name : List ℕ) × (slice_get g.worlds w ≡ Some world) × HasTransitiveConflict (graph_uses g) exports × IsRefusedName g.packages g.interfaces (graph_uses g) exports name
+    (world : World) × (name : List ℕ) × (slice_get g.worlds w ≡ Some world)
+    × HasTransitiveConflict (graph_uses g) exports
+    × IsRefusedName g.packages g.interfaces (graph_uses g) exports name
     × (error ≡ InvalidTransitiveDependency world.span name)

@@ -30,4 +30,6 @@ AreHomes p homes = (it : AstItem) → home_place homes it ≡ place_in it p.fore
 
 -- the first of some packages of which an item is named
 abbrev pub first_home : AstItem → ForeignItems → Option PackageName
-first_home it deps = option_map (λ (e : PackageName × List ForeignItem). e.0) (find (λ (e : PackageName × List ForeignItem). names_item it e.1) deps)
+first_home it deps =
+    option_map (λ (e : PackageName × List ForeignItem). e.0)
+    (find (λ (e : PackageName × List ForeignItem). names_item it e.1) deps)

@@ -1,5 +1,5 @@
 use Rattle.std.proofs.Common.{subst, sym}
-use Rattle.wit_semver_spec.specs.SemverMerged.{semver_merged}
+use Rattle.wit_semver.specs.SemverMerged.{semver_merged}
 use Rattle.wit_resolve_graph.specs.laws.RunLaws.{Keeps}
 use Rattle.wit_resolve_graph.proofs.RunsKeep.{keeps_pushed, keeps_pushes, keeps_things, keeps_transformed, keeps_merged}
 use Rattle.wit_resolve_graph.proofs.laws.calls_keep.Goals as goal

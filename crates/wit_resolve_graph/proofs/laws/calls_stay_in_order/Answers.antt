@@ -1,5 +1,5 @@
 use Rattle.std.proofs.Common.{subst, sym}
-use Rattle.wit_semver_spec.specs.SemverMerged.{semver_merged}
+use Rattle.wit_semver.specs.SemverMerged.{semver_merged}
 use Rattle.wit_resolve_graph.specs.laws.RunLaws.{HasNamesInOrder}
 use Rattle.wit_resolve_graph.proofs.NamesInOrder.{added_in_order, merged_in_order, pushed_in_order, replaced_in_order, transformed_in_order}
 use Rattle.wit_resolve_graph.proofs.laws.calls_stay_in_order.Goals as goal

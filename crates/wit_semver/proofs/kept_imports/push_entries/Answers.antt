@@ -4,7 +4,7 @@ use Rattle.std.proofs.lemmas.List.{length_push}
 use Rattle.std.proofs.lemmas.Map.Iter.{iter_turn}
 use Rattle.std.specs.Map.Iter.{deref_pair}
 use Rattle.wit_elaboration.specs.Entries.{Entry}
-use Rattle.wit_semver_spec.specs.SemverMerged.{entry_types}
+use Rattle.wit_semver.specs.SemverMerged.{entry_types}
 use Rattle.wit_semver.proofs.KeptTold.{flat-next}
 use Rattle.wit_semver.proofs.kept_imports.push_entries.Goals as goal
 

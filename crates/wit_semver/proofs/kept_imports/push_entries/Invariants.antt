@@ -1,6 +1,6 @@
 use Rattle.std.proofs.Common.{◌≡◌, ◌++◌, take, length}
 use Rattle.std.specs.List.{flat_map}
-use Rattle.wit_semver_spec.specs.SemverMerged.{entry_types}
+use Rattle.wit_semver.specs.SemverMerged.{entry_types}
 use Rattle.wit_semver.proofs.kept_imports.push_entries.Given as goal
 
 abbrev pub invariant-loop-item : goal.invariant-loop-item

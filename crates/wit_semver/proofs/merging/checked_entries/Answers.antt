@@ -6,7 +6,7 @@ use Rattle.wit_graph_data.specs.declared.cause.Cause.TheVariants as cause
 use Rattle.wit_graph_data.specs.declared.graph.Graph.{Graph}
 use Rattle.wit_graph_data.specs.declared.error_kind.ResolveErrorKind.{ResolveErrorKind}
 use Rattle.wit_graph_data.specs.declared.error_kind.ResolveErrorKind.TheVariants.{OutOfMemory, Semantic}
-use Rattle.wit_semver_spec.specs.SemverMerged.{types_of_new_entries, SemverMerge, Disagrees, IsSemverMergeCause, SemverMergeCause, functions_disagree_25, type_missing_25, semver_merge}
+use Rattle.wit_semver.specs.SemverMerged.{types_of_new_entries, SemverMerge, Disagrees, IsSemverMergeCause, SemverMergeCause, functions_disagree_25, type_missing_25, semver_merge}
 use Rattle.wit_semver.specs.declared.merging.NewEntries.{NewEntries}
 use Rattle.wit_semver.specs.steps.Replacing.{HasNewEntries, LackTypes, semver_merge_of}
 use Rattle.wit_semver.proofs.NewEntries.{following_within, imports_within}

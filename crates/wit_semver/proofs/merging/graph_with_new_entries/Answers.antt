@@ -4,7 +4,7 @@ use Rattle.wit_names.specs.declared.track.TrackRule.{TrackRule}
 use Rattle.wit_data.specs.declared.world.World.{World}
 use Rattle.wit_elaboration.specs.Entries.{Entry}
 use Rattle.wit_graph_data.specs.declared.graph.Graph.{Graph}
-use Rattle.wit_semver_spec.specs.SemverMerged.{SemverMerge, semver_merge, types_of_new_entries, with_new_entries, with_new_entries_at}
+use Rattle.wit_semver.specs.SemverMerged.{SemverMerge, semver_merge, types_of_new_entries, with_new_entries, with_new_entries_at}
 use Rattle.wit_semver.specs.declared.merging.NewEntries.{NewEntries}
 use Rattle.wit_semver.specs.steps.Replacing.{HasNewEntries, semver_merge_of, with_lists}
 use Rattle.wit_semver.proofs.NewEntries.{following_within, imports_within, relisted_is}

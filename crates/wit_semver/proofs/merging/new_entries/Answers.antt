@@ -1,7 +1,7 @@
 use Rattle.std.proofs.Common.{◌≡◌, ◌∙◌, ◌++◌, ℕ, List, Option, Contains, length, ap, subst}
 use Rattle.std.specs.List.{flat_map}
 use Rattle.wit_elaboration.specs.Entries.{Entry}
-use Rattle.wit_semver_spec.specs.SemverMerged.{SemverMerge, entry_types, kept_imports, newest_type, types_of_new_entries}
+use Rattle.wit_semver.specs.SemverMerged.{SemverMerge, entry_types, kept_imports, newest_type, types_of_new_entries}
 use Rattle.wit_semver.specs.steps.Replacing.{IsFilled, semver_merge_of}
 use Rattle.wit_semver.proofs.NewEntries.{following_is}
 use Rattle.wit_semver.proofs.merging.new_entries.Goals as goal

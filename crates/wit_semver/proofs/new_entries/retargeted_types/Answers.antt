@@ -6,7 +6,7 @@ use Rattle.wit_values.specs.facts.Lists.{map-next}
 use Rattle.wit_data.specs.declared.types.TypeDef.{TypeDef}
 use Rattle.wit_graph_theory.specs.facts.PackagesAcyclic.{length-numbered, numbered_into}
 use Rattle.wit_semver.proofs.new_entries.retargeted_types.Goals as goal
-use Rattle.wit_semver_spec.specs.steps.Parts.{retargeted}
+use Rattle.wit_semver.specs.steps.Parts.{retargeted}
 
 pub loop-index-preserved : goal.loop-index-preserved
 loop-index-preserved c =

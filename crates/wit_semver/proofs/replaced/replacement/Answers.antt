@@ -6,12 +6,12 @@ use Rattle.wit_data.specs.declared.world.World.{World}
 use Rattle.wit_elaboration.specs.Entries.{keyed_interfaces}
 use Rattle.wit_elaboration.specs.Valid.{IsValid}
 use Rattle.wit_graph_data.specs.declared.graph.Graph.{Graph}
-use Rattle.wit_semver_spec.specs.SemverMerged.{Versioned, versioned, semver_merge}
+use Rattle.wit_semver.specs.SemverMerged.{Versioned, versioned, semver_merge}
 use Rattle.wit_semver.specs.steps.Replacing.{IsNewestTable, key_of, replacement, same_track, told}
 use Rattle.wit_semver.specs.declared.tracks.TrackKey.{TrackKey}
 use Rattle.wit_semver.proofs.NewestTold.{greater_replaces, is_known, level_stays, n_at, unversioned_stays}
 use Rattle.wit_semver.proofs.replaced.replacement.Goals as goal
-use Rattle.wit_semver_spec.specs.steps.Parts.{is_below}
+use Rattle.wit_semver.specs.steps.Parts.{is_below}
 
 -- what is known on the track of an interface, by the key that was looked up
 known : (rule : TrackRule) (table : List (TrackKey × ℕ)) (v : Versioned) (k : TrackKey) (o : Option ℕ) → k ≡ key_of rule v → o ≡ lookup (same_track k) table → lookup (same_track (key_of rule v)) table ≡ o

@@ -5,12 +5,12 @@ use Rattle.std.specs.List.{list_any}
 use Rattle.std.specs.Map.Iter.{deref_pair}
 use Rattle.wit_data.specs.declared.world.WorldKey.{WorldKey}
 use Rattle.wit_elaboration.specs.Entries.{Entry, key_interface, keyed_interfaces}
-use Rattle.wit_semver_spec.specs.SemverMerged.{SemverMerge, imported, newest, semver_merge}
+use Rattle.wit_semver.specs.SemverMerged.{SemverMerge, imported, newest, semver_merge}
 use Rattle.wit_semver.specs.steps.Replacing.{IsFilled, replacement}
 use Rattle.wit_semver.proofs.Filled.{filled-next}
 use Rattle.wit_semver.proofs.Keyed.{keyed-at, keyed-next}
 use Rattle.wit_semver.proofs.replaced.replacements.Goals as goal
-use Rattle.wit_semver_spec.specs.steps.Parts.{is_older_than}
+use Rattle.wit_semver.specs.steps.Parts.{is_older_than}
 
 -- what isn't imported isn't replaced
 not_imported : (u : SemverMerge) (i : ℕ) (b : Bool) → list_any (nat_eq i) (imported u) ≡ b → (if b then replacement u i else None) ≡ replacement u i

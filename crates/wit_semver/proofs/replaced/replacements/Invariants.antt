@@ -1,6 +1,6 @@
 use Rattle.std.proofs.Common.{length, take}
 use Rattle.wit_elaboration.specs.Entries.{keyed_interfaces}
-use Rattle.wit_semver_spec.specs.SemverMerged.{semver_merge}
+use Rattle.wit_semver.specs.SemverMerged.{semver_merge}
 use Rattle.wit_semver.specs.steps.Replacing.{IsFilled, replacement}
 use Rattle.wit_semver.proofs.replaced.replacements.Given as goal
 

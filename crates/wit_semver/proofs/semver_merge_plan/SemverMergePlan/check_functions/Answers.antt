@@ -5,7 +5,7 @@ use Rattle.wit_graph_data.specs.facts.ResultFacts.{residual_error}
 use Rattle.wit_graph_data.specs.declared.cause.Cause.TheVariants as cause
 use Rattle.wit_graph_data.specs.declared.error_kind.ResolveErrorKind.{ResolveErrorKind}
 use Rattle.wit_graph_data.specs.declared.error_kind.ResolveErrorKind.TheVariants.{OutOfMemory, Semantic}
-use Rattle.wit_semver_spec.specs.SemverMerged.{Disagrees, SemverMerge}
+use Rattle.wit_semver.specs.SemverMerged.{Disagrees, SemverMerge}
 use Rattle.wit_semver.specs.steps.Replacing.{semver_merge_of}
 use Rattle.wit_semver.proofs.semver_merge_plan.SemverMergePlan.check_functions.Goals as goal
 

@@ -1,5 +1,5 @@
 use Rattle.std.proofs.Common.{◌<◌, ℕ, List}
-use Rattle.wit_semver_spec.specs.SemverMerged.{Disagrees}
+use Rattle.wit_semver.specs.SemverMerged.{Disagrees}
 use Rattle.wit_semver.specs.steps.Replacing.{semver_merge_of}
 use Rattle.wit_semver.proofs.semver_merge_plan.SemverMergePlan.check_functions.Given as goal
 

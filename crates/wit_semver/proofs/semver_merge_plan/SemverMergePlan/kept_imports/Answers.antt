@@ -9,7 +9,7 @@ use Rattle.wit_transform.specs.facts.Looked.{filter-next_kept, filter-next_left}
 use Rattle.wit_semver.specs.steps.Replacing.{semver_merge_of}
 use Rattle.wit_semver.proofs.KeptTold.{staying_is_new, stays_is}
 use Rattle.wit_semver.proofs.semver_merge_plan.SemverMergePlan.kept_imports.Goals as goal
-use Rattle.wit_semver_spec.specs.steps.Parts.{is_replaced_entry}
+use Rattle.wit_semver.specs.steps.Parts.{is_replaced_entry}
 
 pub push_copy-requires : goal.push_copy-requires
 push_copy-requires c =

@@ -2,7 +2,7 @@ use Rattle.std.proofs.Common.{◌≡◌, filter, not, take, length}
 use Rattle.wit_elaboration.specs.Entries.{Entry}
 use Rattle.wit_semver.specs.steps.Replacing.{semver_merge_of}
 use Rattle.wit_semver.proofs.semver_merge_plan.SemverMergePlan.kept_imports.Given as goal
-use Rattle.wit_semver_spec.specs.steps.Parts.{is_replaced_entry}
+use Rattle.wit_semver.specs.steps.Parts.{is_replaced_entry}
 
 -- those of the first imports that stay
 abbrev pub invariant-loop-key : goal.invariant-loop-key

@@ -1,7 +1,7 @@
 use Rattle.std.proofs.Common.{◌∙◌, ℕ, List, length, slice_set, take, sym, ap, subst, arith}
 use Rattle.wit_values.specs.facts.Lists.{take-next_at}
 use Rattle.wit_graph_theory.specs.facts.ListFacts.{contained_at}
-use Rattle.wit_semver_spec.specs.SemverMerged.{newest_type}
+use Rattle.wit_semver.specs.SemverMerged.{newest_type}
 use Rattle.wit_semver.specs.steps.Replacing.{IsFilled, semver_merge_of}
 use Rattle.wit_semver.proofs.Filled.{filled-next}
 use Rattle.wit_semver.proofs.Used.{stands}

@@ -1,5 +1,5 @@
 use Rattle.std.proofs.Common.{length, take}
-use Rattle.wit_semver_spec.specs.SemverMerged.{newest_type}
+use Rattle.wit_semver.specs.SemverMerged.{newest_type}
 use Rattle.wit_semver.specs.steps.Replacing.{IsFilled, semver_merge_of}
 use Rattle.wit_semver.proofs.semver_merge_plan.SemverMergePlan.new_targets.Given as goal
 

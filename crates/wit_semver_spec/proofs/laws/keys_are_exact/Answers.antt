@@ -1,7 +1,0 @@
-use Rattle.wit_semver_spec.specs.facts.Merged.{keys_are_exact}
-use Rattle.wit_semver_spec.proofs.laws.keys_are_exact.Goals as goal
-
-pub returns : goal.returns
-returns c =
-    λ rule g w old new j merged.
-    keys_are_exact c.laws_of_elaboration.ensures rule g w old new merged j

@@ -1,7 +1,0 @@
-use Rattle.wit_semver_spec.proofs.KeptLabels.{labels_are_kept}
-use Rattle.wit_semver_spec.proofs.laws.labels_are_kept.Goals as goal
-
-pub returns : goal.returns
-returns c =
-    λ rule g w old new merged.
-    labels_are_kept c.laws_of_elaboration.ensures rule g w old new merged

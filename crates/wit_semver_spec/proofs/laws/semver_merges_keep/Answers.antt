@@ -1,5 +1,0 @@
-use Rattle.wit_semver_spec.proofs.Kept.{semver_merges_keep}
-use Rattle.wit_semver_spec.proofs.laws.semver_merges_keep.Goals as goal
-
-pub returns : goal.returns
-returns c = semver_merges_keep

@@ -1,4 +1,0 @@
-pub mod SemverMerged
-pub mod facts
-pub mod laws
-pub mod steps
