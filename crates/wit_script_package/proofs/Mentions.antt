@@ -396,7 +396,7 @@ module _ (all : List Mention) where
           -- the name of a type in the interface of the mention
           type-told : (t : Mention) → uses_type t ≡ true → same_item m t ≡ true → bytes_eq n (used_name (used_type_name t.kind)) ≡ same_type m t
           type-told t has there = rw (there, is) (by t.kind has) where
-            by : (k : MentionKind) → same_name (used_type_name k) (used_type_name k) ≡ true → bytes_eq n (used_name (used_type_name k)) ≡ same_name (Some n) (used_type_name k)
+            by : (k : MentionKind) → is_some (used_type_name k) ≡ true → bytes_eq n (used_name (used_type_name k)) ≡ same_name (Some n) (used_type_name k)
             by taken.Interface has = cc
             by (taken.Type_ other) has = refl
             by taken.World has = cc
@@ -528,9 +528,9 @@ module _ (all : List Mention) where
         used : with_use_as (made_by (first_types ks) more more) m (item_of m) m.kind ≡ so_far more
         used = by m.kind refl where
           by : (k : MentionKind) → m.kind ≡ k → with_use_as (made_by (first_types ks) more more) m (item_of m) k ≡ so_far more
-          by taken.Interface is = no-type (ap (λ (k : MentionKind). same_name (used_type_name k) (used_type_name k)) is)
+          by taken.Interface is = no-type (ap (λ (k : MentionKind). is_some (used_type_name k)) is)
           by (taken.Type_ n) is = rw (ap is_world is) (type-used n is)
-          by taken.World is = no-type (ap (λ (k : MentionKind). same_name (used_type_name k) (used_type_name k)) is)
+          by taken.World is = no-type (ap (λ (k : MentionKind). is_some (used_type_name k)) is)
 
         counted : with_counted (made_by (first_types ks) more ks) m (item_of m) ≡ so_far more
         counted = ap (λ (p : Draft). with_use_as p m (item_of m) m.kind) (noted (first_types ks) more) ∙ used

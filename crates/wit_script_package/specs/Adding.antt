@@ -25,7 +25,8 @@ use Rattle.wit_script_package.specs.declared.draft.LineContext.{LineContext}
 
 -- an interface with nothing in it
 abbrev pub empty_interface : List ℕ → LineContext → Interface
-empty_interface name here = record (new_interface (Some name)) { stability = here.gate; span = here.span }
+empty_interface name here =
+    record (new_interface (Some name)) { stability = here.gate; span = here.span }
 
 -- a world with nothing in it
 abbrev pub empty_world : List ℕ → LineContext → World
@@ -53,22 +54,29 @@ with_world p name here =
 
 -- a type with a name, or without one
 abbrev pub type_with : Option (List ℕ) → TypeDefKind → TypeOwner → LineContext → TypeDef
-type_with name made owned here = record (new_type name made owned) { stability = here.gate; span = here.span }
+type_with name made owned here =
+    record (new_type name made owned) { stability = here.gate; span = here.span }
 
 -- the type at the end of the aliases of a type of this kind, which stands at this place
 abbrev pub root_of : Draft → ℕ → TypeDefKind → ℕ
-root_of p id (kind.Type_ (type.Id target)) = option_map_or (λ root. root) (slice_get p.roots target) id
+root_of p id (kind.Type_ (type.Id target)) =
+    option_map_or (λ root. root) (slice_get p.roots target) id
 root_of p id other = id
 
 -- one more type
 abbrev pub with_type : Draft → TypeDef → Draft
-with_type p def = record p { types = p.types ++ def ∷ []; roots = p.roots ++ root_of p (length p.types) def.kind ∷ [] }
+with_type p def =
+    record p
+    { types = p.types ++ def ∷ []; roots = p.roots ++ root_of p (length p.types) def.kind ∷ [] }
 
 -- the name of the next type in the interface at a place, where it has no type of that name
 abbrev pub with_type_name_in : Draft → List ℕ → ℕ → Interface → Option Draft
 with_type_name_in p name at interface =
     if is_some (lookup (bytes_eq name) interface.types) then None
-    else Some (record p { interfaces = slice_set p.interfaces at (record interface { types = interface.types ++ (name, length p.types) ∷ [] }) })
+    else Some (record p {
+      interfaces = slice_set p.interfaces at
+          (record interface { types = interface.types ++ (name, length p.types) ∷ [] });
+    })
 
 abbrev pub with_type_name : Draft → List ℕ → ℕ → Option Draft
 with_type_name p name at = option_and_then (with_type_name_in p name at) (slice_get p.interfaces at)
@@ -76,13 +84,17 @@ with_type_name p name at = option_and_then (with_type_name_in p name at) (slice_
 -- one more type of the interface at a place
 abbrev pub with_interface_type : Draft → List ℕ → TypeDefKind → LineContext → ℕ → Option Draft
 with_interface_type p name made here at =
-    option_map (λ (q : Draft). with_type q (type_with (Some name) made (owner.Interface at) here)) (with_type_name p name at)
+    option_map (λ (q : Draft). with_type q (type_with (Some name) made (owner.Interface at) here))
+    (with_type_name p name at)
 
 -- one more import of the world at a place, under a key that it doesn't import yet
 abbrev pub with_import_in : Draft → WorldKey → WorldItem → ℕ → World → Option Draft
 with_import_in p k entry at world =
     if is_some (lookup (same_key k) world.imports) then None
-    else Some (record p { worlds = slice_set p.worlds at (record world { imports = world.imports ++ (k, entry) ∷ [] }) })
+    else Some (record p {
+      worlds = slice_set p.worlds at
+          (record world { imports = world.imports ++ (k, entry) ∷ [] });
+    })
 
 abbrev pub with_import_at : Draft → WorldKey → WorldItem → ℕ → Option Draft
 with_import_at p k entry at = option_and_then (with_import_in p k entry at) (slice_get p.worlds at)
@@ -95,7 +107,10 @@ with_import p k entry = option_and_then (with_import_at p k entry) (open_world p
 abbrev pub with_export_in : Draft → WorldKey → WorldItem → ℕ → World → Option Draft
 with_export_in p k entry at world =
     if is_some (lookup (same_key k) world.exports) then None
-    else Some (record p { worlds = slice_set p.worlds at (record world { exports = world.exports ++ (k, entry) ∷ [] }) })
+    else Some (record p {
+      worlds = slice_set p.worlds at
+          (record world { exports = world.exports ++ (k, entry) ∷ [] });
+    })
 
 abbrev pub with_export_at : Draft → WorldKey → WorldItem → ℕ → Option Draft
 with_export_at p k entry at = option_and_then (with_export_in p k entry at) (slice_get p.worlds at)
@@ -107,13 +122,16 @@ with_export p k entry = option_and_then (with_export_at p k entry) (open_world p
 -- one more type of the world at a place: an import of it under its name
 abbrev pub with_world_type : Draft → List ℕ → TypeDefKind → LineContext → ℕ → Option Draft
 with_world_type p name made here at =
-    option_map (λ (q : Draft). with_type q (type_with (Some name) made (owner.World at) here)) (with_import_at p (key.Name name) (item.Type_ (length p.types) here.span) at)
+    option_map (λ (q : Draft). with_type q (type_with (Some name) made (owner.World at) here))
+    (with_import_at p (key.Name name) (item.Type_ (length p.types) here.span) at)
 
 -- one more type of the interface or the world into which lines go
 abbrev pub with_named_in : Draft → Scope → List ℕ → TypeDefKind → LineContext → Option Draft
 with_named_in p scope.Package name made here = None
-with_named_in p scope.Interface name made here = option_and_then (with_interface_type p name made here) (open_interface p)
-with_named_in p scope.World name made here = option_and_then (with_world_type p name made here) (open_world p)
+with_named_in p scope.Interface name made here =
+    option_and_then (with_interface_type p name made here) (open_interface p)
+with_named_in p scope.World name made here =
+    option_and_then (with_world_type p name made here) (open_world p)
 
 abbrev pub with_named : Draft → List ℕ → TypeDefKind → LineContext → Option Draft
 with_named p name made here = with_named_in p p.scope name made here
@@ -122,7 +140,10 @@ with_named p name made here = with_named_in p p.scope name made here
 abbrev pub with_function_in : Draft → Function → ℕ → Interface → Option Draft
 with_function_in p f at interface =
     if is_some (lookup (bytes_eq f.name) interface.functions) then None
-    else Some (record p { interfaces = slice_set p.interfaces at (record interface { functions = interface.functions ++ (f.name, f) ∷ [] }) })
+    else Some (record p {
+      interfaces = slice_set p.interfaces at
+          (record interface { functions = interface.functions ++ (f.name, f) ∷ [] });
+    })
 
 abbrev pub with_function_at : Draft → Function → ℕ → Option Draft
 with_function_at p f at = option_and_then (with_function_in p f at) (slice_get p.interfaces at)
@@ -134,7 +155,12 @@ with_function p f = option_and_then (with_function_at p f) (open_interface p)
 -- one more include of the world at a place
 abbrev pub with_include_at : Draft → WorldInclude → ℕ → Option Draft
 with_include_at p include_item at =
-    option_map (λ (world : World). record p { worlds = slice_set p.worlds at (record world { includes = world.includes ++ include_item ∷ [] }) }) (slice_get p.worlds at)
+    option_map (λ (world : World).
+    record p {
+      worlds = slice_set p.worlds at
+          (record world { includes = world.includes ++ include_item ∷ [] });
+    })
+    (slice_get p.worlds at)
 
 -- one more include of the world into which lines go
 abbrev pub with_include : Draft → WorldInclude → Option Draft

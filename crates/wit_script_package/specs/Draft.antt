@@ -18,7 +18,10 @@ longest_file = 4294967294
 -- the span of a line that goes, with a newline, to the end of a file of so many bytes: from its first to its last byte
 -- that isn't a space. The file may not grow past the positions of a source map
 abbrev pub span_after : ℕ → List ℕ → Option OptionalSpan
-span_after len line = if nat_le (len + length line + 1) longest_file then Some (Some (len + content_start_of line, len + content_end_of line)) else None
+span_after len line =
+    if nat_le (len + length line + 1) longest_file
+    then Some (Some (len + content_start_of line, len + content_end_of line))
+    else None
 
 -- a line with its newline
 abbrev pub with_newline : List ℕ → List ℕ
@@ -51,7 +54,10 @@ new_draft name line ms = option_map (new_draft_at name line (known_mentions ms))
 
 -- a source map of one file
 abbrev pub one_file : List ℕ → List ℕ → Option Sources
-one_file path contents = if nat_le (length contents) longest_file then Some (with_file (record { files = []; end = 0 }) path contents) else None
+one_file path contents =
+    if nat_le (length contents) longest_file
+    then Some (with_file (record { files = []; end = 0 }) path contents)
+    else None
 
 -- the package as a group of its own, with these sources
 abbrev pub group_with : Draft → Sources → UnresolvedPackageGroup

@@ -27,20 +27,28 @@ use Rattle.wit_script_package.specs.declared.draft.LineContext.{LineContext}
 
 -- `type NAME TYPE`
 abbrev pub with_type_line : Draft → List ℕ → TypeText → LineContext → Option Draft
-with_type_line p name text here = option_and_then (λ (made : TypeDefKind × Draft). with_named made.1 name made.0 here) (kind_made p text here)
+with_type_line p name text here =
+    option_and_then (λ (made : TypeDefKind × Draft). with_named made.1 name made.0 here)
+    (kind_made p text here)
 
 -- `record NAME F:TYPE ..`
 abbrev pub with_record : Draft → List ℕ → List TypedName → LineContext → Option Draft
 with_record p name fields here =
-    option_and_then (λ (made : List Field × Draft). with_named made.1 name (kind.Record made.0) here) (each_made (field_made here) fields p)
+    option_and_then
+    (λ (made : List Field × Draft). with_named made.1 name (kind.Record made.0) here)
+    (each_made (field_made here) fields p)
 
 -- `use PATH NAME NEW`
 abbrev pub with_use : Draft → ParsedUsePath → List ℕ → List ℕ → LineContext → Option Draft
-with_use p from name new here = option_and_then (λ (id : ℕ). with_named p new (kind.Type_ (type.Id id)) here) (used_type p from name)
+with_use p from name new here =
+    option_and_then (λ (id : ℕ). with_named p new (kind.Type_ (type.Id id)) here)
+    (used_type p from name)
 
 -- `func SIG`
 abbrev pub with_function_line : Draft → Signature → LineContext → Option Draft
-with_function_line p said here = option_and_then (λ (made : Function × Draft). with_function made.1 made.0) (function_made p said here)
+with_function_line p said here =
+    option_and_then (λ (made : Function × Draft). with_function made.1 made.0)
+    (function_made p said here)
 
 -- a label, or else the interface itself
 abbrev pub key_of : Option (List ℕ) → ℕ → WorldKey
@@ -53,24 +61,36 @@ interface_entry id here = item.Interface id here.gate (record { contents = None 
 
 -- `import PATH`, `import LABEL=PATH`, `export PATH`, `export LABEL=PATH`
 abbrev pub with_import_line : Draft → Option (List ℕ) → ParsedUsePath → LineContext → Option Draft
-with_import_line p label from here = option_and_then (λ (id : ℕ). with_import p (key_of label id) (interface_entry id here)) (interface_named p from)
+with_import_line p label from here =
+    option_and_then (λ (id : ℕ). with_import p (key_of label id) (interface_entry id here))
+    (interface_named p from)
 
 abbrev pub with_export_line : Draft → Option (List ℕ) → ParsedUsePath → LineContext → Option Draft
-with_export_line p label from here = option_and_then (λ (id : ℕ). with_export p (key_of label id) (interface_entry id here)) (interface_named p from)
+with_export_line p label from here =
+    option_and_then (λ (id : ℕ). with_export p (key_of label id) (interface_entry id here))
+    (interface_named p from)
 
 -- `import-func SIG`, `export-func SIG`
 abbrev pub with_imported_function : Draft → Signature → LineContext → Option Draft
-with_imported_function p said here = option_and_then (λ (made : Function × Draft). with_import made.1 (key.Name made.0.name) (item.Function made.0)) (function_made p said here)
+with_imported_function p said here =
+    option_and_then (λ (made : Function × Draft).
+    with_import made.1 (key.Name made.0.name) (item.Function made.0))
+    (function_made p said here)
 
 abbrev pub with_exported_function : Draft → Signature → LineContext → Option Draft
-with_exported_function p said here = option_and_then (λ (made : Function × Draft). with_export made.1 (key.Name made.0.name) (item.Function made.0)) (function_made p said here)
+with_exported_function p said here =
+    option_and_then (λ (made : Function × Draft).
+    with_export made.1 (key.Name made.0.name) (item.Function made.0))
+    (function_made p said here)
 
 -- `include PATH OLD=NEW ..`
 abbrev pub include_item : ℕ → List IncludeName → LineContext → WorldInclude
-include_item id names here = record { stability = here.gate; id = id; names = names; span = here.span }
+include_item id names here =
+    record { stability = here.gate; id = id; names = names; span = here.span }
 
 abbrev pub with_include_line : Draft → ParsedUsePath → List IncludeName → LineContext → Option Draft
-with_include_line p from names here = option_and_then (λ (id : ℕ). with_include p (include_item id names here)) (world_named p from)
+with_include_line p from names here =
+    option_and_then (λ (id : ℕ). with_include p (include_item id names here)) (world_named p from)
 
 -- what a line says, added, where it has this gate and stands here
 abbrev pub with_gated_line : Draft → PackageLine → LineContext → Option Draft
@@ -93,4 +113,5 @@ with_placed p said gate span = with_gated_line p said (record { gate = gate; spa
 
 -- a line, added: its text to the file, and what it says
 abbrev pub with_line : Draft → PackageLine → Stability → List ℕ → Option Draft
-with_line p said gate line = option_and_then (with_placed (with_text p line) said gate) (span_after (length p.contents) line)
+with_line p said gate line =
+    option_and_then (with_placed (with_text p line) said gate) (span_after (length p.contents) line)

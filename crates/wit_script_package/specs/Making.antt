@@ -34,27 +34,35 @@ with_root p span root kind.Unknown = Some (record p { required = p.required ++ (
 with_root p span root other = None
 
 abbrev pub with_root_at : Draft → OptionalSpan → ℕ → Option Draft
-with_root_at p span root = option_and_then (λ (def : TypeDef). with_root p span root def.kind) (slice_get p.types root)
+with_root_at p span root =
+    option_and_then (λ (def : TypeDef). with_root p span root def.kind) (slice_get p.types root)
 
 abbrev pub with_resource : Draft → ℕ → OptionalSpan → Option Draft
 with_resource p id span = option_and_then (with_root_at p span) (slice_get p.roots id)
 
 -- the earlier type that a handle names
 abbrev pub handle_argument : Draft → List ℕ → OptionalSpan → Option (ℕ × Draft)
-handle_argument p name span = option_and_then (λ (id : ℕ). option_map (λ (q : Draft). (id, q)) (with_resource p id span)) (earlier p name)
+handle_argument p name span =
+    option_and_then (λ (id : ℕ). option_map (λ (q : Draft). (id, q)) (with_resource p id span))
+    (earlier p name)
 
 -- the kind of what stands innermost in the text of a type: of a name, an alias of what it names
 abbrev pub written_made : Draft → Written → OptionalSpan → Option (TypeDefKind × Draft)
 written_made p (written.Named name) span = option_map (λ ty. (kind.Type_ ty, p)) (type_named p name)
 written_made p written.Future span = Some (kind.Future None, p)
 written_made p written.Stream span = Some (kind.Stream None, p)
-written_made p (written.Own name) span = option_map (λ (made : ℕ × Draft). (kind.Handle (handle.Own made.0), made.1)) (handle_argument p name span)
-written_made p (written.Borrow name) span = option_map (λ (made : ℕ × Draft). (kind.Handle (handle.Borrow made.0), made.1)) (handle_argument p name span)
+written_made p (written.Own name) span =
+    option_map (λ (made : ℕ × Draft). (kind.Handle (handle.Own made.0), made.1))
+    (handle_argument p name span)
+written_made p (written.Borrow name) span =
+    option_map (λ (made : ℕ × Draft). (kind.Handle (handle.Borrow made.0), made.1))
+    (handle_argument p name span)
 
 -- a type of this kind: of an alias what it is an alias of, of another kind a type without a name, at the next place
 abbrev pub type_of : Draft → TypeDefKind → LineContext → Type_ × Draft
 type_of p (kind.Type_ ty) here = (ty, p)
-type_of p other here = (type.Id (length p.types), with_type p (type_with None other owner.None here))
+type_of p other here =
+    (type.Id (length p.types), with_type p (type_with None other owner.None here))
 
 -- the kind of a form around a type
 abbrev pub around : Wrap → Type_ → TypeDefKind
@@ -65,7 +73,8 @@ around wrap.Stream ty = kind.Stream (Some ty)
 
 -- a form around a type of this kind
 abbrev pub around_made : Wrap → LineContext → TypeDefKind × Draft → TypeDefKind × Draft
-around_made form here made = let inner = type_of made.1 made.0 here in (around form inner.0, inner.1)
+around_made form here made =
+    let inner = type_of made.1 made.0 here in (around form inner.0, inner.1)
 
 -- forms around a type of this kind, the innermost last
 abbrev pub forms_made : Draft → List Wrap → TypeDefKind → LineContext → TypeDefKind × Draft
@@ -74,35 +83,55 @@ forms_made p (form ∷ forms) made here = around_made form here (forms_made p fo
 
 -- the kind of a type that is named by a line
 abbrev pub kind_made : Draft → TypeText → LineContext → Option (TypeDefKind × Draft)
-kind_made p text here = option_map (λ (made : TypeDefKind × Draft). forms_made made.1 text.wraps made.0 here) (written_made p text.core here.span)
+kind_made p text here =
+    option_map (λ (made : TypeDefKind × Draft). forms_made made.1 text.wraps made.0 here)
+    (written_made p text.core here.span)
 
 -- the type that a text says
 abbrev pub type_made : Draft → TypeText → LineContext → Option (Type_ × Draft)
-type_made p text here = option_map (λ (made : TypeDefKind × Draft). type_of made.1 made.0 here) (kind_made p text here)
+type_made p text here =
+    option_map (λ (made : TypeDefKind × Draft). type_of made.1 made.0 here) (kind_made p text here)
 
 -- what each of them makes, one after another
-abbrev pub each_made : {A B S : Type 0} → (A → S → Option (B × S)) → List A → S → Option (List B × S)
+abbrev pub each_made : {A B S : Type 0} → (A → S → Option (B × S)) → List A → S
+    → Option (List B × S)
 each_made make [] s = Some ([], s)
 each_made {A} {B} {S} make (x ∷ xs) s =
-    option_and_then (λ (first : B × S). option_map (λ (rest : List B × S). (first.0 ∷ rest.0, rest.1)) (each_made make xs first.1)) (make x s)
+    option_and_then (λ (first : B × S).
+    option_map (λ (rest : List B × S). (first.0 ∷ rest.0, rest.1))
+    (each_made make xs first.1)) (make x s)
 
 -- `F:TYPE`
 abbrev pub field_made : LineContext → TypedName → Draft → Option (Field × Draft)
 field_made here field p =
-    option_map (λ (made : Type_ × Draft). (record { name = field.name; ty = made.0; docs = record { contents = None }; span = here.span }, made.1)) (type_made p field.ty here)
+    option_map (λ (made : Type_ × Draft). (
+      record {
+        name = field.name;
+        ty = made.0;
+        docs = record { contents = None };
+        span = here.span;
+      },
+      made.1,
+    )) (type_made p field.ty here)
 
 -- `P:TYPE`
 abbrev pub param_made : LineContext → TypedName → Draft → Option (Param × Draft)
-param_made here param p = option_map (λ (made : Type_ × Draft). (record { name = param.name; ty = made.0; span = here.span }, made.1)) (type_made p param.ty here)
+param_made here param p =
+    option_map (λ (made : Type_ × Draft).
+    (record { name = param.name; ty = made.0; span = here.span }, made.1))
+    (type_made p param.ty here)
 
 -- the type after `->`, where there is one
 abbrev pub answer_made : Draft → Option TypeText → LineContext → Option (Option Type_ × Draft)
 answer_made p None here = Some (None, p)
-answer_made p (Some text) here = option_map (λ (made : Type_ × Draft). (Some made.0, made.1)) (type_made p text here)
+answer_made p (Some text) here =
+    option_map (λ (made : Type_ × Draft). (Some made.0, made.1)) (type_made p text here)
 
 -- the function of a line, of these parts
-abbrev pub function_with : List ℕ → FunctionKind → List Param → Option Type_ → LineContext → Function
-function_with name does params answer here = record (new_function name does params answer) { stability = here.gate; span = here.span }
+abbrev pub function_with : List ℕ → FunctionKind → List Param → Option Type_ → LineContext
+    → Function
+function_with name does params answer here =
+    record (new_function name does params answer) { stability = here.gate; span = here.span }
 
 -- the parameters and the result of a function, which is what its name says
 abbrev pub function_by : Draft → Signature → LineContext → FunctionKind → Option (Function × Draft)

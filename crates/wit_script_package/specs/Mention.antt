@@ -1,6 +1,6 @@
 -- What the lines of a package mention of other packages, and what the package knows of it. What is foreign stands first
 -- in the lists of a package, in the order of its first mention.
-use Rattle.std.specs.Prelude.{ℕ, ◌&&◌, not, Bool, true, false, List, [], ◌∷◌, map, filter, Option, Some, None, if◌then◌else◌, bytes_eq}
+use Rattle.std.specs.Prelude.{ℕ, ◌&&◌, not, Bool, true, false, List, [], ◌∷◌, map, filter, Option, Some, None, is_some, if◌then◌else◌, bytes_eq}
 use Rattle.std.specs.List.{position_or_len}
 use Rattle.wit_data.specs.Foreign.{ForeignItem, ForeignItems}
 use Rattle.wit_names.specs.PackageName.{same_package}
@@ -37,7 +37,8 @@ used_type_name _ = None
 -- what a path mentions: a name of the same package is no mention
 abbrev pub path_mention : ParsedUsePath → MentionKind → Stability → OptionalSpan → List Mention
 path_mention (path.Name own) takes gate span = []
-path_mention (path.Package parent name) takes gate span = record { parent = parent; name = name; kind = takes; gate = gate; span = span } ∷ []
+path_mention (path.Package parent name) takes gate span =
+    record { parent = parent; name = name; kind = takes; gate = gate; span = span } ∷ []
 
 -- what a line mentions: nothing, where it takes no path
 abbrev pub mentions_of : PackageLine → Stability → OptionalSpan → List Mention
@@ -55,11 +56,12 @@ same_parent a b = same_package a.parent b.parent
 abbrev pub same_item : Mention → Mention → Bool
 same_item a b = same_parent a b && bytes_eq a.name b.name
 
--- the name of the type that a mention uses
+-- a type is used, and has this name
 abbrev pub is_type_name : Option (List ℕ) → List ℕ → Bool
 is_type_name None name = false
 is_type_name (Some used) name = bytes_eq used name
 
+-- two types are used, of one name
 abbrev pub same_name : Option (List ℕ) → Option (List ℕ) → Bool
 same_name a None = false
 same_name a (Some name) = is_type_name a name
@@ -83,8 +85,9 @@ first_interfaces ms = firsts same_item (filter (λ m. not (is_world m.kind)) ms)
 abbrev pub first_worlds : List Mention → List Mention
 first_worlds ms = firsts same_item (filter (λ m. is_world m.kind) ms)
 
+-- a mention uses a type
 abbrev pub uses_type : Mention → Bool
-uses_type m = same_name (used_type_name m.kind) (used_type_name m.kind)
+uses_type m = is_some (used_type_name m.kind)
 
 abbrev pub first_types : List Mention → List Mention
 first_types ms = firsts same_type (filter uses_type ms)
@@ -101,12 +104,21 @@ type_id_of ms m = position_or_len (same_type m) (first_types ms)
 
 -- a foreign interface or world, with a gate for each line that names it: the gate of that line
 abbrev pub foreign_item : List Mention → Mention → ForeignItem
-foreign_item ms m =
-    (m.name, ((if is_world m.kind then item.World (world_id_of ms m) else item.Interface (interface_id_of ms m)), map (λ (n : Mention). n.gate) (filter (same_item m) ms)))
+foreign_item ms m = (
+  m.name,
+  (
+    (if is_world m.kind then item.World (world_id_of ms m)
+        else item.Interface (interface_id_of ms m)),
+    map (λ (n : Mention). n.gate) (filter (same_item m) ms),
+  ),
+)
 
 -- what is named of other packages, under the name of each
 abbrev pub foreign_deps_of : List Mention → ForeignItems
-foreign_deps_of ms = map (λ (p : Mention). (p.parent, map (foreign_item ms) (firsts same_item (filter (same_parent p) ms)))) (first_packages ms)
+foreign_deps_of ms =
+    map (λ (p : Mention).
+    (p.parent, map (foreign_item ms) (firsts same_item (filter (same_parent p) ms))))
+    (first_packages ms)
 
 -- the name of a type that is used
 abbrev pub used_name : Option (List ℕ) → List ℕ
@@ -120,7 +132,10 @@ mentioned_at m = record { gate = Unknown; span = m.span }
 -- a foreign interface: its name, and those of its types that lines use
 abbrev pub foreign_interface : List Mention → Mention → Interface
 foreign_interface ms m =
-    record (empty_interface m.name (mentioned_at m)) { types = map (λ (t : Mention). (used_name (used_type_name t.kind), type_id_of ms t)) (filter (same_item m) (first_types ms)) }
+    record (empty_interface m.name (mentioned_at m)) {
+      types = map (λ (t : Mention). (used_name (used_type_name t.kind), type_id_of ms t))
+          (filter (same_item m) (first_types ms));
+    }
 
 -- a foreign world: its name
 abbrev pub foreign_world : Mention → World
@@ -128,7 +143,9 @@ foreign_world m = empty_world m.name (mentioned_at m)
 
 -- a foreign type, with the gate of the first line that uses it
 abbrev pub foreign_type : List Mention → Mention → TypeDef
-foreign_type ms m = type_with (used_type_name m.kind) kind.Unknown (owner.Interface (interface_id_of ms m)) (record { gate = m.gate; span = m.span })
+foreign_type ms m =
+    type_with (used_type_name m.kind) kind.Unknown (owner.Interface (interface_id_of ms m))
+    (record { gate = m.gate; span = m.span })
 
 -- what is known of other packages
 abbrev pub foreign_of : List Mention → Foreign

@@ -44,7 +44,9 @@ open_world p = open_world_index p p.scope
 
 -- the type of this name in the interface at a place
 abbrev pub type_at : Draft → List ℕ → ℕ → Option ℕ
-type_at p name at = option_and_then (λ (interface : Interface). lookup (bytes_eq name) interface.types) (slice_get p.interfaces at)
+type_at p name at =
+    option_and_then (λ (interface : Interface). lookup (bytes_eq name) interface.types)
+    (slice_get p.interfaces at)
 
 -- the earlier type of this name in the interface into which lines go
 abbrev pub interface_type : Draft → List ℕ → Option ℕ
@@ -52,7 +54,10 @@ interface_type p name = option_and_then (type_at p name) (open_interface p)
 
 -- the type of this name among the imports of the world at a place
 abbrev pub world_type_at : Draft → List ℕ → ℕ → Option ℕ
-world_type_at p name at = option_and_then (λ (world : World). option_and_then item_type (lookup (same_key (key.Name name)) world.imports)) (slice_get p.worlds at)
+world_type_at p name at =
+    option_and_then (λ (world : World).
+    option_and_then item_type (lookup (same_key (key.Name name)) world.imports))
+    (slice_get p.worlds at)
 
 -- the earlier type of this name in the world into which lines go
 abbrev pub world_type : Draft → List ℕ → Option ℕ
@@ -74,7 +79,9 @@ type_named p name = option_or (primitive_of name) (option_map type.Id (earlier p
 -- the interface or world of another package that this names
 abbrev pub foreign_named : Draft → PackageName → List ℕ → Option AstItem
 foreign_named p parent name =
-    option_and_then (λ items. option_map (λ (named : AstItem × List Stability). named.0) (lookup (bytes_eq name) items)) (lookup (same_package parent) p.foreign.deps)
+    option_and_then (λ items.
+    option_map (λ (named : AstItem × List Stability). named.0)
+    (lookup (bytes_eq name) items)) (lookup (same_package parent) p.foreign.deps)
 
 abbrev pub interface_of : AstItem → Option ℕ
 interface_of (foreign.Interface id) = Some id
@@ -87,7 +94,8 @@ world_of (foreign.World id) = Some id
 -- the interface that a path names: a foreign one only where its first mention takes it for an interface
 abbrev pub interface_named : Draft → ParsedUsePath → Option ℕ
 interface_named p (path.Name name) = lookup (bytes_eq name) p.interface_ids
-interface_named p (path.Package parent name) = option_and_then interface_of (foreign_named p parent name)
+interface_named p (path.Package parent name) =
+    option_and_then interface_of (foreign_named p parent name)
 
 -- the world that a path names, likewise
 abbrev pub world_named : Draft → ParsedUsePath → Option ℕ

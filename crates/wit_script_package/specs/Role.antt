@@ -19,34 +19,49 @@ constructor_resource p rest = if is_plain rest then earlier p rest else None
 
 -- the resource of a member, which is the part before the first dot: an earlier type
 abbrev pub member_of : Draft → List ℕ → Option ℕ
-member_of p rest = if is_plain rest then option_and_then (λ (parts : List ℕ × List ℕ). earlier p parts.0) (split_at 46 rest) else None
+member_of p rest =
+    if is_plain rest
+    then option_and_then (λ (parts : List ℕ × List ℕ). earlier p parts.0) (split_at 46 rest)
+    else None
 
 -- a function that belongs to no resource
 abbrev pub freestanding : FunctionKind → List ℕ → Option FunctionKind
 freestanding does rest = if is_plain rest then Some does else None
 
 -- what comes of what follows a group, where there is that group, or else another thing
-abbrev pub or_group : Option (List ℕ) → (List ℕ → Option FunctionKind) → Option FunctionKind → Option FunctionKind
+abbrev pub or_group : Option (List ℕ) → (List ℕ → Option FunctionKind) → Option FunctionKind
+    → Option FunctionKind
 or_group (Some rest) of_rest other = of_rest rest
 or_group None of_rest other = other
 
 -- what follows `[method]`
 abbrev pub method_role : Draft → List ℕ → Option FunctionKind
 method_role p rest =
-    or_group (after_prefix (codes "[get]") rest) (λ more. option_map role.MethodGetter (member_of p more))
-    (or_group (after_prefix (codes "[set]") rest) (λ more. option_map role.MethodSetter (member_of p more)) (option_map role.Method (member_of p rest)))
+    or_group (after_prefix (codes "[get]") rest)
+    (λ more. option_map role.MethodGetter (member_of p more))
+    (or_group (after_prefix (codes "[set]") rest)
+    (λ more. option_map role.MethodSetter (member_of p more))
+    (option_map role.Method (member_of p rest)))
 
 -- what follows `[static]`
 abbrev pub static_role : Draft → List ℕ → Option FunctionKind
 static_role p rest =
-    or_group (after_prefix (codes "[get]") rest) (λ more. option_map role.StaticGetter (member_of p more))
-    (or_group (after_prefix (codes "[set]") rest) (λ more. option_map role.StaticSetter (member_of p more)) (option_map role.Static (member_of p rest)))
+    or_group (after_prefix (codes "[get]") rest)
+    (λ more. option_map role.StaticGetter (member_of p more))
+    (or_group (after_prefix (codes "[set]") rest)
+    (λ more. option_map role.StaticSetter (member_of p more))
+    (option_map role.Static (member_of p rest)))
 
 -- a name without the groups of a resource
 abbrev pub freestanding_kind : List ℕ → Option FunctionKind
-freestanding_kind name = or_group (after_prefix (codes "[get]") name) (freestanding role.Getter) (or_group (after_prefix (codes "[set]") name) (freestanding role.Setter) (freestanding role.Freestanding name))
+freestanding_kind name =
+    or_group (after_prefix (codes "[get]") name) (freestanding role.Getter)
+    (or_group (after_prefix (codes "[set]") name) (freestanding role.Setter)
+    (freestanding role.Freestanding name))
 
 abbrev pub function_kind_of : Draft → List ℕ → Option FunctionKind
 function_kind_of p name =
-    or_group (after_prefix (codes "[constructor]") name) (λ rest. option_map role.Constructor (constructor_resource p rest))
-    (or_group (after_prefix (codes "[method]") name) (method_role p) (or_group (after_prefix (codes "[static]") name) (static_role p) (freestanding_kind name)))
+    or_group (after_prefix (codes "[constructor]") name)
+    (λ rest. option_map role.Constructor (constructor_resource p rest))
+    (or_group (after_prefix (codes "[method]") name) (method_role p) (or_group
+    (after_prefix (codes "[static]") name) (static_role p) (freestanding_kind name)))

@@ -207,7 +207,8 @@ impl Draft {
     /// pushed.
     pub fn into_group(self, alloc: Global) -> Result<UnresolvedPackageGroup, LineFault>
         ensures read { IsRead (as_group self) result }
-        ensures shaped { IsBuilt self → IfOk result (λ group. IsPushable group.main → IsGroupShaped group) }
+        ensures shaped { IsBuilt self
+            → IfOk result (λ group. IsPushable group.main → IsGroupShaped group) }
     {
         let mut draft = self;
         draft.close();

@@ -20,7 +20,8 @@ fn add_item_gate(
     mention: &Mention,
     item: AstItem,
 ) -> Result<(), AllocError>
-    ensures { OnOk result (items.new ≡ with_item_gate mention.now.name item mention.now.gate items.old) }
+    ensures { OnOk result
+        (items.new ≡ with_item_gate mention.now.name item mention.now.gate items.old) }
 {
     let gate = mention.gate.try_clone()?;
     let name = mention.name.as_str();

@@ -107,7 +107,9 @@ fn first_token(line: &str) -> Option<&str>
 
 /// Whether a line with this first token has no path, or none with a `:`.
 fn has_no_foreign_path(word: &str, line: &str) -> bool
-    ensures { result ≡ (takes_no_path word.now || (takes_path word.now && not (list_any (λ b. b == 58) line.now))) }
+    ensures { result
+        ≡ (takes_no_path word.now
+        || (takes_path word.now && not (list_any (λ b. b == 58) line.now))) }
 {
     takes_no_path(word) || takes_path(word) && !line.as_bytes().contains(&b':')
 }

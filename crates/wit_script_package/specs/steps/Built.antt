@@ -12,6 +12,8 @@ use Rattle.wit_script_package.specs.declared.mention.Mention.{Mention}
 -- the package is one that lines build
 pub data IsBuilt : Draft → Type 0 where
   -- by its first line, whose name is read with a version of SemVer 2.0.0, where it has one
-  first_line : {p : Draft} (name : PackageName) (line : List ℕ) (ms : List Mention) → HasValidVersion name → new_draft name line ms ≡ Some p → IsBuilt p
+  first_line : {p : Draft} (name : PackageName) (line : List ℕ) (ms : List Mention)
+      → HasValidVersion name → new_draft name line ms ≡ Some p → IsBuilt p
   -- by one more
-  next_line : {q : Draft} (p : Draft) (said : PackageLine) (gate : Stability) (line : List ℕ) → IsBuilt p → with_line p said gate line ≡ Some q → IsBuilt q
+  next_line : {q : Draft} (p : Draft) (said : PackageLine) (gate : Stability) (line : List ℕ)
+      → IsBuilt p → with_line p said gate line ≡ Some q → IsBuilt q

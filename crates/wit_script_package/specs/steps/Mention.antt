@@ -13,13 +13,17 @@ takes_no_path word =
 
 -- a first token of lines of a package with a path
 abbrev pub takes_path : List ℕ → Bool
-takes_path word = bytes_eq word (codes "use") || (bytes_eq word (codes "import") || (bytes_eq word (codes "export") || bytes_eq word (codes "include")))
+takes_path word =
+    bytes_eq word (codes "use")
+    || (bytes_eq word (codes "import")
+    || (bytes_eq word (codes "export") || bytes_eq word (codes "include")))
 
 -- what a line says, where it is understood, is a line of the package that mentions nothing
 abbrev pub MentionsNothing : Option (Option Statement) → Type 0
 MentionsNothing None = Unit {0}
 MentionsNothing (Some None) = ⊥
 MentionsNothing (Some (Some (line.Package name))) = ⊥
-MentionsNothing (Some (Some (line.Line said gate))) = (span : OptionalSpan) → mentions_of said gate span ≡ []
+MentionsNothing (Some (Some (line.Line said gate))) =
+    (span : OptionalSpan) → mentions_of said gate span ≡ []
 MentionsNothing (Some (Some line.Push)) = ⊥
 MentionsNothing (Some (Some (line.Request asked))) = ⊥

@@ -21,7 +21,8 @@ use Rattle.wit_script_package.specs.declared.mention.MentionKind.TheVariants as 
 -- a table with another value under a key; where nothing is under it, the key comes last, with what is made of a first value
 abbrev pub with_value : {K V : Type 0} → (K → Bool) → K → V → (V → V) → List (K × V) → List (K × V)
 with_value test key first change [] = (key, change first) ∷ []
-with_value test key first change (e ∷ es) = if test e.0 then (e.0, change e.1) ∷ es else e ∷ with_value test key first change es
+with_value test key first change (e ∷ es) =
+    if test e.0 then (e.0, change e.1) ∷ es else e ∷ with_value test key first change es
 
 -- an item is that of a world
 abbrev pub is_world_item : AstItem → Bool
@@ -37,14 +38,19 @@ abbrev pub with_gate : Stability → AstItem × List Stability → AstItem × Li
 with_gate gate noted = (noted.0, noted.1 ++ gate ∷ [])
 
 abbrev pub with_item_gate : List ℕ → AstItem → Stability → List ForeignItem → List ForeignItem
-with_item_gate name named gate items = with_value (bytes_eq name) name (named, []) (with_gate gate) items
+with_item_gate name named gate items =
+    with_value (bytes_eq name) name (named, []) (with_gate gate) items
 
-abbrev pub with_package_gate : PackageName → List ℕ → AstItem → Stability → ForeignItems → ForeignItems
-with_package_gate parent name named gate deps = with_value (same_package parent) parent [] (with_item_gate name named gate) deps
+abbrev pub with_package_gate : PackageName → List ℕ → AstItem → Stability → ForeignItems
+    → ForeignItems
+with_package_gate parent name named gate deps =
+    with_value (same_package parent) parent [] (with_item_gate name named gate) deps
 
 -- the places of packages, with that of one more, where it is the first mention of its package
-abbrev pub with_dep_span : ForeignItems → PackageName → OptionalSpan → List OptionalSpan → List OptionalSpan
-with_dep_span deps parent span spans = if is_some (lookup (same_package parent) deps) then spans else spans ++ span ∷ []
+abbrev pub with_dep_span : ForeignItems → PackageName → OptionalSpan → List OptionalSpan
+    → List OptionalSpan
+with_dep_span deps parent span spans =
+    if is_some (lookup (same_package parent) deps) then spans else spans ++ span ∷ []
 
 -- a gate of a foreign item
 abbrev pub with_foreign_gate : Draft → Mention → AstItem → Draft
@@ -57,24 +63,36 @@ with_foreign_gate p m named = record p {
 
 -- a foreign interface or world that is mentioned first
 abbrev pub with_foreign_as : Draft → Mention → MentionKind → AstItem × Draft
-with_foreign_as p m taken.Interface = (item.Interface (length p.interfaces), record p { interfaces = p.interfaces ++ empty_interface m.name (mentioned_at m) ∷ [] })
-with_foreign_as p m (taken.Type_ name) = (item.Interface (length p.interfaces), record p { interfaces = p.interfaces ++ empty_interface m.name (mentioned_at m) ∷ [] })
-with_foreign_as p m taken.World = (item.World (length p.worlds), record p { worlds = p.worlds ++ empty_world m.name (mentioned_at m) ∷ [] })
+with_foreign_as p m taken.Interface = (
+  item.Interface (length p.interfaces),
+  record p { interfaces = p.interfaces ++ empty_interface m.name (mentioned_at m) ∷ [] },
+)
+with_foreign_as p m (taken.Type_ name) = (
+  item.Interface (length p.interfaces),
+  record p { interfaces = p.interfaces ++ empty_interface m.name (mentioned_at m) ∷ [] },
+)
+with_foreign_as p m taken.World = (
+  item.World (length p.worlds),
+  record p { worlds = p.worlds ++ empty_world m.name (mentioned_at m) ∷ [] },
+)
 
 abbrev pub with_foreign : Draft → Mention → AstItem × Draft
 with_foreign p m = with_foreign_as p m m.kind
 
 -- a type that is used first
 abbrev pub with_type_span : OptionalSpan → Draft → Draft
-with_type_span span p = record p { foreign = record p.foreign { type_spans = p.foreign.type_spans ++ span ∷ [] } }
+with_type_span span p =
+    record p { foreign = record p.foreign { type_spans = p.foreign.type_spans ++ span ∷ [] } }
 
 -- a foreign type, where the interface has none of that name yet
 abbrev pub with_foreign_type : Draft → List ℕ → LineContext → ℕ → Draft
-with_foreign_type p name here at = option_map_or (with_type_span here.span) (with_interface_type p name kind.Unknown here at) p
+with_foreign_type p name here at =
+    option_map_or (with_type_span here.span) (with_interface_type p name kind.Unknown here at) p
 
 abbrev pub with_use_as : Draft → Mention → AstItem → MentionKind → Draft
 with_use_as p m named taken.Interface = p
-with_use_as p m (item.Interface id) (taken.Type_ name) = with_foreign_type p name (record { gate = m.gate; span = m.span }) id
+with_use_as p m (item.Interface id) (taken.Type_ name) =
+    with_foreign_type p name (record { gate = m.gate; span = m.span }) id
 with_use_as p m (item.World id) (taken.Type_ name) = p
 with_use_as p m named taken.World = p
 
