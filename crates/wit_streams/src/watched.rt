@@ -2,7 +2,7 @@
 ghost use Rattle.std.specs.Prelude.{◌≡◌, ◌||◌, is_err, length, false};
 ghost use Rattle.std.specs.Io.{ReadsAtMost, WritesAtMost};
 ghost use Rattle.std.specs.Io.KnownBytes.{ReadConsumes, WriteAppends, Keeps};
-ghost use Rattle.wit_script.specs.Watched.{read_ends, write_fails};
+ghost use Rattle.wit_streams.specs.Watched.{read_ends, write_fails};
 
 use std::io;
 use std::io::{Read, Write};

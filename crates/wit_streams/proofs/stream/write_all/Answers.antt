@@ -1,8 +1,8 @@
 use Rattle.std.proofs.Common.{arith, subst, ◌≤◌, ◌-◌, length}
 use Rattle.std.proofs.lemmas.Grind.{common_steps}
 use Rattle.std.specs.Io.KnownBytes.{Appends}
-use Rattle.wit_script.proofs.Known.{Appends-more, take-more_of}
-use Rattle.wit_script.proofs.stream.write_all.Goals as goal
+use Rattle.wit_streams.proofs.Known.{Appends-more, take-more_of}
+use Rattle.wit_streams.proofs.stream.write_all.Goals as goal
 
 pub loop-at-preserved : goal.loop-at-preserved
 loop-at-preserved g c =

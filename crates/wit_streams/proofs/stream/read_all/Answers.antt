@@ -1,6 +1,6 @@
 use Rattle.std.proofs.Common.{arith, length, ◌<◌}
-use Rattle.wit_script.proofs.Known.{at-end}
-use Rattle.wit_script.proofs.stream.read_all.Goals as goal
+use Rattle.wit_streams.proofs.Known.{at-end}
+use Rattle.wit_streams.proofs.stream.read_all.Goals as goal
 
 pub returns-in-Ok-eq0-clause-ok : goal.returns-in-Ok-eq0-clause-ok
 returns-in-Ok-eq0-clause-ok g c =

@@ -1,6 +1,6 @@
 use Rattle.std.proofs.Common.{◌-◌, ◌≤◌, length, take}
 use Rattle.std.specs.Io.KnownBytes.{Appends}
-use Rattle.wit_script.proofs.stream.write_all.Given as goal
+use Rattle.wit_streams.proofs.stream.write_all.Given as goal
 
 -- what was written so far
 abbrev pub invariant-loop-at : goal.invariant-loop-at

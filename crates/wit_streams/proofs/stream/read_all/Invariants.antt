@@ -1,6 +1,6 @@
 use Rattle.std.proofs.Common.{◌≡◌}
 use Rattle.std.specs.Io.KnownBytes.{Consumes}
-use Rattle.wit_script.proofs.stream.read_all.Given as goal
+use Rattle.wit_streams.proofs.stream.read_all.Given as goal
 
 -- what was read so far, and the reader hasn't told its end
 abbrev pub invariant-loop-turn : goal.invariant-loop-turn
