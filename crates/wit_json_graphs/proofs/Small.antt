@@ -17,13 +17,13 @@ use Rattle.wit_json.specs.Details.{json_of_range, json_of_span}
 use Rattle.wit_json.specs.Gates.{json_of_docs, json_of_stability}
 use Rattle.wit_json.specs.Unresolved.{json_of_gate}
 use Rattle.wit_json.specs.Values.{json_of_number, json_of_text, json_of_version, pair, tagged}
-use Rattle.wit_json_laws.specs.Writable.{IsWritableGate, IsWritableSpan}
+use Rattle.wit_json_graphs.specs.Writable.{IsWritableGate, IsWritableSpan}
 use Rattle.wit_json_reading.specs.Gates.{contents_of, docs_of, gate_of, gate_by, place_of, range_of, span_of, stability_of, stable_of, unstable_of}
 use Rattle.wit_json_reading.specs.Reading.{instead_of, optional}
 use Rattle.wit_json_reading.specs.Values.{decimal_after, decimal_of, number_below, number_of, or_number, small_number_of, text_of, version_in, version_of}
 use Rattle.wit_json_reading.specs.declared.fault.Expected.TheVariants as expected
-use Rattle.wit_json_laws.proofs.Slots.{Slot, get_slot, only_slots, slots}
-use Rattle.wit_json_laws.proofs.Steps.{all_1, all_3, reads_alone, reads_optional, reads_pair, reads_required, reads_variant, followed}
+use Rattle.wit_json_graphs.proofs.Slots.{Slot, get_slot, only_slots, slots}
+use Rattle.wit_json_graphs.proofs.Steps.{all_1, all_3, reads_alone, reads_optional, reads_pair, reads_required, reads_variant, followed}
 
 -- ---- numbers
 

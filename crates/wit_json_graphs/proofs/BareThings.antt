@@ -27,7 +27,7 @@ use Rattle.wit_json.specs.Graph.{json_of_package, json_of_package_name}
 use Rattle.wit_json.specs.Unresolved.{whole_entries, whole_function, whole_item}
 use Rattle.wit_json.specs.Values.{Member, json_of_number, json_of_text, member, null_or, object, object_under_names, tagged}
 use Rattle.wit_json.specs.Worlds.{entry_name, json_of_entries, json_of_interface, json_of_item, json_of_world}
-use Rattle.wit_json_laws.specs.Writable.{AreWritableEntries, FitsKey, IsWritableFunction, IsWritableHome, IsWritableId, IsWritableInterface, IsWritableItem, IsWritableWorld, in_order}
+use Rattle.wit_json_graphs.specs.Writable.{AreWritableEntries, FitsKey, IsWritableFunction, IsWritableHome, IsWritableId, IsWritableInterface, IsWritableItem, IsWritableWorld, in_order}
 use Rattle.wit_json_reading.specs.Functions.{function_of}
 use Rattle.wit_json_reading.specs.Graphs.{graph_package_of, homes_from, homes_of, with_home}
 use Rattle.wit_json_reading.specs.Packages.{package_name_of}
@@ -37,14 +37,14 @@ use Rattle.wit_json_reading.specs.Values.{nullable, number_of, text_of}
 use Rattle.wit_json_reading.specs.Worlds.{entries_of, include_of, includes_of, interface_names, interface_of, world_names, world_of}
 use Rattle.wit_json_reading.specs.declared.fault.Expected.TheVariants as expected
 use Rattle.wit_json_reading.specs.declared.fault.Step.TheVariants as step
-use Rattle.wit_json_laws.proofs.Bare.{at_value, bare_function, each_of_map, function_fits, function_is, keys_stay, maps_same, no_more, no_two_more}
-use Rattle.wit_json_laws.proofs.Functions.{reads_function}
-use Rattle.wit_json_laws.proofs.Packages.{reads_name_value}
-use Rattle.wit_json_laws.proofs.Slots.{Slot, get_slot, only_slots, slots}
-use Rattle.wit_json_laws.proofs.Small.{reads_docs, reads_number, reads_span_member, reads_stability}
-use Rattle.wit_json_laws.proofs.Steps.{all_5, all_8, all_9, is_new, reads_named, reads_optional, reads_required, reads_without, followed}
-use Rattle.wit_json_laws.proofs.Types.{reads_name}
-use Rattle.wit_json_laws.proofs.Worlds.{reads_home, reads_world_entries}
+use Rattle.wit_json_graphs.proofs.Bare.{at_value, bare_function, each_of_map, function_fits, function_is, keys_stay, maps_same, no_more, no_two_more}
+use Rattle.wit_json_graphs.proofs.Functions.{reads_function}
+use Rattle.wit_json_graphs.proofs.Packages.{reads_name_value}
+use Rattle.wit_json_graphs.proofs.Slots.{Slot, get_slot, only_slots, slots}
+use Rattle.wit_json_graphs.proofs.Small.{reads_docs, reads_number, reads_span_member, reads_stability}
+use Rattle.wit_json_graphs.proofs.Steps.{all_5, all_8, all_9, is_new, reads_named, reads_optional, reads_required, reads_without, followed}
+use Rattle.wit_json_graphs.proofs.Types.{reads_name}
+use Rattle.wit_json_graphs.proofs.Worlds.{reads_home, reads_world_entries}
 
 -- ---- interfaces
 

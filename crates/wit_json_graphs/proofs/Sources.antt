@@ -10,17 +10,17 @@ use Rattle.wit_json.specs.Unresolved.{json_of_unresolved}
 use Rattle.wit_json.specs.Values as written
 use Rattle.wit_json.specs.Values.{json_of_text}
 use Rattle.wit_json.specs.Whole.{json_of_file, json_of_sources}
-use Rattle.wit_json_laws.specs.Writable.{AreInRow, AreWritableSources, IsWritableGroup}
-use Rattle.wit_json_laws.specs.laws.ReadBack.{GroupsReadBack}
+use Rattle.wit_json_graphs.specs.Writable.{AreInRow, AreWritableSources, IsWritableGroup}
+use Rattle.wit_json_graphs.specs.laws.ReadBack.{GroupsReadBack}
 use Rattle.wit_json_reading.specs.Groups.{group_of, no_sources, source_behind, source_of, sources_from, sources_of, with_source}
 use Rattle.wit_json_reading.specs.Packages.{package_of}
 use Rattle.wit_json_reading.specs.Reading.{Reading, instead_of, list_of, under}
 use Rattle.wit_json_reading.specs.Values.{text_of}
 use Rattle.wit_json_reading.specs.declared.fault.Expected.TheVariants as expected
 use Rattle.wit_json_reading.specs.declared.fault.Step.TheVariants as step
-use Rattle.wit_json_laws.proofs.Packages.{packages_read_back}
-use Rattle.wit_json_laws.proofs.Slots.{Slot, get_slot, only_slots, slots}
-use Rattle.wit_json_laws.proofs.Steps.{all_3, all_4, reads_list, reads_required, followed}
+use Rattle.wit_json_graphs.proofs.Packages.{packages_read_back}
+use Rattle.wit_json_graphs.proofs.Slots.{Slot, get_slot, only_slots, slots}
+use Rattle.wit_json_graphs.proofs.Steps.{all_3, all_4, reads_list, reads_required, followed}
 
 reads_source : (path text : List ℕ) → source_of (json_of_file (path, text)) ≡ Ok (path, text)
 unfolding source_of

@@ -28,17 +28,17 @@ use Rattle.wit_json.specs.Values as written
 use Rattle.wit_json.specs.Values.{Member, json_of_text, members_of, object, object_under_names, optional}
 use Rattle.wit_json.specs.Worlds.{entry_name}
 use Rattle.wit_json_graphs.specs.Details.{case_with, entries_with, entry_with, enum_case_with, field_with, flag_with, function_with, interface_with, item_with, items_with, kind_with, list_with, named_with, param_with, span_alone, table_with, things_with, type_with, world_with}
-use Rattle.wit_json_laws.specs.Writable.{AreWritableEntries, IsWritableCase, IsWritableField, IsWritableFunction, IsWritableInterface, IsWritableItem, IsWritableKind, IsWritableParam, IsWritableSpan, IsWritableTypeDef, IsWritableWorld}
+use Rattle.wit_json_graphs.specs.Writable.{AreWritableEntries, IsWritableCase, IsWritableField, IsWritableFunction, IsWritableInterface, IsWritableItem, IsWritableKind, IsWritableParam, IsWritableSpan, IsWritableTypeDef, IsWritableWorld}
 use Rattle.wit_json_reading.specs.Gates.{place_of, span_of}
 use Rattle.wit_json_reading.specs.Reading.{Reading, ◌>>=◌, instead_of, only, under}
 use Rattle.wit_json_reading.specs.Values.{text_of}
 use Rattle.wit_json_reading.specs.declared.fault.Expected.TheVariants as expected
 use Rattle.wit_json_reading.specs.declared.fault.Step.TheVariants as step
-use Rattle.wit_json_laws.proofs.Bare.{at_value, bare_case, bare_enum_case, bare_field, bare_flag, bare_function, bare_kind, bare_param, bare_type, no_more}
-use Rattle.wit_json_laws.proofs.BareThings.{bare_entries, bare_functions, bare_interface, bare_item, bare_world}
-use Rattle.wit_json_laws.proofs.Slots.{Slot, get_slot, only_slots, slots}
-use Rattle.wit_json_laws.proofs.Small.{reads_docs, reads_span, reads_span_member, reads_texts}
-use Rattle.wit_json_laws.proofs.Steps.{all_1, all_2, all_3, all_4, reads_optional, reads_required, followed}
+use Rattle.wit_json_graphs.proofs.Bare.{at_value, bare_case, bare_enum_case, bare_field, bare_flag, bare_function, bare_kind, bare_param, bare_type, no_more}
+use Rattle.wit_json_graphs.proofs.BareThings.{bare_entries, bare_functions, bare_interface, bare_item, bare_world}
+use Rattle.wit_json_graphs.proofs.Slots.{Slot, get_slot, only_slots, slots}
+use Rattle.wit_json_graphs.proofs.Small.{reads_docs, reads_span, reads_span_member, reads_texts}
+use Rattle.wit_json_graphs.proofs.Steps.{all_1, all_2, all_3, all_4, reads_optional, reads_required, followed}
 
 -- ---- lists and tables
 

@@ -29,8 +29,8 @@ use Rattle.wit_json.specs.Worlds.{json_of_interface, json_of_world}
 use Rattle.wit_json_graphs.specs.Details.{graph_with, interface_with, list_with, type_with, world_with}
 use Rattle.wit_json_graphs.specs.Resolves.{features_beside, no_features, resolve_of, rule_beside, sources_beside, with_details}
 use Rattle.wit_json_graphs.specs.declared.resolves.ResolveParts.{ResolveParts}
-use Rattle.wit_json_laws.specs.Writable.{AreApart, AreWritableSources, IsWritableGraph}
-use Rattle.wit_json_laws.specs.laws.ReadBack.{ResolvesReadBack}
+use Rattle.wit_json_graphs.specs.Writable.{AreApart, AreWritableSources, IsWritableGraph}
+use Rattle.wit_json_graphs.specs.laws.ReadBack.{ResolvesReadBack}
 use Rattle.wit_json_reading.specs.Features.{features_of, names_of, rule_of, with_name, with_names}
 use Rattle.wit_json_reading.specs.Graphs.{graph_of, graph_package_of, homes_of}
 use Rattle.wit_json_reading.specs.Groups.{sources_of}
@@ -39,12 +39,12 @@ use Rattle.wit_json_reading.specs.Types.{type_def_of}
 use Rattle.wit_json_reading.specs.Values.{boolean_of, text_of}
 use Rattle.wit_json_reading.specs.Worlds.{interface_of, world_of}
 use Rattle.wit_json_reading.specs.declared.fault.Step.TheVariants as step
-use Rattle.wit_json_laws.proofs.Bare.{bare_type, reads_bare_type}
-use Rattle.wit_json_laws.proofs.Details.{interface_complete, list_complete, type_complete, world_complete}
-use Rattle.wit_json_laws.proofs.BareThings.{bare_interface, bare_world, reads_bare_interface, reads_bare_world, reads_home_package, reads_homes}
-use Rattle.wit_json_laws.proofs.Slots.{Slot, get_slot, only_slots, slots}
-use Rattle.wit_json_laws.proofs.Sources.{reads_sources}
-use Rattle.wit_json_laws.proofs.Steps.{all_3, all_4, reads_list, reads_list_as, reads_optional, reads_required, followed}
+use Rattle.wit_json_graphs.proofs.Bare.{bare_type, reads_bare_type}
+use Rattle.wit_json_graphs.proofs.Details.{interface_complete, list_complete, type_complete, world_complete}
+use Rattle.wit_json_graphs.proofs.BareThings.{bare_interface, bare_world, reads_bare_interface, reads_bare_world, reads_home_package, reads_homes}
+use Rattle.wit_json_graphs.proofs.Slots.{Slot, get_slot, only_slots, slots}
+use Rattle.wit_json_graphs.proofs.Sources.{reads_sources}
+use Rattle.wit_json_graphs.proofs.Steps.{all_3, all_4, reads_list, reads_list_as, reads_optional, reads_required, followed}
 
 -- ---- the layout
 

@@ -26,7 +26,7 @@ use Rattle.wit_json.specs.Unresolved.{json_of_include, json_of_include_name, who
 use Rattle.wit_json.specs.Values as written
 use Rattle.wit_json.specs.Values.{json_of_number, json_of_text, members_of, null_or, object_under_names, tagged}
 use Rattle.wit_json.specs.Worlds.{entry_name}
-use Rattle.wit_json_laws.specs.Writable.{AreWritableEntries, FitsKey, IsWritableGate, IsWritableId, IsWritableInclude, IsWritableInterface, IsWritableItem, IsWritableSpan, IsWritableWorld}
+use Rattle.wit_json_graphs.specs.Writable.{AreWritableEntries, FitsKey, IsWritableGate, IsWritableId, IsWritableInclude, IsWritableInterface, IsWritableItem, IsWritableSpan, IsWritableWorld}
 use Rattle.wit_json_reading.specs.Functions.{function_of}
 use Rattle.wit_json_reading.specs.Reading.{instead_of, list_of, optional, under, without}
 use Rattle.wit_json_reading.specs.Tables.{named_of}
@@ -34,12 +34,12 @@ use Rattle.wit_json_reading.specs.Values.{nullable, number_of, text_of}
 use Rattle.wit_json_reading.specs.Worlds.{entries_from, entries_of, home_of, include_name_of, include_of, includes_of, interface_entry_of, interface_names, interface_of, item_by, item_of, key_of, names_differ, placed_type_of, with_entry, with_member, world_names, world_of}
 use Rattle.wit_json_reading.specs.declared.fault.Expected.TheVariants as expected
 use Rattle.wit_json_reading.specs.declared.fault.Step.TheVariants as step
-use Rattle.wit_json_laws.proofs.Functions.{reads_function}
-use Rattle.wit_json_laws.proofs.Keys.{reads_differ, reads_key, writable_key}
-use Rattle.wit_json_laws.proofs.Slots.{Slot, get_slot, only_slots, slots}
-use Rattle.wit_json_laws.proofs.Small.{reads_docs, reads_number, reads_span_member, reads_stability, reads_texts}
-use Rattle.wit_json_laws.proofs.Steps.{all_3, all_5, all_6, all_8, all_9, is_new, reads_list, reads_named, reads_optional, reads_required, reads_variant, reads_without, followed}
-use Rattle.wit_json_laws.proofs.Types.{reads_name}
+use Rattle.wit_json_graphs.proofs.Functions.{reads_function}
+use Rattle.wit_json_graphs.proofs.Keys.{reads_differ, reads_key, writable_key}
+use Rattle.wit_json_graphs.proofs.Slots.{Slot, get_slot, only_slots, slots}
+use Rattle.wit_json_graphs.proofs.Small.{reads_docs, reads_number, reads_span_member, reads_stability, reads_texts}
+use Rattle.wit_json_graphs.proofs.Steps.{all_3, all_5, all_6, all_8, all_9, is_new, reads_list, reads_named, reads_optional, reads_required, reads_variant, reads_without, followed}
+use Rattle.wit_json_graphs.proofs.Types.{reads_name}
 
 -- ---- the package that something belongs to
 

@@ -24,14 +24,14 @@ use Rattle.wit_json.specs.Types.{json_of_handle, json_of_owner, json_of_result, 
 use Rattle.wit_json.specs.Unresolved.{whole_case, whole_enum_case, whole_field, whole_flag, whole_kind, whole_type}
 use Rattle.wit_json.specs.Values as written
 use Rattle.wit_json.specs.Values.{json_of_number, json_of_text, null_or, pair, tagged}
-use Rattle.wit_json_laws.specs.Writable.{IsWritableCase, IsWritableField, IsWritableHandle, IsWritableKind, IsWritableOwner, IsWritableSpan, IsWritableType, IsWritableTypeDef}
+use Rattle.wit_json_graphs.specs.Writable.{IsWritableCase, IsWritableField, IsWritableHandle, IsWritableKind, IsWritableOwner, IsWritableSpan, IsWritableType, IsWritableTypeDef}
 use Rattle.wit_json_reading.specs.Reading.{◌>>=◌, list_of}
 use Rattle.wit_json_reading.specs.Types.{by_id, case_of, enum_case_of, field_of, fixed_length_list_of, flag_of, handle_by, handle_of, kind_by, kind_of, map_of, owner_by, owner_of, result_of, type_def_of, type_names, type_of}
 use Rattle.wit_json_reading.specs.Values.{nullable, number_of, small_number_of, text_of}
 use Rattle.wit_json_reading.specs.declared.fault.Expected.TheVariants as expected
-use Rattle.wit_json_laws.proofs.Slots.{Slot, get_slot, only_slots, slots}
-use Rattle.wit_json_laws.proofs.Small.{reads_docs, reads_number, reads_small, reads_span_member, reads_stability, reads_texts}
-use Rattle.wit_json_laws.proofs.Steps.{all_1, all_3, all_4, all_5, all_8, reads_alone, reads_list, reads_optional, reads_pair, reads_required, reads_variant, followed}
+use Rattle.wit_json_graphs.proofs.Slots.{Slot, get_slot, only_slots, slots}
+use Rattle.wit_json_graphs.proofs.Small.{reads_docs, reads_number, reads_small, reads_span_member, reads_stability, reads_texts}
+use Rattle.wit_json_graphs.proofs.Steps.{all_1, all_3, all_4, all_5, all_8, reads_alone, reads_list, reads_optional, reads_pair, reads_required, reads_variant, followed}
 
 pub reads_type : (ty : Type_) → IsWritableType ty → type_of (json_of_type ty) ≡ Ok ty
 unfolding type_of

@@ -22,11 +22,11 @@ use Rattle.wit_json.specs.Types.{json_of_case, json_of_enum_case, json_of_field,
 use Rattle.wit_json.specs.Unresolved.{whole_case, whole_enum_case, whole_field, whole_flag, whole_function, whole_kind, whole_param, whole_type}
 use Rattle.wit_json.specs.Values as written
 use Rattle.wit_json.specs.Values.{Member, json_of_text, member, null_or, object, optional, tagged}
-use Rattle.wit_json_laws.specs.Writable.{IsWritableCase, IsWritableField, IsWritableFunction, IsWritableKind, IsWritableParam, IsWritableSpan, IsWritableTypeDef}
+use Rattle.wit_json_graphs.specs.Writable.{IsWritableCase, IsWritableField, IsWritableFunction, IsWritableKind, IsWritableParam, IsWritableSpan, IsWritableTypeDef}
 use Rattle.wit_json_reading.specs.Functions.{function_of}
 use Rattle.wit_json_reading.specs.Types.{type_def_of}
-use Rattle.wit_json_laws.proofs.Functions.{reads_function}
-use Rattle.wit_json_laws.proofs.Types.{reads_type_def}
+use Rattle.wit_json_graphs.proofs.Functions.{reads_function}
+use Rattle.wit_json_graphs.proofs.Types.{reads_type_def}
 
 -- ---- lists and tables
 

@@ -18,14 +18,14 @@ use Rattle.wit_data.specs.declared.world.WorldKey.{WorldKey}
 use Rattle.wit_data.specs.declared.world.WorldKey.TheVariants as key
 use Rattle.wit_json.specs.Values.{members_of}
 use Rattle.wit_json.specs.Worlds.{entry_name, is_like_key, wants_mark}
-use Rattle.wit_json_laws.specs.Writable.{FitsKey, IsWritableItem, IsWritableKey}
-use Rattle.wit_json_laws.specs.laws.ReadBack.{EntryNamesDiffer}
+use Rattle.wit_json_graphs.specs.Writable.{FitsKey, IsWritableItem, IsWritableKey}
+use Rattle.wit_json_graphs.specs.laws.ReadBack.{EntryNamesDiffer}
 use Rattle.wit_json_reading.specs.Reading.{instead_of, under}
 use Rattle.wit_json_reading.specs.Values.{decimal_after}
 use Rattle.wit_json_reading.specs.Worlds.{key_of, marked_label, names_differ, plain_key}
 use Rattle.wit_json_reading.specs.declared.fault.Expected.TheVariants as expected
 use Rattle.wit_json_reading.specs.declared.fault.Step.TheVariants as step
-use Rattle.wit_json_laws.proofs.Small.{number_read}
+use Rattle.wit_json_graphs.proofs.Small.{number_read}
 
 -- ---- digits
 

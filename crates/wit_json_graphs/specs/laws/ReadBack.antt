@@ -10,7 +10,7 @@ use Rattle.wit_json.specs.Whole.{json_of_whole}
 use Rattle.wit_json.specs.Worlds.{entry_name}
 use Rattle.wit_json_graphs.specs.Resolves.{resolve_of}
 use Rattle.wit_json_graphs.specs.declared.resolves.ResolveParts.{ResolveParts}
-use Rattle.wit_json_laws.specs.Writable.{AreWritableParts, IsWritableGroup, IsWritableKey, IsWritablePackage}
+use Rattle.wit_json_graphs.specs.Writable.{AreWritableParts, IsWritableGroup, IsWritableKey, IsWritablePackage}
 use Rattle.wit_json_reading.specs.Documents.{reading_of}
 use Rattle.wit_json_reading.specs.Groups.{group_of}
 use Rattle.wit_json_reading.specs.Packages.{package_of}

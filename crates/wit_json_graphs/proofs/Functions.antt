@@ -15,16 +15,16 @@ use Rattle.wit_json.specs.Types.{json_of_type}
 use Rattle.wit_json.specs.Unresolved.{whole_function, whole_param}
 use Rattle.wit_json.specs.Values as written
 use Rattle.wit_json.specs.Values.{json_of_number, json_of_text, tagged}
-use Rattle.wit_json_laws.specs.Writable.{IsWritableFunction, IsWritableFunctionKind, IsWritableId, IsWritableParam}
+use Rattle.wit_json_graphs.specs.Writable.{IsWritableFunction, IsWritableFunctionKind, IsWritableId, IsWritableParam}
 use Rattle.wit_json_reading.specs.Functions.{function_kind_by, function_kind_of, function_names, function_of, param_of, resource_kind_of}
 use Rattle.wit_json_reading.specs.Reading.{list_of}
 use Rattle.wit_json_reading.specs.Types.{type_of}
 use Rattle.wit_json_reading.specs.Values.{number_of, text_of}
 use Rattle.wit_json_reading.specs.declared.fault.Expected.TheVariants as expected
-use Rattle.wit_json_laws.proofs.Slots.{Slot, get_slot, only_slots, slots}
-use Rattle.wit_json_laws.proofs.Small.{reads_docs, reads_number, reads_span_member, reads_stability, reads_texts}
-use Rattle.wit_json_laws.proofs.Steps.{all_4, all_9, reads_list, reads_optional, reads_required, reads_variant, followed}
-use Rattle.wit_json_laws.proofs.Types.{reads_type, reads_types}
+use Rattle.wit_json_graphs.proofs.Slots.{Slot, get_slot, only_slots, slots}
+use Rattle.wit_json_graphs.proofs.Small.{reads_docs, reads_number, reads_span_member, reads_stability, reads_texts}
+use Rattle.wit_json_graphs.proofs.Steps.{all_4, all_9, reads_list, reads_optional, reads_required, reads_variant, followed}
+use Rattle.wit_json_graphs.proofs.Types.{reads_type, reads_types}
 
 -- the kind of a resource's function
 of_resource : (name : List ℕ) (id : ℕ) (k : FunctionKind) → IsWritableId id → resource_kind_of name id ≡ Ok k → function_kind_of (tagged name (json_of_number id)) ≡ Ok k

@@ -52,15 +52,15 @@ use Rattle.wit_json.specs.Types.{json_of_handle, json_of_owner, json_of_result, 
 use Rattle.wit_json.specs.Unresolved.{json_of_ast_item, json_of_deps, json_of_foreign_item, json_of_gate, json_of_include, json_of_include_name, json_of_unresolved, whole_case, whole_entries, whole_enum_case, whole_field, whole_flag, whole_function, whole_interface, whole_item, whole_kind, whole_param, whole_type, whole_world}
 use Rattle.wit_json.specs.Values as written
 use Rattle.wit_json.specs.Values.{Member, json_of_number, json_of_text, json_of_version, members_of, null_or, object, object_under_names, optional, pair, tagged}
-use Rattle.wit_json_laws.specs.Writable.{AreWritableEntries, AreWritableItems, IsWritableAstItem, IsWritableCase, IsWritableField, IsWritableFunction, IsWritableFunctionKind, IsWritableGroup, IsWritableHandle, IsWritableInclude, IsWritableInterface, IsWritableItem, IsWritableKind, IsWritableOwner, IsWritablePackage, IsWritableParam, IsWritableSpan, IsWritableType, IsWritableTypeDef, IsWritableWorld}
+use Rattle.wit_json_graphs.specs.Writable.{AreWritableEntries, AreWritableItems, IsWritableAstItem, IsWritableCase, IsWritableField, IsWritableFunction, IsWritableFunctionKind, IsWritableGroup, IsWritableHandle, IsWritableInclude, IsWritableInterface, IsWritableItem, IsWritableKind, IsWritableOwner, IsWritablePackage, IsWritableParam, IsWritableSpan, IsWritableType, IsWritableTypeDef, IsWritableWorld}
 use Rattle.wit_json.specs.Whole.{json_of_file, json_of_sources}
-use Rattle.wit_json_laws.specs.laws.ReadBack.{GroupTextsReadBack, TextsReadBack}
+use Rattle.wit_json_graphs.specs.laws.ReadBack.{GroupTextsReadBack, TextsReadBack}
 use Rattle.wit_json_reading.specs.Documents.{if_document}
 use Rattle.wit_json_reading.specs.Groups.{group_of}
 use Rattle.wit_json_reading.specs.Packages.{package_of}
-use Rattle.wit_json_laws.proofs.Packages.{packages_read_back}
-use Rattle.wit_json_laws.proofs.Sources.{groups_read_back}
-use Rattle.wit_json_laws.proofs.Slots.{Slot, joined, members_are, slots}
+use Rattle.wit_json_graphs.proofs.Packages.{packages_read_back}
+use Rattle.wit_json_graphs.proofs.Sources.{groups_read_back}
+use Rattle.wit_json_graphs.proofs.Slots.{Slot, joined, members_are, slots}
 
 -- numbers are numbers, and arrays and objects nest no deeper than d
 record IsPlain (d : ℕ) (j : Json) : Type 0 where

@@ -30,8 +30,8 @@ use Rattle.wit_json.specs.Graph.{json_of_package_name}
 use Rattle.wit_json.specs.Unresolved.{json_of_ast_item, json_of_deps, json_of_foreign_item, json_of_gate, whole_interface, whole_type, whole_world}
 use Rattle.wit_json.specs.Values as written
 use Rattle.wit_json.specs.Values.{json_of_number, members_of, object_under_names, pair, tagged}
-use Rattle.wit_json_laws.specs.Writable.{AreWritableItems, IsWritableAstItem, IsWritableGate, IsWritableName}
-use Rattle.wit_json_laws.specs.laws.ReadBack.{PackagesReadBack}
+use Rattle.wit_json_graphs.specs.Writable.{AreWritableItems, IsWritableAstItem, IsWritableGate, IsWritableName}
+use Rattle.wit_json_graphs.specs.laws.ReadBack.{PackagesReadBack}
 use Rattle.wit_json_reading.specs.Gates.{gate_of, place_of}
 use Rattle.wit_json_reading.specs.Objects.{pair_of}
 use Rattle.wit_json_reading.specs.Packages.{ast_item_by, ast_item_of, dep_of, deps_from, deps_of, foreign_item_of, name_in, package_name_in, package_name_of, package_names, package_of, version_behind}
@@ -42,11 +42,11 @@ use Rattle.wit_json_reading.specs.Values.{number_of, version_in}
 use Rattle.wit_json_reading.specs.Worlds.{interface_of, world_of}
 use Rattle.wit_json_reading.specs.declared.fault.Expected.TheVariants as expected
 use Rattle.wit_json_reading.specs.declared.fault.Step.TheVariants as step
-use Rattle.wit_json_laws.proofs.Slots.{Slot, get_slot, only_slots, slots}
-use Rattle.wit_json_laws.proofs.Small.{reads_docs, reads_gate, reads_number, reads_span, reads_span_member}
-use Rattle.wit_json_laws.proofs.Steps.{all_11, is_new, reads_list, reads_named, reads_pair, reads_required, reads_variant, followed}
-use Rattle.wit_json_laws.proofs.Types.{reads_type_def}
-use Rattle.wit_json_laws.proofs.Worlds.{reads_interface, reads_world}
+use Rattle.wit_json_graphs.proofs.Slots.{Slot, get_slot, only_slots, slots}
+use Rattle.wit_json_graphs.proofs.Small.{reads_docs, reads_gate, reads_number, reads_span, reads_span_member}
+use Rattle.wit_json_graphs.proofs.Steps.{all_11, is_new, reads_list, reads_named, reads_pair, reads_required, reads_variant, followed}
+use Rattle.wit_json_graphs.proofs.Types.{reads_type_def}
+use Rattle.wit_json_graphs.proofs.Worlds.{reads_interface, reads_world}
 
 -- ---- texts in two parts
 

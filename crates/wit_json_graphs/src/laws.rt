@@ -1,5 +1,5 @@
 //! What is written reads back: the contract of each function is what is proved.
-ghost use Rattle.wit_json_laws.specs.laws.ReadBack.{EntryNamesDiffer, GroupTextsReadBack, GroupsReadBack, PackagesReadBack, ResolvesReadBack, TextsReadBack};
+ghost use Rattle.wit_json_graphs.specs.laws.ReadBack.{EntryNamesDiffer, GroupTextsReadBack, GroupsReadBack, PackagesReadBack, ResolvesReadBack, TextsReadBack};
 
 /// Two entries of a world have two names: in what is written no object has one name twice.
 pub fn entry_names_differ()
