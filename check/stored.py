@@ -3,7 +3,7 @@
 
     python3 check/stored.py        # at the top of the repository
 
-- Scripts: what `witgraph` and `test_not_understood` are to print.
+- The script of `witgraph`: what it is to print.
 - Explanations of `witgraph_explained`: the line that isn't understood; each refusal with its number and text; each line that
   is shown, as the script has it, with its place in the file of its package; ways, as check/ways.py asks.
 - The picture of `witgraph_dot`: its arrows, as check/pictures.py asks.
@@ -33,7 +33,6 @@ import ways  # noqa: E402
 from model.names import PackageName  # noqa: E402
 from model.scripts import Rules, Session, shown  # noqa: E402
 
-SCRIPTS = ["witgraph", "test_not_understood"]
 DOCUMENTS = [("crates/witgraph_json/stdin", "crates/witgraph_json/stdout"), ("examples/kinds/kinds.json", "examples/kinds/kinds.out.json")]
 CASES = "crates/test_cases/stdin"
 NOT_DONE = ("refused ", "no world", "no package")
@@ -47,9 +46,8 @@ def read(path):
 
 
 def wrong_scripts():
-    for crate in SCRIPTS:
-        if not model.is_right(read(f"crates/{crate}/stdin"), read(f"crates/{crate}/stdout")):
-            yield f"crates/{crate}/stdout: the model answers otherwise"
+    if not model.is_right(read("crates/witgraph/stdin"), read("crates/witgraph/stdout")):
+        yield "crates/witgraph/stdout: the model answers otherwise"
 
 
 def wrong_refusals():

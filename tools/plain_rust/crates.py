@@ -24,7 +24,6 @@ TESTS = ("test_facades", "test_graph", "test_json", "test_resolve", "test_script
 STORED = (
     "test_cases",
     "test_json_cases",
-    "test_not_understood",
     "test_sweep",
     "wit_uses",
     "witgraph_explained",

@@ -1,2 +1,16 @@
 mod Completed
 mod Rows
+mod Slots
+mod Steps
+mod Small
+mod Keys
+mod Types
+mod Functions
+mod Worlds
+mod Packages
+mod Sources
+mod Bare
+mod BareThings
+mod Details
+mod Graphs
+mod Plain

@@ -1,3 +1,5 @@
 pub mod Details
 pub mod Resolves
+pub mod Writable
+pub mod laws
 pub mod steps

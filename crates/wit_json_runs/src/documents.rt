@@ -2,7 +2,7 @@
 ghost use Rattle.std.specs.Prelude.{◌≡◌, ◌⊎◌, [], Bool, Err, List, Some, ℕ, true, IfErr, IfOk, IfSome, OnOk, IsErrOf, string_bytes};
 ghost use Rattle.std.specs.Str.{IsUtf8};
 ghost use Rattle.std.specs.Io.KnownBytes.{Appends};
-ghost use Rattle.wit_script.specs.Watched.{AppendsBeginning};
+ghost use Rattle.wit_streams.specs.Watched.{AppendsBeginning};
 ghost use Rattle.wit_json.specs.Graph.{compact};
 ghost use Rattle.wit_json_replies.specs.Documents.{json_of_fault};
 ghost use Rattle.wit_json_reading.specs.Reading.{Reads};
@@ -17,7 +17,7 @@ use wit_json_graphs::ResolveParts;
 use wit_json_reading::{Expected, Fault, ReadError, in_member, instead_of, offset_of, read_text};
 use wit_json_replies::{fault_to_json, output_to_json};
 use wit_resolve_graph::{Items, Resolve};
-use wit_script::{ScriptFault, Watched, read_all, write_all};
+use wit_streams::{StreamFault, Watched, read_all, write_all};
 
 /// Carries out the commands of a document on the graph with which it begins, or an empty one: whether it is understood,
 /// and the document that comes out. The only error is want of memory outside a command.
@@ -107,17 +107,17 @@ pub fn execute<R: Read, W: Write>(
     alloc: Global,
     reader: &mut Watched<R>,
     writer: &mut Watched<W>,
-) -> Result<bool, ScriptFault>
+) -> Result<bool, StreamFault>
     ensures ok { IfOk result (λ understood. IfSome (R.remaining reader.old.inner) (λ input.
         (text : List ℕ) × ComesOutOfBytes input understood text × Appends (W.contents writer.old.inner) (W.contents writer.new.inner) text)) }
-    ensures cut { IsErrOf result ScriptFault.Write → IfSome (R.remaining reader.old.inner) (λ input.
+    ensures cut { IsErrOf result StreamFault.Write → IfSome (R.remaining reader.old.inner) (λ input.
         (understood : Bool) × (text : List ℕ) × ComesOutOfBytes input understood text × AppendsBeginning (W.contents writer.old.inner) (W.contents writer.new.inner) text) }
-    ensures untouched { IfErr result (λ fault. (fault ≡ ScriptFault.Write) ⊎ (writer.new ≡ writer.old)) }
+    ensures untouched { IfErr result (λ fault. (fault ≡ StreamFault.Write) ⊎ (writer.new ≡ writer.old)) }
     ensures end { OnOk result (IfSome (R.remaining reader.new.inner) (λ rest. rest ≡ [])) }
-    ensures read { IsErrOf result ScriptFault.Read → reader.new.failed ≡ true }
-    ensures write { IsErrOf result ScriptFault.Write → writer.new.failed ≡ true }
-    ensures utf8 { IsErrOf result ScriptFault.NotUtf8 → IfSome (R.remaining reader.old.inner) (λ input. IsUtf8 input → ⊥) }
-    ensures memory { IsErrOf result ScriptFault.OutOfMemory → (reader.new.ended ≡ reader.old.ended) ⊎ IfSome (R.remaining reader.old.inner) IsUtf8 }
+    ensures read { IsErrOf result StreamFault.Read → reader.new.failed ≡ true }
+    ensures write { IsErrOf result StreamFault.Write → writer.new.failed ≡ true }
+    ensures utf8 { IsErrOf result StreamFault.NotUtf8 → IfSome (R.remaining reader.old.inner) (λ input. IsUtf8 input → ⊥) }
+    ensures memory { IsErrOf result StreamFault.OutOfMemory → (reader.new.ended ≡ reader.old.ended) ⊎ IfSome (R.remaining reader.old.inner) IsUtf8 }
 {
     let input = read_all(alloc, reader)?;
     let (understood, text) = responded(alloc, &input)?;
@@ -127,15 +127,15 @@ pub fn execute<R: Read, W: Write>(
 
 /// What comes out of an input, and whether it is understood. An input that isn't UTF-8 is told as that, whatever memory
 /// there is.
-fn responded(alloc: Global, input: &[u8]) -> Result<(bool, String), ScriptFault>
+fn responded(alloc: Global, input: &[u8]) -> Result<(bool, String), StreamFault>
     ensures ok { IfOk result (λ answer. ComesOutOfBytes input.now answer.0 (string_bytes answer.1)) }
-    ensures read { IsErrOf result ScriptFault.Read → ⊥ }
-    ensures write { IsErrOf result ScriptFault.Write → ⊥ }
-    ensures utf8 { IsErrOf result ScriptFault.NotUtf8 → IsUtf8 input.now → ⊥ }
-    ensures memory { IsErrOf result ScriptFault.OutOfMemory → IsUtf8 input.now }
+    ensures read { IsErrOf result StreamFault.Read → ⊥ }
+    ensures write { IsErrOf result StreamFault.Write → ⊥ }
+    ensures utf8 { IsErrOf result StreamFault.NotUtf8 → IsUtf8 input.now → ⊥ }
+    ensures memory { IsErrOf result StreamFault.OutOfMemory → IsUtf8 input.now }
 {
     match str::from_utf8(input) {
         Ok(text) => Ok(respond(alloc, text)?),
-        Err(_) => Err(ScriptFault::NotUtf8),
+        Err(_) => Err(StreamFault::NotUtf8),
     }
 }

@@ -11,4 +11,4 @@ mod shapes;
 
 pub use crate::documents::{execute, respond};
 pub use crate::orders::responses_to;
-pub use wit_script::{Watched, exit_status};
+pub use wit_streams::{Watched, exit_status};

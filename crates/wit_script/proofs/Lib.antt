@@ -1,5 +1,4 @@
 pub mod BuiltLines
-pub mod Known
 pub mod OneOutcome
 pub mod Past
 pub mod Pieces

@@ -2,7 +2,6 @@ pub mod Answer
 pub mod Prints
 pub mod Ready
 pub mod Script
-pub mod Watched
 pub mod World
 pub mod facts
 pub mod laws

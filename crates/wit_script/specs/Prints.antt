@@ -1,11 +1,10 @@
 -- What a script prints.
-use Rattle.std.specs.Prelude.{◌≡◌, ℕ, Bool, true, false, List, ◌++◌, Ok, Err, Result, codes, decimal, IsUtf8}
+use Rattle.std.specs.Prelude.{◌≡◌, ℕ, Bool, true, false, List, ◌++◌, codes, decimal, IsUtf8}
 use Rattle.wit_resolve_graph.specs.State.{new_state}
 use Rattle.wit_resolve_graph.specs.Step.{Run}
 use Rattle.wit_script.specs.Answer.{AnswersAll, Chooses, IsChoice, Runs, only_first}
 use Rattle.wit_script.specs.Script.{IsNotUnderstood, IsUnderstood}
 use Rattle.wit_script.specs.declared.answer.Stage.{Stage}
-use Rattle.wit_script.specs.declared.fault.ScriptFault.{ScriptFault}
 use Rattle.wit_script.specs.declared.ready.ScriptCommand.{ScriptCommand}
 
 -- the line that answers a script which isn't understood
@@ -35,9 +34,3 @@ Prints runs chooses input false text = PrintsLine input text
 -- what a script prints, and whether it is understood: the answers of a run of its commands
 abbrev pub PrintsByRun : List ℕ → Bool → List ℕ → Type 0
 PrintsByRun = Prints Run IsChoice
-
--- the exit status of a program that has executed a script: 0 where it was understood and its answers are written
-abbrev pub exit_status : Result Bool ScriptFault → ℕ
-exit_status (Ok true) = 0
-exit_status (Ok false) = 1
-exit_status (Err fault) = 1

@@ -22,15 +22,12 @@ mod printer;
 mod reader;
 mod ready;
 mod script;
-mod stream;
-mod watched;
 
 pub use crate::answer::{Action, ReplyStyle, Stage, action_of};
-pub use crate::fault::{ReadFault, ScriptFault};
+pub use crate::fault::ReadFault;
 pub use crate::printer::print_world;
 pub use crate::reader::read_script;
 pub use crate::ready::{ReadyCommand, ScriptCommand};
-pub use crate::script::{execute, execute_text, exit_status};
-pub use crate::stream::{read_all, write_all};
-pub use crate::watched::Watched;
+pub use crate::script::{execute, execute_text};
 pub use wit_script_lines::Request;
+pub use wit_streams::{StreamFault as ScriptFault, Watched, exit_status, read_all, write_all};

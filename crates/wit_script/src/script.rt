@@ -2,16 +2,15 @@
 ghost use Rattle.std.specs.Prelude.{◌≡◌, ◌⊎◌, [], Bool, List, ℕ, true, IfErr, IfOk, IfSome, OnOk, IsErrOf, string_bytes};
 ghost use Rattle.std.specs.Str.{IsUtf8};
 ghost use Rattle.std.specs.Io.KnownBytes.{Appends};
-ghost use Rattle.wit_script.specs.Prints.{PrintsByRun, exit_status};
-ghost use Rattle.wit_script.specs.Watched.{AppendsBeginning};
+ghost use Rattle.wit_script.specs.Prints.{PrintsByRun};
+ghost use Rattle.wit_streams.specs.Watched.{AppendsBeginning};
 
 use crate::answer::answers_to;
-use crate::fault::{ReadFault, ScriptFault};
+use crate::fault::ReadFault;
 use crate::reader::read_script;
-use crate::stream::{read_all, write_all};
-use crate::watched::Watched;
 use std::alloc::{AllocError, Global};
 use std::io::{Read, Write};
+use wit_streams::{StreamFault as ScriptFault, Watched, read_all, write_all};
 
 /// Reads a script to the end of the reader, runs it on an empty graph, and writes its answers. A script
 /// that isn't understood is answered by one line and not run, and the answer is then false.
@@ -69,17 +68,5 @@ pub fn execute_text(alloc: Global, script: &str) -> Result<(bool, String), Alloc
             format!(in alloc; "line {line}: not understood\n")?,
         )),
         Err(ReadFault::OutOfMemory) => Err(AllocError),
-    }
-}
-
-/// The exit status of a program that has executed a script: 0 where the script was understood and its answers are written,
-/// else 1.
-pub fn exit_status(executed: Result<bool, ScriptFault>) -> u8
-    ensures { result ≡ exit_status executed }
-{
-    match executed {
-        Ok(true) => 0,
-        Ok(false) => 1,
-        Err(_) => 1,
     }
 }

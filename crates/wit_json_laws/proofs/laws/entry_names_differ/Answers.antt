@@ -1,5 +1,0 @@
-use Rattle.wit_json_laws.proofs.Keys.{entry_names_differ}
-use Rattle.wit_json_laws.proofs.laws.entry_names_differ.Goals as goal
-
-pub returns : goal.returns
-returns c = entry_names_differ

@@ -1,5 +1,0 @@
-use Rattle.wit_json_laws.proofs.Packages.{packages_read_back}
-use Rattle.wit_json_laws.proofs.laws.packages_read_back.Goals as goal
-
-pub returns : goal.returns
-returns c = packages_read_back

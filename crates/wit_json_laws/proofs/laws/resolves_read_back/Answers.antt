@@ -1,5 +1,0 @@
-use Rattle.wit_json_laws.proofs.Graphs.{resolves_read_back}
-use Rattle.wit_json_laws.proofs.laws.resolves_read_back.Goals as goal
-
-pub returns : goal.returns
-returns c = resolves_read_back

@@ -1,5 +1,0 @@
-use Rattle.wit_json_laws.proofs.Plain.{texts_read_back}
-use Rattle.wit_json_laws.proofs.laws.texts_read_back.Goals as goal
-
-pub returns : goal.returns
-returns c = texts_read_back
