@@ -1,5 +1,5 @@
 -- What a JSON value reads as: the thing that it says, or the first fault in it.
-use Rattle.std.specs.Prelude.{◌≡◌, ℕ, suc, Bool, true, false, List, [], ◌∷◌, ◌++◌, Option, Some, None, Result, Ok, Err, if◌then◌else◌, bytes_eq, is_some}
+use Rattle.std.specs.Prelude.{◌≡◌, ℕ, suc, List, [], ◌∷◌, ◌++◌, Option, Some, None, Result, Ok, Err, if◌then◌else◌, bytes_eq, is_some}
 use Rattle.std.specs.List.{list_any}
 use Rattle.json.specs.Json.{Json, Items, Members}
 use Rattle.json.specs.Json as json

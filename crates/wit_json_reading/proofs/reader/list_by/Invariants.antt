@@ -1,4 +1,4 @@
-use Rattle.std.proofs.Common.{◌≡◌, ◌++◌, List, drop, length, Ok}
+use Rattle.std.proofs.Common.{◌≡◌, ◌++◌, drop, length, Ok}
 use Rattle.json.specs.Json.{Json}
 use Rattle.json.specs.Value.{items_view, value_view}
 use Rattle.wit_json_reading.specs.Reading.{◌>>=◌, Reading, ReadsBy, items_from, list_of}
