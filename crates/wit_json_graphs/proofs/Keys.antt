@@ -1,5 +1,5 @@
 -- The names of entries, which tell their keys.
-use Rattle.std.proofs.Common.{◌≡◌, ◌∙◌, ℕ, zero, suc, ◌<◌, ◌^◌, ◌&&◌, ◌||◌, ◌+◌, ◌*◌, ◌-◌, Bool, true, false, List, [], ◌∷◌, ◌++◌, length, map, Option, Some, None, Ok, refl, sym, ap, subst, arith, codes, decimal, drop, if◌then◌else◌, bytes_eq, nat_eq, slice_get, append_assoc}
+use Rattle.std.proofs.Common.{◌≡◌, ◌∙◌, ℕ, zero, suc, ◌<◌, ◌^◌, ◌&&◌, ◌||◌, ◌+◌, ◌*◌, ◌-◌, Bool, true, false, List, [], ◌∷◌, ◌++◌, length, map, Some, None, Ok, refl, sym, ap, subst, arith, codes, decimal, drop, if◌then◌else◌, bytes_eq, nat_eq, slice_get, append_assoc}
 use Rattle.std.specs.Char.{is_ascii_digit}
 use Rattle.std.specs.List.{list_all, list_any, starts_with}
 use Rattle.std.specs.Option.{option_map_or}
@@ -22,7 +22,7 @@ use Rattle.wit_json_graphs.specs.Writable.{FitsKey, IsWritableItem, IsWritableKe
 use Rattle.wit_json_graphs.specs.laws.ReadBack.{EntryNamesDiffer}
 use Rattle.wit_json_reading.specs.Reading.{instead_of, under}
 use Rattle.wit_json_reading.specs.Values.{decimal_after}
-use Rattle.wit_json_reading.specs.Worlds.{key_of, marked_label, names_differ, plain_key}
+use Rattle.wit_json_reading.specs.Worlds.{key_of, names_differ, plain_key}
 use Rattle.wit_json_reading.specs.declared.fault.Expected.TheVariants as expected
 use Rattle.wit_json_reading.specs.declared.fault.Step.TheVariants as step
 use Rattle.wit_json_graphs.proofs.Small.{number_read}

@@ -1,9 +1,8 @@
 -- Interfaces and worlds read back.
-use Rattle.std.proofs.Common.{◌≡◌, ◌∙◌, ℕ, suc, Bool, true, false, List, [], ◌∷◌, ◌++◌, map, Option, Some, None, Ok, refl, sym, ap, subst, codes, decimal, bytes_eq, if◌then◌else◌, append-nil, append_assoc}
+use Rattle.std.proofs.Common.{◌≡◌, ◌∙◌, ℕ, suc, Bool, false, List, [], ◌∷◌, ◌++◌, map, Option, Some, None, Ok, refl, sym, ap, subst, codes, if◌then◌else◌, append-nil, append_assoc}
 use Rattle.std.specs.Map.{lookup}
 use Rattle.std.specs.Option.{option_map}
 use Rattle.std.specs.Prelude.{IfSome, is_some}
-use Rattle.std.proofs.lemmas.Slice.Eq.{bytes_eq-Decides}
 use Rattle.json.specs.Find.{get}
 use Rattle.json.specs.Json.{Json}
 use Rattle.wit_values.specs.Table.{HasDistinctKeys}
@@ -24,7 +23,7 @@ use Rattle.wit_json.specs.Details.{json_of_range}
 use Rattle.wit_json.specs.Gates.{json_of_docs, json_of_stability}
 use Rattle.wit_json.specs.Unresolved.{json_of_include, json_of_include_name, whole_entries, whole_function, whole_interface, whole_interface_entry, whole_item, whole_type_entry, whole_world}
 use Rattle.wit_json.specs.Values as written
-use Rattle.wit_json.specs.Values.{json_of_number, json_of_text, members_of, null_or, object_under_names, tagged}
+use Rattle.wit_json.specs.Values.{json_of_number, json_of_text, members_of, null_or, object_under_names}
 use Rattle.wit_json.specs.Worlds.{entry_name}
 use Rattle.wit_json_graphs.specs.Writable.{AreWritableEntries, FitsKey, IsWritableGate, IsWritableId, IsWritableInclude, IsWritableInterface, IsWritableItem, IsWritableSpan, IsWritableWorld}
 use Rattle.wit_json_reading.specs.Functions.{function_of}

@@ -1,10 +1,9 @@
 -- Readings one after another.
-use Rattle.std.proofs.Common.{◌≡◌, ℕ, List, [], ◌∷◌, ◌++◌, Result, Ok, Err, refl, ap, append_assoc, sym, Bool, map, arith}
+use Rattle.std.proofs.Common.{◌≡◌, List, [], ◌∷◌, ◌++◌, Ok, Err, refl, ap, append_assoc, sym, Bool, map, arith}
 use Rattle.std.specs.List.{list_any}
-use Rattle.wit_json_reading.specs.Reading.{Reading, Reads, ◌>>=◌, under}
+use Rattle.wit_json_reading.specs.Reading.{Reading, Reads, ◌>>=◌}
 use Rattle.wit_json_reading.specs.declared.fault.ReadError.{ReadError}
 use Rattle.wit_json_reading.specs.declared.fault.ReadError.TheVariants as error
-use Rattle.wit_json_reading.specs.declared.fault.Fault.{Fault}
 
 -- where a step fails, so does all
 pub stops : {A B : Type 0} (e : ReadError) (r : Reading A) (k : A → Reading B) → Reads {A = A} (Err e) r → Reads {A = B} (Err e) (r >>= k)

@@ -1,5 +1,5 @@
 -- Values with a name or with parts: variants, pairs, objects of one member.
-use Rattle.std.specs.Prelude.{ℕ, List, [], ◌∷◌, Option, Some, None, Result, Ok, Err}
+use Rattle.std.specs.Prelude.{ℕ, List, [], ◌∷◌, Option, Some, None, Ok}
 use Rattle.json.specs.Json.{Json}
 use Rattle.json.specs.Json as json
 use Rattle.wit_json_reading.specs.Reading.{Reading, ◌>>=◌, instead_of, only, required, under}

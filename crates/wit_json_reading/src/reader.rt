@@ -3,7 +3,7 @@ ghost use Rattle.std.specs.Prelude.{◌≡◌, map, bytes_eq};
 ghost use Rattle.std.specs.List.{list_any};
 ghost use Rattle.json.specs.Json.{Json};
 ghost use Rattle.json.specs.Value.{value_view};
-ghost use Rattle.wit_json_reading.specs.Reading.{Reading, Reads, list_of, only, optional, required};
+ghost use Rattle.wit_json_reading.specs.Reading.{Reading, Reads, ReadsBy, list_of, only, optional, required};
 
 use crate::fault::{Expected, ReadError, in_item, in_member, instead_of};
 use json::Value;
@@ -28,8 +28,22 @@ pub fn required<T: ReadJson + Drop>(
 ) -> Result<T, ReadError>
     ensures { Reads result (required T.reading name.now (value_view value.now)) }
 {
+    required_by(alloc, value, name, |it| T::read_json(alloc, it))
+}
+
+/// The member of a name, which has to be there, as a closure reads it.
+pub(crate) fn required_by<T: Drop, F: Fn(&Value<'_>) -> Result<T, ReadError>>(
+    alloc: Global,
+    value: &Value<'_>,
+    name: &str,
+    read: F,
+) -> Result<T, ReadError>
+    requires { F.IsAlwaysCallable read }
+    ensures { (f : Json → Reading T) → ReadsBy F.Fn read f
+        → Reads result (required f name.now (value_view value.now)) }
+{
     match value.get(name) {
-        Some(value) => in_member(alloc, T::read_json(alloc, value), name),
+        Some(value) => in_member(alloc, read(value), name),
         None => in_member(alloc, instead_of(alloc, Expected::Member), name),
     }
 }
@@ -85,14 +99,27 @@ fn is_one_of(names: &[&str], name: &str) -> bool
 pub fn list<T: ReadJson + Drop>(alloc: Global, value: &Value<'_>) -> Result<Items<T>, ReadError>
     ensures { Reads result (list_of T.reading (value_view value.now)) }
 {
+    list_by(alloc, value, |it| T::read_json(alloc, it))
+}
+
+/// A list of what a closure reads.
+pub(crate) fn list_by<T: Drop, F: Fn(&Value<'_>) -> Result<T, ReadError>>(
+    alloc: Global,
+    value: &Value<'_>,
+    read: F,
+) -> Result<Items<T>, ReadError>
+    requires { F.IsAlwaysCallable read }
+    ensures { (f : Json → Reading T) → ReadsBy F.Fn read f
+        → Reads result (list_of f (value_view value.now)) }
+{
     let Value::Array(items) = value else {
         return instead_of(alloc, Expected::List);
     };
-    let mut read = Items::new(alloc);
+    let mut things = Items::new(alloc);
     for item in items {
-        let index = read.len();
-        let item = in_item(T::read_json(alloc, item), index)?;
-        read.push(item)?;
+        let index = things.len();
+        let thing = in_item(read(item), index)?;
+        things.push(thing)?;
     }
-    Ok(read)
+    Ok(things)
 }

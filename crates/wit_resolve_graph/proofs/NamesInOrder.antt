@@ -1,9 +1,8 @@
 -- The names of packages stay in the order of the packages.
-use Rattle.std.proofs.Common.{◌≡◌, ◌∙◌, ◌+◌, ℕ, zero, suc, Bool, true, false, cond, not, List, [], ◌∷◌, ◌++◌, Option, None, Some, filter, fold, length, map, slice_get, slice_set, append_assoc, refl, ap, subst, sym, arith, if◌then◌else◌}
+use Rattle.std.proofs.Common.{◌≡◌, ◌∙◌, ◌+◌, ℕ, zero, suc, Bool, true, false, cond, not, List, [], ◌∷◌, ◌++◌, Option, None, Some, filter, fold, length, map, slice_get, slice_set, refl, ap, subst, sym, arith, if◌then◌else◌}
 use Rattle.std.specs.List.{enumerate_from}
 use Rattle.std.specs.Option.{option_map_or}
 use Rattle.std.specs.Prelude.{is_some, unwrap_or}
-use Rattle.wit_data.specs.Each.{Each}
 use Rattle.wit_data.specs.declared.world.World.{World}
 use Rattle.wit_data.specs.declared.world.WorldInclude.{WorldInclude}
 use Rattle.wit_names.specs.declared.package_name.PackageName.{PackageName}
@@ -14,19 +13,18 @@ use Rattle.wit_link.specs.Appending.{AreAdded, addition}
 use Rattle.wit_link.specs.GroupOrder.{Unresolved}
 use Rattle.wit_link_spec.specs.Added.{added, new_package, with_parts, with_world}
 use Rattle.wit_link_spec.specs.Addition.{Addition, own_worlds, updated_includes}
-use Rattle.wit_link_spec.specs.Include.{PartiallyLinked, with_copies, with_several, with_world_included}
+use Rattle.wit_link_spec.specs.Include.{PartiallyLinked, with_world_included}
 use Rattle.wit_link_spec.specs.steps.Parts.{before_includes, home_of, image_at, with_one}
 use Rattle.wit_merge_spec.specs.Matches.{GraphMerge, counterpart_of, counterpart_package}
-use Rattle.wit_merge_spec.specs.Merged.{joined_each, joined_graph, merged, merged_package, moves, package_image, with_package}
-use Rattle.wit_remap_spec.specs.Image.{Maps}
-use Rattle.wit_remap_spec.specs.Selected.{rank, selected, selected_with_index}
+use Rattle.wit_merge_spec.specs.Merged.{joined_each, merged, merged_package, moves, package_image, with_package}
+use Rattle.wit_remap_spec.specs.Selected.{rank, selected}
 use Rattle.wit_semver.specs.SemverMerged.{semver_merged}
 use Rattle.wit_semver.specs.laws.TrackLaws.{KeepsThings, SemverMergedKeep}
 use Rattle.wit_transform.specs.Transformed.{WorldLists, exportized, importized, transformed, transformed_at, with_renamed}
 use Rattle.wit_transform.specs.steps.Parts.{put_last}
 use Rattle.wit_resolve_graph.specs.Merging.{merge_of}
 use Rattle.wit_resolve_graph.specs.State.{State}
-use Rattle.wit_resolve_graph.specs.Step.{Run, Step, answers_at}
+use Rattle.wit_resolve_graph.specs.Step.{Step, answers_at}
 use Rattle.wit_resolve_graph.specs.declared.command.Command.{Command}
 use Rattle.wit_resolve_graph.specs.declared.command.Command.TheVariants.{AddFeature, PushGroups, Merge, Importize, Exportize, Semver}
 use Rattle.wit_resolve_graph.specs.declared.command.Reply.{Reply}

@@ -1,4 +1,4 @@
-use Rattle.std.proofs.Common.{◌≡◌, ℕ, List, [], ap, codes, inl, inr, refl}
+use Rattle.std.proofs.Common.{ℕ, List, [], ap, codes, inl, inr, refl}
 use Rattle.std.specs.Fmt.{digits}
 use Rattle.wit_digraph.specs.PostOrder.{post_order, post_order_within}
 use Rattle.wit_values.specs.facts.Lists.{differ}
