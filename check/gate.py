@@ -46,6 +46,7 @@ BEFORE = {
     "version": "python3 check/version.py",
     "tests-of-plain-rust": "python3 tools/test_plain_rust.py",
     "tests": "tools/plain-tests",
+    "fuzz": "python3 check/fuzz.py --seed {seed}",
 }
 # What the proved programs are asked, and the library for C.
 AFTER = {

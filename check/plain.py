@@ -2,11 +2,11 @@
 """Makes the crate of plain Rust (tools/plain-rust), and asks whether it does what the proved programs do.
 
     python3 check/plain.py [PROGRAM..] [--out OUT] [--seed N] [--scripts N] [--documents N] [--jobs N]
-    python3 check/plain.py [PROGRAM..] --planted [NAME..]
+    python3 check/plain.py --planted [NAME..]
 
-The crate is made in OUT (a folder of its own is the default), built with overflow checks and as a release, its tests are
-run, and clippy where it is there; each without a warning. Then both builds of `witgraph`, `witgraph_json` and `witgraph_dot`
-get all worked cases, random scripts (check/compare.py) and random documents, most of them faulty
+The crate is made in OUT (a folder of its own is the default), built with overflow checks and as a release; its tests and
+examples are run, and clippy where it is there; each without a warning. Then both builds of `witgraph`, `witgraph_json` and
+`witgraph_dot` get all worked cases, random scripts (check/compare.py) and random documents, most of them faulty
 (check/mutated_documents.py), by a seed: each has to write the same bytes and end with the same status as the proved program.
 Those are what `rt ci` leaves in the folders `out`; a PROGRAM stands for the one of its name.
 
@@ -14,7 +14,8 @@ Ends with status 1 where anything fails. Where cargo isn't there, or neither Deb
 and ends with 77, which check/gate.py takes for that.
 
 `--planted` makes the crate from copies of the repository with one change each of check/planted-rules, a wrong rule of the
-tool or a wrong call of the shim, and ends with status 1 where one of them isn't told by all that.
+tool or a wrong call of the shim, and ends with status 1 where one of them isn't told by the tests or by other bytes than those
+of the programs without it. It needs no proved program.
 """
 import argparse
 import collections
@@ -24,6 +25,7 @@ import os
 import pathlib
 import random
 import re
+import resource
 import shutil
 import subprocess
 import sys
@@ -45,6 +47,13 @@ SHOWN = 5
 # the first of so many random scripts is also drawn
 DRAWN = 10
 SHIM = "plain/src/shim/"
+# what examples print, which are programs outside of the crate
+EXAMPLES = {
+    "worlds": r"app imports one:shop/types\n  record item of 1 fields\nrefused 5: ",
+    "wasi": r"(?s)wasi:cli@0\.2\.0 command: imports \d+, exports 1\n.*wasi:cli@0\.2\.3 command: imports \d+, exports 1\n",
+}
+# the example that links 200 packages one by one, what it prints, and how long it may take of the processor, in seconds
+TWO_HUNDRED, LINKED, LONGEST = "two_hundred", re.compile(r"200 packages in .* s; the last world imports 200 interfaces\n"), 0.1
 PASSED = re.compile(r"^test result: ok\. (\d+) passed; 0 failed; 0 ignored", re.M)
 TEST = re.compile(r"^\s*#\[test\]$", re.M)
 
@@ -94,6 +103,21 @@ def run_tests(out, *kinds):
 
 def has_clippy():
     return subprocess.run(["cargo", "clippy", "--version"], capture_output=True).returncode == 0
+
+
+def run_examples(out):
+    """Runs the examples; answers how many seconds of the processor the one takes as a release that links packages."""
+    for name, pattern in EXAMPLES.items():
+        if not re.search(pattern, printed := cargo(out, "run", "--example", name)):
+            raise Fault(f"example {name} prints\n{tail(printed)}")
+    cargo(out, "build", "--release", "--example", TWO_HUNDRED)
+    before = resource.getrusage(resource.RUSAGE_CHILDREN)
+    printed = subprocess.run([f"{out}/target/release/examples/{TWO_HUNDRED}"], capture_output=True, text=True).stdout
+    after = resource.getrusage(resource.RUSAGE_CHILDREN)
+    seconds = after.ru_utime + after.ru_stime - before.ru_utime - before.ru_stime
+    if seconds > LONGEST or not LINKED.fullmatch(printed):
+        raise Fault(f"example {TWO_HUNDRED} takes {seconds:.3f} s of the processor, and prints\n{tail(printed)}")
+    return seconds
 
 
 # ---- cases
@@ -183,26 +207,30 @@ def check(out, asked, options, proved):
     cargo(out, "build")
     cargo(out, "build", "--release")
     ran = run_tests(out)
+    seconds = run_examples(out)
     if has_clippy():
         cargo(out, "clippy", "--all-targets")
     cases = all_cases(asked, proved)
     compare_programs(cases, proved, [f"{out}/target/debug", f"{out}/target/release"], asked.jobs)
     clippy = "" if has_clippy() else " SKIPPED: no clippy."
     print(f"plain Rust: {ran} tests passed, {len(cases)} cases by both builds as by the proved programs.{clippy}")
+    print(f"plain Rust: 200 packages are linked one by one in {seconds:.3f} s of the processor.")
 
 
 # ---- planted changes
 
 
 class Planted:
-    """A copy of the repository and the crate made from it, in which changes are planted."""
+    """A copy of the repository and the crate made from it, in which changes are planted, and the programs without any."""
 
-    def __init__(self, out, asked, options, proved):
+    def __init__(self, out, asked, options):
         self.copy, self.out = pathlib.Path(out) / "copy", pathlib.Path(out) / "crate"
-        self.asked, self.options, self.proved = asked, options, proved
+        self.asked, self.options = asked, options
         ignored = shutil.ignore_patterns("out", "target", ".git", "must-fail*", "proofs", "specs")
         shutil.copytree(TOP, self.copy, ignore=ignored, dirs_exist_ok=True)
         self.make()
+        cargo(self.out, "build")
+        self.right = {it: shutil.copy(f"{self.out}/target/debug/{it}", out) for it in crates.PROGRAMS}
 
     def make(self, is_wrong=False):
         self.is_wrong = True
@@ -211,12 +239,12 @@ class Planted:
 
     @functools.cached_property
     def cases(self):
-        return all_cases(self.asked, self.proved)
+        return all_cases(self.asked, self.right)
 
     def check(self):
         """The tests, then all cases by the build with overflow checks."""
         run_tests(self.out, "--lib", "--bins", "--tests")
-        compare_programs(self.cases, self.proved, [f"{self.out}/target/debug"], self.asked.jobs)
+        compare_programs(self.cases, self.right, [f"{self.out}/target/debug"], self.asked.jobs)
 
     def test_shim(self):
         """The tests of the shim as a crate of its own, which is built in seconds."""
@@ -234,7 +262,7 @@ class Planted:
         """What tells of a planted change, or None. What is written by hand stands in the crate as it does in the repository."""
         if self.is_wrong:
             self.make()
-        file, text = planted_text(name)
+        file, text = planted_text(CHECK / "planted-rules" / name, TOP)
         by_hand = file.removeprefix("plain/") if file.startswith("plain/") else None
         place = self.out / by_hand if by_hand else self.copy / file
         place.write_text(text, encoding="utf-8")
@@ -252,12 +280,12 @@ class Planted:
         return None
 
 
-def planted_text(name):
-    """A planted change: its file, and the text of that with it."""
-    words = dict(it.split(": ", 1) for it in (CHECK / "planted-rules" / name).read_text(encoding="utf-8").splitlines())
-    text = (TOP / words["file"]).read_text(encoding="utf-8")
+def planted_text(path, top):
+    """A planted change: its file below a folder, and the text of that with it."""
+    words = dict(it.split(": ", 1) for it in path.read_text(encoding="utf-8").splitlines())
+    text = (top / words["file"]).read_text(encoding="utf-8")
     if text.count(words["old"]) != 1:
-        raise Fault(f"{name}: stands {text.count(words['old'])} times in {words['file']}: {words['old']}")
+        raise Fault(f"{path.name}: stands {text.count(words['old'])} times in {words['file']}: {words['old']}")
     return words["file"], text.replace(words["old"], words["new"])
 
 
@@ -268,8 +296,8 @@ def test_rules(top):
         raise Fault(f"tools/test_plain_rust.py\n{tail(done.stderr)}")
 
 
-def check_planted(out, asked, options, proved):
-    planted, missed = Planted(out, asked, options, proved), []
+def check_planted(out, asked, options):
+    planted, missed = Planted(out, asked, options), []
     planted.check()
     for name in asked.planted or sorted(os.listdir(CHECK / "planted-rules")):
         told = planted.told(name)
@@ -315,10 +343,13 @@ def main():
     options = options_of_tool()
     if options is None:
         return skipped("no crates indexmap, semver and serde")
-    run_checks, proved = check if asked.planted is None else check_planted, programs(asked.programs)
+    proved = programs(asked.programs) if asked.planted is None else None
     with tempfile.TemporaryDirectory() as folder:
         try:
-            run_checks(asked.out or folder, asked, options, proved)
+            if proved:
+                check(asked.out or folder, asked, options, proved)
+            else:
+                check_planted(asked.out or folder, asked, options)
         except Fault as fault:
             print(f"plain Rust: {fault}")
             return 1

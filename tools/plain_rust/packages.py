@@ -35,11 +35,16 @@ def can_install():
     return shutil.which("apt-get") is not None and (os.geteuid() == 0 or shutil.which("sudo") is not None)
 
 
+def apt_get(*words):
+    """Whether `apt-get` did what it is told."""
+    as_root = [] if os.geteuid() == 0 else ["sudo"]
+    return subprocess.run([*as_root, "apt-get", "-q", *words], stdout=sys.stderr).returncode == 0
+
+
 def install(names):
-    words = ["apt-get", "install", "-y", "-q", *names]
-    if os.geteuid() != 0:
-        words = ["sudo", *words]
-    if not can_install() or subprocess.run(words, stdout=sys.stderr).returncode != 0:
+    """Installs packages, with new lists of them where the machine's lists lack one, as those of a fresh machine do."""
+    words = ["install", "-y", *names]
+    if not can_install() or not (apt_get(*words) or apt_get("update") and apt_get(*words)):
         sys.exit(f"plain-rust: these packages of Debian are missing: {' '.join(names)}")
 
 
