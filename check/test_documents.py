@@ -61,8 +61,8 @@ PLANTED = {
     "a sum of DIFFERENCES": ("docs/DIFFERENCES.md", "54,903 are the same", "54,930 are the same"),
     "a figure that another document has": ("docs/GUARANTEES.md", "## What is trusted", "`bench/side.py`: 54,903\n\n## What is trusted"),
     "a variable of a command": ("bindings/python/README.md", "WITGRAPH_SHARED=bindings", "WITGRAPH_SHARE=bindings"),
-    "a quoted contract": ("CALLING.md", "ensures valid { IsValid self.now.graph }", "ensures valid { IsValid self.old.graph }"),
-    "a number of refusals": ("CALLING.md", "[28 numbers]", "[27 numbers]"),
+    "a quoted contract": ("crates/wit_resolve_graph/CALLING.md", "ensures valid { IsValid self.now.graph }", "ensures valid { IsValid self.old.graph }"),
+    "a number of refusals": ("crates/wit_resolve_graph/CALLING.md", "[28 numbers]", "[27 numbers]"),
     "a case of DIFFERENCES": ("docs/DIFFERENCES.md", "(`groups-package-cycle`)", "(`groups-package-circle`)"),
     "a definition at another file": ("docs/DEFINITIONS.md", "`crates/wit_data/specs/Foreign.antt`: `AreFirst`", "`crates/wit_data/specs/Foreign.antt`: `IsShaped`"),
     "a file that no step has": ("docs/DEFINITIONS.md", "`crates/wit_elaboration/specs/Imported.antt`", "`crates/wit_elaboration/specs/Sound.antt`"),
@@ -70,7 +70,7 @@ PLANTED = {
     "a definition in DECISIONS": ("docs/DECISIONS.md", "`maps_with_owns`)", "`maps_and_owns`)"),
     "a crate of ARCHITECTURE": ("docs/ARCHITECTURE.md", "- wit_labels: renamed", "- wit_label: renamed"),
     "a file of examples/wasi": ("examples/wasi/README.md", "examples/wasi/walk.sh tool", "examples/wasi/walk_all.sh tool"),
-    "a tool of check": ("check/README.md", "`check/whole/test_graphs.py` changed", "`check/whole/test_graph.py` changed"),
+    "a tool of check": ("check/README.md", "`check/whole/test_graphs.py` changes", "`check/whole/test_graph.py` changes"),
     "a mean of PERFORMANCE": ("docs/PERFORMANCE.md", "| 0.75 | 0.73 | 1.01 |", "| 0.65 | 0.73 | 1.01 |"),
     "whether a call takes memory": ("docs/FROM_WIT_PARSER.md", "`all_bits_valid(Type_)`, no memory", "`all_bits_valid(Type_)`"),
     "a case that shows a refusal": ("docs/REFUSALS.md", "`a_place_that_passes_the_end_is_told`", "`a_place_past_the_end_is_told`"),
@@ -113,7 +113,7 @@ class Stale(unittest.TestCase):
     def test_names_of_tests_and_bindings(self):
         self.assertEqual(1, self.told(names.stale_names, "`elaborate_worlds`"))
         self.assertEqual(0, self.told(names.stale_names, "`run_by`"))
-        self.assertEqual(1, self.told(names.stale_names, "`run_by`", "CALLING.md"))
+        self.assertEqual(1, self.told(names.stale_names, "`run_by`", "docs/WALK.md"))
 
     def test_crates_and_commands(self):
         self.assertEqual(1, self.told(names.stale_crates, "wit_" + NAME + " and wit_link"))

@@ -28,8 +28,8 @@ WORD = r"[A-Za-z_][A-Za-z0-9_]*(?:-[A-Za-z0-9_]+)*"
 # The documents that speak of the crates alone: what only the bindings, a tool or wit-parser have isn't there for them.
 OF_CRATES = set(
     """
-    CALLING.md docs/ARCHITECTURE.md docs/DECISIONS.md docs/DEFINITIONS.md docs/FROM_WIT_PARSER.md docs/GUARANTEES.md
-    docs/WALK.md
+    docs/ARCHITECTURE.md docs/DECISIONS.md docs/DEFINITIONS.md docs/FROM_WIT_PARSER.md docs/GUARANTEES.md docs/WALK.md
+    crates/wit_resolve_graph/CALLING.md
     """.split()
 )
 # What declares a name, by the ending of the file, and what names it of others.
