@@ -115,12 +115,20 @@ class Offer:
             self.of[path].add(name)
         for module in MODULE.findall(text):
             if name in (ALL, module):
-                self.of[path.with_name(f"{module}.rt")].add(below[0] if below else ALL)
+                self.add_in(path.with_name(f"{module}.rt"), below[0] if below else ALL)
         for known, other, way in handed_on(text):
             if name in (ALL, known) and other == "crate":
-                self.of[path.parent.joinpath(*way[:-1]).with_suffix(".rt")].add(way[-1])
+                self.add_in(path.parent.joinpath(*way[:-1]).with_suffix(".rt"), way[-1])
             elif name in (ALL, known):
                 self.add(other, *way)
+
+    def add_in(self, path, name):
+        """Adds what a module has under a name, or all, and what it hands on of the modules in its folder."""
+        self.of[path].add(name)
+        for known, module, way in handed_on(path.read_text(encoding="utf-8")):
+            below = path.with_suffix("").joinpath(module, *way[:-1]).with_suffix(".rt")
+            if name in (ALL, known) and below.exists():
+                self.add_in(below, way[-1])
 
     def sources(self):
         """The sources of crates of which users have something. Laws aren't asked."""

@@ -13,8 +13,9 @@ from claims.refusals import numbers
 from claims.repository import read, specs
 
 LAYOUT = "docs/JSON.md"
-READERS = ["wit_json_reading", "wit_json_graphs", "wit_json_commands"]
-WRITERS = ["wit_json", "wit_json_replies"]
+CRATES = ["wit_json_reading", "wit_json_graphs", "wit_json", "wit_json_commands"]
+# Those that write objects.
+WRITERS = ["wit_json", "wit_json_commands"]
 STORED = "crates/witgraph_json/stdin", "crates/witgraph_json/stdout"
 # The definitions that read what a row calls by a word in capitals.
 THINGS = {"PACKAGE": "package_of", "WORLD": "world_of", "INTERFACE": "interface_of"}
@@ -28,9 +29,9 @@ OF_GRAPHS = {"package"}
 
 @functools.cache
 def definitions():
-    """The texts of definitions, by their names, readers and writers apart; a name may stand in several files."""
+    """The crates, names and texts of definitions; a name may stand in several files."""
     found = []
-    for crate in [*READERS, *WRITERS]:
+    for crate in CRATES:
         for path in specs(crate):
             text = re.sub(r"(?m)^ *--.*\n", "", read(path))
             for name, body in re.findall(r"(?ms)^(?:unfoldable|abbrev) pub (\w+) : .*?\n(.*?)(?=^\S+ pub |\Z)", text):
@@ -85,7 +86,8 @@ def shapes():
     """The shapes of objects by the names of their definitions."""
     found = {}
     for crate, name, body in definitions():
-        those = written_shapes(body) if crate in WRITERS else filter(None, [read_shape(body)])
+        read = read_shape(body)
+        those = [read] if read else written_shapes(body) if crate in WRITERS else []
         found.setdefault(name, []).extend(those)
     return found
 
@@ -118,7 +120,7 @@ def tags():
 def words():
     """All words that readers and writers know: members, names of commands and answers, kinds, causes."""
     found = set()
-    for crate in [*READERS, *WRITERS]:
+    for crate in CRATES:
         for path in specs(crate):
             found.update(re.findall(r'codes "([^"\\]*)"', read(path)))
     return found

@@ -14,7 +14,7 @@ LIBRARIES = (
     "wit_script_faults",
     "wit_json",
     "wit_json_reading",
-    "wit_json_runs",
+    "wit_json_commands",
     "witgraph_calls",
 )
 PROGRAMS = ("witgraph", "witgraph_json", "witgraph_dot")

@@ -6,10 +6,10 @@ use Rattle.wit_json_commands.specs.Orders.{document_of}
 use Rattle.wit_json_commands.specs.Questions.{mangling_of, question_by}
 use Rattle.wit_commands.specs.declared.change.Change.{Change}
 use Rattle.wit_commands.specs.declared.change.Change.TheVariants as change
-use Rattle.wit_json_commands.specs.declared.questions.FunctionSite.TheVariants as site
-use Rattle.wit_json_commands.specs.declared.questions.Mangling.TheVariants.{LegacyAsyncCallback, LegacyAsyncStackful, LegacySync, Standard32}
-use Rattle.wit_json_commands.specs.declared.questions.Question.{Question}
-use Rattle.wit_json_commands.specs.declared.questions.Question.TheVariants as question
+use Rattle.wit_json_commands.specs.declared.commands.questions.FunctionSite.TheVariants as site
+use Rattle.wit_json_commands.specs.declared.commands.questions.Mangling.TheVariants.{LegacyAsyncCallback, LegacyAsyncStackful, LegacySync, Standard32}
+use Rattle.wit_json_commands.specs.declared.commands.questions.Question.{Question}
+use Rattle.wit_json_commands.specs.declared.commands.questions.Question.TheVariants as question
 use Rattle.examples_json.specs.Gates.{release}
 use Rattle.examples_json.specs.Graphs.{foo_bar}
 use Rattle.examples_json.specs.ReadValues.{fault_at, to}

@@ -16,13 +16,13 @@ use Rattle.wit_json.specs.Graph.{compact}
 use Rattle.wit_json_reading.specs.declared.fault.Expected.TheVariants as expected
 use Rattle.wit_json_reading.specs.declared.fault.Fault.{Fault}
 use Rattle.wit_json_reading.specs.declared.fault.Step.TheVariants as step
-use Rattle.wit_json_replies.specs.Answers.{json_of_answer, json_of_response}
-use Rattle.wit_json_replies.specs.Documents.{json_of_fault, json_of_output}
-use Rattle.wit_json_replies.specs.Refusals.{rendered}
-use Rattle.wit_json_replies.specs.declared.answers.Answer.{Answer}
-use Rattle.wit_json_replies.specs.declared.answers.Answer.TheVariants as answer
-use Rattle.wit_json_replies.specs.declared.answers.Response.{Response}
-use Rattle.wit_json_replies.specs.declared.answers.Response.TheVariants as response
+use Rattle.wit_json_commands.specs.Answers.{json_of_answer, json_of_response}
+use Rattle.wit_json_commands.specs.Output.{json_of_fault, json_of_output}
+use Rattle.wit_json_commands.specs.Refusals.{rendered}
+use Rattle.wit_json_commands.specs.declared.replies.answers.Answer.{Answer}
+use Rattle.wit_json_commands.specs.declared.replies.answers.Answer.TheVariants as answer
+use Rattle.wit_json_commands.specs.declared.replies.answers.Response.{Response}
+use Rattle.wit_json_commands.specs.declared.replies.answers.Response.TheVariants as response
 
 abbrev pub answer_text : Answer → List ℕ
 answer_text it = compact (json_of_answer it)

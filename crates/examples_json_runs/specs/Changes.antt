@@ -6,15 +6,15 @@ use Rattle.wit_resolve_graph.specs.declared.command.Command.TheVariants as comma
 use Rattle.wit_resolve_graph.specs.declared.command.Reply.TheVariants as reply
 use Rattle.wit_commands.specs.Change.{change_text}
 use Rattle.wit_commands.specs.declared.change.Change.TheVariants as change
-use Rattle.wit_json_commands.specs.declared.orders.Order.TheVariants as order
-use Rattle.wit_json_commands.specs.declared.orders.Request.TheVariants as request
+use Rattle.wit_json_commands.specs.declared.commands.orders.Order.TheVariants as order
+use Rattle.wit_json_commands.specs.declared.commands.orders.Request.TheVariants as request
 use Rattle.wit_json_graphs.specs.declared.resolves.ResolveParts.{ResolveParts}
-use Rattle.wit_json_replies.specs.declared.answers.Answer.TheVariants as answer
-use Rattle.wit_json_replies.specs.declared.answers.Response.TheVariants as response
+use Rattle.wit_json_commands.specs.declared.replies.answers.Answer.TheVariants as answer
+use Rattle.wit_json_commands.specs.declared.replies.answers.Response.TheVariants as response
 use Rattle.wit_ways.specs.declared.asked.Asked.TheVariants as asks
-use Rattle.wit_json_runs.specs.Documents.{first_state}
+use Rattle.wit_json_commands.specs.Documents.{first_state}
 use Rattle.wit_resolve_graph.specs.Step.{command_of}
-use Rattle.wit_json_runs.specs.Runs.{AnswersReply, RespondsEach}
+use Rattle.wit_json_commands.specs.Runs.{AnswersReply, RespondsEach}
 use Rattle.examples_json_runs.specs.Questions.{foo_bar}
 
 -- an empty graph with a feature on, and the other rule of tracks

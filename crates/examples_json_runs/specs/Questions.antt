@@ -15,18 +15,18 @@ use Rattle.wit_data.specs.declared.world.WorldKey.TheVariants as key
 use Rattle.wit_graph_data.specs.declared.error_kind.ResolveErrorKind.TheVariants.{OutOfMemory}
 use Rattle.wit_graph_data.specs.declared.graph.Graph.{Graph}
 use Rattle.wit_sources.specs.SourceMap.{Sources}
-use Rattle.wit_json_commands.specs.declared.questions.FunctionPlace.{FunctionPlace}
-use Rattle.wit_json_commands.specs.declared.questions.FunctionSite.{FunctionSite}
-use Rattle.wit_json_commands.specs.declared.questions.FunctionSite.TheVariants as site
-use Rattle.wit_json_commands.specs.declared.questions.Mangling.TheVariants as asked
-use Rattle.wit_json_questions.specs.CoreNames.{core_exports, core_imports, mangling_of}
-use Rattle.wit_json_commands.specs.declared.questions.Question.TheVariants as question
-use Rattle.wit_json_questions.specs.Tells.{AnswersQuestion, canonical_id, core_names, futures_and_streams, interface_dependencies, package_dependencies, package_order, packages_named}
-use Rattle.wit_json_replies.specs.Refusals.{refused, rendered}
-use Rattle.wit_json_replies.specs.declared.answers.Answer.{Answer}
-use Rattle.wit_json_replies.specs.declared.answers.Answer.TheVariants as answer
-use Rattle.wit_json_replies.specs.declared.core_names.CoreExport.{CoreExport}
-use Rattle.wit_json_replies.specs.declared.core_names.CoreImport.{CoreImport}
+use Rattle.wit_json_commands.specs.declared.commands.questions.FunctionPlace.{FunctionPlace}
+use Rattle.wit_json_commands.specs.declared.commands.questions.FunctionSite.{FunctionSite}
+use Rattle.wit_json_commands.specs.declared.commands.questions.FunctionSite.TheVariants as site
+use Rattle.wit_json_commands.specs.declared.commands.questions.Mangling.TheVariants as asked
+use Rattle.wit_json_commands.specs.CoreNames.{core_exports, core_imports, mangling_of}
+use Rattle.wit_json_commands.specs.declared.commands.questions.Question.TheVariants as question
+use Rattle.wit_json_commands.specs.Tells.{AnswersQuestion, canonical_id, core_names, futures_and_streams, interface_dependencies, package_dependencies, package_order, packages_named}
+use Rattle.wit_json_commands.specs.Refusals.{refused, rendered}
+use Rattle.wit_json_commands.specs.declared.replies.answers.Answer.{Answer}
+use Rattle.wit_json_commands.specs.declared.replies.answers.Answer.TheVariants as answer
+use Rattle.wit_json_commands.specs.declared.replies.core_names.CoreExport.{CoreExport}
+use Rattle.wit_json_commands.specs.declared.replies.core_names.CoreImport.{CoreImport}
 
 abbrev pub foo : List ℕ → Option Parts → PackageName
 foo name version = record { namespace = codes "foo"; name = name; version = version }

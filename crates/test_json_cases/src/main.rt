@@ -9,7 +9,7 @@
 use std::alloc::Global;
 use std::io;
 use std::process::ExitCode;
-use wit_json_runs::respond;
+use wit_json_commands::respond;
 
 /// What comes out of a document; None where it isn't understood, or memory is wanting.
 fn output_of(alloc: Global, document: &str) -> Option<String> {

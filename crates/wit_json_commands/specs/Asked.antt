@@ -1,7 +1,7 @@
 -- Questions in words, as a refusal tells what was asked.
 use Rattle.std.specs.Prelude.{ℕ, List, codes}
-use Rattle.wit_json_commands.specs.declared.questions.Question.{Question}
-use Rattle.wit_json_commands.specs.declared.questions.Question.TheVariants as question
+use Rattle.wit_json_commands.specs.declared.commands.questions.Question.{Question}
+use Rattle.wit_json_commands.specs.declared.commands.questions.Question.TheVariants as question
 
 -- the word of a question
 abbrev pub question_word : Question → List ℕ

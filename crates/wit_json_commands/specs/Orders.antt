@@ -9,12 +9,12 @@ use Rattle.wit_json_reading.specs.Reading.{Reading, ◌>>=◌, instead_of, list_
 use Rattle.wit_json_reading.specs.declared.fault.Expected.TheVariants as expected
 use Rattle.wit_json_commands.specs.Changes.{change_by}
 use Rattle.wit_json_commands.specs.Questions.{question_by}
-use Rattle.wit_json_commands.specs.declared.orders.Document.{Document}
-use Rattle.wit_json_commands.specs.declared.orders.Order.{Order}
-use Rattle.wit_json_commands.specs.declared.orders.Order.TheVariants as order
-use Rattle.wit_json_commands.specs.declared.orders.Request.{Request}
-use Rattle.wit_json_commands.specs.declared.orders.Request.TheVariants as request
-use Rattle.wit_json_commands.specs.declared.questions.Question.TheVariants.{PackageOrder}
+use Rattle.wit_json_commands.specs.declared.commands.orders.Document.{Document}
+use Rattle.wit_json_commands.specs.declared.commands.orders.Order.{Order}
+use Rattle.wit_json_commands.specs.declared.commands.orders.Order.TheVariants as order
+use Rattle.wit_json_commands.specs.declared.commands.orders.Request.{Request}
+use Rattle.wit_json_commands.specs.declared.commands.orders.Request.TheVariants as request
+use Rattle.wit_json_commands.specs.declared.commands.questions.Question.TheVariants.{PackageOrder}
 
 -- the names of changes
 abbrev pub is_change : List ℕ → Bool

@@ -6,13 +6,13 @@ use Rattle.wit_json_reading.specs.Packages.{package_name_of}
 use Rattle.wit_json_reading.specs.Reading.{Reading, ◌>>=◌, instead_of, list_of, only, optional, required}
 use Rattle.wit_json_reading.specs.Values.{text_of}
 use Rattle.wit_json_reading.specs.declared.fault.Expected.TheVariants as expected
-use Rattle.wit_json_commands.specs.declared.questions.FunctionPlace.{FunctionPlace}
-use Rattle.wit_json_commands.specs.declared.questions.FunctionSite.{FunctionSite}
-use Rattle.wit_json_commands.specs.declared.questions.FunctionSite.TheVariants as site
-use Rattle.wit_json_commands.specs.declared.questions.Mangling.{Mangling}
-use Rattle.wit_json_commands.specs.declared.questions.Mangling.TheVariants.{LegacyAsyncCallback, LegacyAsyncStackful, LegacySync, Standard32}
-use Rattle.wit_json_commands.specs.declared.questions.Question.{Question}
-use Rattle.wit_json_commands.specs.declared.questions.Question.TheVariants as question
+use Rattle.wit_json_commands.specs.declared.commands.questions.FunctionPlace.{FunctionPlace}
+use Rattle.wit_json_commands.specs.declared.commands.questions.FunctionSite.{FunctionSite}
+use Rattle.wit_json_commands.specs.declared.commands.questions.FunctionSite.TheVariants as site
+use Rattle.wit_json_commands.specs.declared.commands.questions.Mangling.{Mangling}
+use Rattle.wit_json_commands.specs.declared.commands.questions.Mangling.TheVariants.{LegacyAsyncCallback, LegacyAsyncStackful, LegacySync, Standard32}
+use Rattle.wit_json_commands.specs.declared.commands.questions.Question.{Question}
+use Rattle.wit_json_commands.specs.declared.commands.questions.Question.TheVariants as question
 
 unfoldable pub select_of : Json → Reading Question
 select_of j = do

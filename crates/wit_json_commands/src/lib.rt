@@ -1,11 +1,20 @@
-//! What a JSON document asks of a graph: changes, graphs of their own that are merged into it, and questions. Each is read
-//! from a JSON value, or its first fault is told with the path to it; `docs/JSON.md` has the documents.
+//! JSON documents of commands: read, carried out, answered. `docs/JSON.md` has the documents.
+//!
+//! [`respond`] carries one out, on an empty graph or on the one that it begins with, and answers the document that comes
+//! out. [`execute`] does so from a reader to a writer, and [`exit_status`] is what a program answers that does. A
+//! [`Document`] is read from a text by `read_text` of `wit_json_reading`, and [`responses_to`] answers its commands.
 #![tactic(auto)]
 
-mod changes;
-mod orders;
+mod commands;
+pub mod laws;
 mod questions;
+mod replies;
+mod runs;
 
-pub use crate::orders::{Document, Order, Request};
-pub use crate::questions::{FunctionPlace, FunctionSite, Mangling, Question};
+pub use crate::commands::{
+    Document, FunctionPlace, FunctionSite, Mangling, Order, Question, Request,
+};
+pub use crate::replies::{Answer, CoreExport, CoreImport, CoreNames, Refusal, Response, Unshaped};
+pub use crate::runs::{execute, respond, responses_to};
 pub use wit_commands::Change;
+pub use wit_streams::{Watched, exit_status};

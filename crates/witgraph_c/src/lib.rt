@@ -4,7 +4,7 @@
 
 ghost use Rattle.std.specs.Prelude.{◌≡◌, ◌≤◌, true, false};
 ghost use Rattle.std.specs.Str.{IsUtf8};
-ghost use Rattle.wit_json_runs.specs.Documents.{ComesOutOfBytes};
+ghost use Rattle.wit_json_commands.specs.Documents.{ComesOutOfBytes};
 ghost use Rattle.wit_script.specs.Prints.{PrintsByRun};
 ghost use Rattle.wit_script_faults.specs.Explained.{Explains};
 ghost use Rattle.witgraph_calls.specs.Output.{IsTooLong, IsWritten};

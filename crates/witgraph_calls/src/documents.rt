@@ -1,16 +1,16 @@
 //! JSON documents of commands.
 ghost use Rattle.std.specs.Prelude.{◌≡◌, ◌≤◌, true, false};
 ghost use Rattle.std.specs.Str.{IsUtf8};
-ghost use Rattle.wit_json_runs.specs.Documents.{ComesOutOfBytes};
+ghost use Rattle.wit_json_commands.specs.Documents.{ComesOutOfBytes};
 ghost use Rattle.witgraph_calls.specs.Output.{IsTooLong, IsWritten};
 
 use crate::output::{none_needed, put_text};
 use crate::status::{INPUT_NOT_UTF8, NO_MEMORY, NOT_UNDERSTOOD, OUTPUT_TOO_SMALL, UNDERSTOOD};
 use std::alloc::Global;
-use wit_json_runs::respond;
+use wit_json_commands::respond;
 
 /// Carries out the commands of a JSON document, on an empty graph or on the one that it begins with, and writes the
-/// document that comes out to the front of the output: the one that `wit_json_runs::execute` writes, and so the program
+/// document that comes out to the front of the output: the one that `wit_json_commands::execute` writes, and so the program
 /// `witgraph_json`. Of a document that isn't understood it has the first fault.
 ///
 /// All else is as of `execute`.

@@ -4,7 +4,7 @@
 use std::env::{Env, FillError};
 use std::io;
 use std::process::ExitCode;
-use wit_json_runs::{Watched, execute, exit_status};
+use wit_json_commands::{Watched, execute, exit_status};
 
 /// What is told where there are arguments, such as `--help` or the name of a file.
 const USAGE: &str = "usage: witgraph_json < DOCUMENT

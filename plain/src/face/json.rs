@@ -11,10 +11,10 @@ use super::resolve::{Resolve, answered};
 use crate::made::wit_data::UnresolvedPackageGroup;
 use crate::made::wit_graph_data::Graph;
 use crate::made::wit_json::{graph_to_json, group_to_json, text_of, whole_to_json};
+use crate::made::wit_json_commands::responses_to;
 use crate::made::wit_json_reading::{
     Expected, Fault, ReadError, ReadJson, in_member, instead_of, offset_of, read_text,
 };
-use crate::made::wit_json_runs::responses_to;
 use std::error::Error;
 use std::fmt;
 

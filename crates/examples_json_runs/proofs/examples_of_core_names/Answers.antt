@@ -1,7 +1,7 @@
 use Rattle.std.proofs.Common.{◌∷◌, [], ℕ, List, ap, refl}
 use Rattle.std.specs.Fmt.{digits}
 use Rattle.wit_values.specs.facts.Lists.{differ}
-use Rattle.wit_json_replies.specs.declared.core_names.CoreExport.{CoreExport}
+use Rattle.wit_json_commands.specs.declared.replies.core_names.CoreExport.{CoreExport}
 use Rattle.examples_json_runs.proofs.examples_of_core_names.Goals as goal
 
 abbrev first_name : List CoreExport → List ℕ

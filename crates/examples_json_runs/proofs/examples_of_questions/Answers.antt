@@ -2,7 +2,7 @@ use Rattle.std.proofs.Common.{◌≡◌, ℕ, List, refl}
 use Rattle.std.specs.Fmt.{digits}
 use Rattle.wit_digraph.specs.PostOrder.{post_order, post_order_within}
 use Rattle.wit_values.specs.facts.Lists.{differ}
-use Rattle.wit_json_replies.specs.declared.answers.Answer.TheVariants as answer
+use Rattle.wit_json_commands.specs.declared.replies.answers.Answer.TheVariants as answer
 use Rattle.examples_json_runs.proofs.examples_of_questions.Goals as goal
 
 text_inside : {a b : List ℕ} → answer.Text a ≡ answer.Text b → a ≡ b

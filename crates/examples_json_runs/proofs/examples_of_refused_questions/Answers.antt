@@ -3,11 +3,11 @@ use Rattle.std.specs.Fmt.{digits}
 use Rattle.wit_digraph.specs.PostOrder.{post_order, post_order_within}
 use Rattle.wit_values.specs.facts.Lists.{differ}
 use Rattle.wit_graph_data.specs.declared.error_kind.ResolveErrorKind.TheVariants.{OutOfMemory}
-use Rattle.wit_json_commands.specs.declared.questions.Question.TheVariants as question
-use Rattle.wit_json_questions.specs.Tells.{AnswersQuestion}
-use Rattle.wit_json_replies.specs.Refusals.{rendered}
-use Rattle.wit_json_replies.specs.declared.answers.Answer.{Answer}
-use Rattle.wit_json_replies.specs.declared.answers.Answer.TheVariants as answer
+use Rattle.wit_json_commands.specs.declared.commands.questions.Question.TheVariants as question
+use Rattle.wit_json_commands.specs.Tells.{AnswersQuestion}
+use Rattle.wit_json_commands.specs.Refusals.{rendered}
+use Rattle.wit_json_commands.specs.declared.replies.answers.Answer.{Answer}
+use Rattle.wit_json_commands.specs.declared.replies.answers.Answer.TheVariants as answer
 use Rattle.examples_json_runs.specs.Questions.{asked_graph, no_files, refused_28}
 use Rattle.examples_json_runs.proofs.examples_of_refused_questions.Goals as goal
 

@@ -1,0 +1,9 @@
+mod EachAnswered
+mod FirstKnown
+mod GoesOn
+mod Named
+mod Outcomes
+mod PackagePaths
+mod Paths
+mod Unshaped
+mod Within

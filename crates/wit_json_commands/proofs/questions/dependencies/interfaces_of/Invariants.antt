@@ -1,0 +1,7 @@
+use Rattle.std.proofs.Common.{◌≡◌, ◌++◌}
+use Rattle.wit_graph_data.specs.Queries.{interface_direct_deps}
+use Rattle.wit_json_commands.proofs.questions.dependencies.interfaces_of.Given as goal
+
+-- those so far, and those that are left
+abbrev pub invariant-loop-other : goal.invariant-loop-other
+invariant-loop-other l = l.ids ++ l.other-iterator ≡ interface_direct_deps l.graph.types l.graph.interfaces l.fn.id

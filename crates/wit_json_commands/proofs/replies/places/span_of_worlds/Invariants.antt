@@ -1,0 +1,7 @@
+use Rattle.std.proofs.Common.{◌≡◌, map}
+use Rattle.wit_json_commands.specs.Places.{first_known, world_span}
+use Rattle.wit_json_commands.proofs.replies.places.span_of_worlds.Given as goal
+
+-- none so far is known
+abbrev pub invariant-loop-id : goal.invariant-loop-id
+invariant-loop-id l = first_known (map (λ e. world_span l.graph e.1) l.id-iterator) ≡ first_known (map (λ e. world_span l.graph e.1) l.worlds)

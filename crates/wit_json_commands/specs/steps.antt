@@ -1,0 +1,4 @@
+pub mod Outcomes
+pub mod Paths
+pub mod Placed
+pub mod Searching

@@ -1,0 +1,15 @@
+//! What is answered to the commands of a document, and how it is written.
+
+mod answers;
+mod core_names;
+mod documents;
+mod places;
+mod refusals;
+mod remaps;
+mod unshaped;
+
+pub use answers::{Answer, Refusal, Response};
+pub use core_names::{CoreExport, CoreImport, CoreNames};
+pub use documents::{fault_to_json, output_to_json};
+pub use refusals::refused;
+pub use unshaped::Unshaped;

@@ -1,0 +1,123 @@
+//! Answers to commands.
+ghost use Rattle.std.specs.Prelude.{◌≡◌, ◌++◌, OnOk};
+ghost use Rattle.json.specs.Tree.{json_tokens};
+ghost use Rattle.wit_json_commands.specs.Answers.{json_of_answer, json_of_merge, json_of_refused, json_of_response};
+
+use super::core_names::CoreNames;
+use super::remaps::write_remap;
+use super::unshaped::Unshaped;
+use std::alloc::AllocError;
+use wit_data::{InterfaceId, Items, PackageId, Text, TypeId, WorldId};
+use wit_graph_data::ResolveError;
+use wit_json::{JsonText, WriteJson};
+use wit_remap::Remap;
+
+/// What is refused, and how it is told: with its lines, and with what was asked.
+#[derive(Drop)]
+pub struct Refusal {
+    pub error: ResolveError,
+    pub rendered: Text,
+}
+
+/// The answer to a change or a question.
+#[derive(Drop)]
+pub enum Answer {
+    /// It is carried out.
+    Done,
+    /// The id of the main group's main package.
+    Pushed(PackageId),
+    /// Where the things of the other graph stand now.
+    Merged(Remap),
+    /// There is no world of that name in a package of that name.
+    NoWorld,
+    /// A package that was to be added hasn't its shape, and nothing is added.
+    NotShaped(Unshaped),
+    /// What a question names isn't there.
+    NotFound,
+    /// It is refused.
+    Refused(Refusal),
+    World(WorldId),
+    Packages(Items<PackageId>),
+    Interfaces(Items<InterfaceId>),
+    Types(Items<TypeId>),
+    Text(Text),
+    CoreNames(CoreNames),
+}
+
+/// The answer to what is asked of a graph.
+#[derive(Drop)]
+pub enum Response {
+    /// The answer to a change or a question.
+    Answer(Answer),
+    /// The answers to what made another graph, and then to its merge.
+    Merge {
+        replies: Items<Answer>,
+        reply: Answer,
+    },
+}
+
+impl WriteJson for Refusal {
+    ghost json = { json_of_refused };
+
+    fn write_json(&self, out: &mut JsonText) -> Result<(), AllocError> {
+        out.begin_object()?;
+        out.member("error", &self.error)?;
+        out.member("rendered", &self.rendered)?;
+        out.end_object()
+    }
+}
+
+impl WriteJson for Answer {
+    ghost json = { json_of_answer };
+
+    fn write_json(&self, out: &mut JsonText) -> Result<(), AllocError> {
+        match self {
+            Answer::Done => out.string("done"),
+            Answer::Pushed(id) => out.tagged("pushed", id),
+            Answer::Merged(remap) => {
+                out.begin_tagged("merged")?;
+                write_remap(out, remap)?;
+                out.end_object()
+            }
+            Answer::NoWorld => out.string("no-world"),
+            Answer::NotShaped(unshaped) => out.tagged("not-shaped", unshaped),
+            Answer::NotFound => out.string("not-found"),
+            Answer::Refused(refusal) => out.tagged("refused", refusal),
+            Answer::World(id) => out.tagged("world", id),
+            Answer::Packages(ids) => out.tagged("packages", ids),
+            Answer::Interfaces(ids) => out.tagged("interfaces", ids),
+            Answer::Types(ids) => out.tagged("types", ids),
+            Answer::Text(text) => out.tagged("text", text),
+            Answer::CoreNames(names) => out.tagged("core-names", names),
+        }
+    }
+}
+
+/// Writes the answers to what made another graph, and to its merge.
+fn write_merge(
+    out: &mut JsonText,
+    replies: &Items<Answer>,
+    reply: &Answer,
+) -> Result<(), AllocError>
+    ensures { OnOk result (out.new ≡ out.old ++ json_tokens (json_of_merge replies.now reply.now)) }
+{
+    out.begin_object()?;
+    out.member("replies", replies)?;
+    out.member("reply", reply)?;
+    out.end_object()
+}
+
+impl WriteJson for Response {
+    ghost json = { json_of_response };
+
+    fn write_json(&self, out: &mut JsonText) -> Result<(), AllocError> {
+        match self {
+            Response::Answer(answer) => answer.write_json(out),
+            Response::Merge { replies, reply } => {
+                out.begin_tagged("merge")?;
+                write_merge(out, replies, reply)?;
+                out.end_object()
+            }
+        }
+    }
+}

@@ -1,9 +1,0 @@
-use Rattle.std.proofs.Common.{◌≡◌, ◌++◌}
-use Rattle.std.specs.List.{flat_map}
-use Rattle.wit_json_questions.specs.CoreNames.{entry_functions}
-use Rattle.wit_json_questions.specs.steps.Placed.{placed_functions}
-use Rattle.wit_json_questions.proofs.core_names.functions_of.Given as goal
-
--- those so far, and those of the entries that are left
-abbrev pub invariant-loop-key : goal.invariant-loop-key
-invariant-loop-key l = placed_functions l.placed.items ++ flat_map (entry_functions l.graph) l.key-iterator ≡ flat_map (entry_functions l.graph) l.entries

@@ -1,9 +1,0 @@
-use Rattle.std.proofs.Common.{refl, rules, subst, sym}
-use Rattle.std.specs.Prelude.{codes}
-use Rattle.wit_json_questions.specs.Tells.{TellsChoice}
-use Rattle.wit_json_replies.specs.declared.answers.Answer.{Answer}
-use Rattle.wit_json_questions.proofs.selection.choose.Goals as goal
-
-pub returns-in_ok-refused-in-Err : goal.returns-in_ok-refused-in-Err
-returns-in_ok-refused-in-Err c =
-    subst (λ (a : Answer). TellsChoice c.args.graph.now c.args.files.now c.args.mains.now c.args.world.now a) (sym c.in_ok-refused-in-Err.ensures) (search rules, refl)

@@ -1,3 +1,0 @@
-pub mod CoreNames
-pub mod Tells
-pub mod steps

@@ -1,3 +1,0 @@
-mod FirstKnown
-mod PackagePaths
-mod Paths

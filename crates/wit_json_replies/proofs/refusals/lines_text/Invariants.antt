@@ -1,8 +1,0 @@
-use Rattle.std.proofs.Common.{◌≡◌, take, string_bytes}
-use Rattle.std.specs.List.{flat_map}
-use Rattle.wit_json_replies.specs.Refusals.{arrow_text}
-use Rattle.wit_json_replies.proofs.refusals.lines_text.Given as goal
-
--- the lines of the first steps
-abbrev pub invariant-loop-arrow : goal.invariant-loop-arrow
-invariant-loop-arrow l = string_bytes l.text ≡ flat_map (arrow_text l.files.files) (take l.arrow-index l.way)

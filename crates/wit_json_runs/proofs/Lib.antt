@@ -1,4 +1,0 @@
-mod GoesOn
-mod Outcomes
-mod Replies
-mod Unshaped
