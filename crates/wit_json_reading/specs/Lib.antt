@@ -12,3 +12,4 @@ pub mod Graphs
 pub mod Groups
 pub mod Documents
 pub mod Messages
+pub mod steps

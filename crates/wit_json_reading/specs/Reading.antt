@@ -4,10 +4,6 @@ use Rattle.std.specs.List.{list_any}
 use Rattle.json.specs.Json.{Json, Items, Members}
 use Rattle.json.specs.Json as json
 use Rattle.json.specs.Find.{get}
-use Rattle.json.specs.Value.{value_view}
-use Rattle.json.specs.declared.value.Value.{Value}
-use Rattle.std.specs.Borrow.{Bor}
-use Rattle.std.specs.Fn.{AnyResult, Shared}
 use Rattle.wit_json_reading.specs.declared.fault.Expected.{Expected}
 use Rattle.wit_json_reading.specs.declared.fault.Expected.TheVariants as expected
 use Rattle.wit_json_reading.specs.declared.fault.Fault.{Fault}
@@ -40,12 +36,6 @@ abbrev pub Reads : {A : Type 0} → Result A ReadError → Reading A → Type 0
 Reads (Ok x) reading = reading ≡ Ok x
 Reads (Err (error.Fault fault)) reading = reading ≡ Err fault
 Reads (Err error.OutOfMemory) reading = Unit {0}
-
--- a closure reads each value so
-abbrev pub ReadsBy : {F A X : Type 0} →
-    Shared F (Bor (Value X) × Unit {0}) (Result A ReadError) → F → (Json → Reading A) → Type 0
-ReadsBy {X = X} g read f =
-    (v : Bor (Value X)) → AnyResult g read (v, tt) (λ result. Reads result (f (value_view v.now)))
 
 -- ---- objects
 

@@ -28,27 +28,24 @@ pub fn offset_of(alloc: Global, text: &str, fault: &Fault) -> Result<usize, Allo
         let _ = reader.skip_value(MAX_DEPTH);
         return Ok(reader.offset());
     }
-    let second = fault.expected == Expected::NoSecondMember;
     let count = fault.path.len();
     for index in 0..count {
-        let (step, is_last) = (fault.path.at(count - 1 - index), index + 1 == count);
-        if !take_step(&mut reader, step, second && is_last, text.len()) {
-            break;
+        if !take_step(&mut reader, fault.path.at(count - 1 - index), text.len()) {
+            return Ok(reader.offset());
         }
+    }
+    if fault.expected == Expected::NoSecondMember && count > 0 {
+        return Ok(second_offset(&mut reader, fault.path.at(0), text.len()));
     }
     Ok(reader.offset())
 }
 
-/// Goes to where a step leads: to the second member of its name, where that is asked. Answers whether it is there.
-fn take_step(reader: &mut Reader<'_>, step: &Step, second: bool, most: usize) -> bool {
+/// Goes to where a step leads. Answers whether it is there.
+fn take_step(reader: &mut Reader<'_>, step: &Step, most: usize) -> bool {
     match step {
         Step::Member(name) => {
-            let found = matches!(reader.next(), Some(Token::BeginObject))
-                && take_to(reader, name.as_str(), most);
-            if found && second {
-                return reader.skip_value(MAX_DEPTH).is_ok() && take_to(reader, name.as_str(), most);
-            }
-            found
+            matches!(reader.next(), Some(Token::BeginObject))
+                && take_to(reader, name.as_str(), most)
         }
         Step::Item(index) => {
             let mut found = matches!(reader.next(), Some(Token::BeginArray));
@@ -58,6 +55,19 @@ fn take_step(reader: &mut Reader<'_>, step: &Step, second: bool, most: usize) ->
             found
         }
     }
+}
+
+/// Where the second member of a name begins, after the first one was found: that one where there is no second, since a label
+/// may stand without a mark and with one.
+fn second_offset(reader: &mut Reader<'_>, step: &Step, most: usize) -> usize {
+    let first = reader.offset();
+    let Step::Member(name) = step else {
+        return first;
+    };
+    if reader.skip_value(MAX_DEPTH).is_ok() && take_to(reader, name.as_str(), most) {
+        return reader.offset();
+    }
+    first
 }
 
 /// Goes on in an object to the value of the next member of this name, past so many others at the most.

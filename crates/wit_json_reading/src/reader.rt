@@ -3,7 +3,8 @@ ghost use Rattle.std.specs.Prelude.{◌≡◌, map, bytes_eq};
 ghost use Rattle.std.specs.List.{list_any};
 ghost use Rattle.json.specs.Json.{Json};
 ghost use Rattle.json.specs.Value.{value_view};
-ghost use Rattle.wit_json_reading.specs.Reading.{Reading, Reads, ReadsBy, list_of, only, optional, required};
+ghost use Rattle.wit_json_reading.specs.Reading.{Reading, Reads, list_of, only, optional, required};
+ghost use Rattle.wit_json_reading.specs.steps.ByClosures.{ReadsBy};
 
 use crate::fault::{Expected, ReadError, in_item, in_member, instead_of};
 use json::Value;

@@ -1,7 +1,8 @@
 use Rattle.std.proofs.Common.{◌≡◌, ◌++◌, drop, length, Ok}
 use Rattle.json.specs.Json.{Json}
 use Rattle.json.specs.Value.{items_view, value_view}
-use Rattle.wit_json_reading.specs.Reading.{◌>>=◌, Reading, ReadsBy, items_from, list_of}
+use Rattle.wit_json_reading.specs.Reading.{◌>>=◌, Reading, items_from, list_of}
+use Rattle.wit_json_reading.specs.steps.ByClosures.{ReadsBy}
 use Rattle.wit_json_reading.proofs.reader.list_by.Given as goal
 
 -- what the items that are left read as goes behind what is read
