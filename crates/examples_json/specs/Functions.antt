@@ -39,8 +39,16 @@ pub record ExamplesOfFunctions : Type 0 where
   pub static_setter : kind_text (function.StaticSetter 7) ≡ codes "{\"static-setter\":7}"
   -- a whole function; where there is no result the member is left out
   pub whole : compact (json_of_function a_method) ≡ codes "{\"name\":\"f\",\"kind\":{\"method\":7},\"params\":[{\"name\":\"a\",\"type\":2}],\"result\":\"u8\"}"
-  pub no_param_dropped : compact (json_of_function a_method) ≢ codes "{\"name\":\"f\",\"kind\":{\"method\":7},\"params\":[],\"result\":\"u8\"}"
+  pub no_param_dropped : compact (json_of_function a_method)
+      ≢ codes "{\"name\":\"f\",\"kind\":{\"method\":7},\"params\":[],\"result\":\"u8\"}"
   pub not_results : compact (json_of_function a_method) ≢ codes "{\"name\":\"f\",\"kind\":{\"method\":7},\"params\":[{\"name\":\"a\",\"type\":2}],\"results\":[\"u8\"]}"
-  pub no_result : compact (json_of_function (new_function (codes "g") function.Freestanding [] None)) ≡ codes "{\"name\":\"g\",\"kind\":\"freestanding\",\"params\":[]}"
-  pub not_null : compact (json_of_function (new_function (codes "g") function.Freestanding [] None)) ≢ codes "{\"name\":\"g\",\"kind\":\"freestanding\",\"params\":[],\"result\":null}"
-  pub docs : compact (json_of_function (record (new_function (codes "g") function.Freestanding [] None) { docs = docs_of (Some (codes "G.")) })) ≡ codes "{\"name\":\"g\",\"kind\":\"freestanding\",\"params\":[],\"docs\":{\"contents\":\"G.\"}}"
+  pub no_result : compact
+      (json_of_function (new_function (codes "g") function.Freestanding [] None))
+      ≡ codes "{\"name\":\"g\",\"kind\":\"freestanding\",\"params\":[]}"
+  pub not_null : compact (json_of_function (new_function (codes "g") function.Freestanding [] None))
+      ≢ codes "{\"name\":\"g\",\"kind\":\"freestanding\",\"params\":[],\"result\":null}"
+  pub docs : compact
+      (json_of_function (record (new_function (codes "g") function.Freestanding [] None)
+      { docs = docs_of (Some (codes "G.")) }))
+      ≡ codes
+      "{\"name\":\"g\",\"kind\":\"freestanding\",\"params\":[],\"docs\":{\"contents\":\"G.\"}}"

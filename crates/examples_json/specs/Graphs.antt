@@ -16,7 +16,13 @@ foo_bar version = record { namespace = codes "foo"; name = codes "bar"; version 
 
 -- foo:bar with docs, interfaces b and a, and world w
 abbrev pub a_package : Package
-a_package = record { name = foo_bar (Some (release 1 0 0)); docs = docs_of (Some (codes "B.")); interfaces = (codes "b", 1) ∷ (codes "a", 0) ∷ []; worlds = (codes "w", 0) ∷ [] }
+a_package =
+    record {
+      name = foo_bar (Some (release 1 0 0));
+      docs = docs_of (Some (codes "B."));
+      interfaces = (codes "b", 1) ∷ (codes "a", 0) ∷ [];
+      worlds = (codes "w", 0) ∷ [];
+    }
 
 -- foo:bar with nothing in it
 abbrev pub bare_package : Package
@@ -40,8 +46,10 @@ pub record ExamplesOfGraphs : Type 0 where
   pub «package» : compact (json_of_package a_package) ≡ codes "{\"name\":\"foo:bar@1.0.0\",\"docs\":{\"contents\":\"B.\"},\"interfaces\":{\"b\":1,\"a\":0},\"worlds\":{\"w\":0}}"
   pub not_sorted : compact (json_of_package a_package) ≢ codes "{\"name\":\"foo:bar@1.0.0\",\"docs\":{\"contents\":\"B.\"},\"interfaces\":{\"a\":0,\"b\":1},\"worlds\":{\"w\":0}}"
   pub not_unversioned : compact (json_of_package a_package) ≢ codes "{\"name\":\"foo:bar\",\"docs\":{\"contents\":\"B.\"},\"interfaces\":{\"b\":1,\"a\":0},\"worlds\":{\"w\":0}}"
-  pub bare : compact (json_of_package bare_package) ≡ codes "{\"name\":\"foo:bar\",\"interfaces\":{},\"worlds\":{}}"
-  pub empty : compact (json_of_graph no_graph) ≡ codes "{\"worlds\":[],\"interfaces\":[],\"types\":[],\"packages\":[]}"
+  pub bare : compact (json_of_package bare_package)
+      ≡ codes "{\"name\":\"foo:bar\",\"interfaces\":{},\"worlds\":{}}"
+  pub empty : compact (json_of_graph no_graph)
+      ≡ codes "{\"worlds\":[],\"interfaces\":[],\"types\":[],\"packages\":[]}"
   pub not_nothing : compact (json_of_graph no_graph) ≢ codes "{}"
   -- the table of package names isn't there
   pub small : compact (json_of_graph small_graph)

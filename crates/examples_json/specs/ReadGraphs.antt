@@ -34,68 +34,107 @@ abbrev pub graph : List ℕ → Reading Graph
 graph text = reading_of graph_of text
 
 pub record ExamplesOfReadGraphs : Type 0 where
-  pub empty : graph (codes "{\"worlds\":[],\"interfaces\":[],\"types\":[],\"packages\":[]}") ≡ Ok no_graph
+  pub empty : graph (codes "{\"worlds\":[],\"interfaces\":[],\"types\":[],\"packages\":[]}")
+      ≡ Ok no_graph
   -- the names of packages come of the packages
   pub small : graph (codes "{\"worlds\":[{\"name\":\"w\",\"imports\":{},\"exports\":{},\"package\":null}],\"interfaces\":[{\"name\":\"i\",\"types\":{},\"functions\":{},\"package\":null}],\"types\":[{\"name\":null,\"kind\":{\"type\":\"u8\"},\"owner\":null}],\"packages\":[{\"name\":\"foo:bar\",\"interfaces\":{},\"worlds\":{}}]}")
       ≡ Ok small_graph
   pub same_package : graph (codes "{\"worlds\":[],\"interfaces\":[],\"types\":[],\"packages\":[{\"name\":\"foo:bar\",\"interfaces\":{},\"worlds\":{}},{\"name\":\"foo:bar\",\"interfaces\":{},\"worlds\":{}}]}")
       ≡ fault_at (to (codes "name") ∷ step.Item 1 ∷ to (codes "packages") ∷ []) expected.NewName
-  pub no_types : graph (codes "{\"worlds\":[],\"interfaces\":[],\"packages\":[]}") ≡ fault_at (to (codes "types") ∷ []) expected.Member
+  pub no_types : graph (codes "{\"worlds\":[],\"interfaces\":[],\"packages\":[]}")
+      ≡ fault_at (to (codes "types") ∷ []) expected.Member
   -- what a world included stands in it
   pub with_includes : graph (codes "{\"worlds\":[{\"name\":\"w\",\"imports\":{},\"exports\":{},\"package\":null,\"includes\":[]}]}")
       ≡ fault_at (to (codes "includes") ∷ step.Item 0 ∷ to (codes "worlds") ∷ []) expected.NoMember
   -- a name that is listed twice counts once
-  pub features : reading_of features_of (codes "{\"names\":[\"fast\",\"new\",\"fast\"],\"all\":false}") ≡ Ok two_features
+  pub features : reading_of features_of
+      (codes "{\"names\":[\"fast\",\"new\",\"fast\"],\"all\":false}") ≡ Ok two_features
   pub all : reading_of features_of (codes "{\"all\":true,\"names\":[]}") ≡ Ok all_features
-  pub no_names : reading_of features_of (codes "{\"all\":true}") ≡ fault_at (to (codes "names") ∷ []) expected.Member
+  pub no_names : reading_of features_of (codes "{\"all\":true}")
+      ≡ fault_at (to (codes "names") ∷ []) expected.Member
   pub rule : reading_of rule_of (codes "\"with-prereleases\"") ≡ Ok WithPrereleases
   pub no_rule : reading_of rule_of (codes "\"prereleases\"") ≡ instead_of expected.TrackRule
 
 -- a record of one field
 abbrev pub a_record : TypeDefKind
-a_record = kind.Record (record { name = codes "x"; ty = type.U8; docs = docs_of None; span = None } ∷ [])
+a_record =
+    kind.Record (record { name = codes "x"; ty = type.U8; docs = docs_of None; span = None } ∷ [])
 
 abbrev pub a_placed_record : TypeDefKind
-a_placed_record = kind.Record (record { name = codes "x"; ty = type.U8; docs = docs_of None; span = Some (5, 6) } ∷ [])
+a_placed_record =
+    kind.Record
+    (record { name = codes "x"; ty = type.U8; docs = docs_of None; span = Some (5, 6) } ∷ [])
 
 abbrev pub a_type : TypeDef
 a_type = new_type (Some (codes "t")) a_record owner.None
 
 abbrev pub a_function : Function
-a_function = new_function (codes "f") function.Freestanding (record { name = codes "p"; ty = type.U8; span = None } ∷ []) None
+a_function =
+    new_function (codes "f") function.Freestanding
+    (record { name = codes "p"; ty = type.U8; span = None } ∷ []) None
 
 abbrev pub an_interface : Interface
-an_interface = record (new_interface (Some (codes "i"))) { functions = (codes "f", a_function) ∷ [] }
+an_interface =
+    record (new_interface (Some (codes "i"))) { functions = (codes "f", a_function) ∷ [] }
 
 pub record ExamplesOfReadDetails : Type 0 where
-  pub completes : reading_of (type_with a_type) (codes "{\"span\":[3,4],\"external-id\":\"e\",\"parts\":[[5,6]]}")
-      ≡ Ok (record a_type { kind = a_placed_record; span = Some (3, 4); external_id = Some (codes "e") })
+  pub completes : reading_of (type_with a_type)
+      (codes "{\"span\":[3,4],\"external-id\":\"e\",\"parts\":[[5,6]]}")
+      ≡ Ok (record a_type
+      { kind = a_placed_record; span = Some (3, 4); external_id = Some (codes "e") })
   -- what is left out is unknown, also where the graph itself says it
-  pub nothing : reading_of (type_with (record a_type { span = Some (3, 4) })) (codes "{\"parts\":[null]}") ≡ Ok a_type
-  pub no_parts : reading_of (type_with a_type) (codes "{}") ≡ fault_at (to (codes "parts") ∷ []) expected.Member
-  pub more_parts : reading_of (type_with a_type) (codes "{\"parts\":[null,null]}") ≡ fault_at (to (codes "parts") ∷ []) expected.Details
-  pub fewer_parts : reading_of (type_with a_type) (codes "{\"parts\":[]}") ≡ fault_at (to (codes "parts") ∷ []) expected.Details
+  pub nothing : reading_of (type_with (record a_type { span = Some (3, 4) }))
+      (codes "{\"parts\":[null]}") ≡ Ok a_type
+  pub no_parts : reading_of (type_with a_type) (codes "{}")
+      ≡ fault_at (to (codes "parts") ∷ []) expected.Member
+  pub more_parts : reading_of (type_with a_type) (codes "{\"parts\":[null,null]}")
+      ≡ fault_at (to (codes "parts") ∷ []) expected.Details
+  pub fewer_parts : reading_of (type_with a_type) (codes "{\"parts\":[]}")
+      ≡ fault_at (to (codes "parts") ∷ []) expected.Details
   -- a resource has no parts
-  pub other_kind : reading_of (kind_with kind.Resource) (codes "{\"parts\":[]}") ≡ fault_at (to (codes "parts") ∷ []) expected.NoMember
-  pub of_function : reading_of (function_with a_function) (codes "{\"params\":[[12,13]],\"span\":[11,20]}")
-      ≡ Ok (record a_function { params = record { name = codes "p"; ty = type.U8; span = Some (12, 13) } ∷ []; span = Some (11, 20) })
-  pub of_interface : reading_of (interface_with an_interface) (codes "{\"span\":[1,2],\"functions\":{\"f\":{\"params\":[null]}}}") ≡ Ok (record an_interface { span = Some (1, 2) })
-  pub other_name : reading_of (interface_with an_interface) (codes "{\"functions\":{\"g\":{\"params\":[null]}}}") ≡ fault_at (to (codes "functions") ∷ []) expected.Details
-  pub of_entry : reading_of (item_with (item.Interface 3 Unknown (docs_of None) None None)) (codes "{\"docs\":{\"contents\":\"E.\"},\"span\":[1,2]}")
+  pub other_kind : reading_of (kind_with kind.Resource) (codes "{\"parts\":[]}")
+      ≡ fault_at (to (codes "parts") ∷ []) expected.NoMember
+  pub of_function : reading_of (function_with a_function)
+      (codes "{\"params\":[[12,13]],\"span\":[11,20]}")
+      ≡ Ok (record a_function {
+        params = record { name = codes "p"; ty = type.U8; span = Some (12, 13) } ∷ [];
+        span = Some (11, 20);
+      })
+  pub of_interface : reading_of (interface_with an_interface)
+      (codes "{\"span\":[1,2],\"functions\":{\"f\":{\"params\":[null]}}}")
+      ≡ Ok (record an_interface { span = Some (1, 2) })
+  pub other_name : reading_of (interface_with an_interface)
+      (codes "{\"functions\":{\"g\":{\"params\":[null]}}}")
+      ≡ fault_at (to (codes "functions") ∷ []) expected.Details
+  pub of_entry : reading_of (item_with (item.Interface 3 Unknown (docs_of None) None None))
+      (codes "{\"docs\":{\"contents\":\"E.\"},\"span\":[1,2]}")
       ≡ Ok (item.Interface 3 Unknown (docs_of (Some (codes "E."))) (Some (1, 2)) None)
-  pub no_id : reading_of (item_with (item.Interface 3 Unknown (docs_of None) None None)) (codes "{\"id\":3}") ≡ fault_at (to (codes "id") ∷ []) expected.NoMember
+  pub no_id : reading_of (item_with (item.Interface 3 Unknown (docs_of None) None None))
+      (codes "{\"id\":3}") ≡ fault_at (to (codes "id") ∷ []) expected.NoMember
 
 abbrev pub parts : List ℕ → Reading ResolveParts
 parts text = reading_of resolve_of text
 
 pub record ExamplesOfReadResolves : Type 0 where
   -- a graph alone
-  pub alone : parts (codes "{\"graph\":{\"worlds\":[],\"interfaces\":[],\"types\":[],\"packages\":[]}}")
-      ≡ Ok (record { graph = no_graph; features = no_features; source_map = no_sources; track_rule = Published })
+  pub alone : parts
+      (codes "{\"graph\":{\"worlds\":[],\"interfaces\":[],\"types\":[],\"packages\":[]}}")
+      ≡ Ok (record {
+        graph = no_graph;
+        features = no_features;
+        source_map = no_sources;
+        track_rule = Published;
+      })
   -- with all that comes out
   pub whole : parts (codes "{\"graph\":{\"worlds\":[],\"interfaces\":[],\"types\":[],\"packages\":[]},\"details\":{\"worlds\":[],\"interfaces\":[],\"types\":[]},\"features\":{\"all\":true,\"names\":[]},\"track-rule\":\"with-prereleases\",\"sources\":[{\"path\":\"a.wit\",\"text\":\"A\"},{\"path\":\"b.wit\",\"text\":\"\"}]}")
-      ≡ Ok (record { graph = no_graph; features = all_features; source_map = two_files; track_rule = WithPrereleases })
-  pub no_graph_there : parts (codes "{\"details\":{\"worlds\":[],\"interfaces\":[],\"types\":[]}}") ≡ fault_at (to (codes "graph") ∷ []) expected.Member
+      ≡ Ok (record {
+        graph = no_graph;
+        features = all_features;
+        source_map = two_files;
+        track_rule = WithPrereleases;
+      })
+  pub no_graph_there : parts (codes "{\"details\":{\"worlds\":[],\"interfaces\":[],\"types\":[]}}")
+      ≡ fault_at (to (codes "graph") ∷ []) expected.Member
   pub in_details : parts (codes "{\"graph\":{\"worlds\":[],\"interfaces\":[],\"types\":[],\"packages\":[]},\"details\":{\"worlds\":[],\"interfaces\":[{}],\"types\":[]}}")
       ≡ fault_at (to (codes "interfaces") ∷ to (codes "details") ∷ []) expected.Details
   pub paths_alone : parts (codes "{\"graph\":{\"worlds\":[],\"interfaces\":[],\"types\":[],\"packages\":[]},\"files\":[\"a.wit\"]}") ≡ fault_at (to (codes "files") ∷ []) expected.NoMember

@@ -63,7 +63,8 @@ pub record ExamplesOfReadValues : Type 0 where
   pub something : reading_of (values.nullable values.number_of) (codes "7") ≡ Ok (Some 7)
   -- lists; the fault of an item is told at its index, the first one alone
   pub items : reading_of (list_of values.number_of) (codes "[1, 2]") ≡ Ok (1 ∷ 2 ∷ [])
-  pub first_fault : reading_of (list_of values.number_of) (codes "[1,true,null]") ≡ fault_at (step.Item 1 ∷ []) expected.Number
+  pub first_fault : reading_of (list_of values.number_of) (codes "[1,true,null]")
+      ≡ fault_at (step.Item 1 ∷ []) expected.Number
   pub not_list : reading_of (list_of values.number_of) (codes "{}") ≡ instead_of expected.List
 
 abbrev pub span : List ℕ → Reading (Option (ℕ × ℕ))
@@ -79,23 +80,37 @@ stability text = reading_of gates.stability_of text
 pub record ExamplesOfReadGates : Type 0 where
   pub placed : span (codes "{\"span\":[3,9]}") ≡ Ok (Some (3, 9))
   pub empty : span (codes "{\"span\":[3,3]}") ≡ Ok (Some (3, 3))
-  pub not_backwards : span (codes "{\"span\":[9,3]}") ≡ fault_at (to (codes "span") ∷ []) expected.Span
+  pub not_backwards : span (codes "{\"span\":[9,3]}")
+      ≡ fault_at (to (codes "span") ∷ []) expected.Span
   pub not_one : span (codes "{\"span\":[9]}") ≡ fault_at (to (codes "span") ∷ []) expected.Pair
-  pub not_past : span (codes "{\"span\":[9,4294967296]}") ≡ fault_at (step.Item 1 ∷ to (codes "span") ∷ []) expected.SmallNumber
+  pub not_past : span (codes "{\"span\":[9,4294967296]}")
+      ≡ fault_at (step.Item 1 ∷ to (codes "span") ∷ []) expected.SmallNumber
   -- one that is left out or null is unknown
   pub unknown : span (codes "{}") ≡ Ok None
   pub null_ : span (codes "{\"span\":null}") ≡ Ok None
   pub docs_ : docs (codes "{\"docs\":{\"contents\":\"A.\"}}") ≡ Ok (docs_of (Some (codes "A.")))
   pub no_docs : docs (codes "{}") ≡ Ok (docs_of None)
-  pub not_bare : docs (codes "{\"docs\":\"A.\"}") ≡ fault_at (to (codes "docs") ∷ []) expected.Object
-  pub no_more : docs (codes "{\"docs\":{\"contents\":\"A.\",\"more\":1}}") ≡ fault_at (to (codes "more") ∷ to (codes "docs") ∷ []) expected.NoMember
+  pub not_bare : docs (codes "{\"docs\":\"A.\"}")
+      ≡ fault_at (to (codes "docs") ∷ []) expected.Object
+  pub no_more : docs (codes "{\"docs\":{\"contents\":\"A.\",\"more\":1}}")
+      ≡ fault_at (to (codes "more") ∷ to (codes "docs") ∷ []) expected.NoMember
   pub ungated : stability (codes "{}") ≡ Ok Unknown
-  pub stable : stability (codes "{\"stability\":{\"stable\":{\"since\":\"1.0.0\"}}}") ≡ Ok (Stable (release 1 0 0) None)
-  pub unstable : stability (codes "{\"stability\":{\"unstable\":{\"deprecated\":\"2.0.0\",\"feature\":\"f\"}}}") ≡ Ok (Unstable (codes "f") (Some (release 2 0 0)))
-  pub no_feature : stability (codes "{\"stability\":{\"unstable\":{}}}") ≡ fault_at (to (codes "feature") ∷ to (codes "unstable") ∷ to (codes "stability") ∷ []) expected.Member
+  pub stable : stability (codes "{\"stability\":{\"stable\":{\"since\":\"1.0.0\"}}}")
+      ≡ Ok (Stable (release 1 0 0) None)
+  pub unstable : stability
+      (codes "{\"stability\":{\"unstable\":{\"deprecated\":\"2.0.0\",\"feature\":\"f\"}}}")
+      ≡ Ok (Unstable (codes "f") (Some (release 2 0 0)))
+  pub no_feature : stability (codes "{\"stability\":{\"unstable\":{}}}")
+      ≡ fault_at (to (codes "feature") ∷ to (codes "unstable") ∷ to (codes "stability") ∷ [])
+      expected.Member
   pub no_version : stability (codes "{\"stability\":{\"stable\":{\"since\":\"1\"}}}")
-      ≡ fault_at (to (codes "since") ∷ to (codes "stable") ∷ to (codes "stability") ∷ []) expected.Version
-  pub not_twice : stability (codes "{\"stability\":{\"stable\":{\"since\":\"1.0.0\",\"since\":\"1.0.0\"}}}")
-      ≡ fault_at (to (codes "since") ∷ to (codes "stable") ∷ to (codes "stability") ∷ []) expected.NoSecondMember
-  pub other_gate : stability (codes "{\"stability\":{\"Stable\":{}}}") ≡ fault_at (to (codes "Stable") ∷ to (codes "stability") ∷ []) expected.Gate
-  pub two_gates : stability (codes "{\"stability\":{\"stable\":{},\"unstable\":{}}}") ≡ fault_at (to (codes "stability") ∷ []) expected.Gate
+      ≡ fault_at (to (codes "since") ∷ to (codes "stable") ∷ to (codes "stability") ∷ [])
+      expected.Version
+  pub not_twice : stability
+      (codes "{\"stability\":{\"stable\":{\"since\":\"1.0.0\",\"since\":\"1.0.0\"}}}")
+      ≡ fault_at (to (codes "since") ∷ to (codes "stable") ∷ to (codes "stability") ∷ [])
+      expected.NoSecondMember
+  pub other_gate : stability (codes "{\"stability\":{\"Stable\":{}}}")
+      ≡ fault_at (to (codes "Stable") ∷ to (codes "stability") ∷ []) expected.Gate
+  pub two_gates : stability (codes "{\"stability\":{\"stable\":{},\"unstable\":{}}}")
+      ≡ fault_at (to (codes "stability") ∷ []) expected.Gate

@@ -28,8 +28,11 @@ pub record ExamplesOfRefusals : Type 0 where
   pub cycle : refusal_text a_cycle ≡ codes "{\"number\":23,\"cause\":\"type-cycle\",\"text\":\"type `t` depends on itself\",\"span\":[5,9]}"
   pub not_semantic : refusal_text a_cycle ≢ codes "{\"number\":23,\"cause\":\"semantic\",\"text\":\"type `t` depends on itself\",\"span\":[5,9]}"
   -- of two spans the first is told
-  pub twice : refusal_text (kind.DuplicatePackage (foo_bar (Some (release 1 0 0))) (Some (1, 2)) (Some (7, 8)))
+  pub twice : refusal_text
+      (kind.DuplicatePackage (foo_bar (Some (release 1 0 0))) (Some (1, 2)) (Some (7, 8)))
       ≡ codes "{\"number\":5,\"cause\":\"duplicate-package\",\"text\":\"package `foo:bar@1.0.0` is defined in two different locations\",\"span\":[1,2]}"
   -- a span that is unknown is left out
-  pub memory : refusal_text kind.OutOfMemory ≡ codes "{\"number\":28,\"cause\":\"out-of-memory\",\"text\":\"out of memory\"}"
-  pub not_null : refusal_text kind.OutOfMemory ≢ codes "{\"number\":28,\"cause\":\"out-of-memory\",\"text\":\"out of memory\",\"span\":null}"
+  pub memory : refusal_text kind.OutOfMemory
+      ≡ codes "{\"number\":28,\"cause\":\"out-of-memory\",\"text\":\"out of memory\"}"
+  pub not_null : refusal_text kind.OutOfMemory
+      ≢ codes "{\"number\":28,\"cause\":\"out-of-memory\",\"text\":\"out of memory\",\"span\":null}"

@@ -41,12 +41,18 @@ pub record ExamplesOfTypes : Type 0 where
   pub of_world : compact (json_of_owner (owner.World 0)) ≡ codes "{\"world\":0}"
   pub of_nobody : compact (json_of_owner owner.None) ≡ codes "null"
   -- a whole type; one without a name has null there
-  pub named : compact (json_of_type_def (new_type (Some (codes "t")) (kind.Type_ type.U8) (owner.Interface 1))) ≡ codes "{\"name\":\"t\",\"kind\":{\"type\":\"u8\"},\"owner\":{\"interface\":1}}"
-  pub not_nameless : compact (json_of_type_def (new_type (Some (codes "t")) (kind.Type_ type.U8) (owner.Interface 1))) ≢ codes "{\"kind\":{\"type\":\"u8\"},\"owner\":{\"interface\":1}}"
-  pub unnamed : compact (json_of_type_def (new_type None kind.Resource owner.None)) ≡ codes "{\"name\":null,\"kind\":\"resource\",\"owner\":null}"
+  pub named : compact
+      (json_of_type_def (new_type (Some (codes "t")) (kind.Type_ type.U8) (owner.Interface 1)))
+      ≡ codes "{\"name\":\"t\",\"kind\":{\"type\":\"u8\"},\"owner\":{\"interface\":1}}"
+  pub not_nameless : compact
+      (json_of_type_def (new_type (Some (codes "t")) (kind.Type_ type.U8) (owner.Interface 1)))
+      ≢ codes "{\"kind\":{\"type\":\"u8\"},\"owner\":{\"interface\":1}}"
+  pub unnamed : compact (json_of_type_def (new_type None kind.Resource owner.None))
+      ≡ codes "{\"name\":null,\"kind\":\"resource\",\"owner\":null}"
 
 abbrev pub a_field : Field
-a_field = record { name = codes "x"; ty = type.U32; docs = docs_of (Some (codes "X.")); span = None }
+a_field =
+    record { name = codes "x"; ty = type.U32; docs = docs_of (Some (codes "X.")); span = None }
 
 abbrev pub a_flag : Flag
 a_flag = record { name = codes "r"; docs = docs_of None; span = None }
@@ -62,27 +68,40 @@ red = record { name = codes "red"; docs = docs_of None; span = None }
 
 pub record ExamplesOfKinds : Type 0 where
   pub fields : kind_text (kind.Record (a_field ∷ [])) ≡ codes "{\"record\":{\"fields\":[{\"name\":\"x\",\"type\":\"u32\",\"docs\":{\"contents\":\"X.\"}}]}}"
-  pub no_docs_dropped : kind_text (kind.Record (a_field ∷ [])) ≢ codes "{\"record\":{\"fields\":[{\"name\":\"x\",\"type\":\"u32\"}]}}"
-  pub no_field_dropped : kind_text (kind.Record (a_field ∷ [])) ≢ codes "{\"record\":{\"fields\":[]}}"
-  pub not_under_names : kind_text (kind.Record (a_field ∷ [])) ≢ codes "{\"record\":{\"x\":\"u32\"}}"
+  pub no_docs_dropped : kind_text (kind.Record (a_field ∷ []))
+      ≢ codes "{\"record\":{\"fields\":[{\"name\":\"x\",\"type\":\"u32\"}]}}"
+  pub no_field_dropped : kind_text (kind.Record (a_field ∷ []))
+      ≢ codes "{\"record\":{\"fields\":[]}}"
+  pub not_under_names : kind_text (kind.Record (a_field ∷ []))
+      ≢ codes "{\"record\":{\"x\":\"u32\"}}"
   pub resource : kind_text kind.Resource ≡ codes "\"resource\""
   pub owned : kind_text (kind.Handle (Own 7)) ≡ codes "{\"handle\":{\"own\":7}}"
   pub borrowed : kind_text (kind.Handle (Borrow 7)) ≡ codes "{\"handle\":{\"borrow\":7}}"
   pub not_owned : kind_text (kind.Handle (Borrow 7)) ≢ codes "{\"handle\":{\"own\":7}}"
-  pub flags : kind_text (kind.Flags (a_flag ∷ [])) ≡ codes "{\"flags\":{\"flags\":[{\"name\":\"r\"}]}}"
-  pub tuple : kind_text (kind.Tuple (type.U8 ∷ type.Id 0 ∷ [])) ≡ codes "{\"tuple\":{\"types\":[\"u8\",0]}}"
-  pub in_order : kind_text (kind.Tuple (type.U8 ∷ type.Id 0 ∷ [])) ≢ codes "{\"tuple\":{\"types\":[0,\"u8\"]}}"
-  pub cases : kind_text (kind.Variant (full_case ∷ empty_case ∷ [])) ≡ codes "{\"variant\":{\"cases\":[{\"name\":\"a\",\"type\":1},{\"name\":\"b\",\"type\":null}]}}"
-  pub no_type_dropped : kind_text (kind.Variant (empty_case ∷ [])) ≢ codes "{\"variant\":{\"cases\":[{\"name\":\"b\"}]}}"
+  pub flags : kind_text (kind.Flags (a_flag ∷ []))
+      ≡ codes "{\"flags\":{\"flags\":[{\"name\":\"r\"}]}}"
+  pub tuple : kind_text (kind.Tuple (type.U8 ∷ type.Id 0 ∷ []))
+      ≡ codes "{\"tuple\":{\"types\":[\"u8\",0]}}"
+  pub in_order : kind_text (kind.Tuple (type.U8 ∷ type.Id 0 ∷ []))
+      ≢ codes "{\"tuple\":{\"types\":[0,\"u8\"]}}"
+  pub cases : kind_text (kind.Variant (full_case ∷ empty_case ∷ []))
+      ≡ codes
+      "{\"variant\":{\"cases\":[{\"name\":\"a\",\"type\":1},{\"name\":\"b\",\"type\":null}]}}"
+  pub no_type_dropped : kind_text (kind.Variant (empty_case ∷ []))
+      ≢ codes "{\"variant\":{\"cases\":[{\"name\":\"b\"}]}}"
   pub enum : kind_text (kind.Enum (red ∷ [])) ≡ codes "{\"enum\":{\"cases\":[{\"name\":\"red\"}]}}"
-  pub not_variant : kind_text (kind.Enum (red ∷ [])) ≢ codes "{\"variant\":{\"cases\":[{\"name\":\"red\"}]}}"
+  pub not_variant : kind_text (kind.Enum (red ∷ []))
+      ≢ codes "{\"variant\":{\"cases\":[{\"name\":\"red\"}]}}"
   pub option : kind_text (kind.Option type.Bool) ≡ codes "{\"option\":\"bool\"}"
-  pub result_ : kind_text (kind.Result_ (Some type.U8) None) ≡ codes "{\"result\":{\"ok\":\"u8\",\"err\":null}}"
-  pub not_exchanged : kind_text (kind.Result_ (Some type.U8) None) ≢ codes "{\"result\":{\"ok\":null,\"err\":\"u8\"}}"
+  pub result_ : kind_text (kind.Result_ (Some type.U8) None)
+      ≡ codes "{\"result\":{\"ok\":\"u8\",\"err\":null}}"
+  pub not_exchanged : kind_text (kind.Result_ (Some type.U8) None)
+      ≢ codes "{\"result\":{\"ok\":null,\"err\":\"u8\"}}"
   pub list : kind_text (kind.List type.S8) ≡ codes "{\"list\":\"s8\"}"
   pub «map» : kind_text (kind.Map type.String type.U8) ≡ codes "{\"map\":[\"string\",\"u8\"]}"
   pub key_first : kind_text (kind.Map type.String type.U8) ≢ codes "{\"map\":[\"u8\",\"string\"]}"
-  pub fixed : kind_text (kind.FixedLengthList type.U8 4) ≡ codes "{\"fixed-length-list\":[\"u8\",4]}"
+  pub fixed : kind_text (kind.FixedLengthList type.U8 4)
+      ≡ codes "{\"fixed-length-list\":[\"u8\",4]}"
   pub not_list : kind_text (kind.FixedLengthList type.U8 4) ≢ codes "{\"list\":\"u8\"}"
   pub future : kind_text (kind.Future None) ≡ codes "{\"future\":null}"
   pub stream : kind_text (kind.Stream (Some type.U8)) ≡ codes "{\"stream\":\"u8\"}"

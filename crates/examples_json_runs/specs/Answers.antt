@@ -32,15 +32,27 @@ abbrev pub misplaced_function : ShapeFault
 misplaced_function = record { clause = clause.OwnersFunctions; place = place.Function 1 1 }
 
 abbrev pub unshaped_text : Option ℕ → Option ℕ → List ℕ
-unshaped_text group nested = answer_text (answer.NotShaped (record { group = group; «package» = nested; fault = misplaced_function }))
+unshaped_text group nested =
+    answer_text
+    (answer.NotShaped (record { group = group; «package» = nested; fault = misplaced_function }))
 
 -- one file of two lines
 abbrev pub one_file : Sources
-one_file = record { files = record { path = codes "f"; contents = codes "package a:b\nworld"; start = 0 } ∷ []; end = 18 }
+one_file =
+    record {
+      files = record { path = codes "f"; contents = codes "package a:b\nworld"; start = 0 }
+          ∷ [];
+      end = 18;
+    }
 
 -- the same, and another file of one line
 abbrev pub two_lines : Sources
-two_lines = record { files = one_file.files ++ record { path = codes "g"; contents = codes "xyz"; start = 19 } ∷ []; end = 23 }
+two_lines =
+    record {
+      files = one_file.files
+          ++ record { path = codes "g"; contents = codes "xyz"; start = 19 } ∷ [];
+      end = 23;
+    }
 
 abbrev pub a_name : PackageName
 a_name = record { namespace = codes "a"; name = codes "b"; version = None }
@@ -51,12 +63,20 @@ with_world = record {
   types = [];
   interfaces = [];
   worlds = record (new_world (codes "w")) { «package» = Some 0; span = Some (12, 17) } ∷ [];
-  packages = record { name = a_name; docs = record { contents = None }; interfaces = []; worlds = (codes "w", 0) ∷ [] } ∷ [];
+  packages =
+      record {
+        name = a_name;
+        docs = record { contents = None };
+        interfaces = [];
+        worlds = (codes "w", 0) ∷ [];
+      } ∷ [];
   package_names = (a_name, 0) ∷ [];
 }
 
 abbrev pub a_remap : Remap
-a_remap = record { types = Some 4 ∷ None ∷ []; interfaces = Some 2 ∷ []; worlds = []; packages = 1 ∷ 0 ∷ [] }
+a_remap =
+    record
+    { types = Some 4 ∷ None ∷ []; interfaces = Some 2 ∷ []; worlds = []; packages = 1 ∷ 0 ∷ [] }
 
 pub record ExamplesOfAnswers : Type 0 where
   -- words
@@ -76,26 +96,40 @@ pub record ExamplesOfAnswers : Type 0 where
   pub types : answer_text (answer.Types []) ≡ codes "{\"types\":[]}"
   pub text : answer_text (answer.Text (codes "a:b/c@1")) ≡ codes "{\"text\":\"a:b/c@1\"}"
   -- where the things of a merged graph stand
-  pub merged : answer_text (answer.Merged a_remap) ≡ codes "{\"merged\":{\"types\":[4,null],\"interfaces\":[2],\"worlds\":[],\"packages\":[1,0]}}"
-  pub not_left_out : answer_text (answer.Merged a_remap) ≢ codes "{\"merged\":{\"types\":[4],\"interfaces\":[2],\"worlds\":[],\"packages\":[1,0]}}"
+  pub merged : answer_text (answer.Merged a_remap)
+      ≡ codes
+      "{\"merged\":{\"types\":[4,null],\"interfaces\":[2],\"worlds\":[],\"packages\":[1,0]}}"
+  pub not_left_out : answer_text (answer.Merged a_remap)
+      ≢ codes "{\"merged\":{\"types\":[4],\"interfaces\":[2],\"worlds\":[],\"packages\":[1,0]}}"
   -- a refusal, with its line
-  pub refused : answer_text (answer.Refused (record { error = kind.OutOfMemory; rendered = codes "out of memory" }))
+  pub refused : answer_text
+      (answer.Refused (record { error = kind.OutOfMemory; rendered = codes "out of memory" }))
       ≡ codes "{\"refused\":{\"error\":{\"number\":28,\"cause\":\"out-of-memory\",\"text\":\"out of memory\"},\"rendered\":\"out of memory\"}}"
   -- a refusal as it is told: its text, what was asked, and where more is said of its number
-  pub told : rendered new_state.graph new_state.source_map (codes "merge") [] kind.OffsetOverflow ≡ codes "source positions would pass 4294967295\n      = merge\n      = 27 in docs/REFUSALS.md"
-  pub not_alone : rendered new_state.graph new_state.source_map (codes "merge") [] kind.OffsetOverflow ≢ codes "source positions would pass 4294967295"
+  pub told : rendered new_state.graph new_state.source_map (codes "merge") [] kind.OffsetOverflow
+      ≡ codes
+      "source positions would pass 4294967295\n      = merge\n      = 27 in docs/REFUSALS.md"
+  pub not_alone : rendered new_state.graph new_state.source_map (codes "merge") []
+      kind.OffsetOverflow ≢ codes "source positions would pass 4294967295"
   -- with its line
-  pub with_line : rendered new_state.graph one_file (codes "push-groups a:b") [] (kind.PackageCycle (Some (12, 17)) a_name)
+  pub with_line : rendered new_state.graph one_file (codes "push-groups a:b") []
+      (kind.PackageCycle (Some (12, 17)) a_name)
       ≡ codes "package `a:b` creates a dependency cycle\n     --> f:2:1\n      |\n    2 | world\n      | ^----\n      = push-groups a:b\n      = 6 in docs/REFUSALS.md"
   -- with its way and the line of each step
-  pub with_way : rendered new_state.graph one_file (codes "push-groups a:b") (record { from = codes "a:b"; to = codes "c:d"; span = None } ∷ record { from = codes "c:d"; to = codes "a:b"; span = Some (12, 17) } ∷ []) (kind.PackageCycle None a_name)
+  pub with_way : rendered new_state.graph one_file (codes "push-groups a:b")
+      (record { from = codes "a:b"; to = codes "c:d"; span = None }
+      ∷ record { from = codes "c:d"; to = codes "a:b"; span = Some (12, 17) } ∷ [])
+      (kind.PackageCycle None a_name)
       ≡ codes "package `a:b` creates a dependency cycle\n      = way: a:b -> c:d -> a:b\n     --> f:2:1\n      |\n    2 | world\n      | ^----\n      = push-groups a:b\n      = 6 in docs/REFUSALS.md"
   -- a package that is defined twice, with both places: those of the error, or that of what the graph has of the package
-  pub both_known : rendered new_state.graph two_lines (codes "merge") [] (kind.DuplicatePackage a_name (Some (20, 21)) (Some (8, 9)))
+  pub both_known : rendered new_state.graph two_lines (codes "merge") []
+      (kind.DuplicatePackage a_name (Some (20, 21)) (Some (8, 9)))
       ≡ codes "package `a:b` is defined in two different locations\n     --> g:1:2\n      |\n    1 | xyz\n      |  ^\n     --> f:1:9\n      |\n    1 | package a:b\n      |         ^\n      = merge\n      = 5 in docs/REFUSALS.md"
-  pub other_by_the_graph : rendered with_world two_lines (codes "push-groups a:b") [] (kind.DuplicatePackage a_name (Some (20, 21)) None)
+  pub other_by_the_graph : rendered with_world two_lines (codes "push-groups a:b") []
+      (kind.DuplicatePackage a_name (Some (20, 21)) None)
       ≡ codes "package `a:b` is defined in two different locations\n     --> g:1:2\n      |\n    1 | xyz\n      |  ^\n     --> f:2:1\n      |\n    2 | world\n      | ^----\n      = push-groups a:b\n      = 5 in docs/REFUSALS.md"
-  pub not_of_another : rendered with_world two_lines (codes "push-groups c:d") [] (kind.DuplicatePackage (record a_name { namespace = codes "c" }) None None)
+  pub not_of_another : rendered with_world two_lines (codes "push-groups c:d") []
+      (kind.DuplicatePackage (record a_name { namespace = codes "c" }) None None)
       ≡ codes "package `c:b` is defined in two different locations\n      = push-groups c:d\n      = 5 in docs/REFUSALS.md"
   -- a package without its shape: the path to it, and what it lacks
   pub main : unshaped_text None None
@@ -121,19 +155,28 @@ response_text it = compact (json_of_response it)
 
 -- of a value in the first command
 abbrev pub a_fault : Fault
-a_fault = record { path = step.Member (codes "add-feature") ∷ step.Item 0 ∷ step.Member (codes "commands") ∷ []; expected = expected.Text }
+a_fault =
+    record {
+      path = step.Member (codes "add-feature") ∷ step.Item 0 ∷ step.Member (codes "commands")
+          ∷ [];
+      expected = expected.Text;
+    }
 
 pub record ExamplesOfDocuments : Type 0 where
   -- the replies to what made another graph stand within that to its merge
-  pub «merge» : response_text (response.Merge (answer.Done ∷ answer.NoWorld ∷ []) answer.Done) ≡ codes "{\"merge\":{\"replies\":[\"done\",\"no-world\"],\"reply\":\"done\"}}"
-  pub not_beside : response_text (response.Merge (answer.Done ∷ answer.NoWorld ∷ []) answer.Done) ≢ codes "[\"done\",\"no-world\",\"done\"]"
+  pub «merge» : response_text (response.Merge (answer.Done ∷ answer.NoWorld ∷ []) answer.Done)
+      ≡ codes "{\"merge\":{\"replies\":[\"done\",\"no-world\"],\"reply\":\"done\"}}"
+  pub not_beside : response_text (response.Merge (answer.Done ∷ answer.NoWorld ∷ []) answer.Done)
+      ≢ codes "[\"done\",\"no-world\",\"done\"]"
   pub plain : response_text (response.Answer answer.Done) ≡ codes "\"done\""
   -- the path of a fault from the whole down
   pub fault : compact (json_of_fault a_fault 29) ≡ codes "{\"fault\":{\"path\":[\"commands\",0,\"add-feature\"],\"offset\":29,\"expected\":\"a text\"}}"
   pub not_upwards : compact (json_of_fault a_fault 29) ≢ codes "{\"fault\":{\"path\":[\"add-feature\",0,\"commands\"],\"offset\":29,\"expected\":\"a text\"}}"
   pub not_next : compact (json_of_fault a_fault 29) ≢ codes "{\"fault\":{\"path\":[\"commands\",0,\"add-feature\"],\"offset\":30,\"expected\":\"a text\"}}"
   -- nothing was asked of an empty graph
-  pub nothing : compact (json_of_output [] new_state.graph new_state.features Published new_state.source_map)
+  pub nothing : compact
+      (json_of_output [] new_state.graph new_state.features Published new_state.source_map)
       ≡ codes "{\"replies\":[],\"resolve\":{\"graph\":{\"worlds\":[],\"interfaces\":[],\"types\":[],\"packages\":[]},\"details\":{\"worlds\":[],\"interfaces\":[],\"types\":[]},\"features\":{\"all\":false,\"names\":[]},\"track-rule\":\"published\",\"sources\":[]}}"
-  pub not_published : compact (json_of_output [] new_state.graph new_state.features WithPrereleases new_state.source_map)
+  pub not_published : compact
+      (json_of_output [] new_state.graph new_state.features WithPrereleases new_state.source_map)
       ≢ codes "{\"replies\":[],\"resolve\":{\"graph\":{\"worlds\":[],\"interfaces\":[],\"types\":[],\"packages\":[]},\"details\":{\"worlds\":[],\"interfaces\":[],\"types\":[]},\"features\":{\"all\":false,\"names\":[]},\"track-rule\":\"published\",\"sources\":[]}}"

@@ -50,7 +50,8 @@ plain name = new_function name function.Freestanding [] None
 abbrev pub b_of_bar : Interface
 b_of_bar = record (new_interface (Some (codes "b"))) {
   types = (codes "t", 1) ∷ [];
-  functions = (codes "g", new_function (codes "g") function.Freestanding [] (Some (type.Id 2))) ∷ [];
+  functions =
+      (codes "g", new_function (codes "g") function.Freestanding [] (Some (type.Id 2))) ∷ [];
   «package» = Some 0;
 }
 
@@ -71,13 +72,24 @@ w_of_bar = record (new_world (codes "w")) {
 abbrev pub asked_graph : Graph
 asked_graph = record {
   types =
-      new_type (Some (codes "t")) (kind.Type_ type.U8) (owner.Interface 1) ∷ new_type (Some (codes "t")) (kind.Type_ (type.Id 0)) (owner.Interface 0)
+      new_type (Some (codes "t")) (kind.Type_ type.U8) (owner.Interface 1)
+      ∷ new_type (Some (codes "t")) (kind.Type_ (type.Id 0)) (owner.Interface 0)
       ∷ new_type None (kind.Future (Some type.U8)) owner.None ∷ [];
   interfaces = b_of_bar ∷ a_of_x ∷ [];
   worlds = w_of_bar ∷ [];
   packages =
-      record { name = foo_bar; docs = record { contents = None }; interfaces = (codes "b", 0) ∷ []; worlds = (codes "w", 0) ∷ [] }
-      ∷ record { name = foo_x; docs = record { contents = None }; interfaces = (codes "a", 1) ∷ []; worlds = [] } ∷ [];
+      record {
+        name = foo_bar;
+        docs = record { contents = None };
+        interfaces = (codes "b", 0) ∷ [];
+        worlds = (codes "w", 0) ∷ [];
+      }
+      ∷ record {
+        name = foo_x;
+        docs = record { contents = None };
+        interfaces = (codes "a", 1) ∷ [];
+        worlds = [];
+      } ∷ [];
   package_names = (foo_bar, 0) ∷ (foo_x, 1) ∷ [];
 }
 
@@ -91,7 +103,8 @@ pub record ExamplesOfQuestions : Type 0 where
   pub not_all : packages_named asked_graph (foo_x ∷ not_there ∷ []) ≡ None
   pub no_name : packages_named asked_graph [] ≡ Some []
   -- direct dependencies
-  pub of_interface : interface_dependencies asked_graph foo_bar (codes "b") ≡ answer.Interfaces (1 ∷ [])
+  pub of_interface : interface_dependencies asked_graph foo_bar (codes "b")
+      ≡ answer.Interfaces (1 ∷ [])
   pub of_none : interface_dependencies asked_graph foo_x (codes "a") ≡ answer.Interfaces []
   pub no_interface : interface_dependencies asked_graph foo_bar (codes "a") ≡ answer.NotFound
   pub no_home : interface_dependencies asked_graph not_there (codes "a") ≡ answer.NotFound
@@ -105,11 +118,16 @@ pub record ExamplesOfQuestions : Type 0 where
   pub not_whole : canonical_id asked_graph foo_x (codes "a") ≢ answer.Text (codes "foo:x/a@0.2.1")
   pub nowhere : canonical_id asked_graph not_there (codes "a") ≡ answer.NotFound
   -- the futures of a function, where it stands
-  pub future : futures_and_streams asked_graph (placed site.Interface foo_bar (codes "b") (codes "g")) ≡ answer.Types (2 ∷ [])
-  pub no_future : futures_and_streams asked_graph (placed site.Interface foo_x (codes "a") (codes "f")) ≡ answer.Types []
-  pub of_export : futures_and_streams asked_graph (placed site.Export foo_bar (codes "w") (codes "run")) ≡ answer.Types []
-  pub not_imported : futures_and_streams asked_graph (placed site.Import foo_bar (codes "w") (codes "run")) ≡ answer.NotFound
-  pub not_of_interface : futures_and_streams asked_graph (placed site.Interface foo_bar (codes "w") (codes "run")) ≡ answer.NotFound
+  pub future : futures_and_streams asked_graph
+      (placed site.Interface foo_bar (codes "b") (codes "g")) ≡ answer.Types (2 ∷ [])
+  pub no_future : futures_and_streams asked_graph
+      (placed site.Interface foo_x (codes "a") (codes "f")) ≡ answer.Types []
+  pub of_export : futures_and_streams asked_graph
+      (placed site.Export foo_bar (codes "w") (codes "run")) ≡ answer.Types []
+  pub not_imported : futures_and_streams asked_graph
+      (placed site.Import foo_bar (codes "w") (codes "run")) ≡ answer.NotFound
+  pub not_of_interface : futures_and_streams asked_graph
+      (placed site.Interface foo_bar (codes "w") (codes "run")) ≡ answer.NotFound
 
 abbrev pub no_files : Sources
 no_files = record { files = []; end = 0 }
@@ -120,9 +138,12 @@ refused_28 asked = refused asked_graph no_files asked [] OutOfMemory
 
 pub record ExamplesOfRefusedQuestions : Type 0 where
   -- what is asked, or that memory was refused for it, by its word
-  pub told : AnswersQuestion asked_graph no_files question.PackageOrder (answer.Packages (1 ∷ 0 ∷ []))
-  pub refused_ : AnswersQuestion asked_graph no_files question.PackageOrder (refused_28 (codes "package-order"))
-  pub no_other_word : AnswersQuestion asked_graph no_files question.PackageOrder (refused_28 (codes "select")) → ⊥
+  pub told : AnswersQuestion asked_graph no_files question.PackageOrder
+      (answer.Packages (1 ∷ 0 ∷ []))
+  pub refused_ : AnswersQuestion asked_graph no_files question.PackageOrder
+      (refused_28 (codes "package-order"))
+  pub no_other_word : AnswersQuestion asked_graph no_files question.PackageOrder
+      (refused_28 (codes "select")) → ⊥
   pub not_nothing : AnswersQuestion asked_graph no_files question.PackageOrder answer.NotFound → ⊥
   pub rendered_ : rendered asked_graph no_files (codes "package-order") [] OutOfMemory
       ≡ codes "out of memory\n      = package-order\n      = 28 in docs/REFUSALS.md"
@@ -136,10 +157,15 @@ exported name = record { interface = None; function = codes "run"; name = name }
 pub record ExamplesOfCoreNames : Type 0 where
   -- in the order of the world
   pub imports : core_imports asked_graph (mangling_of asked.LegacySync) w_of_bar.imports
-      ≡ imported 1 (codes "f") (codes "foo:x/a@0.2.1") (codes "f") ∷ imported 0 (codes "g") (codes "foo:bar/b") (codes "g") ∷ []
-  pub exports : core_exports asked_graph (mangling_of asked.LegacySync) w_of_bar.exports ≡ exported (codes "run") ∷ []
-  pub standard : core_exports asked_graph (mangling_of asked.Standard32) w_of_bar.exports ≡ exported (codes "cm32p2||run") ∷ []
-  pub lifted : core_exports asked_graph (mangling_of asked.LegacyAsyncCallback) w_of_bar.exports ≡ exported (codes "[async-lift]run") ∷ []
-  pub not_stackful : core_exports asked_graph (mangling_of asked.LegacyAsyncStackful) w_of_bar.exports ≢ exported (codes "[async-lift]run") ∷ []
+      ≡ imported 1 (codes "f") (codes "foo:x/a@0.2.1") (codes "f")
+      ∷ imported 0 (codes "g") (codes "foo:bar/b") (codes "g") ∷ []
+  pub exports : core_exports asked_graph (mangling_of asked.LegacySync) w_of_bar.exports
+      ≡ exported (codes "run") ∷ []
+  pub standard : core_exports asked_graph (mangling_of asked.Standard32) w_of_bar.exports
+      ≡ exported (codes "cm32p2||run") ∷ []
+  pub lifted : core_exports asked_graph (mangling_of asked.LegacyAsyncCallback) w_of_bar.exports
+      ≡ exported (codes "[async-lift]run") ∷ []
+  pub not_stackful : core_exports asked_graph (mangling_of asked.LegacyAsyncStackful)
+      w_of_bar.exports ≢ exported (codes "[async-lift]run") ∷ []
   -- of a world that isn't there
   pub no_world : core_names asked_graph foo_x (codes "w") asked.LegacySync ≡ answer.NotFound

@@ -41,10 +41,15 @@ using = record {
   name = a_b;
   package_name_span = None;
   docs = record { contents = None };
-  worlds = record (new_world (codes "w")) { exports = (key.Interface 1, new_interface_entry 1) ∷ []; span = Some (20, 27) } ∷ [];
-  interfaces = record (new_interface (Some (codes "i"))) { types = (codes "t", 0) ∷ [] } ∷ record (new_interface (Some (codes "k"))) { types = (codes "u", 1) ∷ [] } ∷ [];
+  worlds =
+      record (new_world (codes "w"))
+      { exports = (key.Interface 1, new_interface_entry 1) ∷ []; span = Some (20, 27) } ∷ [];
+  interfaces =
+      record (new_interface (Some (codes "i"))) { types = (codes "t", 0) ∷ [] }
+      ∷ record (new_interface (Some (codes "k"))) { types = (codes "u", 1) ∷ [] } ∷ [];
   types = new_type (Some (codes "t")) kind.Unknown (owner.Interface 0)
-      ∷ record (new_type (Some (codes "u")) (kind.Type_ (type.Id 0)) (owner.Interface 1)) { stability = Unstable (codes "f") None; span = Some (10, 12) } ∷ [];
+      ∷ record (new_type (Some (codes "u")) (kind.Type_ (type.Id 0)) (owner.Interface 1))
+      { stability = Unstable (codes "f") None; span = Some (10, 12) } ∷ [];
   foreign_deps = (c_d, (codes "i", (item.Interface 0, Unknown ∷ [])) ∷ []) ∷ [];
   foreign_dep_spans = Some (5, 8) ∷ [];
   unknown_type_spans = None ∷ [];
@@ -65,7 +70,9 @@ arrow from to = record { from = from; to = to; span = None }
 
 -- from `p` to `q`, from there to `r`, and back
 abbrev pub circle : List Arrow
-circle = arrow (codes "p") (codes "q") ∷ arrow (codes "q") (codes "r") ∷ arrow (codes "r") (codes "p") ∷ []
+circle =
+    arrow (codes "p") (codes "q") ∷ arrow (codes "q") (codes "r") ∷ arrow (codes "r") (codes "p")
+    ∷ []
 
 pub record ExamplesOfWays : Type 0 where
   -- spans further on, as far as positions go
@@ -75,20 +82,28 @@ pub record ExamplesOfWays : Type 0 where
   pub named : interface_names using ≡ Some (codes "c:d/i") ∷ Some (codes "a:b/k@1.0.0") ∷ []
   -- a use that is active, and one that isn't; an export under its own key
   pub used : package_arrows f_on 100 using
-      ≡ record { from = codes "a:b/k@1.0.0"; to = codes "c:d/i"; span = Some (110, 112) } ∷ arrow (codes "a:b/w.@1.0.0") (codes "a:b/k@1.0.0") ∷ []
-  pub not_used : package_arrows none_on 100 using ≡ arrow (codes "a:b/w.@1.0.0") (codes "a:b/k@1.0.0") ∷ []
-  pub depends : package_dependencies 100 using ≡ record { from = codes "a:b@1.0.0"; to = codes "c:d"; span = Some (105, 108) } ∷ []
+      ≡ record { from = codes "a:b/k@1.0.0"; to = codes "c:d/i"; span = Some (110, 112) }
+      ∷ arrow (codes "a:b/w.@1.0.0") (codes "a:b/k@1.0.0") ∷ []
+  pub not_used : package_arrows none_on 100 using
+      ≡ arrow (codes "a:b/w.@1.0.0") (codes "a:b/k@1.0.0") ∷ []
+  pub depends : package_dependencies 100 using
+      ≡ record { from = codes "a:b@1.0.0"; to = codes "c:d"; span = Some (105, 108) } ∷ []
   -- the world that stands at a span
-  pub there : find_world (package_worlds 100 using) (Some (120, 127)) ≡ Some (record { «package» = a_b; name = codes "w" })
+  pub there : find_world (package_worlds 100 using) (Some (120, 127))
+      ≡ Some (record { «package» = a_b; name = codes "w" })
   pub elsewhere : find_world (package_worlds 100 using) (Some (20, 27)) ≡ None
   pub nowhere : find_world (package_worlds 100 using) None ≡ None
   -- a label, and of which it may be by an include
   pub label : label_text including.world (codes "m") ≡ codes "a:b/w.m@1.0.0"
-  pub included : included_labels (including ∷ []) (codes "m") ≡ arrow (codes "a:b/w.m@1.0.0") (codes "c:d/v.m") ∷ arrow (codes "a:b/w.m@1.0.0") (codes "c:d/v.n") ∷ []
+  pub included : included_labels (including ∷ []) (codes "m")
+      ≡ arrow (codes "a:b/w.m@1.0.0") (codes "c:d/v.m")
+      ∷ arrow (codes "a:b/w.m@1.0.0") (codes "c:d/v.n") ∷ []
   -- a way that leads back; a way to `r` past `q`, which is no goal; none to `q`, past nothing
   pub round : IsRound circle (codes "p") circle
-  pub past : IsChosen circle (codes "r" ∷ []) (codes "p") false (arrow (codes "p") (codes "q") ∷ arrow (codes "q") (codes "r") ∷ [])
-  pub not_past : IsChosen circle (codes "q" ∷ []) (codes "p") false (arrow (codes "p") (codes "q") ∷ []) → ⊥
+  pub past : IsChosen circle (codes "r" ∷ []) (codes "p") false
+      (arrow (codes "p") (codes "q") ∷ arrow (codes "q") (codes "r") ∷ [])
+  pub not_past : IsChosen circle (codes "q" ∷ []) (codes "p") false
+      (arrow (codes "p") (codes "q") ∷ []) → ⊥
   pub not_none : IsRound circle (codes "p") [] → ⊥
   pub shown : way_names circle ≡ codes "p -> q -> r -> p"
   -- another refusal has no way

@@ -12,13 +12,18 @@ pub record ExamplesOfAccepted : Type 0 where
   pub newest_first : SemverMergeIsAccepted Published (three 0 (1 ∷ 0 ∷ 3 ∷ 2 ∷ [])) 0
   pub again : SemverMergeIsAccepted Published (three 1 (1 ∷ 3 ∷ 2 ∷ [])) 0
   -- an export of a replaced interface, with another name of its own type too
-  pub exported : SemverMergeIsAccepted Published (with_worlds 0 (keyed (0 ∷ 1 ∷ [])) (keyed (0 ∷ 2 ∷ [])) []) 0
-  pub own_alias : SemverMergeIsAccepted Published (with_second_name 0 0 (keyed (0 ∷ 1 ∷ [])) (keyed (0 ∷ 2 ∷ []))) 0
+  pub exported : SemverMergeIsAccepted Published
+      (with_worlds 0 (keyed (0 ∷ 1 ∷ [])) (keyed (0 ∷ 2 ∷ [])) []) 0
+  pub own_alias : SemverMergeIsAccepted Published
+      (with_second_name 0 0 (keyed (0 ∷ 1 ∷ [])) (keyed (0 ∷ 2 ∷ []))) 0
   -- a replaced interface under a label
-  pub labelled : SemverMergeIsAccepted Published (with_worlds 0 (keyed (0 ∷ 1 ∷ []) ++ old_x ∷ []) [] []) 0
+  pub labelled : SemverMergeIsAccepted Published
+      (with_worlds 0 (keyed (0 ∷ 1 ∷ []) ++ old_x ∷ []) [] []) 0
   -- another world beside it, and a second time
-  pub other_world : SemverMergeIsAccepted Published (with_worlds 0 (keyed (0 ∷ 2 ∷ 1 ∷ [])) [] (keyed (0 ∷ 2 ∷ []))) 0
-  pub other_world_again : SemverMergeIsAccepted Published (with_worlds 1 (keyed (1 ∷ 2 ∷ [])) [] (keyed (0 ∷ 1 ∷ 2 ∷ []))) 0
+  pub other_world : SemverMergeIsAccepted Published
+      (with_worlds 0 (keyed (0 ∷ 2 ∷ 1 ∷ [])) [] (keyed (0 ∷ 2 ∷ []))) 0
+  pub other_world_again : SemverMergeIsAccepted Published
+      (with_worlds 1 (keyed (1 ∷ 2 ∷ [])) [] (keyed (0 ∷ 1 ∷ 2 ∷ []))) 0
   -- a pre-release beside its release and an older one, a second time, beside one of another major, beside its release alone, by either rule
   pub apart_from_release : SemverMergeIsAccepted Published (with_release (0 ∷ 1 ∷ 2 ∷ [])) 0
   pub below_release : SemverMergeIsAccepted WithPrereleases (with_release (0 ∷ 1 ∷ 2 ∷ [])) 0
@@ -28,18 +33,26 @@ pub record ExamplesOfAccepted : Type 0 where
   pub apart_from_patch : SemverMergeIsAccepted Published (patch_release (0 ∷ 1 ∷ [])) 0
   pub below_patch : SemverMergeIsAccepted WithPrereleases (patch_release (0 ∷ 1 ∷ [])) 0
   -- two versions alone, three of one track, and uses by the world and under labels
-  pub one_name : SemverMergeIsAccepted Published (beside_x (foo_x (release 0 2 1)) (codes "x") (0 ∷ 1 ∷ [])) 0
+  pub one_name : SemverMergeIsAccepted Published
+      (beside_x (foo_x (release 0 2 1)) (codes "x") (0 ∷ 1 ∷ [])) 0
   pub greatest_of_three : SemverMergeIsAccepted Published (of_one_track 0 (0 ∷ 3 ∷ 1 ∷ 2 ∷ [])) 0
   pub type_use : SemverMergeIsAccepted Published (using_type 0 (0 ∷ 1 ∷ [])) 0
-  pub label_use : SemverMergeIsAccepted Published (with_worlds 0 (keyed (0 ∷ 1 ∷ []) ++ y_at_l ∷ []) [] []) 0
+  pub label_use : SemverMergeIsAccepted Published
+      (with_worlds 0 (keyed (0 ∷ 1 ∷ []) ++ y_at_l ∷ []) [] []) 0
   pub nameless_use : SemverMergeIsAccepted Published (nameless_at_l 0 (0 ∷ 1 ∷ [])) 0
   -- where nothing is replaced, and where there is no world
   pub alone : SemverMergeIsAccepted Published (with_worlds 0 (keyed (0 ∷ 2 ∷ [])) [] []) 0
   pub nowhere : SemverMergeIsAccepted Published of_three 1
-  pub other_interface : SemverMergeIsAccepted Published (beside_x (foo_x (release 0 2 1)) (codes "z") (0 ∷ 1 ∷ [])) 0
-  pub other_package : SemverMergeIsAccepted Published (beside_x (record (foo_x (release 0 2 1)) { name = codes "z" }) (codes "x") (0 ∷ 1 ∷ [])) 0
-  pub other_namespace : SemverMergeIsAccepted Published (beside_x (record (foo_x (release 0 2 1)) { namespace = codes "z" }) (codes "x") (0 ∷ 1 ∷ [])) 0
-  pub without_version : SemverMergeIsAccepted Published (beside_x (record (foo_x (release 0 2 1)) { version = None }) (codes "x") (0 ∷ 1 ∷ [])) 0
-  pub labelled_newer : SemverMergeIsAccepted Published (with_worlds 0 (keyed (0 ∷ []) ++ new_x ∷ []) [] []) 0
+  pub other_interface : SemverMergeIsAccepted Published
+      (beside_x (foo_x (release 0 2 1)) (codes "z") (0 ∷ 1 ∷ [])) 0
+  pub other_package : SemverMergeIsAccepted Published
+      (beside_x (record (foo_x (release 0 2 1)) { name = codes "z" }) (codes "x") (0 ∷ 1 ∷ [])) 0
+  pub other_namespace : SemverMergeIsAccepted Published (beside_x
+      (record (foo_x (release 0 2 1)) { namespace = codes "z" }) (codes "x") (0 ∷ 1 ∷ [])) 0
+  pub without_version : SemverMergeIsAccepted Published
+      (beside_x (record (foo_x (release 0 2 1)) { version = None }) (codes "x") (0 ∷ 1 ∷ [])) 0
+  pub labelled_newer : SemverMergeIsAccepted Published
+      (with_worlds 0 (keyed (0 ∷ []) ++ new_x ∷ []) [] []) 0
   -- and where another world alone imports what uses a replaced interface
-  pub of_another_world : SemverMergeIsAccepted Published (with_worlds 0 (keyed (0 ∷ 1 ∷ [])) [] (keyed (0 ∷ 2 ∷ []))) 0
+  pub of_another_world : SemverMergeIsAccepted Published
+      (with_worlds 0 (keyed (0 ∷ 1 ∷ [])) [] (keyed (0 ∷ 2 ∷ []))) 0

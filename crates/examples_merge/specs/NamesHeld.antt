@@ -18,7 +18,9 @@ at_x = record { home = foo_bar; world = codes "w"; exported = false; label = cod
 
 -- there an interface without a name, with a number t and a function f that takes it
 abbrev pub inner_t : Graph
-inner_t = inner ((codes "t", 0) ∷ []) (number_in 0 (codes "t") ∷ []) (function_of (codes "f") (type.Id 0 ∷ []) None ∷ [])
+inner_t =
+    inner ((codes "t", 0) ∷ []) (number_in 0 (codes "t") ∷ [])
+    (function_of (codes "f") (type.Id 0 ∷ []) None ∷ [])
 
 pub record ExamplesOfNames : Type 0 where
   pub package_name : HasName three (of_package foo_bar)
@@ -26,7 +28,8 @@ pub record ExamplesOfNames : Type 0 where
   pub interface_name : HasName three (of_interface (in_package foo_bar (codes "b")))
   -- an interface isn't named in another package than its own
   pub own_home : HasName b_uses_a (of_interface (in_package (foo_named (codes "b")) (codes "j")))
-  pub other_home : HasName b_uses_a (of_interface (in_package (foo_named (codes "a")) (codes "j"))) → ⊥
+  pub other_home : HasName b_uses_a (of_interface (in_package (foo_named (codes "a")) (codes "j")))
+      → ⊥
   pub world_name : HasName three (of_world foo_bar (codes "w"))
   pub no_world : HasName three (of_world foo_bar (codes "v")) → ⊥
   pub type_name : HasName three (of_type (in_package foo_bar (codes "c")) (codes "t2"))
@@ -49,17 +52,26 @@ pub record ExamplesOfNames : Type 0 where
 
 -- a world w that imports a function under a label with the text of the key of interface i
 abbrev pub same_text : Graph
-same_text = record world_of_i { worlds = world_of (codes "w") ((key.Name (codes "foo:bar/i"), item.Function (function_of (codes "foo:bar/i") [] None)) ∷ []) [] ∷ [] }
+same_text =
+    record world_of_i {
+      worlds = world_of (codes "w") ((
+        key.Name (codes "foo:bar/i"),
+        item.Function (function_of (codes "foo:bar/i") [] None),
+      ) ∷ []) [] ∷ [];
+    }
 
 pub record ExamplesOfKeys : Type 0 where
-  pub text : key_text world_of_i.packages world_of_i.interfaces (key.Interface 0) ≡ codes "foo:bar/i"
+  pub text : key_text world_of_i.packages world_of_i.interfaces (key.Interface 0)
+      ≡ codes "foo:bar/i"
   pub imported : HasKey world_of_i foo_bar (codes "w") false (under_interface foo_bar (codes "i"))
   pub labelled : HasKey same_text foo_bar (codes "w") false (under_label (codes "foo:bar/i"))
   -- the key of an interface isn't the label of its text, nor is the label that key
   pub no_label : HasKey world_of_i foo_bar (codes "w") false (under_label (codes "foo:bar/i")) → ⊥
-  pub no_interface : HasKey same_text foo_bar (codes "w") false (under_interface foo_bar (codes "i")) → ⊥
+  pub no_interface : HasKey same_text foo_bar (codes "w") false
+      (under_interface foo_bar (codes "i")) → ⊥
   -- what is imported isn't exported
-  pub other_side : HasKey world_of_i foo_bar (codes "w") true (under_interface foo_bar (codes "i")) → ⊥
+  pub other_side : HasKey world_of_i foo_bar (codes "w") true (under_interface foo_bar (codes "i"))
+      → ⊥
   -- so two graphs aren't alike whose worlds have keys of one text
   pub not_alike : AreAlike world_of_i same_text → ⊥
 

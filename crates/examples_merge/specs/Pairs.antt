@@ -16,32 +16,48 @@ use Rattle.examples_merge.specs.Graphs.{alias_in, b_uses_a, foo_bar_alone, foo_n
 -- interface i with these two numbers, in this order
 abbrev pub listing : List ℕ → List ℕ → Graph
 listing first second =
-    foo_bar_alone (number_in 0 first ∷ number_in 0 second ∷ []) (interface_of (Some (codes "i")) ((first, 0) ∷ (second, 1) ∷ []) ∷ []) [] ((codes "i", 0) ∷ []) []
+    foo_bar_alone (number_in 0 first ∷ number_in 0 second ∷ [])
+    (interface_of (Some (codes "i")) ((first, 0) ∷ (second, 1) ∷ []) ∷ []) []
+    ((codes "i", 0) ∷ []) []
 
 -- interfaces i and j, each with a number t, in a table in this order
 abbrev pub two_interfaces : List (List ℕ × ℕ) → Graph
-two_interfaces table = foo_bar_alone (number_in 0 (codes "t") ∷ number_in 1 (codes "t") ∷ []) (interface_of (Some (codes "i")) ((codes "t", 0) ∷ []) ∷ interface_of (Some (codes "j")) ((codes "t", 1) ∷ []) ∷ []) [] table []
+two_interfaces table =
+    foo_bar_alone (number_in 0 (codes "t") ∷ number_in 1 (codes "t") ∷ [])
+    (interface_of (Some (codes "i")) ((codes "t", 0) ∷ [])
+    ∷ interface_of (Some (codes "j")) ((codes "t", 1) ∷ []) ∷ []) [] table []
 
 -- world w, of interface i with a number t, with a number k of its own, and these entries beside it
 abbrev pub with_k : List Entry → Graph
 with_k others =
-    foo_bar_alone (number_in 0 (codes "t") ∷ type_of (Some (codes "k")) (kind.Type_ type.U32) (owner.World 0) ∷ []) (interface_of (Some (codes "i")) ((codes "t", 0) ∷ []) ∷ [])
-    (world_of (codes "w") ((key.Name (codes "k"), item.Type_ 1 None) ∷ others) [] ∷ []) ((codes "i", 0) ∷ []) ((codes "w", 0) ∷ [])
+    foo_bar_alone (number_in 0 (codes "t")
+    ∷ type_of (Some (codes "k")) (kind.Type_ type.U32) (owner.World 0) ∷ [])
+    (interface_of (Some (codes "i")) ((codes "t", 0) ∷ []) ∷ [])
+    (world_of (codes "w") ((key.Name (codes "k"), item.Type_ 1 None) ∷ others) [] ∷ [])
+    ((codes "i", 0) ∷ []) ((codes "w", 0) ∷ [])
 
 -- packages foo:b and foo:a, in this order; interface j of foo:b has another name of the number of i of foo:a, and world w
 -- of foo:b a number k
 abbrev pub b_before_a : Graph
 b_before_a = record {
-  types = alias_in 0 (codes "t") 1 ∷ number_in 1 (codes "t") ∷ type_of (Some (codes "k")) (kind.Type_ type.U32) (owner.World 0) ∷ [];
-  interfaces = interface_in 0 (codes "j") ((codes "t", 0) ∷ []) ∷ interface_in 1 (codes "i") ((codes "t", 1) ∷ []) ∷ [];
+  types =
+      alias_in 0 (codes "t") 1 ∷ number_in 1 (codes "t")
+      ∷ type_of (Some (codes "k")) (kind.Type_ type.U32) (owner.World 0) ∷ [];
+  interfaces =
+      interface_in 0 (codes "j") ((codes "t", 0) ∷ [])
+      ∷ interface_in 1 (codes "i") ((codes "t", 1) ∷ []) ∷ [];
   worlds = world_of (codes "w") ((key.Name (codes "k"), item.Type_ 2 None) ∷ []) [] ∷ [];
-  packages = record (package_named (codes "b") ((codes "j", 0) ∷ [])) { worlds = (codes "w", 0) ∷ [] } ∷ package_named (codes "a") ((codes "i", 1) ∷ []) ∷ [];
+  packages =
+      record (package_named (codes "b") ((codes "j", 0) ∷ [])) { worlds = (codes "w", 0) ∷ [] }
+      ∷ package_named (codes "a") ((codes "i", 1) ∷ []) ∷ [];
   package_names = (foo_named (codes "b"), 0) ∷ (foo_named (codes "a"), 1) ∷ [];
 }
 
 -- the interface without a name among the exports
 abbrev pub inner_export : Graph
-inner_export = record (inner ((codes "t", 0) ∷ []) (number_in 0 (codes "t") ∷ []) []) { worlds = world_of (codes "w") [] ((key.Name (codes "x"), instance 0) ∷ []) ∷ [] }
+inner_export =
+    record (inner ((codes "t", 0) ∷ []) (number_in 0 (codes "t") ∷ []) [])
+    { worlds = world_of (codes "w") [] ((key.Name (codes "x"), instance 0) ∷ []) ∷ [] }
 
 -- ---- pairs
 
@@ -50,10 +66,14 @@ abbrev pub pair : ℕ → ℕ → List (List ℕ) → TypePair
 pair t t' links = record { from = t; into = t'; links = links }
 
 abbrev pub in_i : List ℕ → List (List ℕ)
-in_i told = codes "failed to merge package `foo:bar` into existing copy" ∷ codes "failed to merge interface `i`" ∷ told ∷ []
+in_i told =
+    codes "failed to merge package `foo:bar` into existing copy"
+    ∷ codes "failed to merge interface `i`" ∷ told ∷ []
 
 abbrev pub in_w : List ℕ → List ℕ → List (List ℕ)
-in_w entry told = codes "failed to merge package `foo:bar` into existing copy" ∷ codes "failed to merge world `w`" ∷ entry ∷ told ∷ []
+in_w entry told =
+    codes "failed to merge package `foo:bar` into existing copy" ∷ codes "failed to merge world `w`"
+    ∷ entry ∷ told ∷ []
 
 abbrev pub mismatch_t : List ℕ
 mismatch_t = codes "mismatch in type `t`"
@@ -69,26 +89,52 @@ SecondDiffers t t' ending = (t ≡ 1) × AllDiffer t t' ending
 pub record ExamplesOfPairs : Type 0 where
   -- what both have, of interfaces of one name; what one alone has is none
   pub common : type_pairs (merge_of_graphs one_number more) ≡ pair 0 0 (in_i mismatch_t) ∷ []
-  pub other_name : type_pairs (merge_of_graphs (two_interfaces ((codes "i", 0) ∷ [])) (two_interfaces ((codes "j", 1) ∷ []))) ≡ []
+  pub other_name : type_pairs (merge_of_graphs (two_interfaces ((codes "i", 0) ∷ []))
+      (two_interfaces ((codes "j", 1) ∷ []))) ≡ []
   -- in the order of the lists of the incoming graph, not of the other, nor of ids
-  pub by_list : type_pairs (merge_of_graphs (listing (codes "t") (codes "u")) (listing (codes "u") (codes "t"))) ≡ pair 0 1 (in_i (codes "mismatch in type `u`")) ∷ pair 1 0 (in_i mismatch_t) ∷ []
-  pub not_transformed : type_pairs (merge_of_graphs (listing (codes "t") (codes "u")) (listing (codes "u") (codes "t"))) ≡ pair 1 0 (in_i mismatch_t) ∷ pair 0 1 (in_i (codes "mismatch in type `u`")) ∷ [] → ⊥
+  pub by_list : type_pairs
+      (merge_of_graphs (listing (codes "t") (codes "u")) (listing (codes "u") (codes "t")))
+      ≡ pair 0 1 (in_i (codes "mismatch in type `u`")) ∷ pair 1 0 (in_i mismatch_t) ∷ []
+  pub not_transformed : type_pairs
+      (merge_of_graphs (listing (codes "t") (codes "u")) (listing (codes "u") (codes "t")))
+      ≡ pair 1 0 (in_i mismatch_t) ∷ pair 0 1 (in_i (codes "mismatch in type `u`")) ∷ [] → ⊥
   -- and of its tables
-  pub by_table : type_pairs (merge_of_graphs (two_interfaces ((codes "i", 0) ∷ (codes "j", 1) ∷ [])) (two_interfaces ((codes "j", 1) ∷ (codes "i", 0) ∷ [])))
-      ≡ pair 1 1 (codes "failed to merge package `foo:bar` into existing copy" ∷ codes "failed to merge interface `j`" ∷ mismatch_t ∷ []) ∷ pair 0 0 (in_i mismatch_t) ∷ []
+  pub by_table : type_pairs (merge_of_graphs (two_interfaces ((codes "i", 0) ∷ (codes "j", 1) ∷ []))
+      (two_interfaces ((codes "j", 1) ∷ (codes "i", 0) ∷ [])))
+      ≡ pair 1 1 (codes "failed to merge package `foo:bar` into existing copy"
+      ∷ codes "failed to merge interface `j`" ∷ mismatch_t ∷ []) ∷ pair 0 0 (in_i mismatch_t)
+      ∷ []
   -- packages after those that they depend on; worlds after the interfaces of all packages
   pub by_package : type_pairs (merge_of_graphs b_before_a b_before_a)
-      ≡ pair 1 1 (codes "failed to merge package `foo:a` into existing copy" ∷ codes "failed to merge interface `i`" ∷ mismatch_t ∷ [])
-      ∷ pair 0 0 (codes "failed to merge package `foo:b` into existing copy" ∷ codes "failed to merge interface `j`" ∷ mismatch_t ∷ [])
-      ∷ pair 2 2 (codes "failed to merge package `foo:b` into existing copy" ∷ codes "failed to merge world `w`" ∷ codes "import `k` didn't match target world" ∷ codes "mismatch in type `k`" ∷ []) ∷ []
+      ≡ pair 1 1 (codes "failed to merge package `foo:a` into existing copy"
+      ∷ codes "failed to merge interface `i`" ∷ mismatch_t ∷ [])
+      ∷ pair 0 0 (codes "failed to merge package `foo:b` into existing copy"
+      ∷ codes "failed to merge interface `j`" ∷ mismatch_t ∷ [])
+      ∷ pair 2 2 (codes "failed to merge package `foo:b` into existing copy"
+      ∷ codes "failed to merge world `w`" ∷ codes "import `k` didn't match target world"
+      ∷ codes "mismatch in type `k`" ∷ []) ∷ []
   -- of a world its own types, which are told by the import and by the type; an interface with a name is none of its entries'
-  pub of_a_world : type_pairs (merge_of_graphs (with_k ((key.Name (codes "x"), instance 0) ∷ [])) (with_k ((key.Name (codes "x"), instance 0) ∷ []))) ≡ pair 0 0 (in_i mismatch_t) ∷ pair 1 1 (in_w (codes "import `k` didn't match target world") (codes "mismatch in type `k`")) ∷ []
-  pub not_without : type_pairs (merge_of_graphs (with_k []) (with_k [])) ≡ pair 0 0 (in_i mismatch_t) ∷ pair 1 1 (codes "failed to merge package `foo:bar` into existing copy" ∷ codes "failed to merge world `w`" ∷ codes "import `k` didn't match target world" ∷ []) ∷ [] → ⊥
+  pub of_a_world : type_pairs (merge_of_graphs (with_k ((key.Name (codes "x"), instance 0) ∷ []))
+      (with_k ((key.Name (codes "x"), instance 0) ∷ [])))
+      ≡ pair 0 0 (in_i mismatch_t)
+      ∷ pair 1 1
+      (in_w (codes "import `k` didn't match target world") (codes "mismatch in type `k`"))
+      ∷ []
+  pub not_without : type_pairs (merge_of_graphs (with_k []) (with_k []))
+      ≡ pair 0 0 (in_i mismatch_t)
+      ∷ pair 1 1 (codes "failed to merge package `foo:bar` into existing copy"
+      ∷ codes "failed to merge world `w`" ∷ codes "import `k` didn't match target world"
+      ∷ []) ∷ [] → ⊥
   -- those of an interface without a name, under its label, be it imported or exported
-  pub unnamed : type_pairs (merge_of_graphs (inner ((codes "t", 0) ∷ []) (number_in 0 (codes "t") ∷ []) []) (inner ((codes "t", 0) ∷ []) (number_in 0 (codes "t") ∷ []) [])) ≡ pair 0 0 (in_w (codes "import `x` didn't match target world") mismatch_t) ∷ []
-  pub exported : type_pairs (merge_of_graphs inner_export inner_export) ≡ pair 0 0 (in_w (codes "export `x` didn't match target world") mismatch_t) ∷ []
+  pub unnamed : type_pairs
+      (merge_of_graphs (inner ((codes "t", 0) ∷ []) (number_in 0 (codes "t") ∷ []) [])
+      (inner ((codes "t", 0) ∷ []) (number_in 0 (codes "t") ∷ []) []))
+      ≡ pair 0 0 (in_w (codes "import `x` didn't match target world") mismatch_t) ∷ []
+  pub exported : type_pairs (merge_of_graphs inner_export inner_export)
+      ≡ pair 0 0 (in_w (codes "export `x` didn't match target world") mismatch_t) ∷ []
   -- the first that differs is told, and no other
   pub first : FirstDiffers AllDiffer (type_pairs (merge_of_graphs (listing (codes "t") (codes "u")) (listing (codes "t") (codes "u")))) (codes "failed to merge package `foo:bar` into existing copy: failed to merge interface `i`: mismatch in type `t`: different kinds of types")
   pub not_second : FirstDiffers AllDiffer (type_pairs (merge_of_graphs (listing (codes "t") (codes "u")) (listing (codes "t") (codes "u")))) (codes "failed to merge package `foo:bar` into existing copy: failed to merge interface `i`: mismatch in type `u`: different kinds of types") → ⊥
   pub second : FirstDiffers SecondDiffers (type_pairs (merge_of_graphs (listing (codes "t") (codes "u")) (listing (codes "t") (codes "u")))) (codes "failed to merge package `foo:bar` into existing copy: failed to merge interface `i`: mismatch in type `u`: different kinds of types")
-  pub none : (message : List ℕ) → FirstDiffers AllDiffer (type_pairs (merge_of_graphs one_number b_uses_a)) message → ⊥
+  pub none : (message : List ℕ)
+      → FirstDiffers AllDiffer (type_pairs (merge_of_graphs one_number b_uses_a)) message → ⊥

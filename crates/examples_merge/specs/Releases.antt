@@ -70,20 +70,27 @@ keyed ids = map entry_of ids
 
 -- the versions of foo:x in their order, interface x of each at the place of its package, and foo:main, whose tables
 -- hold interfaces and worlds under these names
-abbrev pub graph_of : List Parts → List TypeDef → List Interface → List World → Names → Names → Graph
+abbrev pub graph_of : List Parts → List TypeDef → List Interface → List World → Names → Names
+    → Graph
 graph_of versions types interfaces worlds table world_table = record {
   types = types;
   interfaces = interfaces;
   worlds = worlds;
-  packages = map (λ (e : ℕ × Parts). package_of (foo_x e.1) (called (codes "x") e.0 ∷ []) []) (enumerate_from 0 versions) ++ package_of foo_main table world_table ∷ [];
-  package_names = map (λ (e : ℕ × Parts). (foo_x e.1, e.0)) (enumerate_from 0 versions) ++ (foo_main, length versions) ∷ [];
+  packages =
+      map (λ (e : ℕ × Parts). package_of (foo_x e.1) (called (codes "x") e.0 ∷ []) [])
+      (enumerate_from 0 versions) ++ package_of foo_main table world_table ∷ [];
+  package_names =
+      map (λ (e : ℕ × Parts). (foo_x e.1, e.0)) (enumerate_from 0 versions)
+      ++ (foo_main, length versions) ∷ [];
 }
 
 -- each version with a number t, and a world w of foo:main that imports some of them
 abbrev pub importing : List Parts → List ℕ → Graph
 importing versions imports =
-    graph_of versions (map (λ (e : ℕ × Parts). number_in e.0 (codes "t")) (enumerate_from 0 versions))
-    (map (λ (e : ℕ × Parts). interface_in e.0 (codes "x") (called (codes "t") e.0 ∷ [])) (enumerate_from 0 versions))
+    graph_of versions
+    (map (λ (e : ℕ × Parts). number_in e.0 (codes "t")) (enumerate_from 0 versions))
+    (map (λ (e : ℕ × Parts). interface_in e.0 (codes "x") (called (codes "t") e.0 ∷ []))
+    (enumerate_from 0 versions))
     (world_in (length versions) (codes "w") (keyed imports) [] ∷ []) [] (called (codes "w") 0 ∷ [])
 
 -- versions 0.2.0 and 0.2.1

@@ -40,31 +40,44 @@ external_id_member id = optional (codes "external-id") (option_map json_of_text 
 
 -- the spans of the fields, the flags or the cases of a type that has some
 abbrev pub parts_member : TypeDefKind → List Member
-parts_member (kind.Record fields) = member (codes "parts") (list_of (λ (f : Field). json_of_span f.span) fields)
-parts_member (kind.Flags flags) = member (codes "parts") (list_of (λ (f : Flag). json_of_span f.span) flags)
-parts_member (kind.Variant cases) = member (codes "parts") (list_of (λ (c : Case). json_of_span c.span) cases)
-parts_member (kind.Enum cases) = member (codes "parts") (list_of (λ (c : EnumCase). json_of_span c.span) cases)
+parts_member (kind.Record fields) =
+    member (codes "parts") (list_of (λ (f : Field). json_of_span f.span) fields)
+parts_member (kind.Flags flags) =
+    member (codes "parts") (list_of (λ (f : Flag). json_of_span f.span) flags)
+parts_member (kind.Variant cases) =
+    member (codes "parts") (list_of (λ (c : Case). json_of_span c.span) cases)
+parts_member (kind.Enum cases) =
+    member (codes "parts") (list_of (λ (c : EnumCase). json_of_span c.span) cases)
 parts_member _ = []
 
 abbrev pub type_details : TypeDef → Json
-type_details def = object (span_member def.span ++ external_id_member def.external_id ++ parts_member def.kind)
+type_details def =
+    object (span_member def.span ++ external_id_member def.external_id ++ parts_member def.kind)
 
 abbrev pub function_details : Function → Json
-function_details f = object (span_member f.span ++ external_id_member f.external_id ++ member (codes "params") (list_of (λ (p : Param). json_of_span p.span) f.params))
+function_details f =
+    object (span_member f.span ++ external_id_member f.external_id
+    ++ member (codes "params") (list_of (λ (p : Param). json_of_span p.span) f.params))
 
 abbrev pub interface_details : Interface → Json
-interface_details interface = object (span_member interface.span ++ member (codes "functions") (object_under_names function_details interface.functions))
+interface_details interface =
+    object (span_member interface.span
+    ++ member (codes "functions") (object_under_names function_details interface.functions))
 
 abbrev pub item_details : WorldItem → Json
-item_details (item.Interface id stability docs span external_id) = object (docs_member docs ++ span_member span ++ external_id_member external_id)
+item_details (item.Interface id stability docs span external_id) =
+    object (docs_member docs ++ span_member span ++ external_id_member external_id)
 item_details (item.Function f) = function_details f
 item_details (item.Type_ id span) = object (span_member span)
 
 abbrev pub entries_details : List (WorldKey × WorldItem) → Json
-entries_details entries = object (map (λ (e : WorldKey × WorldItem). (entry_name e.0, item_details e.1)) entries)
+entries_details entries =
+    object (map (λ (e : WorldKey × WorldItem). (entry_name e.0, item_details e.1)) entries)
 
 abbrev pub world_details : World → Json
-world_details world = object (span_member world.span ++ member (codes "imports") (entries_details world.imports) ++ member (codes "exports") (entries_details world.exports))
+world_details world =
+    object (span_member world.span ++ member (codes "imports") (entries_details world.imports)
+    ++ member (codes "exports") (entries_details world.exports))
 
 abbrev pub graph_details : Graph → Json
 graph_details graph =

@@ -21,13 +21,19 @@ json_of_function_kind (function.AsyncStatic id) = tagged (codes "async-static") 
 json_of_function_kind (function.Constructor id) = tagged (codes "constructor") (json_of_number id)
 json_of_function_kind function.Getter = json_of_text (codes "getter")
 json_of_function_kind function.Setter = json_of_text (codes "setter")
-json_of_function_kind (function.MethodGetter id) = tagged (codes "method-getter") (json_of_number id)
-json_of_function_kind (function.MethodSetter id) = tagged (codes "method-setter") (json_of_number id)
-json_of_function_kind (function.StaticGetter id) = tagged (codes "static-getter") (json_of_number id)
-json_of_function_kind (function.StaticSetter id) = tagged (codes "static-setter") (json_of_number id)
+json_of_function_kind (function.MethodGetter id) =
+    tagged (codes "method-getter") (json_of_number id)
+json_of_function_kind (function.MethodSetter id) =
+    tagged (codes "method-setter") (json_of_number id)
+json_of_function_kind (function.StaticGetter id) =
+    tagged (codes "static-getter") (json_of_number id)
+json_of_function_kind (function.StaticSetter id) =
+    tagged (codes "static-setter") (json_of_number id)
 
 abbrev pub json_of_param : Param → Json
-json_of_param p = object (member (codes "name") (json_of_text p.name) ++ member (codes "type") (json_of_type p.ty))
+json_of_param p =
+    object
+    (member (codes "name") (json_of_text p.name) ++ member (codes "type") (json_of_type p.ty))
 
 abbrev pub json_of_function : Function → Json
 json_of_function f =

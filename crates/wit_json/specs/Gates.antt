@@ -19,8 +19,12 @@ deprecated_member deprecated = optional (codes "deprecated") (option_map json_of
 -- `{"stable": ..}` or `{"unstable": ..}`, nothing of an item without a gate
 abbrev pub json_of_stability : Stability → Option Json
 json_of_stability Unknown = None
-json_of_stability (Stable since deprecated) = Some (tagged (codes "stable") (object (member (codes "since") (json_of_version since) ++ deprecated_member deprecated)))
-json_of_stability (Unstable feature deprecated) = Some (tagged (codes "unstable") (object (member (codes "feature") (json_of_text feature) ++ deprecated_member deprecated)))
+json_of_stability (Stable since deprecated) =
+    Some (tagged (codes "stable")
+    (object (member (codes "since") (json_of_version since) ++ deprecated_member deprecated)))
+json_of_stability (Unstable feature deprecated) =
+    Some (tagged (codes "unstable")
+    (object (member (codes "feature") (json_of_text feature) ++ deprecated_member deprecated)))
 
 abbrev pub docs_member : Docs → List Member
 docs_member docs = optional (codes "docs") (json_of_docs docs)

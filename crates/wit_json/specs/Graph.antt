@@ -25,8 +25,10 @@ json_of_package p =
 -- each thing stands in its list at the index that is its id
 abbrev pub graph_members : Graph → List Member
 graph_members graph =
-    member (codes "worlds") (list_of json_of_world graph.worlds) ++ member (codes "interfaces") (list_of json_of_interface graph.interfaces)
-    ++ member (codes "types") (list_of json_of_type_def graph.types) ++ member (codes "packages") (list_of json_of_package graph.packages)
+    member (codes "worlds") (list_of json_of_world graph.worlds)
+    ++ member (codes "interfaces") (list_of json_of_interface graph.interfaces)
+    ++ member (codes "types") (list_of json_of_type_def graph.types)
+    ++ member (codes "packages") (list_of json_of_package graph.packages)
 
 abbrev pub json_of_graph : Graph → Json
 json_of_graph graph = object (graph_members graph)

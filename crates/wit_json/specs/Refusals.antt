@@ -49,8 +49,12 @@ kind_word kind.OutOfMemory = codes "out-of-memory"
 -- a number, a word, a text, and a span where it is known
 abbrev pub refusal_object : ℕ → List ℕ → List ℕ → Option (ℕ × ℕ) → Json
 refusal_object number word text span =
-    object (member (codes "number") (json_of_number number) ++ member (codes "cause") (json_of_text word) ++ member (codes "text") (json_of_text text) ++ span_member span)
+    object (member (codes "number") (json_of_number number)
+    ++ member (codes "cause") (json_of_text word)
+    ++ member (codes "text") (json_of_text text) ++ span_member span)
 
 -- its number, its word, its text, and where the fault is
 abbrev pub json_of_refusal : ResolveErrorKind → Json
-json_of_refusal refusal = refusal_object (error_number refusal) (kind_word refusal) (kind_text refusal) (error_span refusal)
+json_of_refusal refusal =
+    refusal_object (error_number refusal) (kind_word refusal) (kind_text refusal)
+    (error_span refusal)

@@ -37,10 +37,14 @@ json_of_type type.ErrorContext = json_of_text (codes "error-context")
 json_of_type (type.Id id) = json_of_number id
 
 abbrev pub json_of_field : Field → Json
-json_of_field f = object (member (codes "name") (json_of_text f.name) ++ member (codes "type") (json_of_type f.ty) ++ docs_member f.docs)
+json_of_field f =
+    object (member (codes "name") (json_of_text f.name) ++ member (codes "type") (json_of_type f.ty)
+    ++ docs_member f.docs)
 
 abbrev pub json_of_case : Case → Json
-json_of_case c = object (member (codes "name") (json_of_text c.name) ++ member (codes "type") (null_or json_of_type c.ty) ++ docs_member c.docs)
+json_of_case c =
+    object (member (codes "name") (json_of_text c.name)
+    ++ member (codes "type") (null_or json_of_type c.ty) ++ docs_member c.docs)
 
 abbrev pub json_of_flag : Flag → Json
 json_of_flag f = object (member (codes "name") (json_of_text f.name) ++ docs_member f.docs)
@@ -54,22 +58,31 @@ json_of_handle (Borrow id) = tagged (codes "borrow") (json_of_number id)
 
 -- what a result has where it is well, and where it isn't
 abbrev pub json_of_result : Option Type_ → Option Type_ → Json
-json_of_result ok err = object (member (codes "ok") (null_or json_of_type ok) ++ member (codes "err") (null_or json_of_type err))
+json_of_result ok err =
+    object (member (codes "ok") (null_or json_of_type ok)
+    ++ member (codes "err") (null_or json_of_type err))
 
 -- what a type is: a word, or a word with its parts
 abbrev pub json_of_kind : TypeDefKind → Json
-json_of_kind (kind.Record fields) = tagged (codes "record") (tagged (codes "fields") (list_of json_of_field fields))
+json_of_kind (kind.Record fields) =
+    tagged (codes "record") (tagged (codes "fields") (list_of json_of_field fields))
 json_of_kind kind.Resource = json_of_text (codes "resource")
 json_of_kind (kind.Handle handle) = tagged (codes "handle") (json_of_handle handle)
-json_of_kind (kind.Flags flags) = tagged (codes "flags") (tagged (codes "flags") (list_of json_of_flag flags))
-json_of_kind (kind.Tuple types) = tagged (codes "tuple") (tagged (codes "types") (list_of json_of_type types))
-json_of_kind (kind.Variant cases) = tagged (codes "variant") (tagged (codes "cases") (list_of json_of_case cases))
-json_of_kind (kind.Enum cases) = tagged (codes "enum") (tagged (codes "cases") (list_of json_of_enum_case cases))
+json_of_kind (kind.Flags flags) =
+    tagged (codes "flags") (tagged (codes "flags") (list_of json_of_flag flags))
+json_of_kind (kind.Tuple types) =
+    tagged (codes "tuple") (tagged (codes "types") (list_of json_of_type types))
+json_of_kind (kind.Variant cases) =
+    tagged (codes "variant") (tagged (codes "cases") (list_of json_of_case cases))
+json_of_kind (kind.Enum cases) =
+    tagged (codes "enum") (tagged (codes "cases") (list_of json_of_enum_case cases))
 json_of_kind (kind.Option ty) = tagged (codes "option") (json_of_type ty)
 json_of_kind (kind.Result_ ok err) = tagged (codes "result") (json_of_result ok err)
 json_of_kind (kind.List ty) = tagged (codes "list") (json_of_type ty)
-json_of_kind (kind.Map key value) = tagged (codes "map") (pair (json_of_type key) (json_of_type value))
-json_of_kind (kind.FixedLengthList ty len) = tagged (codes "fixed-length-list") (pair (json_of_type ty) (json_of_number len))
+json_of_kind (kind.Map key value) =
+    tagged (codes "map") (pair (json_of_type key) (json_of_type value))
+json_of_kind (kind.FixedLengthList ty len) =
+    tagged (codes "fixed-length-list") (pair (json_of_type ty) (json_of_number len))
 json_of_kind (kind.Future ty) = tagged (codes "future") (null_or json_of_type ty)
 json_of_kind (kind.Stream ty) = tagged (codes "stream") (null_or json_of_type ty)
 json_of_kind (kind.Type_ ty) = tagged (codes "type") (json_of_type ty)

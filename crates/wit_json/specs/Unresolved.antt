@@ -39,23 +39,34 @@ use Rattle.wit_json.specs.Worlds.{entry_name}
 -- ---- types and functions
 
 abbrev pub whole_field : Field → Json
-whole_field f = object (member (codes "name") (json_of_text f.name) ++ member (codes "type") (json_of_type f.ty) ++ docs_member f.docs ++ span_member f.span)
+whole_field f =
+    object (member (codes "name") (json_of_text f.name) ++ member (codes "type") (json_of_type f.ty)
+    ++ docs_member f.docs ++ span_member f.span)
 
 abbrev pub whole_case : Case → Json
-whole_case c = object (member (codes "name") (json_of_text c.name) ++ member (codes "type") (null_or json_of_type c.ty) ++ docs_member c.docs ++ span_member c.span)
+whole_case c =
+    object (member (codes "name") (json_of_text c.name)
+    ++ member (codes "type") (null_or json_of_type c.ty) ++ docs_member c.docs
+    ++ span_member c.span)
 
 abbrev pub whole_flag : Flag → Json
-whole_flag f = object (member (codes "name") (json_of_text f.name) ++ docs_member f.docs ++ span_member f.span)
+whole_flag f =
+    object (member (codes "name") (json_of_text f.name) ++ docs_member f.docs ++ span_member f.span)
 
 abbrev pub whole_enum_case : EnumCase → Json
-whole_enum_case c = object (member (codes "name") (json_of_text c.name) ++ docs_member c.docs ++ span_member c.span)
+whole_enum_case c =
+    object (member (codes "name") (json_of_text c.name) ++ docs_member c.docs ++ span_member c.span)
 
 -- what a type is; its fields, flags or cases with their spans
 abbrev pub whole_kind : TypeDefKind → Json
-whole_kind (kind.Record fields) = tagged (codes "record") (tagged (codes "fields") (list_of whole_field fields))
-whole_kind (kind.Flags flags) = tagged (codes "flags") (tagged (codes "flags") (list_of whole_flag flags))
-whole_kind (kind.Variant cases) = tagged (codes "variant") (tagged (codes "cases") (list_of whole_case cases))
-whole_kind (kind.Enum cases) = tagged (codes "enum") (tagged (codes "cases") (list_of whole_enum_case cases))
+whole_kind (kind.Record fields) =
+    tagged (codes "record") (tagged (codes "fields") (list_of whole_field fields))
+whole_kind (kind.Flags flags) =
+    tagged (codes "flags") (tagged (codes "flags") (list_of whole_flag flags))
+whole_kind (kind.Variant cases) =
+    tagged (codes "variant") (tagged (codes "cases") (list_of whole_case cases))
+whole_kind (kind.Enum cases) =
+    tagged (codes "enum") (tagged (codes "cases") (list_of whole_enum_case cases))
 whole_kind k = json_of_kind k
 
 abbrev pub whole_type : TypeDef → Json
@@ -64,7 +75,9 @@ whole_type def =
     ++ docs_member def.docs ++ stability_member def.stability ++ span_member def.span ++ external_id_member def.external_id)
 
 abbrev pub whole_param : Param → Json
-whole_param p = object (member (codes "name") (json_of_text p.name) ++ member (codes "type") (json_of_type p.ty) ++ span_member p.span)
+whole_param p =
+    object (member (codes "name") (json_of_text p.name) ++ member (codes "type") (json_of_type p.ty)
+    ++ span_member p.span)
 
 abbrev pub whole_function : Function → Json
 whole_function f =
@@ -76,28 +89,35 @@ whole_function f =
 abbrev pub whole_interface : Interface → Json
 whole_interface interface =
     object (member (codes "name") (null_or json_of_text interface.name) ++ member (codes "types") (object_under_names json_of_number interface.types)
-    ++ member (codes "functions") (object_under_names whole_function interface.functions) ++ docs_member interface.docs ++ stability_member interface.stability
+    ++ member (codes "functions") (object_under_names whole_function interface.functions)
+    ++ docs_member interface.docs ++ stability_member interface.stability
     ++ span_member interface.span)
 
 -- a type of a world: its id alone, or with its span
 abbrev pub whole_type_entry : ℕ → Option (ℕ × ℕ) → Json
 whole_type_entry id None = json_of_number id
-whole_type_entry id (Some range) = object (member (codes "id") (json_of_number id) ++ member (codes "span") (json_of_range range))
+whole_type_entry id (Some range) =
+    object (member (codes "id") (json_of_number id) ++ member (codes "span") (json_of_range range))
 
 abbrev pub whole_interface_entry : ℕ → Stability → Docs → Option (ℕ × ℕ) → Option (List ℕ) → Json
 whole_interface_entry id stability docs span external_id =
-    object (member (codes "id") (json_of_number id) ++ stability_member stability ++ docs_member docs ++ span_member span ++ external_id_member external_id)
+    object (member (codes "id") (json_of_number id) ++ stability_member stability
+    ++ docs_member docs ++ span_member span ++ external_id_member external_id)
 
 abbrev pub whole_item : WorldItem → Json
-whole_item (item.Interface id stability docs span external_id) = tagged (codes "interface") (whole_interface_entry id stability docs span external_id)
+whole_item (item.Interface id stability docs span external_id) =
+    tagged (codes "interface") (whole_interface_entry id stability docs span external_id)
 whole_item (item.Function f) = tagged (codes "function") (whole_function f)
 whole_item (item.Type_ id span) = tagged (codes "type") (whole_type_entry id span)
 
 abbrev pub whole_entries : List (WorldKey × WorldItem) → Json
-whole_entries entries = object (map (λ (e : WorldKey × WorldItem). (entry_name e.0, whole_item e.1)) entries)
+whole_entries entries =
+    object (map (λ (e : WorldKey × WorldItem). (entry_name e.0, whole_item e.1)) entries)
 
 abbrev pub json_of_include_name : IncludeName → Json
-json_of_include_name name = object (member (codes "name") (json_of_text name.name) ++ member (codes "as") (json_of_text name.as_))
+json_of_include_name name =
+    object (member (codes "name") (json_of_text name.name)
+    ++ member (codes "as") (json_of_text name.as_))
 
 abbrev pub json_of_include : WorldInclude → Json
 json_of_include include =
@@ -126,14 +146,18 @@ json_of_foreign_item named = pair (json_of_ast_item named.0) (list_of json_of_ga
 
 -- under the name of each package what is named of it
 abbrev pub json_of_deps : List (PackageName × List ForeignItem) → Json
-json_of_deps deps = object (map (λ (e : PackageName × List ForeignItem). (package_name_text e.0, object_under_names json_of_foreign_item e.1)) deps)
+json_of_deps deps =
+    object (map (λ (e : PackageName × List ForeignItem).
+    (package_name_text e.0, object_under_names json_of_foreign_item e.1)) deps)
 
 -- ---- packages
 
 abbrev pub json_of_unresolved : UnresolvedPackage → Json
 json_of_unresolved p =
     object (member (codes "name") (json_of_package_name p.name) ++ span_member p.package_name_span ++ docs_member p.docs ++ member (codes "worlds") (list_of whole_world p.worlds)
-    ++ member (codes "interfaces") (list_of whole_interface p.interfaces) ++ member (codes "types") (list_of whole_type p.types)
-    ++ member (codes "foreign-deps") (json_of_deps p.foreign_deps) ++ member (codes "foreign-dep-spans") (list_of json_of_span p.foreign_dep_spans)
+    ++ member (codes "interfaces") (list_of whole_interface p.interfaces)
+    ++ member (codes "types") (list_of whole_type p.types)
+    ++ member (codes "foreign-deps") (json_of_deps p.foreign_deps)
+    ++ member (codes "foreign-dep-spans") (list_of json_of_span p.foreign_dep_spans)
     ++ member (codes "unknown-type-spans") (list_of json_of_span p.unknown_type_spans)
     ++ member (codes "required-resources") (list_of (λ (r : ℕ × Option (ℕ × ℕ)). pair (json_of_number r.0) (json_of_span r.1)) p.required_resource_types))

@@ -12,7 +12,9 @@ use Rattle.wit_json.specs.Graph.{json_of_graph}
 use Rattle.wit_json.specs.Values.{json_of_text, list_of, member, object}
 
 abbrev pub json_of_features : Features → Json
-json_of_features features = object (member (codes "all") (json.boolean features.all) ++ member (codes "names") (list_of json_of_text features.names))
+json_of_features features =
+    object (member (codes "all") (json.boolean features.all)
+    ++ member (codes "names") (list_of json_of_text features.names))
 
 -- by which rule versions stand on one track
 abbrev pub json_of_rule : TrackRule → Json
@@ -21,7 +23,9 @@ json_of_rule WithPrereleases = json_of_text (codes "with-prereleases")
 
 -- a file: its path and its text
 abbrev pub json_of_file : List ℕ × List ℕ → Json
-json_of_file file = object (member (codes "path") (json_of_text file.0) ++ member (codes "text") (json_of_text file.1))
+json_of_file file =
+    object
+    (member (codes "path") (json_of_text file.0) ++ member (codes "text") (json_of_text file.1))
 
 -- the files, in order
 abbrev pub json_of_sources : Sources → Json

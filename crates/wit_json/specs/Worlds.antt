@@ -17,7 +17,8 @@ use Rattle.wit_json.specs.Values.{json_of_number, json_of_text, member, null_or,
 abbrev pub json_of_interface : Interface → Json
 json_of_interface interface =
     object (member (codes "name") (null_or json_of_text interface.name) ++ member (codes "types") (object_under_names json_of_number interface.types)
-    ++ member (codes "functions") (object_under_names json_of_function interface.functions) ++ docs_member interface.docs ++ stability_member interface.stability
+    ++ member (codes "functions") (object_under_names json_of_function interface.functions)
+    ++ docs_member interface.docs ++ stability_member interface.stability
     ++ member (codes "package") (null_or json_of_number interface.«package»))
 
 -- `interface-` and digits alone, as in the name of an interface's key
@@ -36,16 +37,19 @@ entry_name (key.Interface id) = codes "interface-" ++ decimal id
 
 -- an interface that a world imports or exports
 abbrev pub json_of_interface_entry : ℕ → Stability → Json
-json_of_interface_entry id stability = object (member (codes "id") (json_of_number id) ++ stability_member stability)
+json_of_interface_entry id stability =
+    object (member (codes "id") (json_of_number id) ++ stability_member stability)
 
 -- what a world imports or exports
 abbrev pub json_of_item : WorldItem → Json
-json_of_item (item.Interface id stability docs span external_id) = tagged (codes "interface") (json_of_interface_entry id stability)
+json_of_item (item.Interface id stability docs span external_id) =
+    tagged (codes "interface") (json_of_interface_entry id stability)
 json_of_item (item.Function f) = tagged (codes "function") (json_of_function f)
 json_of_item (item.Type_ id span) = tagged (codes "type") (json_of_number id)
 
 abbrev pub json_of_entries : List (WorldKey × WorldItem) → Json
-json_of_entries entries = object (map (λ (e : WorldKey × WorldItem). (entry_name e.0, json_of_item e.1)) entries)
+json_of_entries entries =
+    object (map (λ (e : WorldKey × WorldItem). (entry_name e.0, json_of_item e.1)) entries)
 
 abbrev pub json_of_world : World → Json
 json_of_world world =

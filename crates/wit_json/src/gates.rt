@@ -49,7 +49,10 @@ impl JsonText {
         value: &T,
         deprecated: &Option<Version>,
     ) -> Result<(), AllocError>
-        ensures { OnOk result (self.new ≡ self.old ++ json_tokens (tagged tag.now (object (member name.now (T.json value.now) ++ deprecated_member deprecated.now)))) }
+        ensures { OnOk result (self.new
+            ≡ self.old
+            ++ json_tokens (tagged tag.now (object (member name.now (T.json value.now)
+            ++ deprecated_member deprecated.now)))) }
     {
         self.begin_tagged(tag)?;
         self.gate_parts(name, value, deprecated)?;
@@ -63,7 +66,10 @@ impl JsonText {
         value: &T,
         deprecated: &Option<Version>,
     ) -> Result<(), AllocError>
-        ensures { OnOk result (self.new ≡ self.old ++ json_tokens (object (member name.now (T.json value.now) ++ deprecated_member deprecated.now))) }
+        ensures { OnOk result (self.new
+            ≡ self.old
+            ++ json_tokens (object
+            (member name.now (T.json value.now) ++ deprecated_member deprecated.now))) }
     {
         self.begin_object()?;
         self.member(name, value)?;

@@ -31,7 +31,8 @@ impl JsonText {
         text: &Text,
         span: Span,
     ) -> Result<(), AllocError>
-        ensures { OnOk result (self.new ≡ self.old ++ json_tokens (refusal_object number word.now text.now span)) }
+        ensures { OnOk result
+            (self.new ≡ self.old ++ json_tokens (refusal_object number word.now text.now span)) }
     {
         self.begin_object()?;
         self.member("number", &number)?;

@@ -134,7 +134,8 @@ impl WriteJson for TypeDefKind {
 impl JsonText {
     /// Writes the kind of a result.
     fn result_kind(&mut self, ok: &Option<Type_>, err: &Option<Type_>) -> Result<(), AllocError>
-        ensures { OnOk result (self.new ≡ self.old ++ json_tokens (json_of_kind (kind.Result_ ok.now err.now))) }
+        ensures { OnOk result
+            (self.new ≡ self.old ++ json_tokens (json_of_kind (kind.Result_ ok.now err.now))) }
     {
         self.begin_tagged("result")?;
         self.result_parts(ok, err)?;

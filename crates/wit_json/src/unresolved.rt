@@ -60,7 +60,8 @@ impl JsonText {
 
     /// Writes an object of one member, whose value is a whole thing.
     fn whole_tagged<T: WriteWhole>(&mut self, name: &str, value: &T) -> Result<(), AllocError>
-        ensures { OnOk result (self.new ≡ self.old ++ json_tokens (tagged name.now (T.whole value.now))) }
+        ensures { OnOk result
+            (self.new ≡ self.old ++ json_tokens (tagged name.now (T.whole value.now))) }
     {
         self.begin_tagged(name)?;
         value.write_whole(self)?;
@@ -74,7 +75,9 @@ impl JsonText {
         name: &str,
         items: &Items<T>,
     ) -> Result<(), AllocError>
-        ensures { OnOk result (self.new ≡ self.old ++ json_tokens (tagged tag.now (tagged name.now (list_of T.whole items.now)))) }
+        ensures { OnOk result (self.new
+            ≡ self.old
+            ++ json_tokens (tagged tag.now (tagged name.now (list_of T.whole items.now)))) }
     {
         self.begin_tagged(tag)?;
         self.whole_tagged(name, items)?;
@@ -216,7 +219,10 @@ impl JsonText {
         span: Span,
         external_id: &Option<Text>,
     ) -> Result<(), AllocError>
-        ensures { OnOk result (self.new ≡ self.old ++ json_tokens (whole_interface_entry id stability.now docs.now span external_id.now)) }
+        ensures { OnOk result (self.new
+            ≡ self.old
+            ++ json_tokens
+            (whole_interface_entry id stability.now docs.now span external_id.now)) }
     {
         self.begin_object()?;
         self.member("id", &id)?;

@@ -70,7 +70,8 @@ impl WriteJson for Features {
 impl JsonText {
     /// Writes a file.
     fn file(&mut self, path: &str, text: &str) -> Result<(), AllocError>
-        ensures { OnOk result (self.new ≡ self.old ++ json_tokens (json_of_file (path.now, text.now))) }
+        ensures { OnOk result
+            (self.new ≡ self.old ++ json_tokens (json_of_file (path.now, text.now))) }
     {
         self.begin_object()?;
         self.text_member("path", path)?;
@@ -94,7 +95,8 @@ impl JsonText {
         rule: TrackRule,
         files: &SourceMap,
     ) -> Result<(), AllocError>
-        ensures { OnOk result (self.new ≡ self.old ++ json_tokens (json_of_whole graph.now features.now rule files.now)) }
+        ensures { OnOk result (self.new
+            ≡ self.old ++ json_tokens (json_of_whole graph.now features.now rule files.now)) }
     {
         self.begin_object()?;
         self.member("graph", graph)?;
@@ -115,7 +117,8 @@ pub fn whole_to_json(
     rule: TrackRule,
     files: &SourceMap,
 ) -> Result<String, AllocError>
-    ensures { IfOk result (λ text. string_bytes text ≡ compact (json_of_whole graph.now features.now rule files.now)) }
+    ensures { IfOk result (λ text.
+        string_bytes text ≡ compact (json_of_whole graph.now features.now rule files.now)) }
 {
     let mut out = JsonText::new(alloc);
     out.whole(graph, features, rule, files)?;

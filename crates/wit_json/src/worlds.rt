@@ -37,7 +37,10 @@ impl JsonText {
 
     /// Writes an interface that a world imports or exports.
     fn interface_item(&mut self, id: InterfaceId, stability: &Stability) -> Result<(), AllocError>
-        ensures { OnOk result (self.new ≡ self.old ++ json_tokens (tagged (codes "interface") (json_of_interface_entry id stability.now))) }
+        ensures { OnOk result (self.new
+            ≡ self.old
+            ++ json_tokens
+            (tagged (codes "interface") (json_of_interface_entry id stability.now))) }
     {
         self.begin_tagged("interface")?;
         self.interface_entry(id, stability)?;
@@ -46,7 +49,8 @@ impl JsonText {
 
     /// Writes its id and its gate.
     fn interface_entry(&mut self, id: InterfaceId, stability: &Stability) -> Result<(), AllocError>
-        ensures { OnOk result (self.new ≡ self.old ++ json_tokens (json_of_interface_entry id stability.now)) }
+        ensures { OnOk result
+            (self.new ≡ self.old ++ json_tokens (json_of_interface_entry id stability.now)) }
     {
         self.begin_object()?;
         self.member("id", &id)?;

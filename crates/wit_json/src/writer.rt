@@ -166,7 +166,8 @@ impl JsonText {
         name: &str,
         value: &Option<T>,
     ) -> Result<(), AllocError>
-        ensures { OnOk result (Adds self.old self.new (optional name.now (option_map T.json value.now))) }
+        ensures { OnOk result
+            (Adds self.old self.new (optional name.now (option_map T.json value.now))) }
     {
         match value {
             Some(value) => self.member(name, value),
@@ -176,7 +177,8 @@ impl JsonText {
 
     /// Writes an object of one member.
     pub fn tagged<T: WriteJson>(&mut self, name: &str, value: &T) -> Result<(), AllocError>
-        ensures { OnOk result (self.new ≡ self.old ++ json_tokens (tagged name.now (T.json value.now))) }
+        ensures { OnOk result
+            (self.new ≡ self.old ++ json_tokens (tagged name.now (T.json value.now))) }
     {
         self.begin_tagged(name)?;
         value.write_json(self)?;
@@ -190,7 +192,9 @@ impl JsonText {
         name: &str,
         items: &[T],
     ) -> Result<(), AllocError>
-        ensures { OnOk result (self.new ≡ self.old ++ json_tokens (tagged tag.now (tagged name.now (list_of T.json items.now)))) }
+        ensures { OnOk result (self.new
+            ≡ self.old
+            ++ json_tokens (tagged tag.now (tagged name.now (list_of T.json items.now)))) }
     {
         self.begin_tagged(tag)?;
         self.begin_tagged(name)?;

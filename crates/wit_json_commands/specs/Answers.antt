@@ -13,7 +13,9 @@ use Rattle.wit_json_commands.specs.declared.replies.answers.Response.{Response}
 use Rattle.wit_json_commands.specs.declared.replies.answers.Response.TheVariants as response
 
 abbrev pub json_of_refused : Refusal → Json
-json_of_refused refusal = object (member (codes "error") (json_of_refusal refusal.error) ++ member (codes "rendered") (json_of_text refusal.rendered))
+json_of_refused refusal =
+    object (member (codes "error") (json_of_refusal refusal.error)
+    ++ member (codes "rendered") (json_of_text refusal.rendered))
 
 -- the answer to a change or a question: a word, or what is answered under a word
 abbrev pub json_of_answer : Answer → Json
@@ -33,9 +35,12 @@ json_of_answer (answer.CoreNames names) = tagged (codes "core-names") (json_of_c
 
 -- the answers to what made another graph, and to its merge
 abbrev pub json_of_merge : List Answer → Answer → Json
-json_of_merge replies reply = object (member (codes "replies") (list_of json_of_answer replies) ++ member (codes "reply") (json_of_answer reply))
+json_of_merge replies reply =
+    object (member (codes "replies") (list_of json_of_answer replies)
+    ++ member (codes "reply") (json_of_answer reply))
 
 -- the answer to what is asked of a graph
 abbrev pub json_of_response : Response → Json
 json_of_response (response.Answer it) = json_of_answer it
-json_of_response (response.Merge replies reply) = tagged (codes "merge") (json_of_merge replies reply)
+json_of_response (response.Merge replies reply) =
+    tagged (codes "merge") (json_of_merge replies reply)

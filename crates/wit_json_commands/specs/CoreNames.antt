@@ -30,7 +30,8 @@ PlacedFunction = Option WorldKey × Function
 
 -- the functions of an interface
 abbrev pub interface_functions : WorldKey → Interface → List PlacedFunction
-interface_functions key interface = map (λ (e : List ℕ × Function). (Some key, e.1)) interface.functions
+interface_functions key interface =
+    map (λ (e : List ℕ × Function). (Some key, e.1)) interface.functions
 
 -- the functions of the interface of an id
 abbrev pub functions_at : Graph → WorldKey → ℕ → List PlacedFunction
@@ -45,33 +46,49 @@ entry_functions g (key, item.Type_ id span) = []
 -- the module and the field of a function that is imported, as `import_names` has them
 abbrev pub function_import_names : Graph → ManglingAndAbi → PlacedFunction → List ℕ × List ℕ
 function_import_names g Standard32 placed = (standard_module g placed.0, placed.1.name)
-function_import_names g (Legacy abi) placed = (legacy_module g placed.0, import_prefix abi ++ placed.1.name)
+function_import_names g (Legacy abi) placed =
+    (legacy_module g placed.0, import_prefix abi ++ placed.1.name)
 
 -- the name of a function that is exported, as `export_name` has it
 abbrev pub function_export_name : Graph → ManglingAndAbi → PlacedFunction → List ℕ
-function_export_name g Standard32 placed = codes "cm32p2|" ++ (standard_key g placed.0 ++ (codes "|" ++ placed.1.name))
-function_export_name g (Legacy abi) placed = export_prefix abi ++ (legacy_key g placed.0 ++ placed.1.name)
+function_export_name g Standard32 placed =
+    codes "cm32p2|" ++ (standard_key g placed.0 ++ (codes "|" ++ placed.1.name))
+function_export_name g (Legacy abi) placed =
+    export_prefix abi ++ (legacy_key g placed.0 ++ placed.1.name)
 
 abbrev pub named_import : PlacedFunction → List ℕ × List ℕ → CoreImport
-named_import placed names = record { interface = placed.0; function = placed.1.name; «module» = names.0; field = names.1 }
+named_import placed names =
+    record { interface = placed.0; function = placed.1.name; «module» = names.0; field = names.1 }
 
 -- a function that is imported, where its interface has a name
 abbrev pub core_import : Graph → ManglingAndAbi → PlacedFunction → Option CoreImport
-core_import g mangling placed = if interface_has_name g.interfaces placed.0 then Some (named_import placed (function_import_names g mangling placed)) else None
+core_import g mangling placed =
+    if interface_has_name g.interfaces placed.0
+    then Some (named_import placed (function_import_names g mangling placed))
+    else None
 
 abbrev pub named_export : PlacedFunction → List ℕ → CoreExport
 named_export placed name = record { interface = placed.0; function = placed.1.name; name = name }
 
 -- a function that is exported, where its interface has a name
 abbrev pub core_export : Graph → ManglingAndAbi → PlacedFunction → Option CoreExport
-core_export g mangling placed = if interface_has_name g.interfaces placed.0 then Some (named_export placed (function_export_name g mangling placed)) else None
+core_export g mangling placed =
+    if interface_has_name g.interfaces placed.0
+    then Some (named_export placed (function_export_name g mangling placed))
+    else None
 
 abbrev pub core_imports : Graph → ManglingAndAbi → List (WorldKey × WorldItem) → List CoreImport
-core_imports g mangling entries = filter_map (core_import g mangling) (flat_map (entry_functions g) entries)
+core_imports g mangling entries =
+    filter_map (core_import g mangling) (flat_map (entry_functions g) entries)
 
 abbrev pub core_exports : Graph → ManglingAndAbi → List (WorldKey × WorldItem) → List CoreExport
-core_exports g mangling entries = filter_map (core_export g mangling) (flat_map (entry_functions g) entries)
+core_exports g mangling entries =
+    filter_map (core_export g mangling) (flat_map (entry_functions g) entries)
 
 -- the functions that a world imports and exports
 abbrev pub core_names_of : Graph → ManglingAndAbi → World → CoreNames
-core_names_of g mangling world = record { imports = core_imports g mangling world.imports; exports = core_exports g mangling world.exports }
+core_names_of g mangling world =
+    record {
+      imports = core_imports g mangling world.imports;
+      exports = core_exports g mangling world.exports;
+    }

@@ -23,7 +23,10 @@ json_of_core_import it =
 
 abbrev pub json_of_core_export : CoreExport → Json
 json_of_core_export it =
-    object (interface_member it.interface ++ member (codes "function") (json_of_text it.function) ++ member (codes "name") (json_of_text it.name))
+    object (interface_member it.interface ++ member (codes "function") (json_of_text it.function)
+    ++ member (codes "name") (json_of_text it.name))
 
 abbrev pub json_of_core_names : CoreNames → Json
-json_of_core_names names = object (member (codes "imports") (list_of json_of_core_import names.imports) ++ member (codes "exports") (list_of json_of_core_export names.exports))
+json_of_core_names names =
+    object (member (codes "imports") (list_of json_of_core_import names.imports)
+    ++ member (codes "exports") (list_of json_of_core_export names.exports))

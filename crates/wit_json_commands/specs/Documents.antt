@@ -19,7 +19,13 @@ use Rattle.wit_json_commands.specs.Runs.{RespondsEach}
 -- an empty graph, or the one that the document has, with what stands beside it
 abbrev pub first_state : Option ResolveParts → State
 first_state None = new_state
-first_state (Some parts) = record { graph = parts.graph; features = parts.features; source_map = parts.source_map; track_rule = parts.track_rule }
+first_state (Some parts) =
+    record {
+      graph = parts.graph;
+      features = parts.features;
+      source_map = parts.source_map;
+      track_rule = parts.track_rule;
+    }
 
 -- it is valid; the empty graph is
 abbrev pub BeginsValid : Option ResolveParts → Type 0
@@ -33,7 +39,9 @@ pub record Outputs (document : Document) (text : List ℕ) : Type 0 where
   pub replies : List Response
   pub state : State
   pub responds : RespondsEach (first_state document.resolve) document.commands replies state
-  pub text_is : text ≡ compact (json_of_output replies state.graph state.features state.track_rule state.source_map)
+  pub text_is : text
+      ≡ compact
+      (json_of_output replies state.graph state.features state.track_rule state.source_map)
 
 -- a document is read, begins with a valid graph, and this comes out
 pub record Understands (input text : List ℕ) : Type 0 where
@@ -44,7 +52,11 @@ pub record Understands (input text : List ℕ) : Type 0 where
 
 -- that of the graph which a document begins with: the path to it, the last step first
 abbrev pub invalid_fault : Fault
-invalid_fault = record { path = step.Member (codes "graph") ∷ step.Member (codes "resolve") ∷ []; expected = expected.ValidGraph }
+invalid_fault =
+    record {
+      path = step.Member (codes "graph") ∷ step.Member (codes "resolve") ∷ [];
+      expected = expected.ValidGraph;
+    }
 
 -- a document begins with a graph that isn't valid
 pub record BeginsInvalid (input : List ℕ) (fault : Fault) : Type 0 where

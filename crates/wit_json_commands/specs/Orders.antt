@@ -19,7 +19,9 @@ use Rattle.wit_json_commands.specs.declared.commands.questions.Question.TheVaria
 -- the names of changes
 abbrev pub is_change : List ℕ → Bool
 is_change name =
-    list_any (bytes_eq name) (codes "add-feature" ∷ codes "set-all-features" ∷ codes "set-track-rule" ∷ codes "push-groups" ∷ codes "importize" ∷ codes "exportize" ∷ codes "semver" ∷ [])
+    list_any (bytes_eq name)
+    (codes "add-feature" ∷ codes "set-all-features" ∷ codes "set-track-rule"
+    ∷ codes "push-groups" ∷ codes "importize" ∷ codes "exportize" ∷ codes "semver" ∷ [])
 
 -- the change or the question of a name
 abbrev pub request_by : List ℕ → Json → Reading Request
@@ -29,7 +31,9 @@ request_by name j =
 
 -- a request without parts
 abbrev pub plain_request_of : List ℕ → Reading Request
-plain_request_of word = if bytes_eq word (codes "package-order") then Ok (request.Ask PackageOrder) else instead_of expected.Command
+plain_request_of word =
+    if bytes_eq word (codes "package-order") then Ok (request.Ask PackageOrder)
+    else instead_of expected.Command
 
 -- a change or a question
 unfoldable pub request_of : Json → Reading Request

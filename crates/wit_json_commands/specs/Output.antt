@@ -17,7 +17,8 @@ use Rattle.wit_json_commands.specs.declared.replies.answers.Response.{Response}
 -- the answers in order, and the graph with what stands beside it
 abbrev pub json_of_output : List Response → Graph → Features → TrackRule → Sources → Json
 json_of_output replies graph features rule sources =
-    object (member (codes "replies") (list_of json_of_response replies) ++ member (codes "resolve") (json_of_whole graph features rule sources))
+    object (member (codes "replies") (list_of json_of_response replies)
+    ++ member (codes "resolve") (json_of_whole graph features rule sources))
 
 -- a member by its name, an item by its index
 abbrev pub json_of_step : Step → Json
@@ -31,7 +32,9 @@ json_of_path steps = list_of json_of_step (reverse steps)
 -- the path to a value, the byte at which it begins, and what was expected there
 abbrev pub json_of_place : Fault → ℕ → Json
 json_of_place fault offset =
-    object (member (codes "path") (json_of_path fault.path) ++ member (codes "offset") (json_of_number offset) ++ member (codes "expected") (json_of_text (expected_text fault.expected)))
+    object (member (codes "path") (json_of_path fault.path)
+    ++ member (codes "offset") (json_of_number offset)
+    ++ member (codes "expected") (json_of_text (expected_text fault.expected)))
 
 -- why a document can't be read
 abbrev pub json_of_fault : Fault → ℕ → Json

@@ -22,7 +22,8 @@ place_text files span = option_map_or (λ shown. codes "\n" ++ shown) (shown_spa
 
 -- where an error is; of a package that is defined twice both places, the other one by the graph where the error has none
 abbrev pub places_text : Graph → List SourceFile → ResolveErrorKind → List ℕ
-places_text g files (DuplicatePackage name span1 span2) = place_text files span1 ++ place_text files (first_known (span2 ∷ package_span g name ∷ []))
+places_text g files (DuplicatePackage name span1 span2) =
+    place_text files span1 ++ place_text files (first_known (span2 ∷ package_span g name ∷ []))
 places_text g files kind = place_text files (error_span kind)
 
 -- the line of a step of a way
@@ -32,16 +33,23 @@ arrow_text files a = place_text files a.span
 -- on a line of its own `way: A -> B -> .. -> C`, and the line of each step
 abbrev pub way_text : List SourceFile → List Arrow → List ℕ
 way_text files [] = []
-way_text files (a ∷ way) = codes "\n      = way: " ++ (way_names (a ∷ way) ++ flat_map (arrow_text files) (a ∷ way))
+way_text files (a ∷ way) =
+    codes "\n      = way: " ++ (way_names (a ∷ way) ++ flat_map (arrow_text files) (a ∷ way))
 
 -- on lines of their own what was asked, and which document says more of the number
 abbrev pub asked_text : List ℕ → ℕ → List ℕ
-asked_text asked number = codes "\n      = " ++ (asked ++ (codes "\n      = " ++ (decimal number ++ codes " in docs/REFUSALS.md")))
+asked_text asked number =
+    codes "\n      = "
+    ++ (asked ++ (codes "\n      = " ++ (decimal number ++ codes " in docs/REFUSALS.md")))
 
 -- an error of a graph with its lines in these files, its way, and what was asked
 abbrev pub rendered : Graph → Sources → List ℕ → List Arrow → ResolveErrorKind → List ℕ
-rendered g files asked way error = kind_text error ++ (places_text g files.files error ++ (way_text files.files way ++ asked_text asked (error_number error)))
+rendered g files asked way error =
+    kind_text error
+    ++ (places_text g files.files error
+    ++ (way_text files.files way ++ asked_text asked (error_number error)))
 
 -- the refusal of what was asked of a graph, told by these files
 abbrev pub refused : Graph → Sources → List ℕ → List Arrow → ResolveErrorKind → Answer
-refused g files asked way error = answer.Refused (record { error = error; rendered = rendered g files asked way error })
+refused g files asked way error =
+    answer.Refused (record { error = error; rendered = rendered g files asked way error })

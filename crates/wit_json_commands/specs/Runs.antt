@@ -33,7 +33,9 @@ AnswersReply state asked brought reply.Done told = told ≡ answer.Done
 AnswersReply state asked brought (reply.Pushed id) told = told ≡ answer.Pushed id
 AnswersReply state asked brought (reply.Merged remap) told = told ≡ answer.Merged remap
 AnswersReply state asked brought reply.NoWorld told = told ≡ answer.NoWorld
-AnswersReply state asked brought (reply.Refused error) told = (way : List Arrow) × IsTold state brought error way × (told ≡ refused state.graph state.source_map asked way error)
+AnswersReply state asked brought (reply.Refused error) told =
+    (way : List Arrow) × IsTold state brought error way
+    × (told ≡ refused state.graph state.source_map asked way error)
 
 -- a command is carried out, which in words is this, and its reply is answered
 pub record AnswersCommand (asked : List ℕ) (old : State) (it : Command) (told : Answer) (new : State) : Type 0 where
@@ -70,7 +72,8 @@ Answers old (request.Ask it) told new =
 -- one after another, with one answer to each
 abbrev pub AnswersEach : State → List Request → List Answer → State → Type 0
 AnswersEach old [] [] new = new ≡ old
-AnswersEach old (it ∷ its) (told ∷ answers) new = (mid : State) × Answers old it told mid × AnswersEach mid its answers new
+AnswersEach old (it ∷ its) (told ∷ answers) new =
+    (mid : State) × Answers old it told mid × AnswersEach mid its answers new
 AnswersEach old _ _ new = ⊥
 
 -- requests are carried out on an empty graph, which is merged into this one
@@ -81,11 +84,13 @@ pub record MergesOther (old : State) (its : List Request) (answers : List Answer
 
 abbrev pub Responds : State → Order → Response → State → Type 0
 Responds old (order.Request it) (response.Answer told) new = Answers old it told new
-Responds old (order.Merge its) (response.Merge answers told) new = MergesOther old its answers told new
+Responds old (order.Merge its) (response.Merge answers told) new =
+    MergesOther old its answers told new
 Responds old _ _ new = ⊥
 
 -- one after another, with one reply to each
 abbrev pub RespondsEach : State → List Order → List Response → State → Type 0
 RespondsEach old [] [] new = new ≡ old
-RespondsEach old (it ∷ its) (told ∷ replies) new = (mid : State) × Responds old it told mid × RespondsEach mid its replies new
+RespondsEach old (it ∷ its) (told ∷ replies) new =
+    (mid : State) × Responds old it told mid × RespondsEach mid its replies new
 RespondsEach old _ _ new = ⊥

@@ -47,7 +47,8 @@ packages_named g (name ∷ names) = with_package (package_named g name) (package
 abbrev pub TellsChoice : Graph → Sources → List ℕ → Option (List ℕ) → Answer → Type 0
 TellsChoice g files mains text (answer.World id) = selected_world g mains text ≡ Ok id
 TellsChoice g files mains text (answer.Refused refusal) =
-    IsSelectionError (selected_world g mains text) refusal.error × (answer.Refused refusal ≡ refused g files (codes "select") [] refusal.error)
+    IsSelectionError (selected_world g mains text) refusal.error
+    × (answer.Refused refusal ≡ refused g files (codes "select") [] refusal.error)
 TellsChoice g files mains text _ = ⊥
 
 abbrev pub TellsAmong : Graph → Sources → Option (List ℕ) → Option (List ℕ) → Answer → Type 0
@@ -63,10 +64,14 @@ abbrev pub interface_named : Graph → PackageName → List ℕ → Option ℕ
 interface_named g home name = option_and_then (interface_in g name) (package_named g home)
 
 abbrev pub package_dependencies : Graph → PackageName → Answer
-package_dependencies g name = found (λ p. answer.Packages (package_direct_deps g.types g.interfaces g.worlds g.packages p)) (package_named g name)
+package_dependencies g name =
+    found (λ p. answer.Packages (package_direct_deps g.types g.interfaces g.worlds g.packages p))
+    (package_named g name)
 
 abbrev pub interface_dependencies : Graph → PackageName → List ℕ → Answer
-interface_dependencies g home name = found (λ i. answer.Interfaces (interface_direct_deps g.types g.interfaces i)) (interface_named g home name)
+interface_dependencies g home name =
+    found (λ i. answer.Interfaces (interface_direct_deps g.types g.interfaces i))
+    (interface_named g home name)
 
 abbrev pub package_order : Graph → Answer
 package_order g = answer.Packages (topological_packages g.types g.interfaces g.worlds g.packages)
@@ -74,10 +79,13 @@ package_order g = answer.Packages (topological_packages g.types g.interfaces g.w
 -- ---- names
 
 abbrev pub canonical_id : Graph → PackageName → List ℕ → Answer
-canonical_id g home name = found (λ p. answer.Text (canonical_id_text g.packages p name)) (package_named g home)
+canonical_id g home name =
+    found (λ p. answer.Text (canonical_id_text g.packages p name)) (package_named g home)
 
 abbrev pub core_names : Graph → PackageName → List ℕ → Mangling → Answer
-core_names g home world mangling = found (λ it. answer.CoreNames (core_names_of g (mangling_of mangling) it)) (option_and_then (slice_get g.worlds) (world_named g home world))
+core_names g home world mangling =
+    found (λ it. answer.CoreNames (core_names_of g (mangling_of mangling) it))
+    (option_and_then (slice_get g.worlds) (world_named g home world))
 
 -- ---- functions
 
@@ -97,13 +105,16 @@ function_under label (e ∷ es) = or_else (entry_function label e) (function_und
 
 abbrev pub interface_function : Graph → PackageName → List ℕ → List ℕ → Option Function
 interface_function g home name f =
-    option_and_then (λ (interface : Interface). lookup (bytes_eq f) interface.functions) (option_and_then (slice_get g.interfaces) (interface_named g home name))
+    option_and_then (λ (interface : Interface). lookup (bytes_eq f) interface.functions)
+    (option_and_then (slice_get g.interfaces) (interface_named g home name))
 
 abbrev pub import_function : Graph → PackageName → List ℕ → List ℕ → Option Function
 import_function g home name f = option_and_then (λ (world : World). function_under f world.imports) (option_and_then (slice_get g.worlds) (world_named g home name))
 
 abbrev pub export_function : Graph → PackageName → List ℕ → List ℕ → Option Function
-export_function g home name f = option_and_then (λ (world : World). function_under f world.exports) (option_and_then (slice_get g.worlds) (world_named g home name))
+export_function g home name f =
+    option_and_then (λ (world : World). function_under f world.exports)
+    (option_and_then (slice_get g.worlds) (world_named g home name))
 
 abbrev pub function_by : FunctionSite → Graph → PackageName → List ℕ → List ℕ → Option Function
 function_by site.Interface = interface_function
@@ -114,7 +125,8 @@ abbrev pub function_at : Graph → FunctionPlace → Option Function
 function_at g place = function_by place.site g place.«package» place.name place.function
 
 abbrev pub futures_and_streams : Graph → FunctionPlace → Answer
-futures_and_streams g place = found (λ f. answer.Types (function_futures g.types f)) (function_at g place)
+futures_and_streams g place =
+    found (λ f. answer.Types (function_futures g.types f)) (function_at g place)
 
 -- ---- all questions
 
@@ -122,10 +134,12 @@ futures_and_streams g place = found (λ f. answer.Types (function_futures g.type
 abbrev pub Tells : Graph → Sources → Question → Answer → Type 0
 Tells g files (question.Select names text) told = TellsSelect g files names text told
 Tells g files (question.PackageDependencies home) told = told ≡ package_dependencies g home
-Tells g files (question.InterfaceDependencies home name) told = told ≡ interface_dependencies g home name
+Tells g files (question.InterfaceDependencies home name) told =
+    told ≡ interface_dependencies g home name
 Tells g files question.PackageOrder told = told ≡ package_order g
 Tells g files (question.CanonicalId home name) told = told ≡ canonical_id g home name
-Tells g files (question.CoreNames home world mangling) told = told ≡ core_names g home world mangling
+Tells g files (question.CoreNames home world mangling) told =
+    told ≡ core_names g home world mangling
 Tells g files (question.FuturesAndStreams place) told = told ≡ futures_and_streams g place
 
 -- this may be answered: what is asked, or the refusal of memory for it

@@ -14,12 +14,17 @@ use Rattle.wit_json_commands.specs.declared.replies.unshaped.Unshaped.{Unshaped}
 -- the first fault of a group: of its main package; or, where that has its shape, of the first nested one that lacks it
 abbrev pub IsGroupFault : UnresolvedPackageGroup → Option ℕ → ShapeFault → Type 0
 IsGroupFault group None fault = IsFirstFault group.main fault
-IsGroupFault group (Some i) fault = IsShaped group.main × IsFirstWithout (λ _. IsShaped) group.nested i × SomeAt group.nested i (λ p. IsFirstFault p fault)
+IsGroupFault group (Some i) fault =
+    IsShaped group.main × IsFirstWithout (λ _. IsShaped) group.nested i
+    × SomeAt group.nested i (λ p. IsFirstFault p fault)
 
 -- the first fault of a push: of its main group; or, where that has its shape, of the first other one that lacks it
-abbrev pub IsPushFault : UnresolvedPackageGroup → List UnresolvedPackageGroup → Option ℕ → Option ℕ → ShapeFault → Type 0
+abbrev pub IsPushFault : UnresolvedPackageGroup → List UnresolvedPackageGroup → Option ℕ → Option ℕ
+    → ShapeFault → Type 0
 IsPushFault main deps None at fault = IsGroupFault main at fault
-IsPushFault main deps (Some i) at fault = IsGroupShaped main × IsFirstWithout (λ _. IsGroupShaped) deps i × SomeAt deps i (λ group. IsGroupFault group at fault)
+IsPushFault main deps (Some i) at fault =
+    IsGroupShaped main × IsFirstWithout (λ _. IsGroupShaped) deps i
+    × SomeAt deps i (λ group. IsGroupFault group at fault)
 
 -- the groups that a change adds have their shape
 abbrev pub IsChangeShaped : Change → Type 0

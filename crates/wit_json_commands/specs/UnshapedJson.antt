@@ -25,7 +25,10 @@ package_path group «package» = json.array (items_of (group_steps group ++ pack
 -- the clause of the shape that is broken, and what breaks it
 abbrev pub fault_members : ShapeFault → List Member
 fault_members fault =
-    member (codes "clause") (json_of_text (clause_name fault.clause)) ++ member (codes "place") (json_of_text (place_text fault.place)) ++ member (codes "text") (json_of_text (clause_text fault.clause))
+    member (codes "clause") (json_of_text (clause_name fault.clause))
+    ++ member (codes "place") (json_of_text (place_text fault.place))
+    ++ member (codes "text") (json_of_text (clause_text fault.clause))
 
 abbrev pub json_of_unshaped : Unshaped → Json
-json_of_unshaped it = object (member (codes "path") (package_path it.group it.«package») ++ fault_members it.fault)
+json_of_unshaped it =
+    object (member (codes "path") (package_path it.group it.«package») ++ fault_members it.fault)

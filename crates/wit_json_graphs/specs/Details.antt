@@ -29,7 +29,8 @@ use Rattle.wit_json_reading.specs.declared.fault.Step.TheVariants as step
 -- ---- lists and tables
 
 -- of each of some things, in order; their indices begin with n
-abbrev pub things_with : {A : Type 0} → (A → Json → Reading A) → ℕ → List A → Items → Reading (List A)
+abbrev pub things_with : {A : Type 0} → (A → Json → Reading A) → ℕ → List A → Items
+    → Reading (List A)
 things_with f n [] json.no_items = Ok []
 things_with f n (x ∷ xs) (json.item j js) = do
   y ← under (step.Item n) (f x j)
@@ -42,19 +43,22 @@ list_with f xs (json.array js) = things_with f 0 xs js
 list_with f xs _ = instead_of expected.List
 
 -- of each entry of a table, under its name, in order
-abbrev pub entries_with : {K A : Type 0} → (K → List ℕ) → (A → Json → Reading A) → List (K × A) → Members → Reading (List (K × A))
+abbrev pub entries_with : {K A : Type 0} → (K → List ℕ) → (A → Json → Reading A) → List (K × A)
+    → Members → Reading (List (K × A))
 entries_with name f [] json.no_members = Ok []
 entries_with name f (e ∷ es) (json.member key j ms) =
     if bytes_eq key (name e.0) then (under (step.Member key) (f e.1 j) >>= λ x. entries_with name f es ms >>= λ more. Ok ((e.0, x) ∷ more))
     else instead_of expected.Details
 entries_with name f es ms = instead_of expected.Details
 
-abbrev pub table_with : {K A : Type 0} → (K → List ℕ) → (A → Json → Reading A) → List (K × A) → Json → Reading (List (K × A))
+abbrev pub table_with : {K A : Type 0} → (K → List ℕ) → (A → Json → Reading A) → List (K × A) → Json
+    → Reading (List (K × A))
 table_with name f es (json.object ms) = entries_with name f es ms
 table_with name f es _ = instead_of expected.Object
 
 -- the entries of a table under names
-abbrev pub named_with : {A : Type 0} → (A → Json → Reading A) → List (List ℕ × A) → Json → Reading (List (List ℕ × A))
+abbrev pub named_with : {A : Type 0} → (A → Json → Reading A) → List (List ℕ × A) → Json
+    → Reading (List (List ℕ × A))
 named_with f es j = table_with (λ (name : List ℕ). name) f es j
 
 -- ---- types
@@ -73,10 +77,14 @@ enum_case_with c j = place_of j >>= λ span. Ok (record c { span = span })
 
 -- the fields, the flags or the cases of a type that has some; of another type there is nothing to say
 unfoldable pub kind_with : TypeDefKind → Json → Reading TypeDefKind
-kind_with (kind.Record fields) j = required (list_with field_with fields) (codes "parts") j >>= λ parts. Ok (kind.Record parts)
-kind_with (kind.Flags flags) j = required (list_with flag_with flags) (codes "parts") j >>= λ parts. Ok (kind.Flags parts)
-kind_with (kind.Variant cases) j = required (list_with case_with cases) (codes "parts") j >>= λ parts. Ok (kind.Variant parts)
-kind_with (kind.Enum cases) j = required (list_with enum_case_with cases) (codes "parts") j >>= λ parts. Ok (kind.Enum parts)
+kind_with (kind.Record fields) j =
+    required (list_with field_with fields) (codes "parts") j >>= λ parts. Ok (kind.Record parts)
+kind_with (kind.Flags flags) j =
+    required (list_with flag_with flags) (codes "parts") j >>= λ parts. Ok (kind.Flags parts)
+kind_with (kind.Variant cases) j =
+    required (list_with case_with cases) (codes "parts") j >>= λ parts. Ok (kind.Variant parts)
+kind_with (kind.Enum cases) j =
+    required (list_with enum_case_with cases) (codes "parts") j >>= λ parts. Ok (kind.Enum parts)
 kind_with k j = only (codes "span" ∷ codes "external-id" ∷ []) j >>= λ _. Ok k
 
 unfoldable pub type_with : TypeDef → Json → Reading TypeDef
@@ -126,7 +134,8 @@ span_alone j = do
 
 -- what a world imports or exports
 unfoldable pub item_with : WorldItem → Json → Reading WorldItem
-item_with (item.Interface id stability _ _ _) j = entry_with j >>= λ e. Ok (item.Interface id stability e.0 e.1 e.2)
+item_with (item.Interface id stability _ _ _) j =
+    entry_with j >>= λ e. Ok (item.Interface id stability e.0 e.1 e.2)
 item_with (item.Function f) j = function_with f j >>= λ g. Ok (item.Function g)
 item_with (item.Type_ id _) j = span_alone j >>= λ span. Ok (item.Type_ id span)
 

@@ -44,7 +44,8 @@ sources_beside j = do
 -- all but the graph may be left out; without details, spans, external ids and docs of entries are those in the graph itself
 unfoldable pub resolve_of : Json → Reading ResolveParts
 resolve_of j = do
-  _ ← only (codes "graph" ∷ codes "details" ∷ codes "features" ∷ codes "track-rule" ∷ codes "sources" ∷ []) j
+  _ ← only (codes "graph" ∷ codes "details" ∷ codes "features" ∷ codes "track-rule"
+      ∷ codes "sources" ∷ []) j
   graph ← required graph_of (codes "graph") j
   whole ← with_details graph (get (codes "details") j)
   features ← features_beside j

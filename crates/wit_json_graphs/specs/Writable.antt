@@ -151,7 +151,8 @@ FitsKey (key.Interface id) (item.Function f) = ⊥
 FitsKey (key.Interface id) (item.Type_ other span) = ⊥
 
 abbrev pub IsWritableItem : WorldItem → Type 0
-IsWritableItem (item.Interface id stability docs span external_id) = IsWritableId id × IsWritableGate stability × IsWritableSpan span
+IsWritableItem (item.Interface id stability docs span external_id) =
+    IsWritableId id × IsWritableGate stability × IsWritableSpan span
 IsWritableItem (item.Function f) = IsWritableFunction f
 IsWritableItem (item.Type_ id span) = IsWritableId id × IsWritableSpan span
 
@@ -204,14 +205,16 @@ pub record IsWritablePackage (p : UnresolvedPackage) : Type 0 where
   pub items : Each (λ (e : PackageName × List ForeignItem). AreWritableItems e.1) p.foreign_deps
   pub dep_spans : Each IsWritableSpan p.foreign_dep_spans
   pub unknown_spans : Each IsWritableSpan p.unknown_type_spans
-  pub resources : Each (λ (r : ℕ × Option (ℕ × ℕ)). IsWritableId r.0 × IsWritableSpan r.1) p.required_resource_types
+  pub resources : Each (λ (r : ℕ × Option (ℕ × ℕ)). IsWritableId r.0 × IsWritableSpan r.1)
+      p.required_resource_types
 
 -- ---- files and groups
 
 -- files that stand one after another from a position on, with nothing between them
 abbrev pub AreInRow : ℕ → List SourceFile → ℕ → Type 0
 AreInRow from [] end = end ≡ from
-AreInRow from (file ∷ files) end = (file.start ≡ from) × AreInRow (end_after from file.contents) files end
+AreInRow from (file ∷ files) end =
+    (file.start ≡ from) × AreInRow (end_after from file.contents) files end
 
 pub record AreWritableSources (sources : Sources) : Type 0 where
   pub in_row : AreInRow 0 sources.files sources.end
@@ -244,14 +247,17 @@ pub record IsWritableGraph (graph : Graph) : Type 0 where
   pub types : Each IsWritableTypeDef graph.types
   pub packages : Each IsWritableHome graph.packages
   pub world_homes : Each (λ (world : World). IfSome world.«package» IsWritableId) graph.worlds
-  pub interface_homes : Each (λ (interface : Interface). IfSome interface.«package» IsWritableId) graph.interfaces
+  pub interface_homes : Each (λ (interface : Interface). IfSome interface.«package» IsWritableId)
+      graph.interfaces
   pub no_includes : Each (λ (world : World). world.includes ≡ []) graph.worlds
   pub named : graph.package_names ≡ in_order 0 graph.packages
   pub names_differ : HasDistinctKeys graph.package_names
 
 -- no name stands twice
 abbrev pub AreApart : List (List ℕ) → Type 0
-AreApart names = (i j : ℕ) (name : List ℕ) → slice_get names i ≡ Some name → slice_get names j ≡ Some name → i ≡ j
+AreApart names =
+    (i j : ℕ) (name : List ℕ) → slice_get names i ≡ Some name → slice_get names j ≡ Some name
+    → i ≡ j
 
 pub record AreWritableParts (parts : ResolveParts) : Type 0 where
   pub graph : IsWritableGraph parts.graph

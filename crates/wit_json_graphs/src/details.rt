@@ -32,7 +32,8 @@ pub(crate) fn required_details<T: ReadDetails>(
     name: &str,
     thing: &mut T,
 ) -> Result<(), ReadError>
-    ensures { Completes result (required (T.detailed thing.old) name.now (value_view value.now)) thing.new }
+    ensures { Completes result (required (T.detailed thing.old) name.now (value_view value.now))
+        thing.new }
 {
     match value.get(name) {
         Some(details) => member_details(alloc, details, name, thing),
@@ -47,7 +48,8 @@ pub(crate) fn member_details<T: ReadDetails>(
     name: &str,
     thing: &mut T,
 ) -> Result<(), ReadError>
-    ensures { Completes result (under (Member name.now) (T.detailed thing.old (value_view value.now))) thing.new }
+    ensures { Completes result
+        (under (Member name.now) (T.detailed thing.old (value_view value.now))) thing.new }
 {
     in_member(alloc, thing.read_details(alloc, value), name)
 }
@@ -73,7 +75,8 @@ trait Row<P>: Sized {
 
 /// Reads what parts say of the things of a row, as many as there are, in order.
 fn read_parts<P, R: Row<P>>(alloc: Global, row: &mut R, parts: &[P]) -> Result<(), ReadError>
-    ensures { Completes result (with_parts R.with_part (R.many row.old) 0 row.old parts.now) row.new }
+    ensures { Completes result (with_parts R.with_part (R.many row.old) 0 row.old parts.now)
+        row.new }
 {
     let many = row.many();
     for index in 0..many {

@@ -140,7 +140,8 @@ fn entry_details(
     entry_span: &mut Span,
     external_id: &mut Option<Text>,
 ) -> Result<(), ReadError>
-    ensures { Completes result (entry_with (value_view value.now)) (entry_docs.new, entry_span.new, external_id.new) }
+    ensures { Completes result (entry_with (value_view value.now))
+        (entry_docs.new, entry_span.new, external_id.new) }
 {
     only(alloc, value, &["docs", "span", "external-id"])?;
     *entry_docs = docs(alloc, value)?;

@@ -56,7 +56,8 @@ param_of j = do
 
 abbrev pub function_names : List (List ℕ)
 function_names =
-    codes "name" ∷ codes "kind" ∷ codes "params" ∷ codes "result" ∷ codes "docs" ∷ codes "stability" ∷ codes "span" ∷ codes "external-id" ∷ []
+    codes "name" ∷ codes "kind" ∷ codes "params" ∷ codes "result" ∷ codes "docs" ∷ codes "stability"
+    ∷ codes "span" ∷ codes "external-id" ∷ []
 
 unfoldable pub function_of : Json → Reading Function
 function_of j = do
@@ -69,4 +70,13 @@ function_of j = do
   stability ← stability_of j
   span ← span_of j
   external_id ← optional text_of (codes "external-id") j
-  Ok (record { name = name; kind = kind; params = params; result_ = result; docs = docs; stability = stability; span = span; external_id = external_id })
+  Ok (record {
+    name = name;
+    kind = kind;
+    params = params;
+    result_ = result;
+    docs = docs;
+    stability = stability;
+    span = span;
+    external_id = external_id;
+  })

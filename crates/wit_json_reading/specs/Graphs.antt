@@ -56,4 +56,10 @@ graph_of j = do
   types ← required (list_of type_def_of) (codes "types") j
   packages ← required (list_of graph_package_of) (codes "packages") j
   names ← under (step.Member (codes "packages")) (homes_of packages)
-  Ok (record { types = types; interfaces = interfaces; worlds = worlds; packages = packages; package_names = names })
+  Ok (record {
+    types = types;
+    interfaces = interfaces;
+    worlds = worlds;
+    packages = packages;
+    package_names = names;
+  })

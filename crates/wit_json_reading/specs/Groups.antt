@@ -20,7 +20,9 @@ source_of j = do
 
 -- the sources with one more file at their end, which is below 2 ^ 32
 abbrev pub with_source : Sources → List ℕ × List ℕ → Reading Sources
-with_source sources file = if nat_lt (end_after sources.end file.1) (2 ^ 32) then Ok (with_file sources file.0 file.1) else instead_of expected.Source
+with_source sources file =
+    if nat_lt (end_after sources.end file.1) (2 ^ 32) then Ok (with_file sources file.0 file.1)
+    else instead_of expected.Source
 
 abbrev pub source_behind : Sources → Json → Reading Sources
 source_behind sources j = source_of j >>= λ file. with_source sources file
@@ -28,7 +30,9 @@ source_behind sources j = source_of j >>= λ file. with_source sources file
 -- the files of items, behind those that are there
 abbrev pub sources_from : Sources → Items → Reading Sources
 sources_from sources json.no_items = Ok sources
-sources_from sources (json.item j js) = under (step.Item (length sources.files)) (source_behind sources j) >>= λ more. sources_from more js
+sources_from sources (json.item j js) =
+    under (step.Item (length sources.files)) (source_behind sources j) >>=
+    λ more. sources_from more js
 
 abbrev pub no_sources : Sources
 no_sources = record { files = []; end = 0 }

@@ -12,7 +12,8 @@ abbrev pub one_member : Json → Option (List ℕ × Json)
 one_member (json.object (json.member name j json.no_members)) = Some (name, j)
 one_member _ = None
 
-abbrev pub by_member : {A : Type 0} → (List ℕ → Json → Reading A) → Expected → Option (List ℕ × Json) → Reading A
+abbrev pub by_member : {A : Type 0} → (List ℕ → Json → Reading A) → Expected
+    → Option (List ℕ × Json) → Reading A
 by_member f e None = instead_of e
 by_member f e (Some m) = under (step.Member m.0) (f m.0 m.1)
 
@@ -31,7 +32,8 @@ abbrev pub two_items : Json → Option (Json × Json)
 two_items (json.array (json.item a (json.item b json.no_items))) = Some (a, b)
 two_items _ = None
 
-abbrev pub by_items : {A B : Type 0} → (Json → Reading A) → (Json → Reading B) → Option (Json × Json) → Reading (A × B)
+abbrev pub by_items : {A B : Type 0} → (Json → Reading A) → (Json → Reading B)
+    → Option (Json × Json) → Reading (A × B)
 by_items f g None = instead_of expected.Pair
 by_items f g (Some p) = do
   x ← under (step.Item 0) (f p.0)
@@ -39,5 +41,6 @@ by_items f g (Some p) = do
   Ok (x, y)
 
 -- a list of two values
-abbrev pub pair_of : {A B : Type 0} → (Json → Reading A) → (Json → Reading B) → Json → Reading (A × B)
+abbrev pub pair_of : {A B : Type 0} → (Json → Reading A) → (Json → Reading B) → Json
+    → Reading (A × B)
 pair_of f g j = by_items f g (two_items j)

@@ -33,7 +33,10 @@ version_behind text =
 
 -- the name in a namespace
 abbrev pub name_in : List ℕ → List ℕ → Reading PackageName
-name_in namespace text = version_behind text >>= λ version. Ok (record { namespace = namespace; name = before_first (λ b. b == 64) text; version = version })
+name_in namespace text =
+    version_behind text >>= λ version.
+    Ok (record
+    { namespace = namespace; name = before_first (λ b. b == 64) text; version = version })
 
 -- `namespace:name`, and `@version` where there is one
 unfoldable pub package_name_in : List ℕ → Reading PackageName
@@ -88,7 +91,8 @@ deps_of _ = instead_of expected.Object
 
 abbrev pub package_names : List (List ℕ)
 package_names =
-    codes "name" ∷ codes "span" ∷ codes "docs" ∷ codes "worlds" ∷ codes "interfaces" ∷ codes "types" ∷ codes "foreign-deps" ∷ codes "foreign-dep-spans"
+    codes "name" ∷ codes "span" ∷ codes "docs" ∷ codes "worlds" ∷ codes "interfaces" ∷ codes "types"
+    ∷ codes "foreign-deps" ∷ codes "foreign-dep-spans"
     ∷ codes "unknown-type-spans" ∷ codes "required-resources" ∷ []
 
 -- its worlds and interfaces belong to it, and name no package

@@ -8,7 +8,8 @@ use Rattle.wit_json_reading.specs.declared.fault.Expected.TheVariants as expecte
 use Rattle.wit_json_reading.specs.declared.fault.Step.TheVariants as step
 
 -- the entries of members, behind those that are there; no name stands twice
-abbrev pub named_from : {A : Type 0} → (Json → Reading A) → List (List ℕ × A) → Members → Reading (List (List ℕ × A))
+abbrev pub named_from : {A : Type 0} → (Json → Reading A) → List (List ℕ × A) → Members
+    → Reading (List (List ℕ × A))
 named_from f entries json.no_members = Ok entries
 named_from f entries (json.member name j ms) =
     if is_some (lookup (bytes_eq name) entries) then under (step.Member name) (instead_of expected.NoSecondMember)

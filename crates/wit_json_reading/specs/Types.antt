@@ -155,7 +155,9 @@ kind_of (json.string word) = plain_kind_of word
 kind_of j = variant_of kind_by expected.TypeKind j
 
 abbrev pub type_names : List (List ℕ)
-type_names = codes "name" ∷ codes "kind" ∷ codes "owner" ∷ codes "docs" ∷ codes "stability" ∷ codes "span" ∷ codes "external-id" ∷ []
+type_names =
+    codes "name" ∷ codes "kind" ∷ codes "owner" ∷ codes "docs" ∷ codes "stability" ∷ codes "span"
+    ∷ codes "external-id" ∷ []
 
 unfoldable pub type_def_of : Json → Reading TypeDef
 type_def_of j = do
@@ -167,4 +169,12 @@ type_def_of j = do
   stability ← stability_of j
   span ← span_of j
   external_id ← optional text_of (codes "external-id") j
-  Ok (record { name = name; kind = kind; owner = owner; docs = docs; stability = stability; span = span; external_id = external_id })
+  Ok (record {
+    name = name;
+    kind = kind;
+    owner = owner;
+    docs = docs;
+    stability = stability;
+    span = span;
+    external_id = external_id;
+  })

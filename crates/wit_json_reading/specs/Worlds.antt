@@ -32,7 +32,9 @@ home_of j = do
   Ok (unwrap_or home None)
 
 abbrev pub interface_names : List (List ℕ)
-interface_names = codes "name" ∷ codes "types" ∷ codes "functions" ∷ codes "docs" ∷ codes "stability" ∷ codes "package" ∷ codes "span" ∷ []
+interface_names =
+    codes "name" ∷ codes "types" ∷ codes "functions" ∷ codes "docs" ∷ codes "stability"
+    ∷ codes "package" ∷ codes "span" ∷ []
 
 unfoldable pub interface_of : Json → Reading Interface
 interface_of j = do
@@ -44,13 +46,22 @@ interface_of j = do
   stability ← stability_of j
   home ← home_of j
   span ← span_of j
-  Ok (record { name = name; types = types; functions = functions; docs = docs; stability = stability; «package» = home; span = span })
+  Ok (record {
+    name = name;
+    types = types;
+    functions = functions;
+    docs = docs;
+    stability = stability;
+    «package» = home;
+    span = span;
+  })
 
 -- ---- entries of worlds
 
 unfoldable pub interface_entry_of : Json → Reading WorldItem
 interface_entry_of j = do
-  _ ← only (codes "id" ∷ codes "stability" ∷ codes "docs" ∷ codes "span" ∷ codes "external-id" ∷ []) j
+  _ ← only (codes "id" ∷ codes "stability" ∷ codes "docs" ∷ codes "span" ∷ codes "external-id" ∷ [])
+      j
   id ← required number_of (codes "id") j
   stability ← stability_of j
   docs ← docs_of j
@@ -98,19 +109,24 @@ abbrev pub key_of : List ℕ → WorldItem → WorldKey
 key_of name entry = option_map_or key.Name (marked_label name) (plain_key name entry)
 
 -- an entry behind those that are there, under a key that isn't there yet
-abbrev pub with_entry : List ℕ → WorldItem → List (WorldKey × WorldItem) → Reading (List (WorldKey × WorldItem))
+abbrev pub with_entry : List ℕ → WorldItem → List (WorldKey × WorldItem)
+    → Reading (List (WorldKey × WorldItem))
 with_entry name entry entries =
     if is_some (lookup (same_key (key_of name entry)) entries) then under (step.Member name) (instead_of expected.NoSecondMember)
     else Ok (entries ++ (key_of name entry, entry) ∷ [])
 
 -- the entry of a member behind those that are there
-abbrev pub with_member : List ℕ → Json → List (WorldKey × WorldItem) → Reading (List (WorldKey × WorldItem))
-with_member name j entries = under (step.Member name) (item_of j) >>= λ entry. with_entry name entry entries
+abbrev pub with_member : List ℕ → Json → List (WorldKey × WorldItem)
+    → Reading (List (WorldKey × WorldItem))
+with_member name j entries =
+    under (step.Member name) (item_of j) >>= λ entry. with_entry name entry entries
 
 -- the entries of members, behind those that are there
-abbrev pub entries_from : List (WorldKey × WorldItem) → Members → Reading (List (WorldKey × WorldItem))
+abbrev pub entries_from : List (WorldKey × WorldItem) → Members
+    → Reading (List (WorldKey × WorldItem))
 entries_from entries json.no_members = Ok entries
-entries_from entries (json.member name j ms) = with_member name j entries >>= λ more. entries_from more ms
+entries_from entries (json.member name j ms) =
+    with_member name j entries >>= λ more. entries_from more ms
 
 -- no name is one of the earlier ones, or stands twice
 abbrev pub names_differ : List (List ℕ) → Members → Reading (Unit {0})
@@ -149,7 +165,9 @@ includes_of j = do
   Ok (unwrap_or includes [])
 
 abbrev pub world_names : List (List ℕ)
-world_names = codes "name" ∷ codes "imports" ∷ codes "exports" ∷ codes "includes" ∷ codes "docs" ∷ codes "stability" ∷ codes "package" ∷ codes "span" ∷ []
+world_names =
+    codes "name" ∷ codes "imports" ∷ codes "exports" ∷ codes "includes" ∷ codes "docs"
+    ∷ codes "stability" ∷ codes "package" ∷ codes "span" ∷ []
 
 unfoldable pub world_of : Json → Reading World
 world_of j = do
@@ -162,4 +180,13 @@ world_of j = do
   stability ← stability_of j
   home ← home_of j
   span ← span_of j
-  Ok (record { name = name; imports = imports; exports = exports; docs = docs; stability = stability; «package» = home; includes = includes; span = span })
+  Ok (record {
+    name = name;
+    imports = imports;
+    exports = exports;
+    docs = docs;
+    stability = stability;
+    «package» = home;
+    includes = includes;
+    span = span;
+  })

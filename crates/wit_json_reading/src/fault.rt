@@ -122,7 +122,8 @@ pub fn in_member<T: Drop>(
     read: Result<T, ReadError>,
     name: &str,
 ) -> Result<T, ReadError>
-    ensures { (reading : Reading T) → Reads read reading → Reads result (under (Member name.now) reading) }
+    ensures { (reading : Reading T) → Reads read reading
+        → Reads result (under (Member name.now) reading) }
 {
     match read {
         Ok(value) => Ok(value),
@@ -136,7 +137,8 @@ pub fn in_member<T: Drop>(
 
 /// What was read of an item, as a part of its list.
 pub fn in_item<T: Drop>(read: Result<T, ReadError>, index: usize) -> Result<T, ReadError>
-    ensures { (reading : Reading T) → Reads read reading → Reads result (under (Item index) reading) }
+    ensures { (reading : Reading T) → Reads read reading
+        → Reads result (under (Item index) reading) }
 {
     match read {
         Ok(value) => Ok(value),

@@ -12,7 +12,8 @@ use std::alloc::Global;
 
 /// The one member of an object that has no other.
 pub fn one_member<'v, 'a>(value: &'v Value<'a>) -> Option<(&'a str, &'v Value<'a>)>
-    ensures { option_map (λ member. (member.0.now, value_view member.1.now)) result ≡ one_member (value_view value.now) }
+    ensures { option_map (λ member. (member.0.now, value_view member.1.now)) result
+        ≡ one_member (value_view value.now) }
 {
     let Value::Object(members) = value else {
         return None;
@@ -38,7 +39,8 @@ pub fn alone<T: ReadJson + Drop>(
 
 /// The two items of a list that has no other.
 fn two_items<'v, 'a>(value: &'v Value<'a>) -> Option<(&'v Value<'a>, &'v Value<'a>)>
-    ensures { option_map (λ items. (value_view items.0.now, value_view items.1.now)) result ≡ two_items (value_view value.now) }
+    ensures { option_map (λ items. (value_view items.0.now, value_view items.1.now)) result
+        ≡ two_items (value_view value.now) }
 {
     let Value::Array(items) = value else {
         return None;

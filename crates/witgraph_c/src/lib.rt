@@ -24,9 +24,12 @@ pub extern "C" fn witgraph_execute(
     needed: &mut usize,
 ) -> u32
     ensures status { result ≤ NO_MEMORY }
-    ensures understood { result ≡ UNDERSTOOD → IsWritten (PrintsByRun input.now true) output.old output.new needed.new }
-    ensures not_understood { result ≡ NOT_UNDERSTOOD → IsWritten (PrintsByRun input.now false) output.old output.new needed.new }
-    ensures small { result ≡ OUTPUT_TOO_SMALL → IsTooLong (PrintsByRun input.now) output.old needed.new }
+    ensures understood { result ≡ UNDERSTOOD
+        → IsWritten (PrintsByRun input.now true) output.old output.new needed.new }
+    ensures not_understood { result ≡ NOT_UNDERSTOOD
+        → IsWritten (PrintsByRun input.now false) output.old output.new needed.new }
+    ensures small { result ≡ OUTPUT_TOO_SMALL
+        → IsTooLong (PrintsByRun input.now) output.old needed.new }
     ensures utf8 { result ≡ INPUT_NOT_UTF8 → IsUtf8 input.now → ⊥ }
     ensures memory { result ≡ NO_MEMORY → IsUtf8 input.now }
     ensures kept { OUTPUT_TOO_SMALL ≤ result → output.new ≡ output.old }
@@ -44,9 +47,12 @@ pub extern "C" fn witgraph_explain(
     needed: &mut usize,
 ) -> u32
     ensures status { result ≤ NO_MEMORY }
-    ensures understood { result ≡ UNDERSTOOD → IsWritten (Explains input.now true) output.old output.new needed.new }
-    ensures not_understood { result ≡ NOT_UNDERSTOOD → IsWritten (Explains input.now false) output.old output.new needed.new }
-    ensures small { result ≡ OUTPUT_TOO_SMALL → IsTooLong (Explains input.now) output.old needed.new }
+    ensures understood { result ≡ UNDERSTOOD
+        → IsWritten (Explains input.now true) output.old output.new needed.new }
+    ensures not_understood { result ≡ NOT_UNDERSTOOD
+        → IsWritten (Explains input.now false) output.old output.new needed.new }
+    ensures small { result ≡ OUTPUT_TOO_SMALL
+        → IsTooLong (Explains input.now) output.old needed.new }
     ensures utf8 { result ≡ INPUT_NOT_UTF8 → IsUtf8 input.now → ⊥ }
     ensures memory { result ≡ NO_MEMORY → IsUtf8 input.now }
     ensures kept { OUTPUT_TOO_SMALL ≤ result → output.new ≡ output.old }
@@ -64,9 +70,12 @@ pub extern "C" fn witgraph_json(
     needed: &mut usize,
 ) -> u32
     ensures status { result ≤ NO_MEMORY }
-    ensures understood { result ≡ UNDERSTOOD → IsWritten (ComesOutOfBytes input.now true) output.old output.new needed.new }
-    ensures not_understood { result ≡ NOT_UNDERSTOOD → IsWritten (ComesOutOfBytes input.now false) output.old output.new needed.new }
-    ensures small { result ≡ OUTPUT_TOO_SMALL → IsTooLong (ComesOutOfBytes input.now) output.old needed.new }
+    ensures understood { result ≡ UNDERSTOOD
+        → IsWritten (ComesOutOfBytes input.now true) output.old output.new needed.new }
+    ensures not_understood { result ≡ NOT_UNDERSTOOD
+        → IsWritten (ComesOutOfBytes input.now false) output.old output.new needed.new }
+    ensures small { result ≡ OUTPUT_TOO_SMALL
+        → IsTooLong (ComesOutOfBytes input.now) output.old needed.new }
     ensures utf8 { result ≡ INPUT_NOT_UTF8 → IsUtf8 input.now → ⊥ }
     ensures memory { result ≡ NO_MEMORY → IsUtf8 input.now }
     ensures kept { OUTPUT_TOO_SMALL ≤ result → output.new ≡ output.old }

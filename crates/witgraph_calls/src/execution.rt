@@ -18,9 +18,12 @@ use wit_script::execute_text;
 /// the last three the output is as before, and after the last two nothing is needed.
 pub fn execute(alloc: Global, input: &[u8], output: &mut [u8], needed: &mut usize) -> u32
     ensures status { result ≤ NO_MEMORY }
-    ensures understood { result ≡ UNDERSTOOD → IsWritten (PrintsByRun input.now true) output.old output.new needed.new }
-    ensures not_understood { result ≡ NOT_UNDERSTOOD → IsWritten (PrintsByRun input.now false) output.old output.new needed.new }
-    ensures small { result ≡ OUTPUT_TOO_SMALL → IsTooLong (PrintsByRun input.now) output.old needed.new }
+    ensures understood { result ≡ UNDERSTOOD
+        → IsWritten (PrintsByRun input.now true) output.old output.new needed.new }
+    ensures not_understood { result ≡ NOT_UNDERSTOOD
+        → IsWritten (PrintsByRun input.now false) output.old output.new needed.new }
+    ensures small { result ≡ OUTPUT_TOO_SMALL
+        → IsTooLong (PrintsByRun input.now) output.old needed.new }
     ensures utf8 { result ≡ INPUT_NOT_UTF8 → IsUtf8 input.now → ⊥ }
     ensures memory { result ≡ NO_MEMORY → IsUtf8 input.now }
     ensures kept { OUTPUT_TOO_SMALL ≤ result → output.new ≡ output.old }

@@ -16,9 +16,12 @@ use wit_script_faults::explain_text;
 /// All else is as of `execute`.
 pub fn explain(alloc: Global, input: &[u8], output: &mut [u8], needed: &mut usize) -> u32
     ensures status { result ≤ NO_MEMORY }
-    ensures understood { result ≡ UNDERSTOOD → IsWritten (Explains input.now true) output.old output.new needed.new }
-    ensures not_understood { result ≡ NOT_UNDERSTOOD → IsWritten (Explains input.now false) output.old output.new needed.new }
-    ensures small { result ≡ OUTPUT_TOO_SMALL → IsTooLong (Explains input.now) output.old needed.new }
+    ensures understood { result ≡ UNDERSTOOD
+        → IsWritten (Explains input.now true) output.old output.new needed.new }
+    ensures not_understood { result ≡ NOT_UNDERSTOOD
+        → IsWritten (Explains input.now false) output.old output.new needed.new }
+    ensures small { result ≡ OUTPUT_TOO_SMALL
+        → IsTooLong (Explains input.now) output.old needed.new }
     ensures utf8 { result ≡ INPUT_NOT_UTF8 → IsUtf8 input.now → ⊥ }
     ensures memory { result ≡ NO_MEMORY → IsUtf8 input.now }
     ensures kept { OUTPUT_TOO_SMALL ≤ result → output.new ≡ output.old }

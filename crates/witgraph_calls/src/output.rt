@@ -8,9 +8,12 @@ use crate::status::{NOT_UNDERSTOOD, OUTPUT_TOO_SMALL, UNDERSTOOD};
 pub fn put_text(understood: bool, text: &[u8], output: &mut [u8], needed: &mut usize) -> u32
     ensures needed { needed.new ≡ length text.now }
     ensures status { result ≤ OUTPUT_TOO_SMALL }
-    ensures understood { result ≡ UNDERSTOOD → (understood ≡ true) × HasFront text.now output.old output.new }
-    ensures not_understood { result ≡ NOT_UNDERSTOOD → (understood ≡ false) × HasFront text.now output.old output.new }
-    ensures small { result ≡ OUTPUT_TOO_SMALL → (length output.old < length text.now) × (output.new ≡ output.old) }
+    ensures understood { result ≡ UNDERSTOOD
+        → (understood ≡ true) × HasFront text.now output.old output.new }
+    ensures not_understood { result ≡ NOT_UNDERSTOOD
+        → (understood ≡ false) × HasFront text.now output.old output.new }
+    ensures small { result ≡ OUTPUT_TOO_SMALL
+        → (length output.old < length text.now) × (output.new ≡ output.old) }
 {
     *needed = text.len();
     if output.len() < text.len() {

@@ -8,5 +8,6 @@ use Rattle.wit_json_commands.specs.Runs.{RespondsEach}
 -- one run of all of them has these replies, and leaves this state
 abbrev pub RunsGoOn : Type 0
 RunsGoOn =
-    (old mid new : State) (its others : List Order) (replies more : List Response) → RespondsEach old its replies mid → RespondsEach mid others more new
+    (old mid new : State) (its others : List Order) (replies more : List Response)
+    → RespondsEach old its replies mid → RespondsEach mid others more new
     → RespondsEach old (its ++ others) (replies ++ more) new

@@ -27,4 +27,6 @@ pub record WritesOutput (first : State) (commands : List Order) (text : List ℕ
   pub replies : List Response
   pub state : State
   pub responds : RespondsEach first commands replies state
-  pub text_is : text ≡ compact (json_of_output replies state.graph state.features state.track_rule state.source_map)
+  pub text_is : text
+      ≡ compact
+      (json_of_output replies state.graph state.features state.track_rule state.source_map)

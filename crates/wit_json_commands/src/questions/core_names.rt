@@ -30,7 +30,8 @@ pub fn core_names(
     mangling: Mangling,
 ) -> ResolveResult<Answer>
     requires { IsValid graph.now }
-    ensures { IfOk result (λ answer. answer ≡ core_names graph.now «package».now world.now mangling) }
+    ensures { IfOk result
+        (λ answer. answer ≡ core_names graph.now «package».now world.now mangling) }
 {
     let Some(id) = world_named(graph, package, world.as_str()) else {
         return Ok(Answer::NotFound);
@@ -69,7 +70,8 @@ fn functions_of<'a>(
     graph: &'a Graph,
     entries: &'a Table<WorldKey, WorldItem>,
 ) -> Result<Vec<Placed<'a>>, AllocError>
-    ensures { IfOk result (λ placed. placed_functions placed.items ≡ flat_map (entry_functions graph.now) entries.now) }
+    ensures { IfOk result (λ placed.
+        placed_functions placed.items ≡ flat_map (entry_functions graph.now) entries.now) }
 {
     let mut placed = Vec::new(alloc);
     for (key, item) in entries.iter() {
@@ -85,7 +87,8 @@ fn add_functions<'a>(
     item: &'a WorldItem,
     placed: &mut Vec<Placed<'a>>,
 ) -> Result<(), AllocError>
-    ensures { OnOk result (placed_functions placed.new.items ≡ placed_functions placed.old.items ++ entry_functions graph.now (key.now, item.now)) }
+    ensures { OnOk result (placed_functions placed.new.items
+        ≡ placed_functions placed.old.items ++ entry_functions graph.now (key.now, item.now)) }
 {
     match item {
         WorldItem::Function(function) => placed.push(Placed {
@@ -105,7 +108,8 @@ fn add_interface<'a>(
     id: InterfaceId,
     placed: &mut Vec<Placed<'a>>,
 ) -> Result<(), AllocError>
-    ensures { OnOk result (placed_functions placed.new.items ≡ placed_functions placed.old.items ++ functions_at graph.now key.now id) }
+    ensures { OnOk result (placed_functions placed.new.items
+        ≡ placed_functions placed.old.items ++ functions_at graph.now key.now id) }
 {
     let Some(interface) = graph.interfaces.get(id.index()) else {
         return Ok(());
@@ -146,7 +150,8 @@ fn core_import(
     placed: &Placed<'_>,
 ) -> ResolveResult<Option<CoreImport>>
     requires { IsValid graph.now }
-    ensures { IfOk result (λ import. import ≡ core_import graph.now mangling (placed_function placed.now)) }
+    ensures { IfOk result
+        (λ import. import ≡ core_import graph.now mangling (placed_function placed.now)) }
 {
     let import = WasmImport::Func {
         interface: placed.interface,
@@ -203,7 +208,8 @@ fn core_export(
     placed: &Placed<'_>,
 ) -> ResolveResult<Option<CoreExport>>
     requires { IsValid graph.now }
-    ensures { IfOk result (λ export. export ≡ core_export graph.now mangling (placed_function placed.now)) }
+    ensures { IfOk result
+        (λ export. export ≡ core_export graph.now mangling (placed_function placed.now)) }
 {
     let export = WasmExport::Func {
         interface: placed.interface,

@@ -30,7 +30,10 @@ pub fn package_dependencies(
 /// The packages that a package depends on.
 fn packages_of(alloc: Global, graph: &Graph, id: PackageId) -> Result<Items<PackageId>, AllocError>
     requires { id < length graph.now.packages }
-    ensures { IfOk result (λ ids. ids ≡ package_direct_deps graph.now.types graph.now.interfaces graph.now.worlds graph.now.packages id) }
+    ensures { IfOk result (λ ids.
+        ids
+        ≡ package_direct_deps graph.now.types graph.now.interfaces graph.now.worlds
+        graph.now.packages id) }
 {
     let mut ids = Items::new(alloc);
     for other in package_direct_deps(graph, id) {
@@ -47,7 +50,8 @@ pub fn interface_dependencies(
     interface: &Text,
 ) -> ResolveResult<Answer>
     requires { IsValid graph.now }
-    ensures { IfOk result (λ answer. answer ≡ interface_dependencies graph.now «package».now interface.now) }
+    ensures { IfOk result
+        (λ answer. answer ≡ interface_dependencies graph.now «package».now interface.now) }
 {
     match interface_named(graph, package, interface.as_str()) {
         Some(id) => Ok(Answer::Interfaces(interfaces_of(alloc, graph, id)?)),
@@ -62,7 +66,8 @@ fn interfaces_of(
     id: InterfaceId,
 ) -> Result<Items<InterfaceId>, AllocError>
     requires { id < length graph.now.interfaces }
-    ensures { IfOk result (λ ids. ids ≡ interface_direct_deps graph.now.types graph.now.interfaces id) }
+    ensures { IfOk result
+        (λ ids. ids ≡ interface_direct_deps graph.now.types graph.now.interfaces id) }
 {
     let mut ids = Items::new(alloc);
     for other in interface_direct_deps(graph, id) {

@@ -49,7 +49,8 @@ fn interface_function<'a>(
     name: &str,
     function: &Text,
 ) -> Option<&'a Function>
-    ensures { option_copied result ≡ interface_function graph.now «package».now name.now function.now }
+    ensures { option_copied result
+        ≡ interface_function graph.now «package».now name.now function.now }
 {
     let id = interface_named(graph, package, name)?;
     graph

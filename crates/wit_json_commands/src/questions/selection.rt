@@ -17,7 +17,8 @@ pub fn select(
     packages: &Items<PackageName>,
     world: &Option<Text>,
 ) -> ResolveResult<Answer>
-    ensures { IfOk result (λ answer. TellsSelect graph.now files.now packages.now world.now answer) }
+    ensures { IfOk result
+        (λ answer. TellsSelect graph.now files.now packages.now world.now answer) }
 {
     match packages_named(alloc, graph, packages.as_slice())? {
         Some(mains) => choose(alloc, graph, files, &mains, world),
@@ -31,7 +32,8 @@ fn packages_named(
     graph: &Graph,
     names: &[PackageName],
 ) -> Result<Option<Vec<PackageId>>, AllocError>
-    ensures { IfOk result (λ found. option_map (λ ids. ids.items) found ≡ packages_named graph.now names.now) }
+    ensures { IfOk result
+        (λ found. option_map (λ ids. ids.items) found ≡ packages_named graph.now names.now) }
 {
     let mut ids = Vec::new(alloc);
     for name in names {

@@ -24,7 +24,9 @@ pub fn output_to_json(
     rule: TrackRule,
     files: &SourceMap,
 ) -> Result<String, AllocError>
-    ensures { IfOk result (λ text. string_bytes text ≡ compact (json_of_output replies.now graph.now features.now rule files.now)) }
+    ensures { IfOk result (λ text.
+        string_bytes text
+        ≡ compact (json_of_output replies.now graph.now features.now rule files.now)) }
 {
     let mut out = JsonText::new(alloc);
     out.begin_object()?;
@@ -74,7 +76,8 @@ fn write_offset(out: &mut JsonText, offset: usize) -> Result<(), AllocError>
 
 /// Writes the member that has what was expected.
 fn write_expected(out: &mut JsonText, expected: Expected) -> Result<(), AllocError>
-    ensures { OnOk result (Adds out.old out.new (member (codes "expected") (json_of_text (expected_text expected)))) }
+    ensures { OnOk result (Adds out.old out.new
+        (member (codes "expected") (json_of_text (expected_text expected)))) }
 {
     let alloc = out.allocator();
     let text = format!(in alloc; "{expected}")?;

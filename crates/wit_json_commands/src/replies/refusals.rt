@@ -38,7 +38,8 @@ fn places_text(
     files: &SourceMap,
     kind: &ResolveErrorKind,
 ) -> Result<String, AllocError>
-    ensures { IfOk result (λ text. string_bytes text ≡ places_text graph.now files.now.files kind.now) }
+    ensures { IfOk result
+        (λ text. string_bytes text ≡ places_text graph.now files.now.files kind.now) }
 {
     match kind {
         ResolveErrorKind::DuplicatePackage { name, span1, span2 } => {
@@ -79,7 +80,8 @@ fn way_text(alloc: Global, files: &SourceMap, way: &[Arrow]) -> Result<String, A
 
 /// The lines of the steps of a way.
 fn lines_text(alloc: Global, files: &SourceMap, way: &[Arrow]) -> Result<String, AllocError>
-    ensures { IfOk result (λ text. string_bytes text ≡ flat_map (arrow_text files.now.files) way.now) }
+    ensures { IfOk result
+        (λ text. string_bytes text ≡ flat_map (arrow_text files.now.files) way.now) }
 {
     let mut text = String::new(alloc);
     for arrow in way {

@@ -63,7 +63,8 @@ fn write_path(
 
 /// Writes the member that has the path to the package.
 fn write_path_member(out: &mut JsonText, unshaped: &Unshaped) -> Result<(), AllocError>
-    ensures { OnOk result (Adds out.old out.new (member (codes "path") (package_path unshaped.now.group unshaped.now.«package»))) }
+    ensures { OnOk result (Adds out.old out.new
+        (member (codes "path") (package_path unshaped.now.group unshaped.now.«package»))) }
 {
     out.key("path")?;
     write_path(out, unshaped.group, unshaped.package)
@@ -79,7 +80,8 @@ fn write_text(out: &mut JsonText, name: &str, text: &str) -> Result<(), AllocErr
 
 /// Writes the member that has the place of what breaks the shape.
 fn write_place(out: &mut JsonText, place: ShapePlace) -> Result<(), AllocError>
-    ensures { OnOk result (Adds out.old out.new (member (codes "place") (json_of_text (place_text place)))) }
+    ensures { OnOk result
+        (Adds out.old out.new (member (codes "place") (json_of_text (place_text place)))) }
 {
     let alloc = out.allocator();
     let text = format!(in alloc; "{place}")?;

@@ -31,7 +31,8 @@ pub fn answer_command(
     asked: &str,
 ) -> ResolveResult<Answer>
     requires { IsCommandShaped command }
-    ensures { IfOk result (λ answer. AnswersCommand asked.now resolve.old command answer resolve.new) }
+    ensures { IfOk result
+        (λ answer. AnswersCommand asked.now resolve.old command answer resolve.new) }
 {
     let brought = Asked::of(alloc, resolve, &command)?;
     let reply = carry_out(alloc, resolve, command);

@@ -78,7 +78,8 @@ fn no_valid_graph(alloc: Global) -> Result<Resolve, ReadError>
 
 /// What comes out of a document that can't be read, or whose graph isn't valid.
 fn fault_text(alloc: Global, text: &str, fault: &Fault) -> Result<String, AllocError>
-    ensures { IfOk result (λ out. (offset : ℕ) × (string_bytes out ≡ compact (json_of_fault fault.now offset))) }
+    ensures { IfOk result
+        (λ out. (offset : ℕ) × (string_bytes out ≡ compact (json_of_fault fault.now offset))) }
 {
     let offset = offset_of(alloc, text, fault)?;
     fault_to_json(alloc, fault, offset)
@@ -112,12 +113,15 @@ pub fn execute<R: Read, W: Write>(
         (text : List ℕ) × ComesOutOfBytes input understood text × Appends (W.contents writer.old.inner) (W.contents writer.new.inner) text)) }
     ensures cut { IsErrOf result StreamFault.Write → IfSome (R.remaining reader.old.inner) (λ input.
         (understood : Bool) × (text : List ℕ) × ComesOutOfBytes input understood text × AppendsBeginning (W.contents writer.old.inner) (W.contents writer.new.inner) text) }
-    ensures untouched { IfErr result (λ fault. (fault ≡ StreamFault.Write) ⊎ (writer.new ≡ writer.old)) }
+    ensures untouched { IfErr result
+        (λ fault. (fault ≡ StreamFault.Write) ⊎ (writer.new ≡ writer.old)) }
     ensures end { OnOk result (IfSome (R.remaining reader.new.inner) (λ rest. rest ≡ [])) }
     ensures read { IsErrOf result StreamFault.Read → reader.new.failed ≡ true }
     ensures write { IsErrOf result StreamFault.Write → writer.new.failed ≡ true }
-    ensures utf8 { IsErrOf result StreamFault.NotUtf8 → IfSome (R.remaining reader.old.inner) (λ input. IsUtf8 input → ⊥) }
-    ensures memory { IsErrOf result StreamFault.OutOfMemory → (reader.new.ended ≡ reader.old.ended) ⊎ IfSome (R.remaining reader.old.inner) IsUtf8 }
+    ensures utf8 { IsErrOf result StreamFault.NotUtf8
+        → IfSome (R.remaining reader.old.inner) (λ input. IsUtf8 input → ⊥) }
+    ensures memory { IsErrOf result StreamFault.OutOfMemory
+        → (reader.new.ended ≡ reader.old.ended) ⊎ IfSome (R.remaining reader.old.inner) IsUtf8 }
 {
     let input = read_all(alloc, reader)?;
     let (understood, text) = responded(alloc, &input)?;
@@ -128,7 +132,8 @@ pub fn execute<R: Read, W: Write>(
 /// What comes out of an input, and whether it is understood. An input that isn't UTF-8 is told as that, whatever memory
 /// there is.
 fn responded(alloc: Global, input: &[u8]) -> Result<(bool, String), StreamFault>
-    ensures ok { IfOk result (λ answer. ComesOutOfBytes input.now answer.0 (string_bytes answer.1)) }
+    ensures ok { IfOk result
+        (λ answer. ComesOutOfBytes input.now answer.0 (string_bytes answer.1)) }
     ensures read { IsErrOf result StreamFault.Read → ⊥ }
     ensures write { IsErrOf result StreamFault.Write → ⊥ }
     ensures utf8 { IsErrOf result StreamFault.NotUtf8 → IsUtf8 input.now → ⊥ }

@@ -22,20 +22,30 @@ EntryNamesDiffer =
 
 -- the value that is written of an unresolved package reads as that package
 abbrev pub PackagesReadBack : Type 0
-PackagesReadBack = (p : UnresolvedPackage) → IsWritablePackage p → package_of (json_of_unresolved p) ≡ Ok p
+PackagesReadBack =
+    (p : UnresolvedPackage) → IsWritablePackage p → package_of (json_of_unresolved p) ≡ Ok p
 
 -- so does its text
 abbrev pub TextsReadBack : Type 0
-TextsReadBack = (p : UnresolvedPackage) → IsWritablePackage p → reading_of package_of (compact (json_of_unresolved p)) ≡ Ok p
+TextsReadBack =
+    (p : UnresolvedPackage) → IsWritablePackage p
+    → reading_of package_of (compact (json_of_unresolved p)) ≡ Ok p
 
 -- the value that is written of a group of packages with its files reads as that group
 abbrev pub GroupsReadBack : Type 0
-GroupsReadBack = (group : UnresolvedPackageGroup) → IsWritableGroup group → group_of (json_of_group group) ≡ Ok group
+GroupsReadBack =
+    (group : UnresolvedPackageGroup) → IsWritableGroup group
+    → group_of (json_of_group group) ≡ Ok group
 
 -- so does its text
 abbrev pub GroupTextsReadBack : Type 0
-GroupTextsReadBack = (group : UnresolvedPackageGroup) → IsWritableGroup group → reading_of group_of (compact (json_of_group group)) ≡ Ok group
+GroupTextsReadBack =
+    (group : UnresolvedPackageGroup) → IsWritableGroup group
+    → reading_of group_of (compact (json_of_group group)) ≡ Ok group
 
 -- the value that is written of a graph with what stands beside it reads as the parts of that `Resolve`
 abbrev pub ResolvesReadBack : Type 0
-ResolvesReadBack = (parts : ResolveParts) → AreWritableParts parts → resolve_of (json_of_whole parts.graph parts.features parts.track_rule parts.source_map) ≡ Ok parts
+ResolvesReadBack =
+    (parts : ResolveParts) → AreWritableParts parts
+    → resolve_of (json_of_whole parts.graph parts.features parts.track_rule parts.source_map)
+    ≡ Ok parts
