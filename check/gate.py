@@ -40,6 +40,8 @@ BEFORE = {
     "stored-outputs": "python3 check/stored.py",
     "stored-graphs": "python3 check/worked_graphs.py",
     "tests-of-graphs": "python3 check/test_worked_graphs.py",
+    "not-entered": "python3 check/entered_names.py",
+    "tests-of-not-entered": "python3 check/test_entered_names.py",
     "copies": "python3 check/copies.py --first {seed} --many 200",
     "tests-of-wit": "python3 tools/test_wit.py",
     "wit2script": "python3 tools/test_wit2script.py",

@@ -9,8 +9,9 @@
 - The picture of `witgraph_dot`: its arrows, as check/pictures.py asks.
 - Documents that come out of `witgraph_json` and of examples/kinds: the replies to commands and to `select` in one package,
   and all worlds of the graph. Of other questions the model knows nothing.
-- What `test_sweep` tells of the last command of each script, or of the merge of its graphs: the refusal, or that there is none.
-  Of its other calls the model knows nothing.
+- What `test_sweep` tells of the last command of each script, or of the merge of its graphs: the refusal, or that there is none;
+  and what its calls answer (check/stored_calls.py, which says of which the model knows nothing).
+- What `wit_uses` prints (check/stored_uses.py).
 - The commands of `test_json_cases`, which check/script_documents.py writes of the worked scripts, and their number.
 
 Worked scripts, pictures of docs and WASI have checks of their own: check/compare.py, check/pictures.py,
@@ -29,6 +30,8 @@ import model  # noqa: E402
 import packages  # noqa: E402
 import pictures  # noqa: E402
 import script_documents as documents  # noqa: E402
+import stored_calls  # noqa: E402
+import stored_uses  # noqa: E402
 import ways  # noqa: E402
 from model.names import PackageName  # noqa: E402
 from model.scripts import Rules, Session, shown  # noqa: E402
@@ -60,6 +63,18 @@ def wrong_refusals():
         are_refused = bool(may) and all(it.startswith("refused ") for it in may[-1])
         if bool(said) != are_refused or are_refused and not said <= may[-1]:
             yield f"{path}: {name}: {said or 'done'}, and the model's {may[-1:]}"
+
+
+def wrong_calls():
+    path = "crates/test_sweep/stdout"
+    told = compare.cases_of(read(path))
+    for name, script in compare.cases_of(read("crates/test_sweep/stdin")).items():
+        yield from (f"{path}: {name}: {it}" for it in stored_calls.faults(script, told[name]))
+
+
+def wrong_uses():
+    if read("crates/wit_uses/stdout") != stored_uses.output():
+        yield f"crates/wit_uses/stdout: the model's is\n{stored_uses.output()}"
 
 
 # ---- explanations
@@ -197,7 +212,8 @@ def wrong_commands():
 
 
 def main():
-    wrong = [*wrong_scripts(), *wrong_refusals(), *wrong_explanations(), *wrong_documents(), *wrong_commands()]
+    wrong = [*wrong_scripts(), *wrong_refusals(), *wrong_calls(), *wrong_uses()]
+    wrong += [*wrong_explanations(), *wrong_documents(), *wrong_commands()]
     print("\n".join(wrong), end="\n" if wrong else "", flush=True)
     is_other = pictures.differ("crates/witgraph_dot/stdin", "crates/witgraph_dot/stdout")
     print(f"stored outputs: {len(wrong) + is_other} wrong")

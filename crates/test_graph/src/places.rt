@@ -71,16 +71,32 @@ fn a_text_is_told_in_the_line_of_its_span(rt: HostRuntime) {
     }
 }
 
-/// The place and the line of a span in the second line of a file, which is so many letters long.
-fn shown_in_second_line(rt: &impl Abort, alloc: Global, letters: usize, span: Span) -> String {
+/// A file whose second line is so many letters long.
+fn with_second_line(rt: &impl Abort, alloc: Global, letters: usize) -> SourceMap {
     let mut contents = string(rt, alloc, "world a\n");
     for _i in 0..letters {
         contents.push_str("x").expect(rt, "memory");
     }
     let mut map = SourceMap::new(alloc);
     map.push_str(alloc, "m.wit", contents).expect(rt, "memory");
+    map
+}
+
+/// The place and the line of a span in that line.
+fn shown_in_second_line(rt: &impl Abort, alloc: Global, letters: usize, span: Span) -> String {
+    let map = with_second_line(rt, alloc, letters);
     match map.show_span(alloc, span).expect(rt, "memory") {
         Some(shown) => shown,
+        None => string(rt, alloc, "nowhere"),
+    }
+}
+
+/// How a text is told at a place in that line.
+fn told_in_second_line(rt: &impl Abort, alloc: Global, letters: usize) -> String {
+    let map = with_second_line(rt, alloc, letters);
+    let told = map.highlight_span(alloc, Span::new(9, 11), "bad");
+    match told.expect(rt, "memory") {
+        Some(told) => told,
         None => string(rt, alloc, "nowhere"),
     }
 }
@@ -110,6 +126,17 @@ fn of_a_long_line_the_beginning_is_shown(rt: HostRuntime) {
     assert!(rt; head == "     --> m.wit:2:1\n      |\n    2", "the place");
     assert!(rt; line.len() == 503 && line.ends_with("xx .."), "500 letters");
     assert!(rt; mark == "      | ^-", "the mark");
+}
+
+#[test]
+fn a_text_at_a_long_line_has_its_place_alone(rt: HostRuntime) {
+    let alloc = rt.alloc();
+    assert_text(&rt, told_in_second_line(&rt, alloc, 501), "m.wit:2:2: bad");
+    let told = told_in_second_line(&rt, alloc, 500);
+    assert!(rt;
+        told.as_str().starts_with("bad\n     --> m.wit:2:2\n"),
+        "its line"
+    );
 }
 
 const TRACKS: [(&str, &str, &str); 4] = [
