@@ -47,6 +47,7 @@ pub fn changed(random: &mut Random, input: &[u8], other: &[u8]) -> Vec<u8> {
             0 => change_byte(random, &mut text),
             1 => put_word(random, &mut text),
             2 => join(random, &mut text, other),
+            3 => rename(random, &mut text, other),
             _ => change_part(random, &mut text, other, sort),
         }
     }
@@ -70,6 +71,20 @@ fn put_word(random: &mut Random, text: &mut Vec<u8>) {
         let Range { start, end } = random.of(&parts).clone();
         let place = random.of(&[start..start, end..end, start..end]).clone();
         text.splice(place, random.of(&WORDS).bytes());
+    }
+}
+
+/// Puts a word of another input wherever one word stands.
+fn rename(random: &mut Random, text: &mut Vec<u8>, other: &[u8]) {
+    let (mut places, others) = (words(text), words(other));
+    if places.is_empty() || others.is_empty() {
+        return;
+    }
+    let old = text[random.of(&places).clone()].to_vec();
+    let new = &other[random.of(&others).clone()];
+    places.retain(|it| text[it.clone()] == old);
+    for place in places.into_iter().rev() {
+        text.splice(place, new.iter().copied());
     }
 }
 
