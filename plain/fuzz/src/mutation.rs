@@ -6,8 +6,31 @@ use std::ops::Range;
 pub const LONGEST: usize = 6000;
 /// Words that are rare, or on an edge.
 const WORDS: [&str; 26] = [
-    "0", "1", "2", "-1", "4294967295", "4294967296", "18446744073709551616", "1e9", "0.1", "null", "true", "\"\"", "\\u0000",
-    "\\ud800", "é", "\r\n", "%", "interface-0", "@1.0.0", "@0.2.1-rc.1", "@since=1.0.0", "@unstable=f", " ", "#", "list<u8>",
+    "0",
+    "1",
+    "2",
+    "-1",
+    "4294967295",
+    "4294967296",
+    "18446744073709551616",
+    "1e9",
+    "0.1",
+    "null",
+    "true",
+    "\"\"",
+    "\\u0000",
+    "\\ud800",
+    "é",
+    "\r\n",
+    "%",
+    "interface-0",
+    "@1.0.0",
+    "@0.2.1-rc.1",
+    "@since=1.0.0",
+    "@unstable=f",
+    " ",
+    "#",
+    "list<u8>",
     "push\n",
 ];
 
@@ -156,7 +179,10 @@ pub fn words(text: &[u8]) -> Vec<Range<usize>> {
 /// Where the JSON string, number or word ends that begins here.
 fn scalar_end(text: &[u8], start: usize) -> usize {
     if text[start] != b'"' {
-        return text[start..].iter().position(|it| !is_of_word(*it)).map_or(text.len(), |it| start + it);
+        return text[start..]
+            .iter()
+            .position(|it| !is_of_word(*it))
+            .map_or(text.len(), |it| start + it);
     }
     let mut at = start + 1;
     while at < text.len() && text[at] != b'"' {
