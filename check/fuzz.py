@@ -7,8 +7,8 @@
 The crate is made in OUT (a folder of its own is the default) and its program `fuzz` (plain/fuzz) built, with checks of sums
 and counters of the places that are entered. It changes inputs at random, goes on from those that enter a new place, and asks
 of each, as a script and as a document, what plain/fuzz/src/checks.rs lists: that nothing panics, that a refused command leaves
-the graph, that a graph which comes out goes in again, and more. The first inputs are check/corpus, the worked cases and the
-documents with faults. With `--keep` the inputs that entered a new place are put into FOLDER.
+the graph, that a graph which comes out goes in again, and more. The first inputs are those of check/corpus.txt, a JSON string
+each, the worked cases and the worked documents. With `--keep` the inputs that entered a new place are put into FOLDER.
 
 Ends with status 1 where an input breaks something or ends or holds up the process, and prints that input. Where cargo isn't
 there, or neither Debian's crates nor a registry, it says SKIPPED and ends with 77.
@@ -17,6 +17,7 @@ there, or neither Debian's crates nor a registry, it says SKIPPED and ends with 
 shows it.
 """
 import argparse
+import json
 import os
 import pathlib
 import re
@@ -72,7 +73,8 @@ def is_counting():
 
 def write_seeds(folder):
     """Writes the first inputs, a file each."""
-    corpus = [path.read_bytes() for path in sorted((CHECK / "corpus").iterdir())]
+    with open(CHECK / "corpus.txt", encoding="utf-8") as file:
+        corpus = [json.loads(line).encode() for line in file]
     cases = [case.text for case in plain.stored_cases() if case.program != "witgraph_dot"]
     faulty = [json_documents.faults_of(*case)[0].encode() for _, *case in json_documents.cases_of(json_documents.FAULTS)]
     good = [document.encode() for _, document, _ in json_documents.cases_of(json_documents.ANSWERS)]
@@ -120,21 +122,20 @@ def built_with(path, out, flags):
 
 
 def told_of(path, out, folder, asked, flags):
-    """What the search tells of a planted fault, or None."""
+    """Whether the search finds a planted fault, and what it tells."""
     program = built_with(path, out, flags)
     try:
-        search(program, folder, asked)
+        return False, search(program, folder, asked)
     except Fault as fault:
-        return str(fault)
-    return None
+        return True, str(fault)
 
 
 def check_planted(out, folder, asked, flags):
     missed = []
     for name in asked.planted or sorted(os.listdir(PLANTED)):
-        told = told_of(PLANTED / name, out, folder, asked, flags)
-        print(f"{name}: {'NOT FOUND' if told is None else ' | '.join(told.splitlines())[:400]}", flush=True)
-        missed += [name] if told is None else []
+        is_found, told = told_of(PLANTED / name, out, folder, asked, flags)
+        print(f"{name}: {'found' if is_found else 'NOT FOUND'}: {' | '.join(told.splitlines())[:400]}", flush=True)
+        missed += [] if is_found else [name]
     if missed:
         raise Fault(f"not found: {' '.join(missed)}")
 

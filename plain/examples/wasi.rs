@@ -10,8 +10,16 @@ fn main() -> Result<(), Box<dyn Error>> {
     let document = Document::from_json(&fs::read_to_string(path)?)?;
     let (resolve, _replies) = document.carry_out().ok_or("its graph isn't valid")?;
     for world in resolve.worlds.as_slice() {
-        let package = world.package.map(|id| resolve.packages[id].name.to_string()).unwrap_or_default();
-        println!("{package} {}: imports {}, exports {}", world.name, world.imports.len(), world.exports.len());
+        let package = world
+            .package
+            .map(|id| resolve.packages[id].name.to_string())
+            .unwrap_or_default();
+        println!(
+            "{package} {}: imports {}, exports {}",
+            world.name,
+            world.imports.len(),
+            world.exports.len()
+        );
     }
     Ok(())
 }

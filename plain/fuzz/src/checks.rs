@@ -47,17 +47,26 @@ fn answer_of(call: Call, input: &[u8]) -> (u32, String) {
 fn asked(call: Call, input: &[u8]) -> Option<(&str, bool, String)> {
     let (status, answer) = answer_of(call, input);
     let Ok(text) = str::from_utf8(input) else {
-        assert_eq!((status, answer.as_str()), (calls::INPUT_NOT_UTF8, ""), "of what isn't UTF-8");
+        assert_eq!(
+            (status, answer.as_str()),
+            (calls::INPUT_NOT_UTF8, ""),
+            "of what isn't UTF-8"
+        );
         return None;
     };
-    assert!([calls::UNDERSTOOD, calls::NOT_UNDERSTOOD].contains(&status), "status {status}");
+    assert!(
+        [calls::UNDERSTOOD, calls::NOT_UNDERSTOOD].contains(&status),
+        "status {status}"
+    );
     Some((text, status == calls::UNDERSTOOD, answer))
 }
 
 // ---- scripts
 
 fn check_script(input: &[u8]) {
-    let Some((text, is_understood, answers)) = asked(calls::execute, input) else { return };
+    let Some((text, is_understood, answers)) = asked(calls::execute, input) else {
+        return;
+    };
     let (_, is_explained, explained) = asked(calls::explain, input).expect("a text");
     assert_eq!(is_understood, is_explained, "understood by `execute` and by `explain`");
     if is_understood {
@@ -66,9 +75,16 @@ fn check_script(input: &[u8]) {
         assert_eq!(has_failed, !explained.is_empty(), "something is to be explained");
         check_beginning(text, &answers);
     } else {
-        let number = answers.strip_prefix("line ").and_then(|it| it.strip_suffix(": not understood\n"));
-        let number: usize = number.and_then(|it| it.parse().ok()).expect("a line that isn't understood");
-        assert!((1..=text.split('\n').count() + 1).contains(&number), "line {number} of the script");
+        let number = answers
+            .strip_prefix("line ")
+            .and_then(|it| it.strip_suffix(": not understood\n"));
+        let number: usize = number
+            .and_then(|it| it.parse().ok())
+            .expect("a line that isn't understood");
+        assert!(
+            (1..=text.split('\n').count() + 1).contains(&number),
+            "line {number} of the script"
+        );
         assert!(explained.starts_with("line "), "why it isn't understood");
     }
 }
@@ -79,21 +95,30 @@ fn check_beginning(text: &str, answers: &str) {
     let beginning = lines[..lines.len() / 2].concat();
     let (status, beginning) = answer_of(calls::execute, beginning.as_bytes());
     if status == calls::UNDERSTOOD {
-        assert!(answers.starts_with(&beginning), "a beginning is answered {beginning:?}, all {answers:?}");
+        assert!(
+            answers.starts_with(&beginning),
+            "a beginning is answered {beginning:?}, all {answers:?}"
+        );
     }
 }
 
 // ---- documents
 
 fn check_document(input: &[u8]) {
-    let Some((text, is_understood, answer)) = asked(calls::carry_out, input) else { return };
+    let Some((text, is_understood, answer)) = asked(calls::carry_out, input) else {
+        return;
+    };
     serde_json::from_str::<IgnoredAny>(&answer).expect("one JSON document");
     if !is_understood {
         return check_fault(text, &answer);
     }
     let document = Document::from_json(text).expect("a document");
     let (resolve, replies) = document.carry_out().expect("a valid graph");
-    let wanted = format!("{{\"replies\":[{}],\"resolve\":{}}}", replies.join(","), resolve.to_json());
+    let wanted = format!(
+        "{{\"replies\":[{}],\"resolve\":{}}}",
+        replies.join(","),
+        resolve.to_json()
+    );
     assert_eq!(answer, wanted, "the library's answer and its parts");
     check_graph(&resolve);
     check_steps(text, &resolve, &replies);
@@ -114,7 +139,11 @@ fn check_graph(resolve: &Resolve) {
     let again = Resolve::from_json(&text).expect("what came out goes in");
     assert_eq!(again.to_json(), text, "written again");
     assert_same(&again, resolve);
-    assert_eq!(serde_json::to_string(resolve).expect("a text"), text, "written by serde");
+    assert_eq!(
+        serde_json::to_string(resolve).expect("a text"),
+        text,
+        "written by serde"
+    );
     let again: Resolve = serde_json::from_str(&text).expect("read by serde");
     assert_same(&again, resolve);
 }
@@ -139,7 +168,10 @@ fn parts_of(resolve: Resolve) -> ResolveParts {
 /// that is refused leaves it.
 fn check_steps(text: &str, wanted: &Resolve, replies: &[String]) {
     let document = Document::from_json(text).expect("a document");
-    let begin = Document { resolve: document.resolve, commands: Items::new() };
+    let begin = Document {
+        resolve: document.resolve,
+        commands: Items::new(),
+    };
     let (mut resolve, _) = begin.carry_out().expect("a valid graph");
     for (command, reply) in Vec::from(document.commands).into_iter().zip(replies) {
         let (after, told) = step(&resolve, command);
@@ -155,6 +187,9 @@ fn check_steps(text: &str, wanted: &Resolve, replies: &[String]) {
 
 fn step(resolve: &Resolve, command: Order) -> (Resolve, Vec<String>) {
     let commands = Items::from(vec![command]);
-    let document = Document { resolve: Some(parts_of(resolve.clone())), commands };
+    let document = Document {
+        resolve: Some(parts_of(resolve.clone())),
+        commands,
+    };
     document.carry_out().expect("a valid graph")
 }

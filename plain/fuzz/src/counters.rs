@@ -43,7 +43,10 @@ fn class(count: u8) -> u8 {
 impl Coverage {
     pub fn new() -> Coverage {
         let total = REGIONS.lock().expect("the regions").iter().map(|it| it.1).sum();
-        Coverage { counts: vec![0; total], seen: vec![0; total] }
+        Coverage {
+            counts: vec![0; total],
+            seen: vec![0; total],
+        }
     }
 
     /// How many counters there are, and how many of them were ever entered.

@@ -23,8 +23,8 @@ use std::process::ExitCode;
 use std::time::{Duration, Instant};
 use std::{env, fs};
 
-/// How often a smaller form of a faulty input is tried.
-const TRIES: usize = 4000;
+/// How long smaller forms of a faulty input are tried.
+const TO_MAKE_SMALL: Duration = Duration::from_secs(20);
 
 struct Asked {
     seed: u64,
@@ -37,7 +37,14 @@ struct Asked {
 
 impl Asked {
     fn of(mut words: impl Iterator<Item = String>) -> Option<Asked> {
-        let mut asked = Asked { seed: 1, seconds: 60, last: None, keep: None, run: false, paths: Vec::new() };
+        let mut asked = Asked {
+            seed: 1,
+            seconds: 60,
+            last: None,
+            keep: None,
+            run: false,
+            paths: Vec::new(),
+        };
         while let Some(word) = words.next() {
             match word.as_str() {
                 "--seed" => asked.seed = words.next()?.parse().ok()?,
@@ -124,7 +131,11 @@ impl Search {
 
     fn tell(&self) {
         let (entered, places) = self.coverage.entered();
-        println!("{} inputs, {} kept, {entered} of {places} places entered", self.tried, self.kept.len());
+        println!(
+            "{} inputs, {} kept, {entered} of {places} places entered",
+            self.tried,
+            self.kept.len()
+        );
     }
 }
 
@@ -143,14 +154,15 @@ fn seeds_of(folders: &[PathBuf]) -> Vec<Vec<u8>> {
 /// A smaller input that is at fault: without some of its lines, values, words or bytes.
 fn made_small(mut input: Vec<u8>) -> Vec<u8> {
     let bytes = |text: &[u8]| (0..text.len()).map(|it| it..it + 1).collect();
-    let mut tries = 0;
+    let end = Instant::now() + TO_MAKE_SMALL;
     for parts_of in [mutation::lines, mutation::values, mutation::words, bytes] {
         let mut index = parts_of(&input).len();
-        while index > 0 && tries < TRIES {
+        while index > 0 && Instant::now() < end {
             index = parts_of(&input).len().min(index) - 1;
-            let Some(part) = parts_of(&input).get(index).cloned() else { break };
+            let Some(part) = parts_of(&input).get(index).cloned() else {
+                break;
+            };
             let smaller = [&input[..part.start], &input[part.end..]].concat();
-            tries += 1;
             if checks::fault_of(&smaller).is_some() {
                 input = smaller;
             }
@@ -170,7 +182,9 @@ fn tell_fault((input, told): Fault) -> ExitCode {
 fn run_files(paths: &[PathBuf]) -> ExitCode {
     let told = |path: &Path| checks::fault_of(&fs::read(path).expect("a file"));
     let faults = paths.iter().filter_map(|it| Some((it, told(it)?)));
-    let count = faults.inspect(|(path, told)| println!("FAULT: {}: {told}", path.display())).count();
+    let count = faults
+        .inspect(|(path, told)| println!("FAULT: {}: {told}", path.display()))
+        .count();
     ExitCode::from(u8::from(count > 0))
 }
 

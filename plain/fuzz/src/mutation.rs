@@ -6,8 +6,31 @@ use std::ops::Range;
 pub const LONGEST: usize = 6000;
 /// Words that are rare, or on an edge.
 const WORDS: [&str; 26] = [
-    "0", "1", "2", "-1", "4294967295", "4294967296", "18446744073709551616", "1e9", "0.1", "null", "true", "\"\"", "\\u0000",
-    "\\ud800", "é", "\r\n", "%", "interface-0", "@1.0.0", "@0.2.1-rc.1", "@since=1.0.0", "@unstable=f", " ", "#", "list<u8>",
+    "0",
+    "1",
+    "2",
+    "-1",
+    "4294967295",
+    "4294967296",
+    "18446744073709551616",
+    "1e9",
+    "0.1",
+    "null",
+    "true",
+    "\"\"",
+    "\\u0000",
+    "\\ud800",
+    "é",
+    "\r\n",
+    "%",
+    "interface-0",
+    "@1.0.0",
+    "@0.2.1-rc.1",
+    "@since=1.0.0",
+    "@unstable=f",
+    " ",
+    "#",
+    "list<u8>",
     "push\n",
 ];
 
@@ -47,6 +70,7 @@ pub fn changed(random: &mut Random, input: &[u8], other: &[u8]) -> Vec<u8> {
             0 => change_byte(random, &mut text),
             1 => put_word(random, &mut text),
             2 => join(random, &mut text, other),
+            3 => rename(random, &mut text, other),
             _ => change_part(random, &mut text, other, sort),
         }
     }
@@ -70,6 +94,20 @@ fn put_word(random: &mut Random, text: &mut Vec<u8>) {
         let Range { start, end } = random.of(&parts).clone();
         let place = random.of(&[start..start, end..end, start..end]).clone();
         text.splice(place, random.of(&WORDS).bytes());
+    }
+}
+
+/// Puts a word of another input wherever one word stands.
+fn rename(random: &mut Random, text: &mut Vec<u8>, other: &[u8]) {
+    let (mut places, others) = (words(text), words(other));
+    if places.is_empty() || others.is_empty() {
+        return;
+    }
+    let old = text[random.of(&places).clone()].to_vec();
+    let new = &other[random.of(&others).clone()];
+    places.retain(|it| text[it.clone()] == old);
+    for place in places.into_iter().rev() {
+        text.splice(place, new.iter().copied());
     }
 }
 
@@ -141,7 +179,10 @@ pub fn words(text: &[u8]) -> Vec<Range<usize>> {
 /// Where the JSON string, number or word ends that begins here.
 fn scalar_end(text: &[u8], start: usize) -> usize {
     if text[start] != b'"' {
-        return text[start..].iter().position(|it| !is_of_word(*it)).map_or(text.len(), |it| start + it);
+        return text[start..]
+            .iter()
+            .position(|it| !is_of_word(*it))
+            .map_or(text.len(), |it| start + it);
     }
     let mut at = start + 1;
     while at < text.len() && text[at] != b'"' {
