@@ -13,17 +13,8 @@ use Rattle.wit_script.specs.steps.Ready.{IsReadyStatement}
 
 -- a command that brings no package
 none-ready : (asked : Request) → BringsNone asked → IsReady asked
-none-ready (request.Change (change.AddFeature name)) none = tt
-none-ready (request.Change (change.SetAllFeatures all)) none = tt
-none-ready (request.Change (change.SetTrackRule rule)) none = tt
 none-ready (request.Change (change.PushGroups main deps)) none = absurd none
-none-ready (request.Change (change.Importize home world out)) none = tt
-none-ready (request.Change (change.Exportize home world out keys)) none = tt
-none-ready (request.Change (change.Semver home world)) none = tt
-none-ready request.Other none = tt
-none-ready request.Merge none = tt
-none-ready (request.Print home world) none = tt
-none-ready (request.Select home said) none = tt
+none-ready asked none = tt
 
 pub line-ready : (said : Statement) (line : List ℕ) → statement_of line ≡ Some (Some said) → IsReadyStatement said
 line-ready (says.Package name) line is = tt

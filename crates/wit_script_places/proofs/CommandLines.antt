@@ -83,17 +83,8 @@ stands-last lines line place command last said = record {
 
 -- a command that brings no package is said by itself
 said-by-itself : (asked : Request) → BringsNone asked → says.Request asked ≡ said_of asked
-said-by-itself (request.Change (change.AddFeature name)) none = refl
-said-by-itself (request.Change (change.SetAllFeatures all)) none = refl
-said-by-itself (request.Change (change.SetTrackRule rule)) none = refl
 said-by-itself (request.Change (change.PushGroups main deps)) none = absurd none
-said-by-itself (request.Change (change.Importize home world out)) none = refl
-said-by-itself (request.Change (change.Exportize home world out keys)) none = refl
-said-by-itself (request.Change (change.Semver home world)) none = refl
-said-by-itself request.Other none = refl
-said-by-itself request.Merge none = refl
-said-by-itself (request.Print home world) none = refl
-said-by-itself (request.Select home said) none = refl
+said-by-itself asked none = refl
 
 else-of : {A : Type 0} (b : Bool) (o : Option A) (y : A) → (if b then None else o) ≡ Some y → o ≡ Some y
 else-of true o y h = cc

@@ -1,10 +1,11 @@
 //! A graph on which commands work, with what lines list for its worlds.
 ghost use Rattle.std.specs.Prelude.{◌≡◌, ◌∷◌, IfOk, OnOk, []};
-ghost use Rattle.wit_commands.specs.declared.change.Change.TheVariants as pushes;
+ghost use Rattle.wit_commands.specs.declared.change.Change.TheVariants as asks;
 ghost use Rattle.wit_resolve_graph.specs.Step.{IsCommandShaped, command_of};
 ghost use Rattle.wit_resolve_graph.specs.State.{new_state};
 ghost use Rattle.wit_resolve_graph.specs.declared.command.Command.TheVariants.{PushGroups};
 ghost use Rattle.witgraph_dot.specs.Drawn.{listed_state};
+ghost use Rattle.witgraph_dot.specs.steps.Listed.{IsIncludedAfter, IsListedAfter};
 ghost use Rattle.witgraph_dot.specs.Made.{AfterChange, AfterMerge, Carries, IsDone, merged_imports, merged_includes};
 
 use crate::listing::Listing;
@@ -76,7 +77,9 @@ impl ListedGraph {
         deps: Items<UnresolvedPackageGroup>,
     ) -> ResolveResult<bool>
         requires { IsCommandShaped (PushGroups main deps) }
-        ensures { IfOk result (λ done. AfterChange (pushes.PushGroups main deps) (listed_state self.old) done (listed_state self.new)) }
+        ensures carried { IfOk result (λ done. Carries self.old.resolve (PushGroups main deps) done self.new.resolve) }
+        ensures listed { IfOk result (λ done. IsListedAfter self.old (asks.PushGroups main deps) done self.new) }
+        ensures included { IfOk result (λ done. IsIncludedAfter self.old (asks.PushGroups main deps) done self.new) }
     {
         let groups = all_of(alloc, &main, deps.as_slice())?;
         let done = self.carry_out(alloc, Command::PushGroups { main, deps })?;

@@ -1,8 +1,9 @@
 //! The commands that transform a world, and what counts as listed after them.
 ghost use Rattle.std.specs.Prelude.{◌≡◌, IfOk, OnOk};
 ghost use Rattle.wit_commands.specs.declared.change.Change.TheVariants.{Exportize, Importize, Semver};
-ghost use Rattle.witgraph_dot.specs.Drawn.{listed_state};
-ghost use Rattle.witgraph_dot.specs.Made.{AfterChange};
+ghost use Rattle.wit_resolve_graph.specs.declared.command.Command.TheVariants as does;
+ghost use Rattle.witgraph_dot.specs.Made.{Carries};
+ghost use Rattle.witgraph_dot.specs.steps.Listed.{IsListedAfter};
 ghost use Rattle.witgraph_dot.specs.Transformed.{exportized_imports, exports_of, importized_imports, semver_merged_imports, with_versions};
 
 use crate::entries::{own_exports, own_imports};
@@ -24,7 +25,9 @@ impl ListedGraph {
         world: Text,
         out: Option<Text>,
     ) -> ResolveResult<bool>
-        ensures { IfOk result (λ done. AfterChange (Importize «package» world out) (listed_state self.old) done (listed_state self.new)) }
+        ensures carried { IfOk result (λ done. Carries self.old.resolve (does.Importize «package» world out) done self.new.resolve) }
+        ensures listed { IfOk result (λ done. IsListedAfter self.old (Importize «package» world out) done self.new) }
+        ensures included { self.new.listing.includes.items ≡ self.old.listing.includes.items }
     {
         let id = self.resolve.world_named(&package, world.as_str());
         let exports = exports_of(alloc, &self.resolve, &id)?;
@@ -49,7 +52,9 @@ impl ListedGraph {
         out: Option<Text>,
         keys: Option<Items<Text>>,
     ) -> ResolveResult<bool>
-        ensures { IfOk result (λ done. AfterChange (Exportize «package» world out keys) (listed_state self.old) done (listed_state self.new)) }
+        ensures carried { IfOk result (λ done. Carries self.old.resolve (does.Exportize «package» world out keys) done self.new.resolve) }
+        ensures listed { IfOk result (λ done. IsListedAfter self.old (Exportize «package» world out keys) done self.new) }
+        ensures included { self.new.listing.includes.items ≡ self.old.listing.includes.items }
     {
         let id = self.resolve.world_named(&package, world.as_str());
         let command = Command::Exportize {
@@ -72,7 +77,9 @@ impl ListedGraph {
         package: PackageName,
         world: Text,
     ) -> ResolveResult<bool>
-        ensures { IfOk result (λ done. AfterChange (Semver «package» world) (listed_state self.old) done (listed_state self.new)) }
+        ensures carried { IfOk result (λ done. Carries self.old.resolve (does.Semver «package» world) done self.new.resolve) }
+        ensures listed { IfOk result (λ done. IsListedAfter self.old (Semver «package» world) done self.new) }
+        ensures included { self.new.listing.includes.items ≡ self.old.listing.includes.items }
     {
         let id = self.resolve.world_named(&package, world.as_str());
         let done = self.carry_out(alloc, Command::Semver { package, world })?;
