@@ -2,14 +2,16 @@
 use Rattle.std.proofs.Common.{◌≡◌, ◌∙◌, ◌⊎◌, inl, inr, ℕ, Bool, true, List, [], ◌∷◌, length, refl, sym, ap, subst, lit<, arith, is_some, unwrap_or}
 use Rattle.std.proofs.lemmas.Bool.{false≢true}
 use Rattle.std.specs.Fmt.{digits}
-use Rattle.std.specs.Prelude.{codes, flat_map}
+use Rattle.std.specs.Prelude.{codes}
 use Rattle.wit_names.specs.declared.track.TrackRule.TheVariants.{WithPrereleases}
+use Rattle.wit_graph_data.specs.declared.error_kind.ResolveErrorKind.TheVariants.{OutOfMemory}
+use Rattle.wit_graph_data.specs.examples.Samples.{foo_bar}
 use Rattle.wit_graph_data.specs.declared.graph.Graph.{Graph}
 use Rattle.wit_merge_spec.specs.Cause.{MergeIsAccepted}
 use Rattle.wit_merge_spec.specs.Merged.{merged}
 use Rattle.wit_resolve_graph.specs.Merging.{merge_of}
 use Rattle.wit_resolve_graph.specs.State.{State, new_state}
-use Rattle.wit_resolve_graph.specs.Step.{Run}
+use Rattle.wit_resolve_graph.specs.Step.{Step}
 use Rattle.wit_resolve_graph.specs.declared.command.Command.TheVariants.{Merge}
 use Rattle.wit_resolve_graph.specs.declared.command.Reply.{Reply}
 use Rattle.wit_resolve_graph.specs.declared.command.Reply.TheVariants as reply
@@ -17,9 +19,10 @@ use Rattle.wit_script.specs.Answer.{AnswersCommand as IsAnswer, AnswersMerge, on
 use Rattle.wit_script.specs.declared.answer.Stage.{Stage}
 use Rattle.examples_script.proofs.Mergeable.{gates_apart, packages_merge}
 use Rattle.examples_script.proofs.Merges.{gate_in, gates_f_g, merges_are, packages_in, g_not_f, refused_are}
-use Rattle.examples_script.proofs.Steps.{is_other_rule, is_with_prereleases, letter}
+use Rattle.examples_script.proofs.Steps.{is_other_rule, is_with_prereleases, letter, one-step}
 use Rattle.examples_script.specs.MergeExamples.{at, gates_differ}
 use Rattle.examples_script.specs.OtherExamples.{ExamplesOfMergeLines, ExamplesOfOtherLines, bar, baz, gates_told, under_f, under_g}
+use Rattle.examples_script.specs.SmallGraphs.{after, foo_baz, gated, two}
 use Rattle.examples_script.specs.StepExamples.{both}
 
 -- ---- what is answered to a merge
@@ -37,27 +40,17 @@ record IsRefused (old new : State) (text : List ℕ) : Type 0 where
   rule : new.track_rule ≡ old.track_rule
 
 module _ (old other new : State) (text : List ℕ) where
-  by_replies : (replies : List Reply) → Run old (Merge other ∷ []) replies new → text ≡ flat_map (reply_text new.graph) replies → IsDone old other new text ⊎ IsRefused old new text
-  by_replies [] run told = absurd run
-  by_replies (reply.Done ∷ []) run told = absurd run.1
-  by_replies (reply.Pushed id ∷ []) run told = absurd run.1
-  by_replies (reply.NoWorld ∷ []) run told = absurd run.1
-  by_replies (reply.Merged remap ∷ []) run told =
-      inl (record {
-        says = ap letter told;
-        accepted = run.1.accepted;
-        graph = ap (λ (s : State). s.graph) run.2 ∙ run.1.graph;
-        rule = ap (λ (s : State). s.track_rule) run.2 ∙ run.1.rule;
-      })
-  by_replies (reply.Refused error ∷ []) run told =
-      inr (record { says = ap letter told; graph = ap (λ (s : State). s.graph) run.2 ∙ run.1.graph; rule = ap (λ (s : State). s.track_rule) run.2 ∙ run.1.rule })
-  by_replies (first ∷ second ∷ rest) run told = absurd run.2
+  by_reply : (answer : Reply) → Step old (Merge other) answer new → text ≡ reply_text new.graph answer → IsDone old other new text ⊎ IsRefused old new text
+  by_reply reply.Done step told = absurd step
+  by_reply (reply.Pushed id) step told = absurd step
+  by_reply reply.NoWorld step told = absurd step
+  by_reply (reply.Merged remap) step told = inl (record { says = ap letter told; accepted = step.accepted; graph = step.graph; rule = step.rule })
+  by_reply (reply.Refused error) step told = inr (record { says = ap letter told; graph = step.graph; rule = step.rule })
 
-  is_told : IsAnswer Run reply_text old (Merge other) text new → IsDone old other new text ⊎ IsRefused old new text
-  is_told (inl told) = by_replies told.0 told.1 told.2
-  is_told (inr lacks) = inr (record { says = ap letter lacks.1; graph = ap (λ (s : State). s.graph) lacks.0; rule = ap (λ (s : State). s.track_rule) lacks.0 })
+  is_told : IsAnswer reply_text old (Merge other) text new → IsDone old other new text ⊎ IsRefused old new text
+  is_told told = by_reply told.0 told.1 told.2
 
-  rule_stays : IsAnswer Run reply_text old (Merge other) text new → new.track_rule ≡ old.track_rule
+  rule_stays : IsAnswer reply_text old (Merge other) text new → new.track_rule ≡ old.track_rule
   rule_stays answer = elim (is_told answer) [ inl is ↦ is.rule | inr is ↦ is.rule ]
 
 -- a text of another letter is none
@@ -87,7 +80,11 @@ others = record {
 pub merge_lines : ExamplesOfMergeLines
 unfolding digits
 merge_lines = record {
-  merged = (_, inl (reply.Merged (at (1 ∷ [])) ∷ [], merges_are.package_comes, refl), refl);
+  merged = (
+    after (two foo_bar foo_baz),
+    (reply.Merged (at (1 ∷ [])), one-step bar (Merge baz) (reply.Merged (at (1 ∷ []))) (after (two foo_bar foo_baz)) merges_are.package_comes, refl),
+    refl,
+  );
   not_open = λ answer. false≢true (sym (ap has_second answer.2));
   not_opened_anew = λ answer. false≢true (sym (ap has_second answer.2));
   not_dropped = λ answer.
@@ -98,7 +95,15 @@ merge_lines = record {
   not_quiet = λ answer. no_letter 0 refl (λ same. absurd (omega (arith, same))) (λ same. absurd (omega (arith, same))) (is_told bar baz answer.0 [] answer.1);
   not_done = λ answer. no_letter 100 refl (λ same. absurd (omega (arith, same))) (λ same. absurd (omega (arith, same))) (is_told bar baz answer.0 (codes "done\n") answer.1);
   no_second = λ text last answer. answer;
-  refused = (_, inl (gates_differ (codes "g") (codes "f") ∷ [], refused_are.apart, refl), refl);
+  refused = (
+    after (gated (codes "f")),
+    (
+      gates_differ (codes "g") (codes "f"),
+      one-step under_f (Merge under_g) (gates_differ (codes "g") (codes "f")) (after (gated (codes "f"))) refused_are.apart,
+      refl,
+    ),
+    refl,
+  );
   refused_not_open = λ answer. false≢true (sym (ap has_second answer.2));
   refused_not_before = λ answer. false≢true (sym (ap has_second answer.2));
   refused_not_changed = λ answer.
@@ -111,7 +116,15 @@ merge_lines = record {
         | inl done ↦ done.accepted _ (gates_apart (codes "f") (codes "g") 10 gates_f_g)
         | inr refused ↦ let apart : 109 ≡ 114 = refused.says in absurd (omega (arith, apart))
       ];
-  memory = (bar, inr (refl, refl), refl);
+  memory = (
+    bar,
+    (
+      reply.Refused OutOfMemory,
+      record { cause = inl refl; past_end = λ past. inl refl; graph = refl; features = refl; rule = refl; files = inl refl },
+      refl,
+    ),
+    refl,
+  );
   memory_not_open = λ answer. false≢true (sym (ap has_second answer.2));
   lines = (
     both bar new_state,
@@ -122,16 +135,16 @@ merge_lines = record {
       both bar with_rule,
       [],
       codes "merged\n",
-      (with_rule, inl (reply.Done ∷ [], (with_rule, refl, refl), refl), refl),
+      (with_rule, (reply.Done, refl, refl), refl),
       (
         only_first bar,
         codes "merged\n",
         [],
         (
           bar,
-          inl (
-            reply.Merged (at []) ∷ [],
-            (bar, record { fits = lit< tt; accepted = packages_merge _ _ _ _ _ refl; graph = refl; features = refl; rule = refl; files = refl; remap_is = refl }, refl),
+          (
+            reply.Merged (at []),
+            record { fits = lit< tt; accepted = packages_merge _ _ _ _ _ refl; graph = refl; features = refl; rule = refl; files = refl; remap_is = refl },
             refl,
           ),
           refl,
@@ -146,7 +159,7 @@ merge_lines = record {
   lines_not_set = λ all.
       let set = all.4.3 in
       let opens : all.4.0 ≡ both bar set.0 = set.2 ∙ ap (λ (s : Stage). with_working_state s set.0) all.3.1 in
-      let last : AnswersMerge Run (both bar set.0) (both bar set.0).second all.4.4.1 all.4.4.0 = subst (λ (s : Stage). AnswersMerge Run s s.second all.4.4.1 all.4.4.0) opens all.4.4.3 in
+      let last : AnswersMerge (both bar set.0) (both bar set.0).second all.4.4.1 all.4.4.0 = subst (λ (s : Stage). AnswersMerge s s.second all.4.4.1 all.4.4.0) opens all.4.4.3 in
       let same : true ≡ is_with_prereleases last.0.track_rule = ap (λ (s : Stage). is_other_rule s.first) (all.4.4.4.1 ∙ last.2) in
       false≢true (sym (same ∙ ap is_with_prereleases (rule_stays bar set.0 last.0 all.4.4.1 last.1)));
 }

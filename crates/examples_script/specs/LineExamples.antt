@@ -5,6 +5,7 @@ use Rattle.wit_data.specs.declared.stability.Stability.TheVariants.{Unknown, Uns
 use Rattle.wit_names.specs.declared.use_path.ParsedUsePath.TheVariants as path
 use Rattle.wit_script_lines.specs.Statement.{statement_of}
 use Rattle.wit_script_lines.specs.declared.package_line.PackageLine.TheVariants as line
+use Rattle.wit_commands.specs.declared.change.Change.TheVariants as change
 use Rattle.wit_script_lines.specs.declared.request.Request.TheVariants as request
 use Rattle.wit_names.specs.declared.track.TrackRule.TheVariants as rule
 use Rattle.wit_script_lines.specs.declared.statement.Statement.{Statement}
@@ -60,12 +61,12 @@ pub record ExamplesOfLines : Type 0 where
   pub import_func : Says (codes "import-func f()") (says.Line (line.ImportFunction (record { name = codes "f"; params = []; answer = None })) Unknown)
   pub include_line : Says (codes "include w a=b") (says.Line (line.Include (path.Name (codes "w")) (record { name = codes "a"; as_ = codes "b" } ∷ [])) Unknown)
   pub push_line : Says (codes "push") says.Push
-  pub feature_line : Says (codes "feature f") (says.Request (request.Feature (codes "f")))
-  pub tracks_line : Says (codes "tracks with-prereleases") (says.Request (request.Tracks rule.WithPrereleases))
-  pub importize_line : Says (codes "importize a:b w -") (says.Request (request.Importize a_b (codes "w") (Some (codes "-"))))
-  pub exportize_line : Says (codes "exportize a:b w - k") (says.Request (request.Exportize a_b (codes "w") None (Some (codes "k" ∷ []))))
-  pub exportize_all : Says (codes "exportize a:b w x") (says.Request (request.Exportize a_b (codes "w") (Some (codes "x")) None))
-  pub semver_line : Says (codes "semver a:b w") (says.Request (request.Semver a_b (codes "w")))
+  pub feature_line : Says (codes "feature f") (says.Request (request.Change (change.AddFeature (codes "f"))))
+  pub tracks_line : Says (codes "tracks with-prereleases") (says.Request (request.Change (change.SetTrackRule rule.WithPrereleases)))
+  pub importize_line : Says (codes "importize a:b w -") (says.Request (request.Change (change.Importize a_b (codes "w") (Some (codes "-")))))
+  pub exportize_line : Says (codes "exportize a:b w - k") (says.Request (request.Change (change.Exportize a_b (codes "w") None (Some (codes "k" ∷ [])))))
+  pub exportize_all : Says (codes "exportize a:b w x") (says.Request (request.Change (change.Exportize a_b (codes "w") (Some (codes "x")) None)))
+  pub semver_line : Says (codes "semver a:b w") (says.Request (request.Change (change.Semver a_b (codes "w"))))
   pub select_line : Says (codes "select a:b") (says.Request (request.Select a_b None))
   -- an unknown word, a word too many
   pub no_word : IsNeverUnderstood (codes "interfaces i")

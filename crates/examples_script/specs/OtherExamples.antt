@@ -4,24 +4,22 @@ use Rattle.wit_names.specs.declared.track.TrackRule.TheVariants.{WithPrereleases
 use Rattle.wit_graph_data.specs.examples.Samples.{foo_bar}
 use Rattle.wit_script_lines.specs.declared.request.Request.TheVariants as request
 use Rattle.wit_resolve_graph.specs.State.{State, new_state}
-use Rattle.wit_resolve_graph.specs.Step.{Run}
-use Rattle.wit_script.specs.Answer.{AnswersAll, IsChoice, only_first}
+use Rattle.wit_script.specs.Answer.{AnswersAll, only_first}
 use Rattle.wit_script.specs.declared.answer.Stage.{Stage}
-use Rattle.wit_script.specs.declared.ready.ScriptCommand.{ScriptCommand}
-use Rattle.wit_script.specs.declared.ready.ScriptCommand.TheVariants as asks
+use Rattle.wit_script_lines.specs.declared.request.Request.{Request}
 use Rattle.examples_script.specs.SmallGraphs.{after, first_of, foo_baz, gated, one, second_of, two}
 use Rattle.examples_script.specs.StepExamples.{IsAnswered, both, tracks_line}
 
 -- the lines `other` and `merge`
-abbrev pub other_line : ScriptCommand
-other_line = asks.Request request.Other
+abbrev pub other_line : Request
+other_line = request.Other
 
-abbrev pub merge_line : ScriptCommand
-merge_line = asks.Request request.Merge
+abbrev pub merge_line : Request
+merge_line = request.Merge
 
 -- commands may be answered so, one after another
-abbrev pub AreAnswered : Stage → List ScriptCommand → List ℕ → Stage → Type 0
-AreAnswered before commands text after = AnswersAll Run IsChoice before commands text after
+abbrev pub AreAnswered : Stage → List Request → List ℕ → Stage → Type 0
+AreAnswered before commands text after = AnswersAll before commands text after
 
 -- foo:bar, and foo:baz that goes into it
 abbrev pub bar : State

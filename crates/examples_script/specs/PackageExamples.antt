@@ -1,5 +1,5 @@
 -- What the lines of packages make: packages, and near misses that aren't understood.
-use Rattle.std.specs.Prelude.{◌≡◌, ℕ, List, [], ◌∷◌, ◌++◌, false, Some, None, codes}
+use Rattle.std.specs.Prelude.{◌≡◌, ℕ, List, [], ◌∷◌, ◌++◌, false, Some, None, codes, true}
 use Rattle.wit_data.specs.New.{new_function}
 use Rattle.wit_data.specs.declared.function.FunctionKind.TheVariants as role
 use Rattle.wit_data.specs.declared.stability.Stability.TheVariants.{Unknown, Unstable}
@@ -16,18 +16,18 @@ use Rattle.wit_data.specs.declared.unresolved.AstItem.TheVariants as foreign
 use Rattle.wit_data.specs.declared.world.WorldItem.TheVariants as item
 use Rattle.wit_data.specs.declared.world.WorldKey.TheVariants as key
 use Rattle.wit_script_lines.specs.Line.{lines_of}
+use Rattle.wit_commands.specs.declared.change.Change.TheVariants as change
 use Rattle.wit_script_lines.specs.declared.request.Request.TheVariants as request
 use Rattle.wit_script_package.specs.Adding.{empty_interface, empty_world, type_with}
 use Rattle.wit_script_package.specs.Lines.{interface_entry}
 use Rattle.wit_script_package.specs.Naming.{OptionalSpan}
 use Rattle.wit_script_package.specs.declared.draft.LineContext.{LineContext}
 use Rattle.wit_script.specs.Script.{reading_of}
-use Rattle.wit_script.specs.declared.ready.ScriptCommand.{ScriptCommand}
-use Rattle.wit_script.specs.declared.ready.ScriptCommand.TheVariants as asks
+use Rattle.wit_script_lines.specs.declared.request.Request.{Request}
 use Rattle.examples_script.specs.LineExamples.{a_b, package_of}
 
 -- what lines ask, where all are understood and nothing waits
-abbrev pub Asks : List ℕ → List ScriptCommand → Type 0
+abbrev pub Asks : List ℕ → List Request → Type 0
 Asks text commands = reading_of (lines_of text) ≡ Some (record { commands = commands; finished = []; current = None; other = false })
 
 -- lines of which one isn't understood
@@ -230,13 +230,13 @@ dep_package = record {
 }
 
 pub record ExamplesOfPackages : Type 0 where
-  pub first : Asks (first_text ++ codes "push\n") (asks.Push (group_of first_package (codes "a:b") first_text 147) [] ∷ [])
-  pub gates : Asks (gates_text ++ codes "push\n") (asks.Push (group_of gates_package (codes "a:b") gates_text 124) [] ∷ [])
-  pub world : Asks (world_text ++ codes "push\n") (asks.Push (group_of world_package (codes "a:b") world_text 137) [] ∷ [])
+  pub first : Asks (first_text ++ codes "push\n") (request.Change (change.PushGroups (group_of first_package (codes "a:b") first_text 147) []) ∷ [])
+  pub gates : Asks (gates_text ++ codes "push\n") (request.Change (change.PushGroups (group_of gates_package (codes "a:b") gates_text 124) []) ∷ [])
+  pub world : Asks (world_text ++ codes "push\n") (request.Change (change.PushGroups (group_of world_package (codes "a:b") world_text 137) []) ∷ [])
   pub two_packages : Asks (main_text ++ (dep_text ++ codes "push\n"))
-      (asks.Push (group_of main_package (codes "a:b") main_text 34) (group_of dep_package (codes "f:g") dep_text 53 ∷ []) ∷ [])
+      (request.Change (change.PushGroups (group_of main_package (codes "a:b") main_text 34) (group_of dep_package (codes "f:g") dep_text 53 ∷ [])) ∷ [])
   pub commands : Asks (codes "all-features\nother\nfeature f\nmerge")
-      (asks.Request request.AllFeatures ∷ asks.Request request.Other ∷ asks.Request (request.Feature (codes "f")) ∷ asks.Request request.Merge ∷ [])
+      (request.Change (change.SetAllFeatures true) ∷ request.Other ∷ request.Change (change.AddFeature (codes "f")) ∷ request.Merge ∷ [])
   -- nothing is open to be merged, or something is open already
   pub nothing_open : IsNeverRead (codes "merge")
   pub open_twice : IsNeverRead (codes "other\nother")

@@ -1,5 +1,5 @@
 -- What the definition of scripts says of small scripts.
-use Rattle.std.specs.Prelude.{ℕ, List, [], ◌∷◌, ◌++◌, Some, None, codes}
+use Rattle.std.specs.Prelude.{ℕ, List, [], ◌∷◌, ◌++◌, Some, None, codes, true}
 use Rattle.wit_names.specs.declared.package_name.PackageName.{PackageName}
 use Rattle.wit_data.specs.declared.types.TypeDef.{TypeDef}
 use Rattle.wit_data.specs.declared.types.Type_.{Type_}
@@ -9,11 +9,11 @@ use Rattle.wit_data.specs.declared.types.Type_.TheVariants as type
 use Rattle.wit_data.specs.declared.types.TypeDefKind.TheVariants as kind
 use Rattle.wit_data.specs.declared.types.TypeOwner.TheVariants as owner
 use Rattle.wit_data.specs.declared.world.WorldKey.TheVariants as key
+use Rattle.wit_commands.specs.declared.change.Change.TheVariants as change
 use Rattle.wit_script_lines.specs.declared.request.Request.TheVariants as request
 use Rattle.wit_script_package.specs.Adding.{empty_interface, empty_world}
 use Rattle.wit_script_package.specs.Lines.{interface_entry}
 use Rattle.wit_script.specs.Script.{IsNotUnderstood, IsUnderstood}
-use Rattle.wit_script.specs.declared.ready.ScriptCommand.TheVariants as asks
 use Rattle.examples_script.specs.LineExamples.{package_of}
 use Rattle.examples_script.specs.PackageExamples.{Asks, at, group_of, here, named}
 
@@ -56,18 +56,18 @@ first_group = group_of (record {
 -- scripts and what they ask, and scripts that aren't understood
 pub record ExamplesOfScripts : Type 0 where
   pub first_package : Asks (first_package ++ codes "push\nprint foo:bar w\nselect foo:bar")
-      (asks.Push first_group [] ∷ asks.Request (request.Print foo_bar (codes "w")) ∷ asks.Request (request.Select foo_bar None) ∷ [])
-  pub features : Asks (codes "feature f\nall-features\n") (asks.Request (request.Feature (codes "f")) ∷ asks.Request request.AllFeatures ∷ [])
+      (request.Change (change.PushGroups first_group []) ∷ request.Print foo_bar (codes "w") ∷ request.Select foo_bar None ∷ [])
+  pub features : Asks (codes "feature f\nall-features\n") (request.Change (change.AddFeature (codes "f")) ∷ request.Change (change.SetAllFeatures true) ∷ [])
   pub tracks : Asks (codes "tracks with-prereleases\ntracks published\nsemver foo:bar w\n")
-      (asks.Request (request.Tracks WithPrereleases) ∷ asks.Request (request.Tracks Published) ∷ asks.Request (request.Semver foo_bar (codes "w")) ∷ [])
+      (request.Change (change.SetTrackRule WithPrereleases) ∷ request.Change (change.SetTrackRule Published) ∷ request.Change (change.Semver foo_bar (codes "w")) ∷ [])
   -- `-` is no name for `exportize` alone, and no key asks for no filter
   pub turns : Asks (codes "exportize foo:bar w - k\nexportize foo:bar w x\nimportize foo:bar w -\nimportize foo:bar w")
-      (asks.Request (request.Exportize foo_bar (codes "w") None (Some (codes "k" ∷ [])))
-      ∷ asks.Request (request.Exportize foo_bar (codes "w") (Some (codes "x")) None)
-      ∷ asks.Request (request.Importize foo_bar (codes "w") (Some (codes "-")))
-      ∷ asks.Request (request.Importize foo_bar (codes "w") None)
+      (request.Change (change.Exportize foo_bar (codes "w") None (Some (codes "k" ∷ [])))
+      ∷ request.Change (change.Exportize foo_bar (codes "w") (Some (codes "x")) None)
+      ∷ request.Change (change.Importize foo_bar (codes "w") (Some (codes "-")))
+      ∷ request.Change (change.Importize foo_bar (codes "w") None)
       ∷ [])
-  pub spaces : Asks (codes "  select   foo:bar  w ") (asks.Request (request.Select foo_bar (Some (codes "w"))) ∷ [])
+  pub spaces : Asks (codes "  select   foo:bar  w ") (request.Select foo_bar (Some (codes "w")) ∷ [])
   pub nothing : IsUnderstood [] []
   pub comments : IsUnderstood (codes "# only\n\n   \n") []
   -- there is no package to push

@@ -5,6 +5,7 @@ use Rattle.wit_names.specs.declared.track.TrackRule.TheVariants.{WithPrereleases
 use Rattle.wit_graph_data.specs.declared.cause.Cause.TheVariants.{UpgradeMismatch}
 use Rattle.wit_graph_data.specs.declared.error_kind.ResolveErrorKind.TheVariants.{Semantic}
 use Rattle.wit_graph_data.specs.declared.graph.Graph.{Graph}
+use Rattle.wit_commands.specs.declared.change.Change.TheVariants as change
 use Rattle.wit_script_lines.specs.declared.request.Request.TheVariants as request
 use Rattle.wit_resolve_graph.specs.State.{State, new_state}
 use Rattle.wit_resolve_graph.specs.Step.{Run}
@@ -15,10 +16,9 @@ use Rattle.wit_resolve_graph.specs.declared.command.Reply.TheVariants.{Done, NoW
 use Rattle.examples_merge.specs.CauseExamples.{failed, without_type}
 use Rattle.examples_merge.specs.Releases.{foo_main}
 use Rattle.examples_merge.specs.SemverMergeExamples.{first_release, of_three, three}
-use Rattle.wit_script.specs.Answer.{Answers, IsChoice, only_first}
+use Rattle.wit_script.specs.Answer.{Answers, only_first}
 use Rattle.wit_script.specs.declared.answer.Stage.{Stage}
-use Rattle.wit_script.specs.declared.ready.ScriptCommand.{ScriptCommand}
-use Rattle.wit_script.specs.declared.ready.ScriptCommand.TheVariants as asks
+use Rattle.wit_script_lines.specs.declared.request.Request.{Request}
 
 -- ---- states
 
@@ -59,15 +59,15 @@ pub record ExamplesOfSteps : Type 0 where
 -- ---- what a script answers
 
 -- the lines `semver foo:main w` and `tracks with-prereleases`
-abbrev pub semver_line : ScriptCommand
-semver_line = asks.Request (request.Semver foo_main (codes "w"))
+abbrev pub semver_line : Request
+semver_line = request.Change (change.Semver foo_main (codes "w"))
 
-abbrev pub tracks_line : ScriptCommand
-tracks_line = asks.Request (request.Tracks WithPrereleases)
+abbrev pub tracks_line : Request
+tracks_line = request.Change (change.SetTrackRule WithPrereleases)
 
 -- a command may be answered so
-abbrev pub IsAnswered : Stage → ScriptCommand → List ℕ → Stage → Type 0
-IsAnswered before command text after = Answers Run IsChoice before command text after
+abbrev pub IsAnswered : Stage → Request → List ℕ → Stage → Type 0
+IsAnswered before command text after = Answers before command text after
 
 -- a graph and a second one that is open
 abbrev pub both : State → State → Stage

@@ -7,7 +7,7 @@ use wit_items::{
     Items, Shape, SourceMap, Text, TryClone, UnresolvedPackage, UnresolvedPackageGroup, Version,
 };
 use wit_resolve_graph::Resolve;
-use wit_script::{ScriptCommand, read_script};
+use wit_script::{Change, Request, read_script};
 
 /// Ends the test where a text isn't the one that is wanted.
 pub fn assert_text(rt: &impl Abort, told: String, wanted: &str) {
@@ -49,7 +49,7 @@ pub fn groups(rt: &impl Abort, alloc: Global, script: &str) -> Items<UnresolvedP
     let commands = read_script(alloc, script).expect(rt, "a script");
     let mut groups = Items::new(alloc);
     for ready in commands.into_vec() {
-        if let ScriptCommand::Push { main, deps } = ready.into_command() {
+        if let Request::Change(Change::PushGroups { main, deps }) = ready.into_request() {
             groups.push(main).expect(rt, "memory");
             groups.append(deps).expect(rt, "memory");
         }

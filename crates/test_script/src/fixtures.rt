@@ -2,7 +2,7 @@
 use std::alloc::Global;
 use std::process::Abort;
 use wit_resolve_graph::{Resolve, Shape};
-use wit_script::{ScriptCommand, read_script};
+use wit_script::{Change, Request, read_script};
 
 /// Ends the test where a text isn't the one that is wanted.
 pub fn assert_text(rt: &impl Abort, told: String, wanted: &str) {
@@ -14,7 +14,7 @@ pub fn resolve_of(rt: &impl Abort, alloc: Global, script: &str) -> Resolve {
     let mut resolve = Resolve::new(alloc);
     let commands = read_script(alloc, script).expect(rt, "a script");
     for ready in commands.into_vec() {
-        push(rt, alloc, &mut resolve, ready.into_command());
+        push(rt, alloc, &mut resolve, ready.into_request());
     }
     assert_valid(rt, alloc, &resolve);
     resolve
@@ -26,8 +26,8 @@ pub fn assert_valid(rt: &impl Abort, alloc: Global, resolve: &Resolve) {
 }
 
 /// Pushes a package that is alone in its group.
-fn push(rt: &impl Abort, alloc: Global, resolve: &mut Resolve, command: ScriptCommand) {
-    let ScriptCommand::Push { main, deps } = command else {
+fn push(rt: &impl Abort, alloc: Global, resolve: &mut Resolve, request: Request) {
+    let Request::Change(Change::PushGroups { main, deps }) = request else {
         panic!(rt; "no push");
     };
     drop(deps);

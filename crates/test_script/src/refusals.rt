@@ -5,13 +5,13 @@ use crate::fixtures::assert_text;
 use std::alloc::Global;
 use std::process::Abort;
 use wit_resolve_graph::{Resolve, SourceFault};
-use wit_script::{ScriptCommand, read_script};
+use wit_script::{Change, Request, read_script};
 
 /// How the push of a script is refused, after the number of the refusal.
 fn rendered_text(rt: &impl Abort, alloc: Global, script: &str) -> String {
     let mut commands = read_script(alloc, script).expect(rt, "a script");
     let ready = commands.pop().expect(rt, "a command");
-    let ScriptCommand::Push { main, deps } = ready.into_command() else {
+    let Request::Change(Change::PushGroups { main, deps }) = ready.into_request() else {
         panic!(rt; "no push");
     };
     let mut resolve = Resolve::new(alloc);

@@ -27,7 +27,7 @@ use crate::memoryless::{
 use crate::questions::{
     ask_function, ask_interface, ask_package, ask_whole, ask_world, name_resource,
 };
-use crate::scripts::{before_last, built, command_of, commands_of, pushed};
+use crate::scripts::{asked, before_last, built, commands_of, pushed};
 use crate::states::{base, incoming, incoming_groups};
 use std::alloc::Global;
 use std::io;
@@ -49,7 +49,7 @@ use wit_resolve_graph::{
 fn run_last(rt: &impl Print, alloc: Global, script: &str) -> Option<()> {
     let (resolve, last) = before_last(alloc, script)?;
     base(rt, &resolve)?;
-    let command = command_of(last)?;
+    let command = asked(last)?;
     if let Command::PushGroups { main, deps } = &command {
         incoming_groups(rt, main, deps)?;
     }

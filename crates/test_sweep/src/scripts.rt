@@ -3,12 +3,13 @@ ghost use Rattle.std.specs.Prelude.{◌∷◌, IfSome};
 ghost use Rattle.std.specs.List.{AllByRecursion};
 ghost use Rattle.wit_data.specs.Shape.{IsGroupShaped};
 ghost use Rattle.wit_resolve_graph.specs.Step.{IsCommandShaped};
-ghost use Rattle.wit_script.specs.Answer.{IsActionShaped};
 ghost use Rattle.wit_script.specs.Ready.{IsReady};
 
 use std::alloc::Global;
-use wit_resolve_graph::{Command, Items, Reply, Resolve, UnresolvedPackageGroup, run};
-use wit_script::{Action, ReadyCommand, ScriptCommand, action_of, read_script};
+use wit_resolve_graph::{
+    Command, Items, Reply, Resolve, UnresolvedPackageGroup, carry_out, command_of,
+};
+use wit_script::{Change, ReadyCommand, Request, read_script};
 
 /// The commands of a script; none where it isn't understood.
 pub fn commands_of(alloc: Global, script: &str) -> Option<Vec<ReadyCommand>> {
@@ -20,60 +21,46 @@ pub fn built(alloc: Global, commands: Vec<ReadyCommand>) -> Option<(Resolve, Opt
     let mut resolve = Resolve::new(alloc);
     let mut last = None;
     for ready in commands {
-        last = carry_out(alloc, &mut resolve, ready.into_command());
+        last = reply_to(alloc, &mut resolve, ready.into_request());
     }
     Some((resolve, last))
 }
 
 /// What all commands of a script but the last make, and that one.
-pub fn before_last(alloc: Global, script: &str) -> Option<(Resolve, ScriptCommand)>
+pub fn before_last(alloc: Global, script: &str) -> Option<(Resolve, Request)>
     ensures { IfSome result (λ made. IsReady made.1) }
 {
     let mut commands = commands_of(alloc, script)?;
-    let last = commands.pop()?.into_command();
+    let last = commands.pop()?.into_request();
     let (resolve, _) = built(alloc, commands)?;
     Some((resolve, last))
 }
 
-/// The reply to a command.
-fn carry_out(alloc: Global, resolve: &mut Resolve, command: ScriptCommand) -> Option<Reply>
-    requires { IsReady command }
+/// The reply to a command, where it changes the graph.
+fn reply_to(alloc: Global, resolve: &mut Resolve, request: Request) -> Option<Reply>
+    requires { IsReady request }
 {
-    let commands = vec![in alloc; command_of(command)?].ok()?;
-    run(alloc, resolve, commands).ok()?.pop()
+    Some(carry_out(alloc, resolve, asked(request)?))
 }
 
-/// The command of a script as one of `run`, where it is one.
-pub fn command_of(command: ScriptCommand) -> Option<Command>
-    requires { IsReady command }
+/// The command of `Resolve` that a command of a script asks, where it changes the graph.
+pub fn asked(request: Request) -> Option<Command>
+    requires { IsReady request }
     ensures { IfSome result (λ command. IsCommandShaped command) }
 {
-    match command {
-        ScriptCommand::Push { main, deps } => Some(Command::PushGroups { main, deps }),
-        ScriptCommand::Request(request) => carried_out(action_of(request)),
-    }
-}
-
-/// The same of what a command does that brings no package.
-fn carried_out(action: Action) -> Option<Command>
-    requires { IsActionShaped action }
-    ensures { IfSome result (λ command. IsCommandShaped command) }
-{
-    match action {
-        Action::Run { command, .. } => Some(command),
+    match request {
+        Request::Change(change) => Some(command_of(change)),
         _ => None,
     }
 }
 
 /// The groups of a push, where the command is one.
-pub fn pushed(
-    command: ScriptCommand,
-) -> Option<(UnresolvedPackageGroup, Items<UnresolvedPackageGroup>)>
-    requires { IsReady command }
+pub fn pushed(request: Request) -> Option<(UnresolvedPackageGroup, Items<UnresolvedPackageGroup>)>
+    requires { IsReady request }
     ensures { IfSome result (λ groups. AllByRecursion IsGroupShaped (groups.0 ∷ groups.1)) }
 {
-    match command {
-        ScriptCommand::Push { main, deps } => Some((main, deps)),
-        ScriptCommand::Request(_) => None,
+    match request {
+        Request::Change(Change::PushGroups { main, deps }) => Some((main, deps)),
+        _ => None,
     }
 }

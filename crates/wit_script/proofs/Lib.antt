@@ -3,6 +3,7 @@ pub mod OneOutcome
 pub mod Past
 pub mod Pieces
 pub mod Pushed
+pub mod ReadyLines
 pub mod Staged
 pub mod Stays
 pub mod Told

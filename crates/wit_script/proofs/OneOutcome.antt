@@ -8,7 +8,7 @@ use Rattle.wit_script.specs.Ready.{AreReady}
 use Rattle.wit_script.specs.Script.{IsBadLine, IsLeftOpen, IsUnderstood, reading_of}
 use Rattle.wit_script.specs.laws.Outcome.{HasOneOutcome}
 use Rattle.wit_script.specs.declared.reader.Reading.{Reading}
-use Rattle.wit_script.specs.declared.ready.ScriptCommand.{ScriptCommand}
+use Rattle.wit_script_lines.specs.declared.request.Request.{Request}
 use Rattle.wit_script_lines.specs.facts.OptionFacts.{same-some}
 
 -- a whole reading leaves no bad line
@@ -23,7 +23,7 @@ neither None false none closed waits = cc
 neither (Some p) o none closed waits = cc
 
 -- a whole reading is understood or left open
-whole : (text : List ℕ) (r : Reading) → reading_of (lines_of text) ≡ Some r → AreReady r.commands → ((commands : List ScriptCommand) → ¬ IsUnderstood text commands)
+whole : (text : List ℕ) (r : Reading) → reading_of (lines_of text) ≡ Some r → AreReady r.commands → ((commands : List Request) → ¬ IsUnderstood text commands)
     → ((number : ℕ) → ¬ IsLeftOpen (lines_of text) number) → ⊥
 whole text r read ready not_understood not_open = at r.current r.other refl refl where
   open_at : IsTrue (is_some r.current || r.other) → ⊥

@@ -1,6 +1,7 @@
 -- What a `push` makes, and commands that aren't ready.
 use Rattle.std.proofs.Common.{◌≡◌, suc, List, [], ◌∷◌, ◌++◌, Bool, true, false, Option, None, Some, IsTrue, ◌↔◌, refl}
 use Rattle.std.specs.Option.{option_and_then, option_map}
+use Rattle.std.specs.List.{AllByRecursion}
 use Rattle.wit_values.specs.facts.Lists.{AllByRecursion-at}
 use Rattle.wit_data.specs.Each.{Each}
 use Rattle.wit_data.specs.Shape.{IsGroupShaped}
@@ -8,25 +9,26 @@ use Rattle.wit_data.specs.declared.unresolved.UnresolvedPackageGroup.{Unresolved
 use Rattle.wit_script_package.specs.Draft.{as_group}
 use Rattle.wit_script_package.specs.declared.draft.Draft.{Draft}
 use Rattle.wit_script_lines.specs.PackageLine.{each_of}
-use Rattle.wit_script.specs.Ready.{AreReady, AreShaped, IsReady}
+use Rattle.wit_script.specs.Ready.{AreReady, IsReady}
 use Rattle.wit_script.specs.Script.{IsBad, with_groups}
 use Rattle.wit_script.specs.declared.reader.Reading.{Reading}
-use Rattle.wit_script.specs.declared.ready.ScriptCommand.{ScriptCommand}
-use Rattle.wit_script.specs.declared.ready.ScriptCommand.TheVariants as asks
+use Rattle.wit_script_lines.specs.declared.request.Request.{Request}
+use Rattle.wit_commands.specs.declared.change.Change.TheVariants.{PushGroups}
+use Rattle.wit_script_lines.specs.declared.request.Request.TheVariants as request
 
 -- ---- readiness
 
 -- the last of what is ready is ready
-pub last-ready : (commands : List ScriptCommand) (command : ScriptCommand) → AreReady (commands ++ command ∷ []) → IsReady command
+pub last-ready : (commands : List Request) (command : Request) → AreReady (commands ++ command ∷ []) → IsReady command
 last-ready [] command ready = ready.0
 last-ready (first ∷ commands) command ready = last-ready commands command ready.1
 
 -- groups each of which has its shape
-pub each-shaped : (groups : List UnresolvedPackageGroup) → Each IsGroupShaped groups → AreShaped groups
+pub each-shaped : (groups : List UnresolvedPackageGroup) → Each IsGroupShaped groups → AllByRecursion IsGroupShaped groups
 each-shaped [] all = tt
 each-shaped (group ∷ groups) all = (all 0 group refl, each-shaped groups (λ i x at. all (suc i) x at))
 
-shaped-each : (groups : List UnresolvedPackageGroup) → AreShaped groups → Each IsGroupShaped groups
+shaped-each : (groups : List UnresolvedPackageGroup) → AllByRecursion IsGroupShaped groups → Each IsGroupShaped groups
 shaped-each groups all = λ i group at. AllByRecursion-at IsGroupShaped groups i group all at
 
 -- ---- packages as groups
@@ -62,7 +64,7 @@ each-next (q ∷ packages) p groups group had next =
 -- groups of which one has another shape
 pub bad-groups : (r : Reading) (groups : List UnresolvedPackageGroup) → ¬ Each IsGroupShaped groups → IsBad (with_groups r groups)
 bad-groups r [] fails = tt
-bad-groups r (main ∷ deps) fails = λ ready. fails (shaped-each (main ∷ deps) (last-ready r.commands (asks.Push main deps) ready))
+bad-groups r (main ∷ deps) fails = λ ready. fails (shaped-each (main ∷ deps) (last-ready r.commands (request.Change (PushGroups main deps)) ready))
 
 -- ---- tests
 

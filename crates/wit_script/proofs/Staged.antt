@@ -1,38 +1,39 @@
--- Commands that work on the graph that is open.
+-- Changes of the graph that is open.
 use Rattle.std.proofs.Common.{◌≡◌, ℕ, List, Option, None, Some, Result, Ok, Err, String, string_bytes, ap, sym, subst, ◌∙◌}
 use Rattle.std.specs.Prelude.{IfOk}
 use Rattle.std.specs.declared.alloc.Global.{Global}
-use Rattle.wit_graph_data.specs.declared.graph.Graph.{Graph}
+use Rattle.wit_commands.specs.Change.{is_setting}
+use Rattle.wit_commands.specs.declared.change.Change.{Change}
 use Rattle.wit_resolve_graph.specs.State.{State}
-use Rattle.wit_resolve_graph.specs.Step.{Run}
-use Rattle.wit_resolve_graph.specs.declared.command.Command.{Command}
-use Rattle.wit_resolve_graph.specs.declared.command.Reply.{Reply}
-use Rattle.wit_script.specs.Answer.{AnswersByRun, AnswersCommand, with_working_state_of, working_state_of}
+use Rattle.wit_resolve_graph.specs.Step.{command_of}
+use Rattle.wit_script.specs.Answer.{AnswersChange, AnswersCommand, line_of, with_working_state_of, working_state_of}
 use Rattle.wit_script.specs.declared.answer.Stage.{Stage}
 
-module _ {E : Type 0} (line : Graph → Reply → List ℕ) (stage : Stage) (command : Command) (told : Result (String Global) E) where
+module _ {E : Type 0} (stage : Stage) (change : Change) (told : Result (String Global) E) where
+  -- a graph is changed so
+  abbrev IsChanged : State → State → Result (String Global) E → Type 0
+  IsChanged before new r = IfOk r (λ text. AnswersCommand (line_of (is_setting change)) before (command_of change) (string_bytes text) new)
+
   -- on the second graph
-  pub works-second : (second new : State) → stage.second ≡ Some second → IfOk told (λ text. AnswersCommand Run line second command (string_bytes text) new)
-      → IfOk told (λ text. AnswersByRun Run line stage command (string_bytes text) (record stage { second = Some new }))
-  works-second second new open_graph answered = at told answered where
-    at : (r : Result (String Global) E) → IfOk r (λ text. AnswersCommand Run line second command (string_bytes text) new)
-        → IfOk r (λ text. AnswersByRun Run line stage command (string_bytes text) (record stage { second = Some new }))
+  pub changes-second : (second new : State) → stage.second ≡ Some second → IsChanged second new told
+      → IfOk told (λ text. AnswersChange stage change (string_bytes text) (record stage { second = Some new }))
+  changes-second second new open_graph answered = at told answered where
+    at : (r : Result (String Global) E) → IsChanged second new r → IfOk r (λ text. AnswersChange stage change (string_bytes text) (record stage { second = Some new }))
     at (Ok text) answered = (
       new,
-      subst (λ (s : State). AnswersCommand Run line s command (string_bytes text) new) (sym (ap (working_state_of stage.first) open_graph)) answered,
+      subst (λ (s : State). AnswersCommand (line_of (is_setting change)) s (command_of change) (string_bytes text) new) (sym (ap (working_state_of stage.first) open_graph)) answered,
       sym (ap (λ (o : Option State). with_working_state_of stage.first o new) open_graph),
     )
     at (Err e) answered = tt
 
   -- on the only graph
-  pub works-first : (new : State) → stage.second ≡ None → IfOk told (λ text. AnswersCommand Run line stage.first command (string_bytes text) new)
-      → IfOk told (λ text. AnswersByRun Run line stage command (string_bytes text) (record stage { first = new }))
-  works-first new closed answered = at told answered where
-    at : (r : Result (String Global) E) → IfOk r (λ text. AnswersCommand Run line stage.first command (string_bytes text) new)
-        → IfOk r (λ text. AnswersByRun Run line stage command (string_bytes text) (record stage { first = new }))
+  pub changes-first : (new : State) → stage.second ≡ None → IsChanged stage.first new told
+      → IfOk told (λ text. AnswersChange stage change (string_bytes text) (record stage { first = new }))
+  changes-first new closed answered = at told answered where
+    at : (r : Result (String Global) E) → IsChanged stage.first new r → IfOk r (λ text. AnswersChange stage change (string_bytes text) (record stage { first = new }))
     at (Ok text) answered = (
       new,
-      subst (λ (s : State). AnswersCommand Run line s command (string_bytes text) new) (sym (ap (working_state_of stage.first) closed)) answered,
+      subst (λ (s : State). AnswersCommand (line_of (is_setting change)) s (command_of change) (string_bytes text) new) (sym (ap (working_state_of stage.first) closed)) answered,
       ap (λ (o : Option State). let made : Stage = record { first = new; second = o } in made) closed ∙ sym (ap (λ (o : Option State). with_working_state_of stage.first o new) closed),
     )
     at (Err e) answered = tt

@@ -9,11 +9,11 @@ use Rattle.wit_script.specs.facts.Stepped.{adds, said-makes, stays}
 use Rattle.wit_script.specs.Ready.{AreReady}
 use Rattle.wit_script.specs.Script.{IsBad, IsBadLine, after_line, after_statement_in, new_reading, reading_before}
 use Rattle.wit_script.specs.declared.reader.Reading.{Reading}
-use Rattle.wit_script.specs.declared.ready.ScriptCommand.{ScriptCommand}
+use Rattle.wit_script_lines.specs.declared.request.Request.{Request}
 
 -- ---- commands stay
 
-front-ready : (commands more : List ScriptCommand) → AreReady (commands ++ more) → AreReady commands
+front-ready : (commands more : List Request) → AreReady (commands ++ more) → AreReady commands
 front-ready [] more ready = tt
 front-ready (first ∷ commands) more ready = (ready.0, front-ready commands more ready.1)
 

@@ -11,15 +11,15 @@ use Rattle.wit_script_lines.specs.Line.{last_statement_line, lines_of}
 use Rattle.wit_script_lines.specs.PackageLine.{each_of}
 use Rattle.wit_script_lines.specs.Statement.{statement_of}
 use Rattle.wit_script_lines.specs.declared.package_line.PackageLine.{PackageLine}
+use Rattle.wit_commands.specs.declared.change.Change.TheVariants.{PushGroups}
 use Rattle.wit_script_lines.specs.declared.request.Request.{Request}
+use Rattle.wit_script_lines.specs.declared.request.Request.TheVariants as request
 use Rattle.wit_script_lines.specs.declared.statement.Statement.{Statement}
 use Rattle.wit_script_lines.specs.declared.statement.Statement.TheVariants as says
 use Rattle.wit_script.specs.Ready.{AreReady, other_after}
 use Rattle.wit_script.specs.declared.fault.ReadFault.{ReadFault}
 use Rattle.wit_script.specs.declared.fault.ReadFault.TheVariants as read_fault
 use Rattle.wit_script.specs.declared.reader.Reading.{Reading}
-use Rattle.wit_script.specs.declared.ready.ScriptCommand.{ScriptCommand}
-use Rattle.wit_script.specs.declared.ready.ScriptCommand.TheVariants as asks
 use Rattle.wit_script_package.specs.Mention.{mentions_of}
 use Rattle.wit_script_package.specs.Naming.{OptionalSpan}
 use Rattle.wit_script_package.specs.declared.mention.Mention.{Mention}
@@ -76,13 +76,15 @@ abbrev pub with_package_line : Reading → PackageLine → Stability → List �
 with_package_line r said gate line = option_and_then (λ p. option_map (with_current r) (with_line p said gate line)) r.current
 
 -- one more command
-abbrev pub with_command : Reading → ScriptCommand → Reading
+abbrev pub with_command : Reading → Request → Reading
 with_command r command = record r { commands = r.commands ++ command ∷ [] }
 
 -- groups that are pushed, the first being the main one; no package waits then
 abbrev pub with_groups : Reading → List UnresolvedPackageGroup → Option Reading
 with_groups r [] = None
-with_groups r (main ∷ deps) = Some (record (with_command r (asks.Push main deps)) { finished = []; current = None })
+with_groups r (main ∷ deps) =
+    let pushed = with_command r (request.Change (PushGroups main deps)) in
+    Some (record pushed { finished = []; current = None })
 
 -- `push`, after a package or several, whose files fit into source maps
 abbrev pub with_push : Reading → Option Reading
@@ -90,7 +92,7 @@ with_push r = option_and_then (λ p. option_and_then (with_groups r) (each_of as
 
 -- another command, after which an `other` waits for its `merge` or none does
 abbrev pub with_asked : Reading → Request → Bool → Reading
-with_asked r asked other = record (with_command r (asks.Request asked)) { other = other }
+with_asked r asked other = record (with_command r asked) { other = other }
 
 -- another command that can be asked, where no package waits for its `push`
 abbrev pub with_request : Reading → Request → Option Reading
@@ -139,7 +141,7 @@ IsBad (Some next) = ¬ AreReady next.commands
 
 -- the script is understood and asks this: each line is understood after those before it, the packages that are pushed have
 -- their shape, no package waits for its `push`, and no `other` for its `merge`
-pub record IsUnderstood (text : List ℕ) (commands : List ScriptCommand) : Type 0 where
+pub record IsUnderstood (text : List ℕ) (commands : List Request) : Type 0 where
   pub reading : Reading
   pub read : reading_of (lines_of text) ≡ Some reading
   pub asked : reading.commands ≡ commands

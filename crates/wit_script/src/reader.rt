@@ -8,17 +8,19 @@ ghost use Rattle.wit_data.specs.declared.unresolved.UnresolvedPackageGroup.{Unre
 ghost use Rattle.wit_script_package.specs.steps.Built.{IsBuilt};
 ghost use Rattle.wit_script_package.specs.steps.Pushable.{IsPushable};
 ghost use Rattle.wit_script_lines.specs.Line.{is_blank_or_comment, last_statement_line};
-ghost use Rattle.wit_script.specs.Ready.{AreReady};
+ghost use Rattle.wit_script.specs.Ready.{AreReady, IsReady};
 ghost use Rattle.wit_script.specs.steps.BuiltReading.{AreBuilt, AreShapedIfPushable};
 ghost use Rattle.wit_script_package.specs.steps.DraftResult.{DraftResult};
 ghost use Rattle.wit_script.specs.Script.{HasReadFault, IsUnderstood, after_line, after_statement_in, new_reading, reading_of, with_groups, with_package, with_package_line, with_push, with_request};
+ghost use Rattle.wit_script.specs.steps.Ready.{IsReadyStatement};
 ghost use Rattle.wit_script.specs.steps.Script.{GoesOn, HasLineFault};
 
 use crate::ahead::mentions_ahead;
 use crate::fault::ReadFault;
-use crate::ready::{ReadyCommand, ScriptCommand, other_after};
+use crate::ready::{ReadyCommand, other_after};
 use std::alloc::Global;
 use std::mem;
+use wit_commands::Change;
 use wit_data::{Items, PackageName, Stability, UnresolvedPackageGroup};
 use wit_script_lines::{LineFault, PackageLine, Request, Statement, lines, read_line};
 use wit_script_package::{Draft, is_pushable};
@@ -106,6 +108,7 @@ impl Reading {
     ) -> Result<(), LineFault>
         requires ready { AreReady self.old.commands }
         requires built { AreBuilt self.old }
+        requires said { IsReadyStatement said }
         ensures { GoesOn (after_statement_in self.old line.now (map (λ line. line.now) ahead.now) (Some (Some said))) result self.new }
     {
         match said {
@@ -182,15 +185,17 @@ impl Reading {
         let Some((main, deps)) = split_main(groups) else {
             return Err(LineFault::NotUnderstood);
         };
+        let change = Change::PushGroups { main, deps };
         self.commands
-            .push(ReadyCommand::new(ScriptCommand::Push { main, deps }))?;
+            .push(ReadyCommand::new(Request::Change(change)))?;
         Ok(())
     }
 
     /// Adds another command, where no package waits for its `push`: `other` where none waits for its `merge`, and
     /// `merge` where one does.
     fn add_request(&mut self, request: Request) -> Result<(), LineFault>
-        requires { AreReady self.old.commands }
+        requires ready { AreReady self.old.commands }
+        requires asked { IsReady request }
         ensures { GoesOn (with_request self.old request) result self.new }
     {
         if self.current.is_some() {
@@ -200,8 +205,7 @@ impl Reading {
             return Err(LineFault::NotUnderstood);
         };
         self.other = other;
-        self.commands
-            .push(ReadyCommand::new(ScriptCommand::Request(request)))?;
+        self.commands.push(ReadyCommand::new(request))?;
         Ok(())
     }
 }

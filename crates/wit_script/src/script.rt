@@ -2,7 +2,7 @@
 ghost use Rattle.std.specs.Prelude.{◌≡◌, ◌⊎◌, [], Bool, List, ℕ, true, IfErr, IfOk, IfSome, OnOk, IsErrOf, string_bytes};
 ghost use Rattle.std.specs.Str.{IsUtf8};
 ghost use Rattle.std.specs.Io.KnownBytes.{Appends};
-ghost use Rattle.wit_script.specs.Prints.{PrintsByRun};
+ghost use Rattle.wit_script.specs.Prints.{Prints};
 ghost use Rattle.wit_streams.specs.Watched.{AppendsBeginning};
 
 use crate::answer::answers_to;
@@ -25,9 +25,9 @@ pub fn execute<R: Read, W: Write>(
     writer: &mut Watched<W>,
 ) -> Result<bool, ScriptFault>
     ensures ok { IfOk result (λ understood. IfSome (R.remaining reader.old.inner) (λ input.
-        (text : List ℕ) × PrintsByRun input understood text × Appends (W.contents writer.old.inner) (W.contents writer.new.inner) text)) }
+        (text : List ℕ) × Prints input understood text × Appends (W.contents writer.old.inner) (W.contents writer.new.inner) text)) }
     ensures cut { IsErrOf result ScriptFault.Write → IfSome (R.remaining reader.old.inner) (λ input.
-        (understood : Bool) × (text : List ℕ) × PrintsByRun input understood text × AppendsBeginning (W.contents writer.old.inner) (W.contents writer.new.inner) text) }
+        (understood : Bool) × (text : List ℕ) × Prints input understood text × AppendsBeginning (W.contents writer.old.inner) (W.contents writer.new.inner) text) }
     ensures untouched { IfErr result (λ fault. (fault ≡ ScriptFault.Write) ⊎ (writer.new ≡ writer.old)) }
     ensures end { OnOk result (IfSome (R.remaining reader.new.inner) (λ rest. rest ≡ [])) }
     ensures read { IsErrOf result ScriptFault.Read → reader.new.failed ≡ true }
@@ -44,7 +44,7 @@ pub fn execute<R: Read, W: Write>(
 /// What an input prints as a script, and whether it is understood. An input that isn't UTF-8 is told as that, whatever
 /// memory there is.
 fn printed(alloc: Global, input: &[u8]) -> Result<(bool, String), ScriptFault>
-    ensures ok { IfOk result (λ answer. PrintsByRun input.now answer.0 (string_bytes answer.1)) }
+    ensures ok { IfOk result (λ answer. Prints input.now answer.0 (string_bytes answer.1)) }
     ensures read { IsErrOf result ScriptFault.Read → ⊥ }
     ensures write { IsErrOf result ScriptFault.Write → ⊥ }
     ensures utf8 { IsErrOf result ScriptFault.NotUtf8 → IsUtf8 input.now → ⊥ }
@@ -59,7 +59,7 @@ fn printed(alloc: Global, input: &[u8]) -> Result<(bool, String), ScriptFault>
 /// Runs a script on an empty graph: whether it is understood, and what it prints. The only error is want of memory outside
 /// a command.
 pub fn execute_text(alloc: Global, script: &str) -> Result<(bool, String), AllocError>
-    ensures { IfOk result (λ answer. PrintsByRun script.now answer.0 (string_bytes answer.1)) }
+    ensures { IfOk result (λ answer. Prints script.now answer.0 (string_bytes answer.1)) }
 {
     match read_script(alloc, script) {
         Ok(commands) => Ok((true, answers_to(alloc, commands)?)),

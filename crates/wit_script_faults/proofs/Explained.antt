@@ -1,45 +1,39 @@
 -- Refusals that are told, one after another.
-use Rattle.std.proofs.Common.{◌≡◌, ◌≤◌, ◌+◌, ℕ, List, [], ◌∷◌, ◌++◌, Option, Some, Result, Ok, Err, String, string_bytes, length, take, refl, sym, ap, ◌∙◌, subst, append_assoc}
-use Rattle.std.specs.Prelude.{IfOk, IsUtf8, slice_get}
+use Rattle.std.proofs.Common.{◌≡◌, ℕ, List, [], ◌∷◌, ◌++◌, Option, Some, Result, Ok, Err, String, string_bytes, refl, sym, ap, ◌∙◌, subst, append_assoc}
+use Rattle.std.specs.Prelude.{IfOk, IsUtf8}
 use Rattle.std.specs.declared.alloc.Global.{Global}
-use Rattle.std.proofs.lemmas.List.{append-nil, take_all}
-use Rattle.wit_values.specs.facts.Lists.{take-next_at}
+use Rattle.std.proofs.lemmas.List.{append-nil}
 use Rattle.wit_names.specs.declared.package_name.PackageName.{PackageName}
 use Rattle.wit_graph_data.specs.declared.error_kind.ResolveErrorKind.{ResolveErrorKind}
 use Rattle.wit_graph_data.specs.Named.{package_named}
 use Rattle.wit_script_lines.specs.declared.request.Request.{Request}
-use Rattle.wit_script.specs.Answer.{IsChoice, action_of}
-use Rattle.wit_script.specs.declared.answer.Action.{Action}
-use Rattle.wit_script.specs.declared.ready.ScriptCommand.{ScriptCommand}
-use Rattle.wit_script.specs.declared.ready.ScriptCommand.TheVariants as asks
+use Rattle.wit_script.specs.Answer.{IsChoice}
 use Rattle.wit_script.specs.Script.{IsNotUnderstood, IsUnderstood}
 use Rattle.wit_script_lines.specs.Line.{lines_of}
 use Rattle.wit_script_places.specs.Desk.{new_desk}
-use Rattle.wit_script_faults.specs.Explained.{ExplainsAction, ExplainsAll, ExplainsCommand, ExplainsMisread, ExplainsScript, ExplainsSelect, place_of, rest_of}
+use Rattle.wit_script_faults.specs.Explained.{ExplainsAll, ExplainsCommand, ExplainsMisread, ExplainsScript, ExplainsSelect, place_of, rest_of}
 use Rattle.wit_script_places.specs.Lines.{script_lines_of}
 use Rattle.wit_script_faults.specs.Misread.{IsMisreadText}
-use Rattle.wit_script_faults.specs.Refusals.{TellsRefusal, TellsReplies, TellsReply}
-use Rattle.wit_resolve_graph.specs.declared.command.Reply.{Reply}
+use Rattle.wit_script_faults.specs.Refusals.{TellsRefusal}
 use Rattle.wit_script_places.specs.declared.desk.Desk.{Desk}
 use Rattle.wit_script_places.specs.declared.desk.TrackedGraph.{TrackedGraph}
 use Rattle.wit_script_places.specs.declared.lines.CommandPlace.{CommandPlace}
-use Rattle.wit_ways.specs.declared.asked.Asked.{Asked}
 use Rattle.wit_ways.specs.declared.asked.Asked.TheVariants.{Other}
 use Rattle.wit_script_places.specs.declared.lines.ScriptLines.{ScriptLines}
 
 -- the places that are left after some commands
-abbrev pub rest_after : List CommandPlace → List ScriptCommand → List CommandPlace
+abbrev pub rest_after : List CommandPlace → List Request → List CommandPlace
 rest_after places [] = places
 rest_after places (command ∷ commands) = rest_after (rest_of places) commands
 
-pub rest_after-more : (places : List CommandPlace) (commands : List ScriptCommand) (command : ScriptCommand)
+pub rest_after-more : (places : List CommandPlace) (commands : List Request) (command : Request)
     → rest_of (rest_after places commands) ≡ rest_after places (commands ++ command ∷ [])
 rest_after-more places [] command = refl
 rest_after-more places (first ∷ commands) command = rest_after-more (rest_of places) commands command
 
 module _ (script : ScriptLines) where
   -- one more command
-  pub ExplainsAll-more : (places : List CommandPlace) (before between after : Desk) (commands : List ScriptCommand) (command : ScriptCommand) (text more : List ℕ)
+  pub ExplainsAll-more : (places : List CommandPlace) (before between after : Desk) (commands : List Request) (command : Request) (text more : List ℕ)
       → ExplainsAll script places before commands text between → ExplainsCommand script (place_of script (rest_after places commands)) between command more after
       → ExplainsAll script places before (commands ++ command ∷ []) (text ++ more) after
   ExplainsAll-more places before between after [] command text more all one = (
@@ -59,14 +53,6 @@ module _ (script : ScriptLines) where
     ap (λ (t : List ℕ). t ++ more) all.5 ∙ append_assoc all.1 all.2 more,
   )
 
-  -- a command that pushes nothing, by what it does
-  pub acts-as : {E : Type 0} (place : CommandPlace) (told : Result (String Global) E) (before after : Desk) (asked : ScriptCommand) (request : Request) (done : Action)
-      → asked ≡ asks.Request request → done ≡ action_of request
-      → IfOk told (λ text. ExplainsAction script place before done (string_bytes text) after) → IfOk told (λ text. ExplainsCommand script place before asked (string_bytes text) after)
-  acts-as place told before after asked request done read is acts =
-      subst (λ (c : ScriptCommand). IfOk told (λ text. ExplainsCommand script place before c (string_bytes text) after)) (sym read)
-      (subst (λ (a : Action). IfOk told (λ text. ExplainsAction script place before a (string_bytes text) after)) is acts)
-
   -- a choice that is refused, of a package that is there
   pub select-refused : {E : Type 0} (place : CommandPlace) (tracked : TrackedGraph) (owner : PackageName) (text : Option (List ℕ)) (id : ℕ) (kind : ResolveErrorKind) (told : Result (String Global) E)
       → package_named tracked.resolve.graph owner ≡ Some id → IsChoice tracked.resolve.graph id text (Err kind)
@@ -74,33 +60,8 @@ module _ (script : ScriptLines) where
   select-refused place tracked owner text id kind (Ok out) there refused said = rw there (Err kind, refused, said)
   select-refused place tracked owner text id kind (Err e) there refused said = tt
 
--- one more reply
-pub TellsReplies-more : (script : ScriptLines) (place : CommandPlace) (after : TrackedGraph) (asked : Asked) (answers : List Reply) (answer : Reply) (text more : List ℕ)
-    → TellsReplies script place after asked answers text → TellsReply script place after asked answer more → TellsReplies script place after asked (answers ++ answer ∷ []) (text ++ more)
-TellsReplies-more script place after asked [] answer text more all one = (more, [], one, refl, ap (λ (t : List ℕ). t ++ more) all ∙ sym (append-nil more))
-TellsReplies-more script place after asked (first ∷ answers) answer text more all one = (
-  all.0,
-  all.1 ++ more,
-  all.2,
-  TellsReplies-more script place after asked answers answer all.1 more all.3 one,
-  ap (λ (t : List ℕ). t ++ more) all.4 ∙ append_assoc all.0 all.1 more,
-)
-
--- of the replies up to one, and that one
-pub told_next : (script : ScriptLines) (place : CommandPlace) (after : TrackedGraph) (asked : Asked) (replies : List Reply) (k : ℕ) (reply : Reply) (text more longer : List ℕ)
-    → slice_get replies k ≡ Some reply → TellsReplies script place after asked (take k replies) text → TellsReply script place after asked reply more
-    → longer ≡ text ++ more → TellsReplies script place after asked (take (k + 1) replies) longer
-told_next script place after asked replies k reply text more longer there so_far one is =
-    subst (λ (rs : List Reply). TellsReplies script place after asked rs longer) (sym (take-next_at replies k reply there))
-    (subst (TellsReplies script place after asked (take k replies ++ reply ∷ [])) (sym is) (TellsReplies-more script place after asked (take k replies) reply text more so_far one))
-
--- of all replies
-pub told_all : (script : ScriptLines) (place : CommandPlace) (after : TrackedGraph) (asked : Asked) (replies : List Reply) (k : ℕ) (text : List ℕ)
-    → length replies ≤ k → TellsReplies script place after asked (take k replies) text → TellsReplies script place after asked replies text
-told_all script place after asked replies k text past so_far = subst (λ (rs : List Reply). TellsReplies script place after asked rs text) (take_all k replies past) so_far
-
 -- what is told of a script that is understood, by its lines
-pub told_understood : (input text : List ℕ) (script : ScriptLines) (commands : List ScriptCommand) (after : Desk) → IsUtf8 input → script ≡ script_lines_of (lines_of input)
+pub told_understood : (input text : List ℕ) (script : ScriptLines) (commands : List Request) (after : Desk) → IsUtf8 input → script ≡ script_lines_of (lines_of input)
     → IsUnderstood input commands → ExplainsAll script script.commands new_desk commands text after → ExplainsScript input text
 told_understood input text script commands after utf8 is understood told = record {
   utf8 = utf8;

@@ -2,25 +2,24 @@
 -- line at which it isn't understood.
 use Rattle.std.specs.Prelude.{◌≡◌, ℕ, Bool, true, false, List, [], ◌∷◌, ◌++◌, length, Option, None, Some, Result, Ok, Err, MatchOption, IsUtf8, codes}
 use Rattle.std.specs.Option.{option_map_or}
+use Rattle.wit_commands.specs.declared.change.Change.{Change}
 use Rattle.wit_names.specs.declared.package_name.PackageName.{PackageName}
 use Rattle.wit_graph_data.specs.Named.{package_named, world_named}
 use Rattle.wit_graph_data.specs.declared.error_kind.ResolveErrorKind.{ResolveErrorKind}
 use Rattle.wit_resolve_graph.specs.State.{State}
-use Rattle.wit_resolve_graph.specs.Step.{Run}
+use Rattle.wit_resolve_graph.specs.Step.{Step, command_of}
 use Rattle.wit_resolve_graph.specs.declared.command.Command.{Command}
-use Rattle.wit_resolve_graph.specs.declared.command.Command.TheVariants.{PushGroups, Merge}
+use Rattle.wit_resolve_graph.specs.declared.command.Command.TheVariants.{Merge}
 use Rattle.wit_resolve_graph.specs.declared.command.Reply.{Reply}
-use Rattle.wit_script.specs.Answer.{IsChoice, action_of}
+use Rattle.wit_script.specs.Answer.{IsChoice}
 use Rattle.wit_script.specs.Script.{IsNotUnderstood, IsUnderstood}
-use Rattle.wit_script.specs.declared.answer.Action.{Action}
-use Rattle.wit_script.specs.declared.answer.Action.TheVariants as does
-use Rattle.wit_script.specs.declared.ready.ScriptCommand.{ScriptCommand}
-use Rattle.wit_script.specs.declared.ready.ScriptCommand.TheVariants as asks
+use Rattle.wit_script_lines.specs.declared.request.Request.{Request}
+use Rattle.wit_script_lines.specs.declared.request.Request.TheVariants as request
 use Rattle.wit_script_lines.specs.Line.{lines_of}
 use Rattle.wit_script_places.specs.Desk.{coming_packages, new_desk, new_tracked, only_first, tracked_after, with_working, working}
 use Rattle.wit_script_places.specs.Lines.{script_lines_of}
 use Rattle.wit_script_faults.specs.Misread.{IsMisreadText}
-use Rattle.wit_script_faults.specs.Refusals.{TellsRefusal, TellsReplies, missing_text, unless_refused}
+use Rattle.wit_script_faults.specs.Refusals.{TellsRefusal, TellsReply, missing_text, unless_refused}
 use Rattle.wit_script_places.specs.declared.desk.Desk.{Desk}
 use Rattle.wit_script_places.specs.declared.desk.TrackedGraph.{TrackedGraph}
 use Rattle.wit_script_places.specs.declared.lines.CommandPlace.{CommandPlace}
@@ -28,24 +27,30 @@ use Rattle.wit_script_places.specs.declared.lines.ScriptLines.{ScriptLines}
 use Rattle.wit_ways.specs.Asked.{asked_of}
 use Rattle.wit_ways.specs.declared.asked.Asked.TheVariants.{Other}
 
--- a run of one command whose files, where it brings any, begin with these lines, and the packages that it brings with those;
--- and what is told of its replies
-abbrev pub ExplainsRun : ScriptLines → CommandPlace → TrackedGraph → Command → List ℕ → List ℕ → List ℕ → TrackedGraph → Type 0
-ExplainsRun script place before command coming brought text after =
-    (replies : List Reply) × (new : State) × Run before.resolve (command ∷ []) replies new
-    × (after ≡ tracked_after before new coming (unless_refused replies brought))
-    × TellsReplies script place after (asked_of before.resolve command) replies text
+-- a command whose files, where it brings any, begin with these lines, and the packages that it brings with those; and what
+-- is told of its reply
+abbrev pub ExplainsReply : ScriptLines → CommandPlace → TrackedGraph → Command → List ℕ → List ℕ → List ℕ → TrackedGraph → Type 0
+ExplainsReply script place before command coming brought text after =
+    (answer : Reply) × (new : State) × Step before.resolve command answer new
+    × (after ≡ tracked_after before new coming (unless_refused answer brought))
+    × TellsReply script place after (asked_of before.resolve command) answer text
 
--- a run of one command on the graph on which commands work
-abbrev pub ExplainsWork : ScriptLines → CommandPlace → Desk → Command → List ℕ → Desk → Type 0
-ExplainsWork script place before command text after =
-    (new : TrackedGraph) × ExplainsRun script place (working before) command (coming_packages script place) (coming_packages script place) text new × (after ≡ with_working before new)
+-- a change of the graph on which commands work
+abbrev pub ExplainsChange : ScriptLines → CommandPlace → Desk → Change → List ℕ → Desk → Type 0
+ExplainsChange script place before change text after =
+    let coming = coming_packages script place in
+    (new : TrackedGraph)
+    × ExplainsReply script place (working before) (command_of change) coming coming text new
+    × (after ≡ with_working before new)
 
 -- `merge`: the second graph goes into the first, and is no longer there
 abbrev pub ExplainsMerge : ScriptLines → CommandPlace → Desk → Option TrackedGraph → List ℕ → Desk → Type 0
 ExplainsMerge script place before None text after = (text ≡ []) × (after ≡ before)
 ExplainsMerge script place before (Some second) text after =
-    (new : TrackedGraph) × ExplainsRun script place before.first (Merge second.resolve) second.file_starts second.package_starts text new × (after ≡ only_first new)
+    (new : TrackedGraph)
+    × ExplainsReply script place before.first (Merge second.resolve)
+    second.file_starts second.package_starts text new
+    × (after ≡ only_first new)
 
 -- what is told of a choice of a world
 abbrev pub TellsChoice : ScriptLines → CommandPlace → TrackedGraph → Result ℕ ResolveErrorKind → List ℕ → Type 0
@@ -54,25 +59,30 @@ TellsChoice script place tracked (Err kind) text = TellsRefusal script place tra
 
 -- `print`: there is no such world
 abbrev pub print_text : ScriptLines → CommandPlace → TrackedGraph → PackageName → List ℕ → List ℕ
-print_text script place tracked owner world = option_map_or (λ w. []) (world_named tracked.resolve.graph owner world) (missing_text script place (codes "no world"))
+print_text script place tracked owner world =
+    option_map_or (λ w. []) (world_named tracked.resolve.graph owner world)
+    (missing_text script place (codes "no world"))
 
 -- `select`: there is no such package, or a choice that may be made of it
 abbrev pub ExplainsSelect : ScriptLines → CommandPlace → TrackedGraph → PackageName → Option (List ℕ) → List ℕ → Type 0
 ExplainsSelect script place tracked owner said text =
-    MatchOption (package_named tracked.resolve.graph owner) (text ≡ missing_text script place (codes "no package")) (λ id. (choice : Result ℕ ResolveErrorKind) × IsChoice tracked.resolve.graph id said choice × TellsChoice script place tracked choice text)
-
--- what is told of what a command does that pushes nothing, and the desk after it
-abbrev pub ExplainsAction : ScriptLines → CommandPlace → Desk → Action → List ℕ → Desk → Type 0
-ExplainsAction script place before (does.Run command style) text after = ExplainsWork script place before command text after
-ExplainsAction script place before does.Open text after = (text ≡ []) × (after ≡ record { first = before.first; second = Some new_tracked })
-ExplainsAction script place before does.Merge text after = ExplainsMerge script place before before.second text after
-ExplainsAction script place before (does.Print owner world) text after = (text ≡ print_text script place (working before) owner world) × (after ≡ before)
-ExplainsAction script place before (does.Select owner said) text after = (after ≡ before) × ExplainsSelect script place (working before) owner said text
+    MatchOption (package_named tracked.resolve.graph owner)
+    (text ≡ missing_text script place (codes "no package"))
+    (λ id. (choice : Result ℕ ResolveErrorKind) × IsChoice tracked.resolve.graph id said choice
+    × TellsChoice script place tracked choice text)
 
 -- what is told of a command, and the desk after it
-abbrev pub ExplainsCommand : ScriptLines → CommandPlace → Desk → ScriptCommand → List ℕ → Desk → Type 0
-ExplainsCommand script place before (asks.Push main deps) text after = ExplainsWork script place before (PushGroups main deps) text after
-ExplainsCommand script place before (asks.Request asked) text after = ExplainsAction script place before (action_of asked) text after
+abbrev pub ExplainsCommand : ScriptLines → CommandPlace → Desk → Request → List ℕ → Desk → Type 0
+ExplainsCommand script place before (request.Change change) text after =
+    ExplainsChange script place before change text after
+ExplainsCommand script place before request.Other text after =
+    (text ≡ []) × (after ≡ record { first = before.first; second = Some new_tracked })
+ExplainsCommand script place before request.Merge text after =
+    ExplainsMerge script place before before.second text after
+ExplainsCommand script place before (request.Print owner world) text after =
+    (text ≡ print_text script place (working before) owner world) × (after ≡ before)
+ExplainsCommand script place before (request.Select owner said) text after =
+    (after ≡ before) × ExplainsSelect script place (working before) owner said text
 
 -- the first of some commands; where there is none, one behind all lines
 abbrev pub place_of : ScriptLines → List CommandPlace → CommandPlace
@@ -85,7 +95,7 @@ rest_of [] = []
 rest_of (place ∷ places) = places
 
 -- what is told of commands, one after another, which stand at these places
-abbrev pub ExplainsAll : ScriptLines → List CommandPlace → Desk → List ScriptCommand → List ℕ → Desk → Type 0
+abbrev pub ExplainsAll : ScriptLines → List CommandPlace → Desk → List Request → List ℕ → Desk → Type 0
 ExplainsAll script places before [] text after = (text ≡ []) × (after ≡ before)
 ExplainsAll script places before (command ∷ commands) text after =
     (between : Desk) × (first : List ℕ) × (rest : List ℕ)
@@ -95,7 +105,7 @@ ExplainsAll script places before (command ∷ commands) text after =
 -- what is told of a script that is understood: the refusals of its commands on an empty graph, and what isn't there
 pub record ExplainsScript (input text : List ℕ) : Type 0 where
   pub utf8 : IsUtf8 input
-  pub commands : List ScriptCommand
+  pub commands : List Request
   pub understood : IsUnderstood input commands
   pub after : Desk
   pub told : ExplainsAll (script_lines_of (lines_of input)) (script_lines_of (lines_of input)).commands new_desk commands text after

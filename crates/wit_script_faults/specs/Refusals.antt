@@ -1,7 +1,6 @@
 -- What is told of a refusal: its text, the lines at which it is, its way, and where more is said of its number; and of what
 -- isn't there.
-use Rattle.std.specs.Prelude.{◌≡◌, ℕ, ◌||◌, ◌==◌, not, Bool, true, false, List, [], ◌∷◌, ◌++◌, length, Option, Some, None, codes, decimal, if◌then◌else◌}
-use Rattle.std.specs.List.{list_any}
+use Rattle.std.specs.Prelude.{◌≡◌, ℕ, ◌||◌, ◌==◌, not, List, [], ◌∷◌, ◌++◌, length, Option, Some, None, codes, decimal, if◌then◌else◌}
 use Rattle.std.specs.Option.{option_map_or}
 use Rattle.wit_graph_data.specs.Error.{error_number, error_span}
 use Rattle.wit_graph_data.specs.ErrorText.{kind_text}
@@ -67,15 +66,7 @@ TellsReply script place after asked (reply.Refused kind) text = TellsRefusal scr
 TellsReply script place after asked reply.NoWorld text = text ≡ missing_text script place (codes "no world")
 TellsReply script place after asked _ text = text ≡ []
 
-abbrev pub TellsReplies : ScriptLines → CommandPlace → TrackedGraph → Asked → List Reply → List ℕ → Type 0
-TellsReplies script place after asked [] text = text ≡ []
-TellsReplies script place after asked (answer ∷ answers) text =
-    (first : List ℕ) × (rest : List ℕ) × TellsReply script place after asked answer first × TellsReplies script place after asked answers rest × (text ≡ first ++ rest)
-
-abbrev pub is_refusal : Reply → Bool
-is_refusal (reply.Refused kind) = true
-is_refusal _ = false
-
--- these, unless a reply is a refusal
-abbrev pub unless_refused : List Reply → List ℕ → List ℕ
-unless_refused replies brought = if list_any is_refusal replies then [] else brought
+-- these, unless the reply is a refusal
+abbrev pub unless_refused : Reply → List ℕ → List ℕ
+unless_refused (reply.Refused kind) brought = []
+unless_refused _ brought = brought

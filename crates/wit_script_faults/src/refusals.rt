@@ -1,12 +1,11 @@
 //! The refusals of a script and what its commands don't find, each with its lines, and a script that isn't understood.
 ghost use Rattle.std.specs.Prelude.{◌≡◌, IfErr, IfOk, Err, Ok, string_bytes};
-ghost use Rattle.std.specs.List.{list_any};
-ghost use Rattle.wit_resolve_graph.specs.Step.{IsCommandShaped};
-ghost use Rattle.wit_script.specs.Answer.{IsActionShaped, IsChoice};
+ghost use Rattle.wit_resolve_graph.specs.Step.{IsCommandShaped, command_of};
+ghost use Rattle.wit_script.specs.Answer.{IsChoice};
 ghost use Rattle.wit_script_places.specs.Desk.{new_desk};
-ghost use Rattle.wit_script_faults.specs.Explained.{Explains, ExplainsAction, ExplainsAll, ExplainsCommand, ExplainsMerge, ExplainsRun, ExplainsSelect, ExplainsWork, place_of, print_text, rest_of};
+ghost use Rattle.wit_script_faults.specs.Explained.{Explains, ExplainsAll, ExplainsChange, ExplainsCommand, ExplainsMerge, ExplainsReply, ExplainsSelect, place_of, print_text, rest_of};
 ghost use Rattle.wit_script_faults.specs.Misread.{IsMisreadText};
-ghost use Rattle.wit_script_faults.specs.Refusals.{TellsRefusal, TellsReplies, TellsReply, is_refusal, missing_text, other_text, places_text, span_text, spans_text, unless_refused};
+ghost use Rattle.wit_script_faults.specs.Refusals.{TellsRefusal, TellsReply, missing_text, other_text, places_text, span_text, spans_text, unless_refused};
 ghost use Rattle.wit_script_places.specs.declared.desk.Desk.{Desk};
 
 use crate::culprit::fault_index;
@@ -14,10 +13,10 @@ use crate::misread::misread_text;
 use std::alloc::{AllocError, Global};
 use wit_data::Span;
 use wit_resolve_graph::{
-    Command, Items, PackageId, PackageName, Reply, ResolveError, ResolveErrorKind, ResolveResult,
-    Text, WorldId, run,
+    Change, Command, Items, PackageId, PackageName, Reply, ResolveError, ResolveErrorKind,
+    ResolveResult, Text, WorldId, carry_out, command_of,
 };
-use wit_script::{Action, ReadFault, ReadyCommand, ScriptCommand, action_of, read_script};
+use wit_script::{ReadFault, ReadyCommand, Request, read_script};
 use wit_script_places::{
     CommandPlace, Desk, ScriptLines, TrackedGraph, coming_packages, command_text, defined_line,
     place_text, script_lines, span_place, way_text,
@@ -99,59 +98,38 @@ fn refusal_to(
 ) -> ResolveResult<String>
     ensures { IfOk result (λ text. ExplainsCommand script.now place.now desk.old command (string_bytes text) desk.new) }
 {
-    match command.into_command() {
-        ScriptCommand::Push { main, deps } => {
-            let command = Command::PushGroups { main, deps };
-            work(alloc, script, place, desk, command)
-        }
-        ScriptCommand::Request(request) => {
-            refusal_to_action(alloc, script, place, desk, action_of(request))
-        }
-    }
-}
-
-/// The same of what a command does that pushes nothing.
-fn refusal_to_action(
-    alloc: Global,
-    script: &ScriptLines,
-    place: &CommandPlace,
-    desk: &mut Desk,
-    action: Action,
-) -> ResolveResult<String>
-    requires { IsActionShaped action }
-    ensures { IfOk result (λ text. ExplainsAction script.now place.now desk.old action (string_bytes text) desk.new) }
-{
-    match action {
-        Action::Run { command, .. } => work(alloc, script, place, desk, command),
-        Action::Open => {
+    match command.into_request() {
+        Request::Change(change) => change_graph(alloc, script, place, desk, change),
+        Request::Other => {
             desk.second = Some(TrackedGraph::new(alloc));
             Ok(String::new(alloc))
         }
-        Action::Merge => merge(alloc, script, place, desk),
-        Action::Print { package, world } => {
+        Request::Merge => merge(alloc, script, place, desk),
+        Request::Print { package, world } => {
             print(alloc, script, place, desk.working(), &package, &world)
         }
-        Action::Select { package, text } => {
+        Request::Select { package, text } => {
             select(alloc, script, place, desk.working(), &package, &text)
         }
     }
 }
 
-/// Carries out a command on the graph on which commands work, and answers its refusal, or an empty text.
-fn work(
+/// Changes the graph on which commands work, and answers the refusal, or an empty text.
+fn change_graph(
     alloc: Global,
     script: &ScriptLines,
     place: &CommandPlace,
     desk: &mut Desk,
-    command: Command,
+    change: Change,
 ) -> ResolveResult<String>
-    requires { IsCommandShaped command }
-    ensures { IfOk result (λ text. ExplainsWork script.now place.now desk.old command (string_bytes text) desk.new) }
+    requires { IsCommandShaped (command_of change) }
+    ensures { IfOk result (λ text. ExplainsChange script.now place.now desk.old change (string_bytes text) desk.new) }
 {
+    let command = command_of(change);
     let coming = coming_packages(script, place);
     match &mut desk.second {
-        Some(second) => carry_out(alloc, script, place, second, command, coming, coming),
-        None => carry_out(
+        Some(second) => explain_reply(alloc, script, place, second, command, coming, coming),
+        None => explain_reply(
             alloc,
             script,
             place,
@@ -182,7 +160,7 @@ fn merge(
     } = second;
     let command = Command::Merge(resolve);
     let (file_starts, package_starts) = (file_starts.as_slice(), package_starts.as_slice());
-    carry_out(
+    explain_reply(
         alloc,
         script,
         place,
@@ -195,7 +173,7 @@ fn merge(
 
 /// Carries out a command, and answers its refusal, or an empty text. The files that come begin with these lines, and the
 /// packages that come with those.
-fn carry_out(
+fn explain_reply(
     alloc: Global,
     script: &ScriptLines,
     place: &CommandPlace,
@@ -205,57 +183,22 @@ fn carry_out(
     brought: &[usize],
 ) -> ResolveResult<String>
     requires { IsCommandShaped command }
-    ensures { IfOk result (λ text. ExplainsRun script.now place.now tracked.old command coming.now brought.now (string_bytes text) tracked.new) }
+    ensures { IfOk result (λ text. ExplainsReply script.now place.now tracked.old command coming.now brought.now (string_bytes text) tracked.new) }
 {
     let asked = Asked::of(alloc, &tracked.resolve, &command)?;
-    let mut commands = Items::new(alloc);
-    commands.push(command)?;
-    let replies = run(alloc, &mut tracked.resolve, commands.into_vec())?;
-    tracked.track(coming, unless_refused(&replies, brought))?;
-    replies_text(alloc, script, place, tracked, &asked, &replies)
+    let reply = carry_out(alloc, &mut tracked.resolve, command);
+    tracked.track(coming, unless_refused(&reply, brought))?;
+    reply_text(alloc, script, place, tracked, &asked, &reply)
 }
 
 /// These, unless a reply is a refusal.
-fn unless_refused<'a>(replies: &[Reply], brought: &'a [usize]) -> &'a [usize]
-    ensures { result.now ≡ unless_refused replies.now brought.now }
+fn unless_refused<'a>(reply: &Reply, brought: &'a [usize]) -> &'a [usize]
+    ensures { result.now ≡ unless_refused reply.now brought.now }
 {
-    if is_any_refused(replies) {
-        return &[];
+    match reply {
+        Reply::Refused(_) => &[],
+        _ => brought,
     }
-    brought
-}
-
-/// Whether one of some replies is a refusal.
-fn is_any_refused(replies: &[Reply]) -> bool
-    ensures { result ≡ list_any is_refusal replies.now }
-{
-    replies.iter().any(|reply| is_refusal(reply))
-}
-
-/// Whether a reply is a refusal.
-fn is_refusal(reply: &Reply) -> bool
-    ensures { result ≡ is_refusal reply.now }
-{
-    matches!(reply, Reply::Refused(_))
-}
-
-/// What is told of replies.
-fn replies_text(
-    alloc: Global,
-    script: &ScriptLines,
-    place: &CommandPlace,
-    tracked: &TrackedGraph,
-    asked: &Asked,
-    replies: &[Reply],
-) -> ResolveResult<String>
-    ensures { IfOk result (λ text. TellsReplies script.now place.now tracked.now asked.now replies.now (string_bytes text)) }
-{
-    let mut text = String::new(alloc);
-    for reply in replies {
-        let shown = reply_text(alloc, script, place, tracked, asked, reply)?;
-        text.push_str(&shown)?;
-    }
-    Ok(text)
 }
 
 /// What is told of a reply.

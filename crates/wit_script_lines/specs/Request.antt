@@ -1,8 +1,9 @@
 -- What a command of a script that brings no package says by its tokens alone.
-use Rattle.std.specs.Prelude.{ℕ, ◌||◌, Bool, List, [], ◌∷◌, Option, Some, None, option_and_then, codes, if◌then◌else◌, option_map, bytes_eq}
+use Rattle.std.specs.Prelude.{ℕ, ◌||◌, Bool, true, List, [], ◌∷◌, Option, Some, None, option_and_then, codes, if◌then◌else◌, option_map, bytes_eq}
 use Rattle.wit_names.specs.declared.package_name.PackageName.{PackageName}
 use Rattle.wit_names.specs.declared.track.TrackRule.{TrackRule}
 use Rattle.wit_script_lines.specs.Token.{package_name_of, part_of}
+use Rattle.wit_commands.specs.declared.change.Change.TheVariants as change
 use Rattle.wit_script_lines.specs.declared.request.Request.{Request}
 use Rattle.wit_script_lines.specs.declared.request.Request.TheVariants as request
 use Rattle.wit_names.specs.declared.track.TrackRule.TheVariants as tracks
@@ -10,8 +11,10 @@ use Rattle.wit_names.specs.declared.track.TrackRule.TheVariants as tracks
 -- a first token that begins such a command
 abbrev pub is_request : List ℕ → Bool
 is_request word =
-    bytes_eq word (codes "feature") || (bytes_eq word (codes "all-features") || (bytes_eq word (codes "tracks") || (bytes_eq word (codes "other")
-    || (bytes_eq word (codes "merge") || (bytes_eq word (codes "importize") || (bytes_eq word (codes "exportize") || (bytes_eq word (codes "semver")
+    bytes_eq word (codes "feature") || (bytes_eq word (codes "all-features")
+    || (bytes_eq word (codes "tracks") || (bytes_eq word (codes "other")
+    || (bytes_eq word (codes "merge") || (bytes_eq word (codes "importize")
+    || (bytes_eq word (codes "exportize") || (bytes_eq word (codes "semver")
     || (bytes_eq word (codes "print") || bytes_eq word (codes "select")))))))))
 
 -- a command without arguments
@@ -21,7 +24,7 @@ alone_of asked (argument ∷ arguments) = None
 
 -- `NAME`
 abbrev pub feature_of : List (List ℕ) → Option Request
-feature_of (name ∷ []) = option_map request.Feature (part_of name)
+feature_of (name ∷ []) = option_map (λ n. request.Change (change.AddFeature n)) (part_of name)
 feature_of _ = None
 
 -- `published` or `with-prereleases`
@@ -33,12 +36,15 @@ track_rule_of token =
 
 -- the rule of tracks of this name
 abbrev pub tracks_of : List (List ℕ) → Option Request
-tracks_of (rule ∷ []) = option_map request.Tracks (track_rule_of rule)
+tracks_of (rule ∷ []) =
+    option_map (λ r. request.Change (change.SetTrackRule r)) (track_rule_of rule)
 tracks_of _ = None
 
 -- a world of a package
 abbrev pub world_in : List ℕ → List ℕ → Option (PackageName × List ℕ)
-world_in name world = option_and_then (λ owner. option_map (λ own. (owner, own)) (part_of world)) (package_name_of name)
+world_in name world =
+    option_and_then (λ owner. option_map (λ own. (owner, own)) (part_of world))
+    (package_name_of name)
 
 -- `PKG WORLD`
 abbrev pub world_of : List (List ℕ) → Option (PackageName × List ℕ)
@@ -47,12 +53,16 @@ world_of _ = None
 
 -- the transformation of a world, which then has this name
 abbrev pub importize_to : List ℕ → List ℕ → Option (List ℕ) → Option Request
-importize_to name world out = option_map (λ (of_package : PackageName × List ℕ). request.Importize of_package.0 of_package.1 out) (world_in name world)
+importize_to name world out =
+    option_map (λ (named : PackageName × List ℕ).
+    request.Change (change.Importize named.0 named.1 out))
+    (world_in name world)
 
 -- `PKG WORLD` or `PKG WORLD NAME`
 abbrev pub importize_of : List (List ℕ) → Option Request
 importize_of (name ∷ world ∷ []) = importize_to name world None
-importize_of (name ∷ world ∷ out ∷ []) = option_and_then (λ new. importize_to name world (Some new)) (part_of out)
+importize_of (name ∷ world ∷ out ∷ []) =
+    option_and_then (λ new. importize_to name world (Some new)) (part_of out)
 importize_of _ = None
 
 -- the new name of `exportize`, where `-` stands for none
@@ -67,7 +77,9 @@ keys_of (key ∷ keys) = Some (key ∷ keys)
 -- the transformation of a world by these keys, which then has this name
 abbrev pub exportize_to : List ℕ → List ℕ → List ℕ → List (List ℕ) → Option Request
 exportize_to name world out keys =
-    option_map (λ (of_package : PackageName × List ℕ). request.Exportize of_package.0 of_package.1 (new_name_of out) (keys_of keys)) (world_in name world)
+    option_map (λ (named : PackageName × List ℕ).
+    request.Change (change.Exportize named.0 named.1 (new_name_of out) (keys_of keys)))
+    (world_in name world)
 
 -- `PKG WORLD NAME KEY ..`
 abbrev pub exportize_of : List (List ℕ) → Option Request
@@ -81,20 +93,33 @@ select_with name said = option_map (λ owner. request.Select owner said) (packag
 -- `PKG` or `PKG TEXT`
 abbrev pub select_of : List (List ℕ) → Option Request
 select_of (name ∷ []) = select_with name None
-select_of (name ∷ text ∷ []) = option_and_then (λ said. select_with name (Some said)) (part_of text)
+select_of (name ∷ text ∷ []) =
+    option_and_then (λ said. select_with name (Some said)) (part_of text)
 select_of _ = None
+
+-- the merge of a world's imports by version, and a world that is printed
+abbrev pub semver_of : List (List ℕ) → Option Request
+semver_of arguments =
+    option_map (λ (named : PackageName × List ℕ). request.Change (change.Semver named.0 named.1))
+    (world_of arguments)
+
+abbrev pub print_of : List (List ℕ) → Option Request
+print_of arguments =
+    option_map (λ (named : PackageName × List ℕ). request.Print named.0 named.1)
+    (world_of arguments)
 
 -- such a command by its first token and its arguments
 abbrev pub request_by : List ℕ → List (List ℕ) → Option Request
 request_by word arguments =
     if bytes_eq word (codes "feature") then feature_of arguments
-    else if bytes_eq word (codes "all-features") then alone_of request.AllFeatures arguments
+    else if bytes_eq word (codes "all-features") then
+    alone_of (request.Change (change.SetAllFeatures true)) arguments
     else if bytes_eq word (codes "tracks") then tracks_of arguments
     else if bytes_eq word (codes "other") then alone_of request.Other arguments
     else if bytes_eq word (codes "merge") then alone_of request.Merge arguments
     else if bytes_eq word (codes "importize") then importize_of arguments
     else if bytes_eq word (codes "exportize") then exportize_of arguments
-    else if bytes_eq word (codes "semver") then option_map (λ of_package. request.Semver of_package.0 of_package.1) (world_of arguments)
-    else if bytes_eq word (codes "print") then option_map (λ of_package. request.Print of_package.0 of_package.1) (world_of arguments)
+    else if bytes_eq word (codes "semver") then semver_of arguments
+    else if bytes_eq word (codes "print") then print_of arguments
     else if bytes_eq word (codes "select") then select_of arguments
     else None

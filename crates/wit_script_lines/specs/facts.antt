@@ -1,3 +1,4 @@
 pub mod NameFacts
 pub mod OptionFacts
 pub mod ReadFacts
+pub mod RequestFacts

@@ -1,46 +1,23 @@
 //! What a command of a script that brings no package says by its tokens alone.
-ghost use Rattle.std.specs.Prelude.{◌≡◌, map, IfOk, Some};
+ghost use Rattle.std.specs.Prelude.{◌≡◌, map, IfOk};
 ghost use Rattle.wit_script_lines.specs.steps.ReadResult.{IsRead};
 ghost use Rattle.wit_script_lines.specs.Request.{alone_of, exportize_of, exportize_to, feature_of, importize_of, importize_to, is_request, keys_of, new_name_of, request_by, select_of, select_with, track_rule_of, tracks_of, world_in, world_of};
-ghost use Rattle.wit_script_lines.specs.steps.Request.{request_text};
 
 use crate::fault::LineFault;
 use crate::token::{read_package_name, read_part};
 use std::alloc::{AllocError, Global};
-use std::fmt;
+use wit_commands::Change;
 use wit_data::{Items, PackageName, Text, TrackRule};
 
-/// A command that brings no package.
+/// A command of a script.
 #[derive(Drop)]
 pub enum Request {
-    /// `feature NAME`
-    Feature(Text),
-    /// `all-features`
-    AllFeatures,
-    /// `tracks published` or `tracks with-prereleases`
-    Tracks(TrackRule),
+    /// A change of the graph, where packages that are pushed are those since the last command.
+    Change(Change),
     /// `other`: opens a second graph.
     Other,
     /// `merge`: the second graph goes into the first.
     Merge,
-    /// `importize PKG WORLD [NAME]`
-    Importize {
-        package: PackageName,
-        world: Text,
-        out: Option<Text>,
-    },
-    /// `exportize PKG WORLD NAME [KEY ..]`
-    Exportize {
-        package: PackageName,
-        world: Text,
-        out: Option<Text>,
-        keys: Option<Items<Text>>,
-    },
-    /// `semver PKG WORLD`
-    Semver {
-        package: PackageName,
-        world: Text,
-    },
     /// `print PKG WORLD`: shows a world.
     Print {
         package: PackageName,
@@ -51,26 +28,6 @@ pub enum Request {
         package: PackageName,
         text: Option<Text>,
     },
-}
-
-/// The command by its first token, with the package and the world that it works on.
-impl fmt::Display for Request {
-    ghost output = { λ asked. Some (request_text asked) };
-
-    fn fmt<W: fmt::Write>(&self, f: &mut fmt::Formatter<W>) -> fmt::Result {
-        match self {
-            Self::Feature(name) => write!(f, "feature {name}"),
-            Self::AllFeatures => f.write_str("all-features"),
-            Self::Tracks(_) => f.write_str("tracks"),
-            Self::Other => f.write_str("other"),
-            Self::Merge => f.write_str("merge"),
-            Self::Importize { package, world, .. } => write!(f, "importize {package} {world}"),
-            Self::Exportize { package, world, .. } => write!(f, "exportize {package} {world}"),
-            Self::Semver { package, world } => write!(f, "semver {package} {world}"),
-            Self::Print { package, world } => write!(f, "print {package} {world}"),
-            Self::Select { package, .. } => write!(f, "select {package}"),
-        }
-    }
 }
 
 /// Whether a first token begins a command that brings no package.
@@ -99,7 +56,7 @@ pub fn read_request(alloc: Global, word: &str, arguments: &[&str]) -> Result<Req
 {
     match word {
         "feature" => feature(alloc, arguments),
-        "all-features" => alone(arguments, Request::AllFeatures),
+        "all-features" => alone(arguments, Request::Change(Change::SetAllFeatures(true))),
         "tracks" => tracks(arguments),
         "other" => alone(arguments, Request::Other),
         "merge" => alone(arguments, Request::Merge),
@@ -107,7 +64,7 @@ pub fn read_request(alloc: Global, word: &str, arguments: &[&str]) -> Result<Req
         "exportize" => exportize(alloc, arguments),
         "semver" => {
             let (package, world) = read_world(alloc, arguments)?;
-            Ok(Request::Semver { package, world })
+            Ok(Request::Change(Change::Semver { package, world }))
         }
         "print" => {
             let (package, world) = read_world(alloc, arguments)?;
@@ -133,7 +90,10 @@ fn feature(alloc: Global, arguments: &[&str]) -> Result<Request, LineFault>
     ensures { IsRead (feature_of (map (λ t. t.now) arguments.now)) result }
 {
     match arguments {
-        [name] => Ok(Request::Feature(read_part(alloc, name)?)),
+        [name] => {
+            let name = read_part(alloc, name)?;
+            Ok(Request::Change(Change::AddFeature(name)))
+        }
         _ => Err(LineFault::NotUnderstood),
     }
 }
@@ -143,7 +103,10 @@ fn tracks(arguments: &[&str]) -> Result<Request, LineFault>
     ensures { IsRead (tracks_of (map (λ t. t.now) arguments.now)) result }
 {
     match arguments {
-        [rule] => Ok(Request::Tracks(track_rule(rule)?)),
+        [rule] => {
+            let rule = track_rule(rule)?;
+            Ok(Request::Change(Change::SetTrackRule(rule)))
+        }
         _ => Err(LineFault::NotUnderstood),
     }
 }
@@ -202,11 +165,11 @@ fn importize_to(
     ensures { IsRead (importize_to owner.now world.now out) result }
 {
     let (package, world) = world_in(alloc, owner, world)?;
-    Ok(Request::Importize {
+    Ok(Request::Change(Change::Importize {
         package,
         world,
         out,
-    })
+    }))
 }
 
 /// `PKG WORLD NAME KEY ..`
@@ -232,12 +195,12 @@ fn exportize_to(
     let (package, world) = world_in(alloc, owner, world)?;
     let out = new_name(alloc, out)?;
     let keys = read_keys(alloc, keys)?;
-    Ok(Request::Exportize {
+    Ok(Request::Change(Change::Exportize {
         package,
         world,
         out,
         keys,
-    })
+    }))
 }
 
 /// The new name of a transformed world, where `-` stands for none.

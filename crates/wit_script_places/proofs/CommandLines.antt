@@ -4,13 +4,18 @@ use Rattle.std.proofs.lemmas.List.{append-nil}
 use Rattle.std.proofs.lemmas.Option.{slice_get_within}
 use Rattle.std.specs.List.{AllZip}
 use Rattle.std.specs.Option.{option_and_then, option_map}
+use Rattle.wit_commands.specs.declared.change.Change.TheVariants as change
 use Rattle.wit_data.specs.declared.unresolved.UnresolvedPackageGroup.{UnresolvedPackageGroup}
 use Rattle.wit_script_lines.specs.Line.{lines_of}
 use Rattle.wit_script_lines.specs.PackageLine.{each_of}
 use Rattle.wit_script_lines.specs.Statement.{statement_of}
+use Rattle.wit_script_lines.specs.declared.request.Request.{Request}
+use Rattle.wit_script_lines.specs.declared.request.Request.TheVariants as request
 use Rattle.wit_script_lines.specs.declared.statement.Statement.{Statement}
 use Rattle.wit_script_lines.specs.declared.statement.Statement.TheVariants as says
 use Rattle.wit_script_lines.specs.facts.OptionFacts.{map-of, same-some, step-of}
+use Rattle.wit_script_lines.specs.facts.RequestFacts.{line-brings-none}
+use Rattle.wit_script_lines.specs.steps.Request.{BringsNone}
 use Rattle.wit_script_package.proofs.Places.{append_other}
 use Rattle.wit_script_package.specs.Draft.{as_group, new_draft}
 use Rattle.wit_script_package.specs.Lines.{with_line as with_draft_line}
@@ -18,8 +23,6 @@ use Rattle.wit_script_package.specs.declared.draft.Draft.{Draft}
 use Rattle.wit_script.specs.Ready.{other_after}
 use Rattle.wit_script.specs.Script.{IsUnderstood, after_line, after_lines, after_statement_in, mentions_ahead, new_reading, with_asked, with_begun, with_current, with_groups}
 use Rattle.wit_script.specs.declared.reader.Reading.{Reading}
-use Rattle.wit_script.specs.declared.ready.ScriptCommand.{ScriptCommand}
-use Rattle.wit_script.specs.declared.ready.ScriptCommand.TheVariants as asks
 use Rattle.wit_script_places.specs.Lines.{no_lines, script_lines_of, sort_by, with_line, with_lines, with_sort}
 use Rattle.wit_script_places.specs.declared.lines.CommandPlace.{CommandPlace}
 use Rattle.wit_script_places.specs.declared.lines.LineSort.{LineSort}
@@ -58,7 +61,7 @@ lines-kept s (line ∷ lines) =
 -- ---- commands
 
 -- where a line stands that is there it stands before one more
-stands-before : (lines : List (List ℕ)) (line : List ℕ) (place : CommandPlace) (command : ScriptCommand) → StandsAt lines place command → StandsAt (lines ++ line ∷ []) place command
+stands-before : (lines : List (List ℕ)) (line : List ℕ) (place : CommandPlace) (command : Request) → StandsAt lines place command → StandsAt (lines ++ line ∷ []) place command
 stands-before lines line place command at = record {
   line = at.line;
   there = append_other lines (line ∷ []) place.line (slice_get_within lines place.line at.line at.there) ∙ at.there;
@@ -70,13 +73,18 @@ last-there [] line = refl
 last-there (first ∷ lines) line = last-there lines line
 
 -- the last of lines
-stands-last : (lines : List (List ℕ)) (line : List ℕ) (place : CommandPlace) (command : ScriptCommand) → place.line ≡ length lines → statement_of line ≡ Some (Some (said_of command))
+stands-last : (lines : List (List ℕ)) (line : List ℕ) (place : CommandPlace) (command : Request) → place.line ≡ length lines → statement_of line ≡ Some (Some (said_of command))
     → StandsAt (lines ++ line ∷ []) place command
 stands-last lines line place command last said = record {
   line = line;
   there = rw last (last-there lines line);
   said = said;
 }
+
+-- a command that brings no package is said by itself
+said-by-itself : (asked : Request) → BringsNone asked → says.Request asked ≡ said_of asked
+said-by-itself (request.Change (change.PushGroups main deps)) none = absurd none
+said-by-itself asked none = refl
 
 else-of : {A : Type 0} (b : Bool) (o : Option A) (y : A) → (if b then None else o) ≡ Some y → o ≡ Some y
 else-of true o y h = cc
@@ -90,7 +98,7 @@ module _ (s : ScriptLines) (r : Reading) (line : List ℕ) (all : AllZip (Stands
       (zip-map (StandsAt s.lines) (StandsAt (s.lines ++ line ∷ [])) (stands-before s.lines line) s.commands r.commands all)
 
   -- a line that asks a command
-  asked : (next : Reading) (place : CommandPlace) (command : ScriptCommand) → next.commands ≡ r.commands ++ command ∷ [] → place.line ≡ length s.lines
+  asked : (next : Reading) (place : CommandPlace) (command : Request) → next.commands ≡ r.commands ++ command ∷ [] → place.line ≡ length s.lines
       → statement_of line ≡ Some (Some (said_of command)) → AllZip (StandsAt (s.lines ++ line ∷ [])) (s.commands ++ place ∷ []) next.commands
   asked next place command same last said =
       subst (AllZip (StandsAt (s.lines ++ line ∷ [])) (s.commands ++ place ∷ [])) (sym same)
@@ -100,7 +108,7 @@ module _ (s : ScriptLines) (r : Reading) (line : List ℕ) (all : AllZip (Stands
       → AllZip (StandsAt (s.lines ++ line ∷ [])) (with_sort s sort.Push).commands next.commands
   pushed [] next said made = cc
   pushed (main ∷ deps) next said made =
-      asked next (record { line = length s.lines; packages = s.pushed; is_push = true }) (asks.Push main deps) (sym (ap (λ (t : Reading). t.commands) (same-some _ next made))) refl said
+      asked next (record { line = length s.lines; packages = s.pushed; is_push = true }) (request.Change (change.PushGroups main deps)) (sym (ap (λ (t : Reading). t.commands) (same-some _ next made))) refl said
 
   -- by what the line says
   by : (o : Option (Option Statement)) (ahead : List (List ℕ)) (next : Reading) → statement_of line ≡ o → after_statement_in r line ahead o ≡ Some next
@@ -118,9 +126,10 @@ module _ (s : ScriptLines) (r : Reading) (line : List ℕ) (all : AllZip (Stands
       let p = step-of (λ (p : Draft). option_and_then (with_groups r) (each_of as_group (r.finished ++ p ∷ []))) r.current next made in
       let groups = step-of (with_groups r) (each_of as_group (r.finished ++ p.0 ∷ [])) next p.2 in
       pushed groups.0 next said groups.2
-  by (Some (Some (says.Request request))) ahead next said made =
-      let p = map-of (with_asked r request) (other_after request r.other) next (else-of (is_some r.current) (option_map (with_asked r request) (other_after request r.other)) next made) in
-      asked next (record { line = length s.lines; packages = s.pushed; is_push = false }) (asks.Request request) (sym (ap (λ (t : Reading). t.commands) p.2)) refl said
+  by (Some (Some (says.Request command))) ahead next said made =
+      let p = map-of (with_asked r command) (other_after command r.other) next (else-of (is_some r.current) (option_map (with_asked r command) (other_after command r.other)) next made) in
+      asked next (record { line = length s.lines; packages = s.pushed; is_push = false }) command (sym (ap (λ (t : Reading). t.commands) p.2)) refl
+      (said ∙ ap (λ (t : Statement). Some (Some t)) (said-by-itself command (line-brings-none command line said)))
 
 -- one more line
 one-line : (s : ScriptLines) (r next : Reading) (line : List ℕ) (ahead : List (List ℕ)) → AllZip (StandsAt s.lines) s.commands r.commands → after_line r line ahead ≡ Some next
@@ -137,7 +146,7 @@ more-lines (line ∷ lines) s r next all made =
     more-lines lines (with_line s line) p.0 next (one-line s r p.0 line lines all p.1) p.2
 
 -- all lines of a script
-pub at_lines : (text : List ℕ) (commands : List ScriptCommand) → IsUnderstood text commands → AllZip (StandsAt (lines_of text)) (script_lines_of (lines_of text)).commands commands
+pub at_lines : (text : List ℕ) (commands : List Request) → IsUnderstood text commands → AllZip (StandsAt (lines_of text)) (script_lines_of (lines_of text)).commands commands
 at_lines text commands understood =
     subst (AllZip (StandsAt (lines_of text)) (script_lines_of (lines_of text)).commands) understood.asked
     (

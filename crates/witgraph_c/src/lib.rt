@@ -5,7 +5,7 @@
 ghost use Rattle.std.specs.Prelude.{◌≡◌, ◌≤◌, true, false};
 ghost use Rattle.std.specs.Str.{IsUtf8};
 ghost use Rattle.wit_json_commands.specs.Documents.{ComesOutOfBytes};
-ghost use Rattle.wit_script.specs.Prints.{PrintsByRun};
+ghost use Rattle.wit_script.specs.Prints.{Prints};
 ghost use Rattle.wit_script_faults.specs.Explained.{Explains};
 ghost use Rattle.witgraph_calls.specs.Output.{IsTooLong, IsWritten};
 
@@ -25,11 +25,11 @@ pub extern "C" fn witgraph_execute(
 ) -> u32
     ensures status { result ≤ NO_MEMORY }
     ensures understood { result ≡ UNDERSTOOD
-        → IsWritten (PrintsByRun input.now true) output.old output.new needed.new }
+        → IsWritten (Prints input.now true) output.old output.new needed.new }
     ensures not_understood { result ≡ NOT_UNDERSTOOD
-        → IsWritten (PrintsByRun input.now false) output.old output.new needed.new }
+        → IsWritten (Prints input.now false) output.old output.new needed.new }
     ensures small { result ≡ OUTPUT_TOO_SMALL
-        → IsTooLong (PrintsByRun input.now) output.old needed.new }
+        → IsTooLong (Prints input.now) output.old needed.new }
     ensures utf8 { result ≡ INPUT_NOT_UTF8 → IsUtf8 input.now → ⊥ }
     ensures memory { result ≡ NO_MEMORY → IsUtf8 input.now }
     ensures kept { OUTPUT_TOO_SMALL ≤ result → output.new ≡ output.old }

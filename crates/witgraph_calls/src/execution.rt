@@ -1,7 +1,7 @@
 //! The answers of a script.
 ghost use Rattle.std.specs.Prelude.{◌≡◌, ◌≤◌, true, false};
 ghost use Rattle.std.specs.Str.{IsUtf8};
-ghost use Rattle.wit_script.specs.Prints.{PrintsByRun};
+ghost use Rattle.wit_script.specs.Prints.{Prints};
 ghost use Rattle.witgraph_calls.specs.Output.{IsTooLong, IsWritten};
 
 use crate::output::{none_needed, put_text};
@@ -19,11 +19,11 @@ use wit_script::execute_text;
 pub fn execute(alloc: Global, input: &[u8], output: &mut [u8], needed: &mut usize) -> u32
     ensures status { result ≤ NO_MEMORY }
     ensures understood { result ≡ UNDERSTOOD
-        → IsWritten (PrintsByRun input.now true) output.old output.new needed.new }
+        → IsWritten (Prints input.now true) output.old output.new needed.new }
     ensures not_understood { result ≡ NOT_UNDERSTOOD
-        → IsWritten (PrintsByRun input.now false) output.old output.new needed.new }
+        → IsWritten (Prints input.now false) output.old output.new needed.new }
     ensures small { result ≡ OUTPUT_TOO_SMALL
-        → IsTooLong (PrintsByRun input.now) output.old needed.new }
+        → IsTooLong (Prints input.now) output.old needed.new }
     ensures utf8 { result ≡ INPUT_NOT_UTF8 → IsUtf8 input.now → ⊥ }
     ensures memory { result ≡ NO_MEMORY → IsUtf8 input.now }
     ensures kept { OUTPUT_TOO_SMALL ≤ result → output.new ≡ output.old }

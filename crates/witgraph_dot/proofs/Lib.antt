@@ -1,4 +1,5 @@
 mod Appended
+mod Changed
 mod Gathered
 mod Staged
 mod Viewed

@@ -4,11 +4,9 @@ use Rattle.std.specs.Option.{option_map_or}
 use Rattle.wit_elaboration.specs.Entries.{keyed_interfaces}
 use Rattle.wit_data.specs.declared.world.World.{World}
 use Rattle.wit_resolve_graph.specs.State.{State, new_state}
-use Rattle.wit_resolve_graph.specs.Step.{Run}
-use Rattle.wit_script.specs.Answer.{Acts, Answers, AnswersAll, IsChoice, only_first}
-use Rattle.wit_script.specs.declared.answer.Action.{Action}
+use Rattle.wit_script.specs.Answer.{Answers, AnswersAll, only_first}
 use Rattle.wit_script.specs.declared.answer.Stage.{Stage}
-use Rattle.wit_script.specs.declared.ready.ScriptCommand.{ScriptCommand}
+use Rattle.wit_script_lines.specs.declared.request.Request.{Request}
 use Rattle.witgraph_dot.specs.declared.listed_graph.ListedGraph.{ListedGraph}
 use Rattle.witgraph_dot.specs.declared.listing.Import.{Import}
 use Rattle.witgraph_dot.specs.declared.listing.Include.{Include}
@@ -49,16 +47,12 @@ abbrev pub graphs : ListedGraph → Option ListedGraph → Stage
 graphs active waiting = graphs_of (listed_graphs active waiting)
 
 -- the graphs that `execute` may have after a command, whatever it answers
-abbrev pub Follows : Stage → ScriptCommand → Stage → Type 0
-Follows before command after = (text : List ℕ) × Answers Run IsChoice before command text after
-
--- the same after what a command does that brings no packages
-abbrev pub FollowsAction : Stage → Action → Stage → Type 0
-FollowsAction before done after = (text : List ℕ) × Acts Run IsChoice before done text after
+abbrev pub Follows : Stage → Request → Stage → Type 0
+Follows before command after = (text : List ℕ) × Answers before command text after
 
 -- the graphs that `execute` may have after commands on an empty graph
-abbrev pub FollowsAll : List ScriptCommand → Stage → Type 0
-FollowsAll commands after = (text : List ℕ) × AnswersAll Run IsChoice (only_first new_state) commands text after
+abbrev pub FollowsAll : List Request → Stage → Type 0
+FollowsAll commands after = (text : List ℕ) × AnswersAll (only_first new_state) commands text after
 
 -- ---- worlds
 

@@ -15,3 +15,4 @@ pub mod Shown
 pub mod Texts
 pub mod Tracks
 pub mod Transformed
+pub mod steps

@@ -1,7 +1,7 @@
 -- The picture of a script.
 use Rattle.std.specs.Prelude.{◌≡◌, ◌==◌, ℕ, Bool, true, false, List, [], ◌++◌, codes, if◌then◌else◌, length}
 use Rattle.wit_script.specs.Script.{IsNotUnderstood, IsUnderstood}
-use Rattle.wit_script.specs.declared.ready.ScriptCommand.{ScriptCommand}
+use Rattle.wit_script_lines.specs.declared.request.Request.{Request}
 use Rattle.wit_script_faults.specs.Explained.{Explains}
 use Rattle.wit_script_lines.specs.Line.{lines_of}
 use Rattle.witgraph_dot.specs.Bundles.{frames_of}
@@ -45,7 +45,7 @@ IsTold input told = (understood : Bool) × Explains input understood told
 -- what is written of a script that is understood: what its comments choose of the graph that is there after its commands, and
 -- what is told of it
 pub record DrawsScript (input text : List ℕ) : Type 0 where
-  pub commands : List ScriptCommand
+  pub commands : List Request
   pub understood : IsUnderstood input commands
   pub after : ListedStage
   pub made : ScriptMakes commands after

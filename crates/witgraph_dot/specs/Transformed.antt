@@ -1,18 +1,19 @@
--- What counts as listed after a command that transforms a world.
-use Rattle.std.specs.Prelude.{◌≡◌, ℕ, Bool, true, false, List, [], ◌∷◌, Option, if◌then◌else◌, slice_get}
+-- What counts as listed after a change.
+use Rattle.std.specs.Prelude.{ℕ, Bool, true, false, List, [], ◌∷◌, Option, if◌then◌else◌, slice_get}
 use Rattle.std.specs.Option.{option_map_or}
+use Rattle.wit_commands.specs.declared.change.Change.{Change}
+use Rattle.wit_commands.specs.declared.change.Change.TheVariants as change
 use Rattle.wit_graph_data.specs.declared.graph.Graph.{Graph}
 use Rattle.wit_graph_data.specs.Named.{world_named}
 use Rattle.wit_names.specs.declared.track.TrackRule.{TrackRule}
 use Rattle.wit_resolve_graph.specs.State.{State}
-use Rattle.wit_resolve_graph.specs.declared.command.Command.{Command}
-use Rattle.wit_resolve_graph.specs.declared.command.Command.TheVariants as command
 use Rattle.witgraph_dot.specs.Drawn.{own_exports, own_imports}
 use Rattle.witgraph_dot.specs.Listed.{imports_of, others_of, with_import, with_imports}
+use Rattle.witgraph_dot.specs.Pushed.{pushed_imports, pushed_includes}
 use Rattle.witgraph_dot.specs.Sets.{without}
 use Rattle.witgraph_dot.specs.Tracks.{is_version_of_any}
-use Rattle.witgraph_dot.specs.declared.listed_graph.ListedGraph.{ListedGraph}
 use Rattle.witgraph_dot.specs.declared.listing.Import.{Import}
+use Rattle.witgraph_dot.specs.declared.listing.Include.{Include}
 
 -- what there is, as a command leaves it that came to something, else as before
 abbrev pub if_done : {A : Type 0} → Bool → A → A → A
@@ -48,18 +49,20 @@ with_versions rule g imports world (i ∷ is) = with_versions rule g (with_versi
 abbrev pub semver_merged_imports : Option ℕ → TrackRule → Graph → List Import → List Import
 semver_merged_imports world rule g imports = option_map_or (λ w. with_versions rule g imports w (own_imports (slice_get g.worlds w))) world imports
 
--- after a command that came to something and brings no packages, on this graph before it and this state after it
-abbrev pub imports_after : Command → Graph → State → List Import → List Import
-imports_after (command.Importize owner world out) g after imports = importized_imports (world_named g owner world) (exports_of (world_named g owner world) g) imports
-imports_after (command.Exportize owner world out keys) g after imports = exportized_imports (world_named g owner world) after.graph imports
-imports_after (command.Semver owner world) g after imports = semver_merged_imports (world_named g owner world) after.track_rule after.graph imports
-imports_after (command.AddFeature name) g after imports = imports
-imports_after (command.SetAllFeatures all) g after imports = imports
-imports_after (command.SetTrackRule rule) g after imports = imports
-imports_after (command.PushGroups main deps) g after imports = imports
-imports_after (command.Merge other) g after imports = imports
+-- after a change that came to something, on this graph before it and this state after it
+abbrev pub imports_after : Change → Graph → State → List Import → List Import
+imports_after (change.PushGroups main deps) g after imports =
+    pushed_imports after.graph (main ∷ deps) imports
+imports_after (change.Importize owner world out) g after imports =
+    let w = world_named g owner world in importized_imports w (exports_of w g) imports
+imports_after (change.Exportize owner world out keys) g after imports =
+    exportized_imports (world_named g owner world) after.graph imports
+imports_after (change.Semver owner world) g after imports =
+    semver_merged_imports (world_named g owner world) after.track_rule after.graph imports
+imports_after _ g after imports = imports
 
--- what counts as listed then, of a command that came to something or nothing
-abbrev pub IsListedAfter : ListedGraph → Command → Bool → ListedGraph → Type 0
-IsListedAfter before command done after =
-    after.listing.imports.items ≡ if_done done before.listing.imports.items (imports_after command before.resolve.graph after.resolve before.listing.imports.items)
+-- so what is included, on this graph after it
+abbrev pub includes_after : Change → Graph → List Include → List Include
+includes_after (change.PushGroups main deps) g includes =
+    pushed_includes g (main ∷ deps) includes
+includes_after _ g includes = includes

@@ -1,21 +1,19 @@
 //! A graph on which commands work, with what lines list for its worlds.
-ghost use Rattle.std.specs.Prelude.{◌≡◌, ◌∷◌, IfOk, OnOk, [], not, slice_get, true};
-ghost use Rattle.std.specs.Option.{option_map_or};
-ghost use Rattle.wit_resolve_graph.specs.Step.{IsCommandShaped};
+ghost use Rattle.std.specs.Prelude.{◌≡◌, ◌∷◌, IfOk, OnOk, []};
+ghost use Rattle.wit_commands.specs.declared.change.Change.TheVariants as asks;
+ghost use Rattle.wit_resolve_graph.specs.Step.{IsCommandShaped, command_of};
 ghost use Rattle.wit_resolve_graph.specs.State.{new_state};
 ghost use Rattle.wit_resolve_graph.specs.declared.command.Command.TheVariants.{PushGroups};
-ghost use Rattle.wit_script.specs.Ready.{IsReady};
-ghost use Rattle.wit_script.specs.declared.ready.ScriptCommand.TheVariants as asks;
 ghost use Rattle.witgraph_dot.specs.Drawn.{listed_state};
-ghost use Rattle.witgraph_dot.specs.Made.{AfterMerge, Carries, came_to_nothing, merged_imports, merged_includes};
-ghost use Rattle.witgraph_dot.specs.Pushed.{pushed_imports, pushed_includes};
-ghost use Rattle.witgraph_dot.specs.Transformed.{IsListedAfter, if_done};
+ghost use Rattle.witgraph_dot.specs.steps.Listed.{IsIncludedAfter, IsListedAfter};
+ghost use Rattle.witgraph_dot.specs.Made.{AfterChange, AfterMerge, Carries, IsDone, merged_imports, merged_includes};
 
 use crate::listing::Listing;
 use crate::package_lines::list_groups;
 use std::alloc::{AllocError, Global};
 use wit_resolve_graph::{
-    Command, Items, Reply, Resolve, ResolveResult, TryClone, UnresolvedPackageGroup, run,
+    Change, Command, Items, Reply, Resolve, ResolveError, ResolveErrorKind, ResolveResult,
+    TryClone, UnresolvedPackageGroup, carry_out, command_of,
 };
 
 /// A graph, and what lines list for its worlds.
@@ -38,57 +36,53 @@ impl ListedGraph {
         }
     }
 
-    /// Carries out a command on the graph, and answers whether it came to something. The only refusal is want of memory
-    /// outside the command.
-    pub fn change(&mut self, alloc: Global, command: Command) -> ResolveResult<bool>
-        requires { IsCommandShaped command }
-        ensures carried { IfOk result (λ done. Carries self.old.resolve command done self.new.resolve) }
-        ensures listing { self.new.listing ≡ self.old.listing }
+    /// Changes the graph, and answers whether that came to something. The only refusal is want of memory.
+    pub fn change(&mut self, alloc: Global, change: Change) -> ResolveResult<bool>
+        requires { IsCommandShaped (command_of change) }
+        ensures { IfOk result (λ done. AfterChange change (listed_state self.old) done (listed_state self.new)) }
     {
-        let mut commands = Items::new(alloc);
-        commands.push(command)?;
-        let replies = run(alloc, &mut self.resolve, commands.into_vec())?;
-        Ok(is_done(&replies))
-    }
-
-    /// The same, with what counts as listed after a command that transforms a world.
-    pub fn carry_out(&mut self, alloc: Global, command: Command) -> ResolveResult<bool>
-        requires { IsCommandShaped command }
-        ensures carried { IfOk result (λ done. Carries self.old.resolve command done self.new.resolve) }
-        ensures listed { IfOk result (λ done. IsListedAfter self.old command done self.new) }
-        ensures included { self.new.listing.includes.items ≡ self.old.listing.includes.items }
-    {
-        match command {
-            Command::Importize {
+        match change {
+            Change::PushGroups { main, deps } => self.push(alloc, main, deps),
+            Change::Importize {
                 package,
                 world,
                 out,
             } => self.importize(alloc, package, world, out),
-            Command::Exportize {
+            Change::Exportize {
                 package,
                 world,
                 out,
                 keys,
             } => self.exportize(alloc, package, world, out, keys),
-            Command::Semver { package, world } => self.semver(alloc, package, world),
-            other => self.change(alloc, other),
+            Change::Semver { package, world } => self.semver(alloc, package, world),
+            other => self.carry_out(alloc, command_of(other)),
         }
     }
 
+    /// Carries out a command on the graph alone, and answers whether it came to something. The only refusal is want of memory.
+    pub fn carry_out(&mut self, alloc: Global, command: Command) -> ResolveResult<bool>
+        requires { IsCommandShaped command }
+        ensures carried { IfOk result (λ done. Carries self.old.resolve command done self.new.resolve) }
+        ensures listing { self.new.listing ≡ self.old.listing }
+    {
+        let reply = carry_out(alloc, &mut self.resolve, command);
+        came_to_something(&reply)
+    }
+
     /// `push`: the lines of the packages list imports.
-    pub fn push(
+    fn push(
         &mut self,
         alloc: Global,
         main: UnresolvedPackageGroup,
         deps: Items<UnresolvedPackageGroup>,
     ) -> ResolveResult<bool>
-        requires { IsReady (asks.Push main deps) }
+        requires { IsCommandShaped (PushGroups main deps) }
         ensures carried { IfOk result (λ done. Carries self.old.resolve (PushGroups main deps) done self.new.resolve) }
-        ensures listed { IfOk result (λ done. self.new.listing.imports.items ≡ if_done done self.old.listing.imports.items (pushed_imports self.new.resolve.graph (main ∷ deps) self.old.listing.imports.items)) }
-        ensures included { IfOk result (λ done. self.new.listing.includes.items ≡ if_done done self.old.listing.includes.items (pushed_includes self.new.resolve.graph (main ∷ deps) self.old.listing.includes.items)) }
+        ensures listed { IfOk result (λ done. IsListedAfter self.old (asks.PushGroups main deps) done self.new) }
+        ensures included { IfOk result (λ done. IsIncludedAfter self.old (asks.PushGroups main deps) done self.new) }
     {
         let groups = all_of(alloc, &main, deps.as_slice())?;
-        let done = self.change(alloc, Command::PushGroups { main, deps })?;
+        let done = self.carry_out(alloc, Command::PushGroups { main, deps })?;
         if done {
             list_groups(alloc, &self.resolve, groups.as_slice(), &mut self.listing)?;
         }
@@ -100,21 +94,19 @@ impl ListedGraph {
         ensures { IfOk result (λ done. AfterMerge (listed_state other) (listed_state self.old) done (listed_state self.new)) }
     {
         let ListedGraph { resolve, listing } = other;
-        let mut commands = Items::new(alloc);
-        commands.push(Command::Merge(resolve))?;
-        let replies = run(alloc, &mut self.resolve, commands.into_vec())?;
-        self.list_merged(&listing, &replies)?;
-        Ok(is_done(&replies))
+        let reply = carry_out(alloc, &mut self.resolve, Command::Merge(resolve));
+        self.list_merged(&listing, &reply)?;
+        came_to_something(&reply)
     }
 
-    /// Adds what lines list in a graph to whose merge these are the replies.
-    fn list_merged(&mut self, other: &Listing, replies: &[Reply]) -> Result<(), AllocError>
-        ensures imports { OnOk result (self.new.listing.imports.items ≡ option_map_or (λ answer. merged_imports answer other.now.imports.items self.old.listing.imports.items) (slice_get replies.now 0) self.old.listing.imports.items) }
-        ensures includes { OnOk result (self.new.listing.includes.items ≡ option_map_or (λ answer. merged_includes answer other.now.includes.items self.old.listing.includes.items) (slice_get replies.now 0) self.old.listing.includes.items) }
+    /// Adds what lines list in a graph to whose merge this is the reply.
+    fn list_merged(&mut self, other: &Listing, reply: &Reply) -> Result<(), AllocError>
+        ensures imports { OnOk result (self.new.listing.imports.items ≡ merged_imports reply.now other.now.imports.items self.old.listing.imports.items) }
+        ensures includes { OnOk result (self.new.listing.includes.items ≡ merged_includes reply.now other.now.includes.items self.old.listing.includes.items) }
         ensures graph { self.new.resolve ≡ self.old.resolve }
     {
-        match replies.first() {
-            Some(Reply::Merged(remap)) => self.listing.merge(other, remap),
+        match reply {
+            Reply::Merged(remap) => self.listing.merge(other, remap),
             _ => Ok(()),
         }
     }
@@ -136,19 +128,17 @@ fn all_of(
     Ok(groups)
 }
 
-/// Whether a command came to something, by its replies.
-fn is_done(replies: &[Reply]) -> bool
-    ensures { result ≡ option_map_or (λ answer. not (came_to_nothing answer)) (slice_get replies.now 0) true }
+/// Whether a command came to something, by its reply, unless that is want of memory: then nothing is drawn, since with more
+/// memory the graph is another.
+fn came_to_something(reply: &Reply) -> ResolveResult<bool>
+    ensures { IfOk result (λ done. IsDone reply.now done) }
 {
-    match replies.first() {
-        Some(reply) => !came_to_nothing(reply),
-        None => true,
+    match reply {
+        Reply::Refused(refusal) => match refusal.kind() {
+            ResolveErrorKind::OutOfMemory => Err(ResolveError::from(AllocError)),
+            _ => Ok(false),
+        },
+        Reply::NoWorld => Ok(false),
+        _ => Ok(true),
     }
-}
-
-/// Whether a command came to nothing, by a reply.
-fn came_to_nothing(reply: &Reply) -> bool
-    ensures { result ≡ came_to_nothing reply.now }
-{
-    matches!(reply, Reply::Refused(_) | Reply::NoWorld)
 }

@@ -43,7 +43,8 @@ use wit_resolve_graph::{ResolveError, ResolveResult};
 use wit_script::{ReadFault, read_script};
 use wit_script_faults::explain_text;
 
-/// Whether a script is understood, and its picture, or why it isn't. The only refusal is want of memory.
+/// Whether a script is understood, and its picture, or why it isn't. The only refusal is want of memory, in a command or
+/// outside.
 fn answer(alloc: Global, script: &str) -> ResolveResult<(bool, String)>
     ensures { IfOk result (λ answer. Draws script.now answer.0 (string_bytes answer.1)) }
 {
@@ -59,12 +60,13 @@ fn answer(alloc: Global, script: &str) -> ResolveResult<(bool, String)>
     }
 }
 
-/// Status 0 where the script was understood and drawn, else 1.
+/// Status 0 where the script was understood and drawn, else 1; want of memory is told on standard error.
 fn main(rt: HostRuntime) -> ExitCode {
     let Ok(script) = io::read_to_string(rt.alloc(), rt.reader()) else {
         return ExitCode::FAILURE;
     };
     let Ok((is_understood, text)) = answer(rt.alloc(), script.as_str()) else {
+        let _is_told = eprintln!(rt; "out of memory: nothing is drawn");
         return ExitCode::FAILURE;
     };
     match print!(rt; "{text}") {

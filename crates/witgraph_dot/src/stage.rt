@@ -1,17 +1,16 @@
 //! A script as it is carried out.
-ghost use Rattle.std.specs.Prelude.{◌≡◌, ◌≢◌, None, Some, IfOk, IsTrue, false, is_some};
-ghost use Rattle.wit_script.specs.Answer.{IsActionShaped, open_after};
+ghost use Rattle.std.specs.Prelude.{◌≡◌, ◌≢◌, None, Some, IfOk, false, is_some};
 ghost use Rattle.wit_script.specs.Ready.{CanAllBeAsked};
 ghost use Rattle.wit_script.specs.steps.Ready.{CanBeAsked};
-ghost use Rattle.wit_script.specs.declared.answer.Action.TheVariants as does;
+ghost use Rattle.wit_script_lines.specs.declared.request.Request.TheVariants as request;
 ghost use Rattle.witgraph_dot.specs.Drawn.{FollowsAll, graphs, listed_graphs, listed_state, new_listed_state};
-ghost use Rattle.witgraph_dot.specs.Made.{ActionMakes, CommandMakes, ScriptMakes};
+ghost use Rattle.witgraph_dot.specs.Made.{CommandMakes, ScriptMakes};
 
 use crate::listed_graph::ListedGraph;
 use std::alloc::Global;
 use std::mem;
 use wit_resolve_graph::{Items, ResolveResult};
-use wit_script::{Action, ReadyCommand, ScriptCommand, action_of};
+use wit_script::{ReadyCommand, Request};
 
 /// The graph of a script on which commands work, and the first one where it waits for `merge`.
 #[derive(Drop)]
@@ -22,7 +21,7 @@ pub struct Stage {
 
 impl Stage {
     /// What there is after commands on an empty graph: the graphs that `execute` may have then, with what lines list. The
-    /// only refusal is want of memory outside a command.
+    /// only refusal is want of memory, in a command or outside.
     pub fn after(alloc: Global, commands: Items<ReadyCommand>) -> ResolveResult<Stage>
         requires { CanAllBeAsked commands false }
         ensures graphs { IfOk result (λ stage. FollowsAll commands (graphs stage.active stage.waiting)) }
@@ -48,32 +47,21 @@ impl Stage {
         }
     }
 
-    /// Carries out a command, and answers whether it came to something.
+    /// Carries out a command, and answers whether it came to something. All worlds are drawn, so nothing is to be printed or
+    /// chosen.
     fn carry_out(&mut self, alloc: Global, command: ReadyCommand) -> ResolveResult<bool>
         requires { CanBeAsked command (is_some self.old.waiting) }
         ensures { IfOk result (λ done. CommandMakes (listed_graphs self.old.active self.old.waiting) command done (listed_graphs self.new.active self.new.waiting)) }
     {
-        match command.into_command() {
-            ScriptCommand::Push { main, deps } => self.active.push(alloc, main, deps),
-            ScriptCommand::Request(request) => self.act(alloc, action_of(request)),
-        }
-    }
-
-    /// The same of what a command does that pushes nothing. All worlds are drawn, so nothing is to be printed or chosen.
-    fn act(&mut self, alloc: Global, action: Action) -> ResolveResult<bool>
-        requires shaped { IsActionShaped action }
-        requires come { IsTrue (is_some (open_after action (is_some self.old.waiting))) }
-        ensures { IfOk result (λ done. ActionMakes (listed_graphs self.old.active self.old.waiting) action done (listed_graphs self.new.active self.new.waiting)) }
-    {
-        match action {
-            Action::Run { command, .. } => self.active.carry_out(alloc, command),
-            Action::Open => {
+        match command.into_request() {
+            Request::Change(change) => self.active.change(alloc, change),
+            Request::Other => {
                 self.begin_other(alloc);
                 Ok(true)
             }
-            Action::Merge => self.merge(alloc),
-            Action::Print { .. } => Ok(true),
-            Action::Select { .. } => Ok(true),
+            Request::Merge => self.merge(alloc),
+            Request::Print { .. } => Ok(true),
+            Request::Select { .. } => Ok(true),
         }
     }
 
@@ -89,7 +77,7 @@ impl Stage {
     /// `merge`: the second graph goes into the first, and is no longer there, whether it is refused or not.
     fn merge(&mut self, alloc: Global) -> ResolveResult<bool>
         requires { self.old.waiting ≢ None }
-        ensures { IfOk result (λ done. ActionMakes (listed_graphs self.old.active self.old.waiting) does.Merge done (listed_graphs self.new.active self.new.waiting)) }
+        ensures { IfOk result (λ done. CommandMakes (listed_graphs self.old.active self.old.waiting) request.Merge done (listed_graphs self.new.active self.new.waiting)) }
     {
         match self.waiting.take() {
             Some(first) => {

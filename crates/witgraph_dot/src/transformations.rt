@@ -1,8 +1,10 @@
 //! The commands that transform a world, and what counts as listed after them.
 ghost use Rattle.std.specs.Prelude.{◌≡◌, IfOk, OnOk};
-ghost use Rattle.wit_resolve_graph.specs.declared.command.Command.TheVariants.{Exportize, Importize, Semver};
+ghost use Rattle.wit_commands.specs.declared.change.Change.TheVariants.{Exportize, Importize, Semver};
+ghost use Rattle.wit_resolve_graph.specs.declared.command.Command.TheVariants as does;
 ghost use Rattle.witgraph_dot.specs.Made.{Carries};
-ghost use Rattle.witgraph_dot.specs.Transformed.{IsListedAfter, exportized_imports, exports_of, importized_imports, semver_merged_imports, with_versions};
+ghost use Rattle.witgraph_dot.specs.steps.Listed.{IsListedAfter};
+ghost use Rattle.witgraph_dot.specs.Transformed.{exportized_imports, exports_of, importized_imports, semver_merged_imports, with_versions};
 
 use crate::entries::{own_exports, own_imports};
 use crate::listed_graph::ListedGraph;
@@ -23,7 +25,7 @@ impl ListedGraph {
         world: Text,
         out: Option<Text>,
     ) -> ResolveResult<bool>
-        ensures carried { IfOk result (λ done. Carries self.old.resolve (Importize «package» world out) done self.new.resolve) }
+        ensures carried { IfOk result (λ done. Carries self.old.resolve (does.Importize «package» world out) done self.new.resolve) }
         ensures listed { IfOk result (λ done. IsListedAfter self.old (Importize «package» world out) done self.new) }
         ensures included { self.new.listing.includes.items ≡ self.old.listing.includes.items }
     {
@@ -34,7 +36,7 @@ impl ListedGraph {
             world,
             out,
         };
-        let done = self.change(alloc, command)?;
+        let done = self.carry_out(alloc, command)?;
         if done {
             list_exports(alloc, &mut self.listing, id, &exports)?;
         }
@@ -50,7 +52,7 @@ impl ListedGraph {
         out: Option<Text>,
         keys: Option<Items<Text>>,
     ) -> ResolveResult<bool>
-        ensures carried { IfOk result (λ done. Carries self.old.resolve (Exportize «package» world out keys) done self.new.resolve) }
+        ensures carried { IfOk result (λ done. Carries self.old.resolve (does.Exportize «package» world out keys) done self.new.resolve) }
         ensures listed { IfOk result (λ done. IsListedAfter self.old (Exportize «package» world out keys) done self.new) }
         ensures included { self.new.listing.includes.items ≡ self.old.listing.includes.items }
     {
@@ -61,7 +63,7 @@ impl ListedGraph {
             out,
             keys,
         };
-        let done = self.change(alloc, command)?;
+        let done = self.carry_out(alloc, command)?;
         if done {
             list_unexported(alloc, &self.resolve, &mut self.listing, id)?;
         }
@@ -75,12 +77,12 @@ impl ListedGraph {
         package: PackageName,
         world: Text,
     ) -> ResolveResult<bool>
-        ensures carried { IfOk result (λ done. Carries self.old.resolve (Semver «package» world) done self.new.resolve) }
+        ensures carried { IfOk result (λ done. Carries self.old.resolve (does.Semver «package» world) done self.new.resolve) }
         ensures listed { IfOk result (λ done. IsListedAfter self.old (Semver «package» world) done self.new) }
         ensures included { self.new.listing.includes.items ≡ self.old.listing.includes.items }
     {
         let id = self.resolve.world_named(&package, world.as_str());
-        let done = self.change(alloc, Command::Semver { package, world })?;
+        let done = self.carry_out(alloc, Command::Semver { package, world })?;
         if done {
             list_newest(alloc, &self.resolve, &mut self.listing, id)?;
         }

@@ -10,10 +10,10 @@ use Rattle.wit_script_lines.specs.declared.request.Request.{Request}
 use Rattle.wit_script_lines.specs.declared.statement.Statement.{Statement}
 use Rattle.wit_script_lines.specs.declared.statement.Statement.TheVariants as says
 use Rattle.wit_script.specs.Script.{mentions_ahead, after_statement_in, with_asked, with_begun, with_current, with_groups, with_statement}
-use Rattle.wit_script.specs.Ready.{other_after, waits_after}
+use Rattle.wit_script.specs.Ready.{other_after}
 use Rattle.wit_script.specs.declared.reader.Reading.{Reading}
-use Rattle.wit_script.specs.declared.ready.ScriptCommand.{ScriptCommand}
-use Rattle.wit_script.specs.declared.ready.ScriptCommand.TheVariants as asks
+use Rattle.wit_commands.specs.declared.change.Change.TheVariants.{PushGroups}
+use Rattle.wit_script_lines.specs.declared.request.Request.TheVariants as request
 use Rattle.wit_script_lines.specs.facts.OptionFacts.{map-of, same-some, step-of}
 
 -- ---- steps that were taken
@@ -27,18 +27,18 @@ else-of false o y h = h
 -- a line leaves the commands as they are, and whether an `other` waits, or it adds a command after those before it
 pub data Makes (r next : Reading) : Type 0 where
   stays : next.commands ≡ r.commands → next.other ≡ r.other → Makes r next
-  adds : (command : ScriptCommand) → next.commands ≡ r.commands ++ command ∷ [] → waits_after command r.other ≡ Some next.other → Makes r next
+  adds : (command : Request) → next.commands ≡ r.commands ++ command ∷ [] → other_after command r.other ≡ Some next.other → Makes r next
 
 groups-make : (r : Reading) (groups : List UnresolvedPackageGroup) (next : Reading) → with_groups r groups ≡ Some next → Makes r next
 groups-make r [] next made = cc
 groups-make r (main ∷ deps) next made =
     let same = same-some _ next made in
-    adds (asks.Push main deps) (sym (ap (λ (t : Reading). t.commands) same)) (ap (λ (t : Reading). Some t.other) same)
+    adds (request.Change (PushGroups main deps)) (sym (ap (λ (t : Reading). t.commands) same)) (ap (λ (t : Reading). Some t.other) same)
 
 asked-makes : (r : Reading) (asked : Request) (next : Reading) → option_map (with_asked r asked) (other_after asked r.other) ≡ Some next → Makes r next
 asked-makes r asked next made =
     let p = map-of (with_asked r asked) (other_after asked r.other) next made in
-    adds (asks.Request asked) (sym (ap (λ (t : Reading). t.commands) p.2)) (p.1 ∙ ap (λ (t : Reading). Some t.other) p.2)
+    adds asked (sym (ap (λ (t : Reading). t.commands) p.2)) (p.1 ∙ ap (λ (t : Reading). Some t.other) p.2)
 
 statement-makes : (r : Reading) (said : Statement) (text : List ℕ) (ahead : List (List ℕ)) (next : Reading) → with_statement r said text ahead ≡ Some next → Makes r next
 statement-makes r (says.Package name) text ahead next made =

@@ -1,16 +1,14 @@
 use Rattle.std.proofs.Common.{rules}
-use Rattle.wit_script.specs.facts.Waiting.{asked-opens}
-use Rattle.witgraph_dot.specs.Drawn.{listed_graphs}
-use Rattle.witgraph_dot.proofs.Staged.{acts-as, pushes-as}
+use Rattle.witgraph_dot.proofs.Staged.{changes-as, merges-as, opens-as}
 use Rattle.witgraph_dot.proofs.stage.Stage.carry_out.Goals as goal
 
-pub returns-in-Push : goal.returns-in-Push
-returns-in-Push c = pushes-as c.push.result c.args.self.now.active c.push.new.self c.args.self.now.waiting c.args.command c.in-Push.main c.in-Push.deps (search rules) c.push.ensures.carried c.push.ensures.listed c.push.ensures.included
+pub returns-in-Change : goal.returns-in-Change
+returns-in-Change c =
+    changes-as c.change.result c.args.self.now.active c.change.new.self c.args.self.now.waiting c.args.command c.in-Change.change (search rules) c.change.ensures
 
-pub act-requires-clause-come : goal.act-requires-clause-come
-act-requires-clause-come c = asked-opens c.args.command c.in-Request.request c.action_of.result _ (search rules) c.action_of.ensures.same c.requires
+pub returns-in-Other : goal.returns-in-Other
+returns-in-Other c =
+    opens-as c.args.self.now.active c.begin_other.new.self.active c.args.self.now.waiting c.begin_other.new.self.waiting c.args.command (search rules) (search rules) c.begin_other.ensures
 
-pub returns-in-Request : goal.returns-in-Request
-returns-in-Request c =
-    acts-as c.act.result (listed_graphs c.args.self.now.active c.args.self.now.waiting) (listed_graphs c.act.new.self.active c.act.new.self.waiting)
-    c.args.command c.in-Request.request c.action_of.result (search rules) c.action_of.ensures.same c.act.ensures
+pub returns-in-Merge : goal.returns-in-Merge
+returns-in-Merge c = merges-as c.merge.result _ _ c.args.command (search rules) c.merge.ensures
