@@ -25,6 +25,8 @@ WRITTEN_BY = {"interface_member": ["interface"], "fault_members": ["clause", "pl
 SAID_WHOLE = "json_of_answer", "json_of_function_kind", "package_of", "resolve_of", "json_of_remap"
 # Members that are read of a graph and stand in no package.
 OF_GRAPHS = {"package"}
+# Where a line of a definition goes on, but for the choices of a word, of which each has a line.
+CONTINUED = re.compile(r"\n {4,}(?!else\b|if\b|then\b)")
 
 
 @functools.cache
@@ -35,7 +37,7 @@ def definitions():
         for path in specs(crate):
             text = re.sub(r"(?m)^ *--.*\n", "", read(path))
             for name, body in re.findall(r"(?ms)^(?:unfoldable|abbrev) pub (\w+) : .*?\n(.*?)(?=^\S+ pub |\Z)", text):
-                found.append((crate, name, body))
+                found.append((crate, name, CONTINUED.sub(" ", body)))
     return found
 
 
