@@ -8,11 +8,13 @@ import sys
 
 from claims.markdown import rows_of, spans, without_blocks
 from claims.refusals import numbers
-from claims.repository import TOP, crates, documents, edits, read
+from claims.repository import TOP, crates, documents, edits, read, tracked
 from claims.scripts import cases
 
 ARCHITECTURE, DEFINITIONS, DIFFERENCES = "docs/ARCHITECTURE.md", "docs/DEFINITIONS.md", "docs/DIFFERENCES.md"
 PERFORMANCE = "docs/PERFORMANCE.md"
+# the folders whose page names each file that lies there
+LISTED = ("bench", "check", "tools")
 # Sizes that are chosen and not found; all other numbers with a comma are figures.
 SIZES = {"1,000", "1,024", "2,000", "4,000", "10,000", "16,000", "20,000", "100,000", "1,000,000"}
 # The documents in which a figure stands beside the command that gives it.
@@ -53,8 +55,23 @@ def stale_rows(path, text):
         yield from (f"no row {row}" for row in re.findall(r'(?m)^    "(.*?)"', rows) if f"\n| {row} |" not in text)
     if path == ARCHITECTURE:
         yield from (f"no word of {crate}" for crate in crates() if not re.search(rf"\b{crate}\b", text))
+        users = [it for it in re.findall(r"\*\*(wit\w*)\*\*", text) if it in crates()]
+        yield from (f"no page of {it}" for it in users if f"crates/{it}/CALLING.md" not in tracked())
     if path == DEFINITIONS and made(text) != text:
         yield "the numbers of the steps: check/documents --make writes them"
+
+
+def stale_lists(path, text):
+    """The page of a folder of programs names each file and folder that lies there."""
+    folder, name = os.path.split(path)
+    if name == "README.md" and folder in LISTED:
+        inside = {it[len(folder) + 1 :].split("/")[0] for it in tracked() if it.startswith(f"{folder}/")}
+        yield from (f"no word of {it}" for it in sorted(inside - {name}) if not is_listed(it, text))
+
+
+def is_listed(name, text):
+    """Whether a page names a file, or tests in general where it names no test by itself."""
+    return f"`{name}" in text or f"/{name}`" in text or name.startswith("test_") and "`test_NAME.py`" in text
 
 
 # ---- figures
@@ -213,4 +230,4 @@ def stale_steps(path, text):
                 yield f"`{name}` isn't in {folder} as it says"
 
 
-CHECKS = [stale_steps, stale_counts, stale_rows, stale_figures, stale_sums, stale_means]
+CHECKS = [stale_steps, stale_counts, stale_rows, stale_lists, stale_figures, stale_sums, stale_means]
