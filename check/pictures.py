@@ -1,17 +1,21 @@
 #!/usr/bin/env python3
-"""Which arrows the picture of a script has, by a model of its own: what docs/PICTURES.md says, over the model of the rules.
+"""Which frames, boxes and arrows the picture of a script has, by a model of its own: what docs/PICTURES.md says, over the model
+of the rules.
 
     python3 check/pictures.py SCRIPT             prints the arrows of a script, by names
-    python3 check/pictures.py --stored FOLDER..  compares those of each NAME.script with the stored NAME.dot
-    python3 check/pictures.py --of SCRIPT DOT    compares those of a script with a picture
+    python3 check/pictures.py --stored FOLDER..  compares all of each NAME.script with the stored NAME.dot
+    python3 check/pictures.py --of SCRIPT DOT    compares all of a script with a picture
 
-An arrow is told as `FROM KIND TO`, where TO of a whole frame is `PACKAGE/*`, and behind a label stands in brackets.
+An arrow is told as `FROM KIND TO`, where TO of a whole frame is `PACKAGE/*`, and behind a label stands in brackets. A frame has
+the name of its package, and in it its boxes in their order: interfaces by their names, worlds with their functions and types.
+Colours, lines and the note below are compared by no one.
 """
 import re
 import sys
+from itertools import zip_longest
 from pathlib import Path
 
-from model.data import Interface
+from model.data import Interface, Type
 from model.names import NotUnderstood, PackageName
 from model.scripts import Rules, Session, commands_of
 from model.tracks import track
@@ -206,6 +210,24 @@ class Picture:
             made += self.of_world(at)
         return sorted(made)
 
+    def boxes(self):
+        """The frames in the order of packages, each with its interfaces and its worlds."""
+        made = []
+        for package in self.graph.packages:
+            key = package.name.key
+            shown = [name for owner, name in self.shown if owner == key]
+            worlds = [self.box(self.world(at)) for at in self.worlds if at[0] == key]
+            made += [(str(package.name), shown, worlds)] if shown or worlds else []
+        return made
+
+    def box(self, world):
+        """What a world's box says: its name, and below it its functions and types."""
+        lines = [world.name]
+        for side, entries in (("import", world.imports), ("export", world.exports)):
+            items = [it for it in entries if not isinstance(it.item, Interface)]
+            lines += [f"{side} {'type' if isinstance(it.item, Type) else 'func'} {it.label}" for it in items]
+        return "\\n".join(lines)
+
     def told(self, at, kind, frames, targets):
         return [f"{self.text(at)} {kind} {self.text(it)}" for part in self.bundle(frames, targets) for it in part]
 
@@ -271,6 +293,17 @@ def arrows_of_dot(text):
     return sorted(made)
 
 
+def boxes_of_dot(text):
+    """The frames of a picture with their boxes."""
+    frames = []
+    for line in text.split("\n"):
+        if found := re.match(r'    p\d+ \[shape=plaintext.* label="(.*)"\];$', line):
+            frames.append((found[1], [], []))
+        elif found := re.match(r'\s+(i|w)\d+ \[.*?label="(.*?)"\];', line):
+            frames[-1][1 if found[1] == "i" else 2].append(found[2])
+    return frames
+
+
 def whole(script):
     """The script, with the packages of WASI that a line `#+ VERSION/PACKAGE ..` names in its place."""
     lines = []
@@ -281,17 +314,16 @@ def whole(script):
 
 
 def differ(script, dot):
-    wanted, found = Picture(whole(script)).arrows(), arrows_of_dot(Path(dot).read_text())
-    for it in wanted:
-        if it not in found:
-            print(f"{dot}: lacks {it}")
-    for it in found:
-        if it not in wanted:
-            print(f"{dot}: has {it}")
-    repeats = len(found) != len(set(found))
-    if repeats:
-        print(f"{dot}: has an arrow twice")
-    return wanted != found or repeats
+    picture, text = Picture(whole(script)), Path(dot).read_text()
+    arrows, found = picture.arrows(), arrows_of_dot(text)
+    told = [f"lacks {it}" for it in arrows if it not in found] + [f"has {it}" for it in found if it not in arrows]
+    if len(found) != len(set(found)):
+        told.append("has an arrow twice")
+    for ours, theirs in zip_longest(picture.boxes(), boxes_of_dot(text)):
+        if ours != theirs:
+            told.append(f"has the frame {theirs}, and the model's is {ours}")
+    print("\n".join(f"{dot}: {it}" for it in told), end="\n" if told else "")
+    return bool(told)
 
 
 def main(words):

@@ -6,9 +6,10 @@
 - The script of `witgraph`: what it is to print.
 - Explanations of `witgraph_explained`: the line that isn't understood; each refusal with its number and text; each line that
   is shown, as the script has it, with its place in the file of its package; ways, as check/ways.py asks.
-- The picture of `witgraph_dot`: its arrows, as check/pictures.py asks.
+- The picture of `witgraph_dot`: its frames, boxes and arrows, as check/pictures.py asks.
 - Documents that come out of `witgraph_json` and of examples/kinds: the replies to commands and to `select` in one package,
-  and all worlds of the graph. Of other questions the model knows nothing.
+  and all worlds of the graph; of examples/kinds also all types and interfaces (check/stored_kinds.py). Of other questions the
+  model knows nothing.
 - What `test_sweep` tells of the last command of each script, or of the merge of its graphs: the refusal, or that there is none;
   and what its calls answer (check/stored_calls.py, which says of which the model knows nothing).
 - What `wit_uses` prints (check/stored_uses.py).
@@ -31,6 +32,7 @@ import packages  # noqa: E402
 import pictures  # noqa: E402
 import script_documents as documents  # noqa: E402
 import stored_calls  # noqa: E402
+import stored_kinds  # noqa: E402
 import stored_uses  # noqa: E402
 import ways  # noqa: E402
 from model.names import PackageName  # noqa: E402
@@ -201,6 +203,8 @@ def document_faults(document, output):
 def wrong_documents():
     for asked, made in DOCUMENTS:
         yield from (f"{made}: {it}" for it in document_faults(json.loads(read(asked)), json.loads(read(made))))
+    asked, made = DOCUMENTS[1]
+    yield from (f"{made}: {it}" for it in stored_kinds.faults(json.loads(read(asked)), json.loads(read(made))))
 
 
 def wrong_commands():
