@@ -232,7 +232,7 @@ def stale_strings(path, text):
     if path != LAYOUT:
         return
     said = {it for span in spans(without_blocks(text)) for it in re.findall(r'"([^"]*)"', span)}
-    known = words() | set(re.findall(r'"([^"]*)"', "".join(read(it) for it in specs("wit_shape_faults"))))
+    known = words() | set(re.findall(r'"([^"]*)"', "".join(read(it) for it in specs("wit_shape"))))
     for it in sorted(said - known):
         if re.fullmatch(r"[a-z][a-z0-9 -]*", it):
             yield f'"{it}" is no word of a definition'

@@ -8,28 +8,31 @@ use Rattle.wit_data.specs.facts.EachFacts.{EachAt-one, EachAt-two}
 use Rattle.wit_data.specs.declared.interface.Interface.{Interface}
 use Rattle.wit_data.specs.declared.unresolved.UnresolvedPackage.{UnresolvedPackage}
 use Rattle.wit_values.specs.facts.Lists.{differ}
-use Rattle.wit_shape_faults.proofs.Clauses.{clauses, keeps_below}
-use Rattle.wit_shape_faults.proofs.OneFault.{not_shaped}
-use Rattle.wit_shape_faults.specs.Faults.{Holds, among_first, number}
-use Rattle.wit_shape_faults.specs.declared.clause.ShapeClause.{ShapeClause}
-use Rattle.wit_shape_faults.specs.declared.clause.ShapeClause.TheVariants as clause
+use Rattle.wit_shape.proofs.Clauses.{keeps_before, keeps_below, less_before, number}
+use Rattle.wit_shape.proofs.OneFault.{not_shaped}
+use Rattle.wit_shape.specs.Faults.{Holds, KeepsBefore, among_first, clauses}
+use Rattle.wit_shape.specs.declared.clause.ShapeClause.{ShapeClause}
+use Rattle.wit_shape.specs.declared.clause.ShapeClause.TheVariants as clause
 use Rattle.examples_graph.proofs.Shaped.{is_shaped}
 use Rattle.examples_graph.specs.Faults.{ExamplesOfFaults, NearMissesOfFaults, placed, placed_i, placed_x, round, with_placed_w, without_span, x}
 use Rattle.examples_graph.specs.Shape.{foreign_i, shaped_package}
 
 -- what stands before the first clauses
-none_before : (p : UnresolvedPackage) (other : ShapeClause) → number other < 0 → Holds p other
-none_before p other less = absurd (omega arith)
+none_before : (p : UnresolvedPackage) → KeepsBefore p clause.UnplacedInterfaces
+none_before p = keeps_before p clause.UnplacedInterfaces none
+  where
+    none : (other : ShapeClause) → number other < 0 → Holds p other
+    none other less = absurd (omega arith)
 
-one_before : (p : UnresolvedPackage) → Holds p clause.UnplacedInterfaces → (other : ShapeClause) → number other < 1 → Holds p other
-one_before p first = keeps_below p 1 each
+one_before : (p : UnresolvedPackage) → Holds p clause.UnplacedInterfaces → KeepsBefore p clause.UnplacedWorlds
+one_before p first = keeps_before p clause.UnplacedWorlds (keeps_below p 1 each)
   where
     each : (i : ℕ) → i < 1 → Holds p (get_or clauses i clause.Uses)
     each zero less = first
     each (suc i) less = absurd (omega arith)
 
-two_before : (p : UnresolvedPackage) → Holds p clause.UnplacedInterfaces → Holds p clause.UnplacedWorlds → (other : ShapeClause) → number other < 2 → Holds p other
-two_before p first second = keeps_below p 2 each
+two_before : (p : UnresolvedPackage) → Holds p clause.UnplacedInterfaces → Holds p clause.UnplacedWorlds → KeepsBefore p clause.ForeignSpans
+two_before p first second = keeps_before p clause.ForeignSpans (keeps_below p 2 each)
   where
     each : (i : ℕ) → i < 2 → Holds p (get_or clauses i clause.Uses)
     each zero less = first
@@ -59,6 +62,8 @@ examples = record {
   closes = record { there = lit< tt; before = before_last; closes = λ is. is.no_cycle 1 2 (1 ∷ []) ((1, lit< tt, refl), ((0, lit< tt, refl), refl)) };
   first_clause = refl;
   last_clause = refl;
+  count = refl;
+  in_order = (1, 2, (lit< tt, refl, refl));
   text = refl;
 }
 
@@ -75,7 +80,9 @@ near_misses = record {
       (subst (λ (i : ℕ). SomeAt (foreign_i ∷ placed_x ∷ []) i (λ (y : Interface). y.package ≡ None → ⊥)) same is.breaks.1.0.lacks) refl;
   other_list = λ is. let same = is.breaks.1.1 in cc;
   kept = λ is. is.breaks.0 refl;
-  later_clause = λ is. let none = is.before clause.UnplacedInterfaces (lit< tt) 0 placed_i refl in cc;
+  later_clause = λ is. let none = is.before clause.UnplacedInterfaces (0, 1, (lit< tt, refl, refl)) 0 placed_i refl in cc;
+  out_of_order = λ before. let less : 2 < 1 = less_before clause.ForeignSpans clause.UnplacedWorlds before in absurd (omega (arith, less));
+  itself = λ before. let less : 31 < 31 = less_before clause.Uses clause.Uses before in absurd (omega (arith, less));
   not_shaped = λ shape. let none = shape.unplaced.interfaces 0 placed_i refl in cc;
   not_yet = λ is. is.closes before_last;
   not_from_one = differ _ _ refl;

@@ -1,16 +1,16 @@
 -- First faults of packages that differ from the shaped one in a place or two, and faults that aren't their first.
-use Rattle.std.specs.Prelude.{◌≡◌, ◌≢◌, ℕ, List, [], ◌∷◌, Some, codes}
+use Rattle.std.specs.Prelude.{◌≡◌, ◌≢◌, ℕ, List, [], ◌∷◌, Some, codes, length, slice_get}
 use Rattle.wit_data.specs.Shape.{IsShaped}
 use Rattle.wit_data.specs.declared.interface.Interface.{Interface}
 use Rattle.wit_data.specs.declared.unresolved.UnresolvedPackage.{UnresolvedPackage}
 use Rattle.wit_data.specs.declared.world.World.{World}
-use Rattle.wit_shape_faults.specs.FaultText.{fault_text}
-use Rattle.wit_shape_faults.specs.Faults.{IsFirstFault, IsFirstOnCycle, number}
-use Rattle.wit_shape_faults.specs.declared.clause.ShapeClause.{ShapeClause}
-use Rattle.wit_shape_faults.specs.declared.fault.ShapeFault.{ShapeFault}
-use Rattle.wit_shape_faults.specs.declared.place.ShapePlace.{ShapePlace}
-use Rattle.wit_shape_faults.specs.declared.clause.ShapeClause.TheVariants as clause
-use Rattle.wit_shape_faults.specs.declared.place.ShapePlace.TheVariants as place
+use Rattle.wit_shape.specs.FaultText.{fault_text}
+use Rattle.wit_shape.specs.Faults.{IsBefore, IsFirstFault, IsFirstOnCycle, clauses}
+use Rattle.wit_shape.specs.declared.clause.ShapeClause.{ShapeClause}
+use Rattle.wit_shape.specs.declared.fault.ShapeFault.{ShapeFault}
+use Rattle.wit_shape.specs.declared.place.ShapePlace.{ShapePlace}
+use Rattle.wit_shape.specs.declared.clause.ShapeClause.TheVariants as clause
+use Rattle.wit_shape.specs.declared.place.ShapePlace.TheVariants as place
 use Rattle.examples_graph.specs.Shape.{entry_of, foreign_i, shaped_package, world_of, x_of}
 
 -- a clause that is broken at a place
@@ -57,9 +57,11 @@ pub record ExamplesOfFaults : Type 0 where
   pub no_span : IsFirstFault without_span (fault_of clause.ForeignSpans place.ForeignDepSpans)
   -- the node that closes the round is its last one
   pub closes : IsFirstOnCycle round 2
-  -- the first clause and the last
-  pub first_clause : number clause.UnplacedInterfaces ≡ 0
-  pub last_clause : number clause.Uses ≡ 31
+  -- the first clause and the last, of 32
+  pub first_clause : slice_get clauses 0 ≡ Some clause.UnplacedInterfaces
+  pub last_clause : slice_get clauses 31 ≡ Some clause.Uses
+  pub count : length clauses ≡ 32
+  pub in_order : IsBefore clause.UnplacedWorlds clause.ForeignSpans
   pub text : fault_text (fault_of clause.OwnersFunctions (place.Function 1 0)) ≡ codes "interfaces[1].functions[0] breaks owners.functions: a function stands under its name"
 
 pub record NearMissesOfFaults : Type 0 where
@@ -74,6 +76,8 @@ pub record NearMissesOfFaults : Type 0 where
   pub kept : IsFirstFault (placed (placed_i ∷ x ∷ [])) (fault_of clause.ForeignSpans place.ForeignDepSpans) → ⊥
   -- of two clauses the later
   pub later_clause : IsFirstFault (record (placed (placed_i ∷ x ∷ [])) { worlds = placed_w ∷ [] }) (fault_of clause.UnplacedWorlds (place.World 0)) → ⊥
+  pub out_of_order : IsBefore clause.ForeignSpans clause.UnplacedWorlds → ⊥
+  pub itself : IsBefore clause.Uses clause.Uses → ⊥
   -- such packages don't have their shape
   pub not_shaped : IsShaped (placed (placed_i ∷ x ∷ [])) → ⊥
   -- a node that is on no round yet

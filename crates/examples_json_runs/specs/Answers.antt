@@ -8,9 +8,9 @@ use Rattle.wit_names.specs.declared.package_name.PackageName.{PackageName}
 use Rattle.wit_names.specs.declared.track.TrackRule.TheVariants.{Published, WithPrereleases}
 use Rattle.wit_remap.specs.declared.remap.Remap.{Remap}
 use Rattle.wit_resolve_graph.specs.State.{new_state}
-use Rattle.wit_shape_faults.specs.declared.clause.ShapeClause.TheVariants as clause
-use Rattle.wit_shape_faults.specs.declared.fault.ShapeFault.{ShapeFault}
-use Rattle.wit_shape_faults.specs.declared.place.ShapePlace.TheVariants as place
+use Rattle.wit_shape.specs.declared.clause.ShapeClause.TheVariants as clause
+use Rattle.wit_shape.specs.declared.fault.ShapeFault.{ShapeFault}
+use Rattle.wit_shape.specs.declared.place.ShapePlace.TheVariants as place
 use Rattle.wit_sources.specs.SourceMap.{Sources}
 use Rattle.wit_json.specs.Graph.{compact}
 use Rattle.wit_json_reading.specs.declared.fault.Expected.TheVariants as expected

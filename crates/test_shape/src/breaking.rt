@@ -10,7 +10,7 @@ use wit_data::{
     PackageName, Span, Stability, Table, Type_, TypeDef, TypeDefKind, TypeId, TypeOwner,
     UnresolvedPackage, World, WorldId, WorldItem, WorldKey,
 };
-use wit_shape_faults::ShapeClause;
+use wit_shape::ShapeClause;
 
 /// The first where the clause is one of the broken ones, else the second.
 fn either<T: Copy>(broken: &[ShapeClause], clause: ShapeClause, changed: T, kept: T) -> T {

@@ -3,8 +3,7 @@ use crate::breaking::package;
 use crate::parts::assert_text;
 use std::alloc::Global;
 use std::process::Abort;
-use wit_shape::is_shaped;
-use wit_shape_faults::{ShapeClause, find_shape_fault};
+use wit_shape::{ShapeClause, find_shape_fault, is_shaped};
 
 /// What is told of the package with these clauses broken: nothing where it has its shape.
 fn told(rt: &impl Abort, alloc: Global, broken: &[ShapeClause]) -> String {

@@ -32,4 +32,4 @@ pub use wit_data::{
     TypeId, TypeOwner, TypeSort, UnresolvedPackage, UnresolvedPackageGroup, UsePathFault, Version,
     World, WorldId, WorldInclude, WorldItem, WorldKey, WorldSort, is_kebab_name, parse_use_path,
 };
-pub use wit_shape_faults::{ShapeClause, ShapeFault, ShapePlace, find_shape_fault};
+pub use wit_shape::{ShapeClause, ShapeFault, ShapePlace, find_shape_fault};

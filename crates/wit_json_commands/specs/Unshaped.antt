@@ -4,9 +4,9 @@ use Rattle.wit_data.specs.Each.{Each, SomeAt}
 use Rattle.wit_data.specs.Shape.{IsGroupShaped, IsShaped}
 use Rattle.wit_data.specs.declared.unresolved.UnresolvedPackage.{UnresolvedPackage}
 use Rattle.wit_data.specs.declared.unresolved.UnresolvedPackageGroup.{UnresolvedPackageGroup}
-use Rattle.wit_shape_faults.specs.Faults.{IsFirstFault}
-use Rattle.wit_shape_faults.specs.First.{IsFirstWithout}
-use Rattle.wit_shape_faults.specs.declared.fault.ShapeFault.{ShapeFault}
+use Rattle.wit_shape.specs.Faults.{IsFirstFault}
+use Rattle.wit_shape.specs.First.{IsFirstWithout}
+use Rattle.wit_shape.specs.declared.fault.ShapeFault.{ShapeFault}
 use Rattle.wit_commands.specs.declared.change.Change.{Change}
 use Rattle.wit_commands.specs.declared.change.Change.TheVariants as change
 use Rattle.wit_json_commands.specs.declared.replies.unshaped.Unshaped.{Unshaped}

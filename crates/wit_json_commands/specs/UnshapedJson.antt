@@ -3,8 +3,8 @@ use Rattle.std.specs.Prelude.{ℕ, List, [], ◌∷◌, ◌++◌, Option, None, 
 use Rattle.json.specs.Json.{Json}
 use Rattle.json.specs.Json as json
 use Rattle.json.specs.Value.{items_of}
-use Rattle.wit_shape_faults.specs.FaultText.{clause_name, clause_text, place_text}
-use Rattle.wit_shape_faults.specs.declared.fault.ShapeFault.{ShapeFault}
+use Rattle.wit_shape.specs.FaultText.{clause_name, clause_text, place_text}
+use Rattle.wit_shape.specs.declared.fault.ShapeFault.{ShapeFault}
 use Rattle.wit_json.specs.Values.{Member, json_of_number, json_of_text, member, object}
 use Rattle.wit_json_commands.specs.declared.replies.unshaped.Unshaped.{Unshaped}
 

@@ -1,1 +1,5 @@
+pub mod FaultText
+pub mod Faults
+pub mod First
+pub mod facts
 pub mod steps

@@ -1,35 +1,106 @@
-//! What an unresolved package knows of other packages.
-ghost use Rattle.std.specs.Prelude.{◌≡◌, ◌↔◌, List, IfOk, IsTrue};
-ghost use Rattle.wit_data.specs.Each.{Each};
-ghost use Rattle.wit_data.specs.Foreign.{ForeignItem, IsForeign, IsNameOnly, foreign_interfaces, foreign_worlds};
-ghost use Rattle.wit_data.specs.Shape.{HasForeign};
-ghost use Rattle.wit_names.specs.declared.package_name.PackageName.{PackageName};
+//! What a package knows of other packages.
+ghost use Rattle.std.specs.Prelude.{◌≡◌, ◌↔◌, IfOk, IsTrue};
+ghost use Rattle.wit_data.specs.Foreign.{IsForeign, IsNameOnly};
+ghost use Rattle.wit_shape.specs.Faults.{FindsMisplaced, Tells};
+ghost use Rattle.wit_shape.specs.First.{FindsFirst};
+ghost use Rattle.wit_shape.specs.declared.clause.ShapeClause.TheVariants.{ForeignBare, ForeignInterfaces, ForeignSpans, ForeignWorlds};
 ghost use Rattle.wit_data.specs.steps.Parts.{IsNameOnlyInterface, IsNameOnlyWorld};
 
 use crate::names::{has_name, is_text};
-use crate::numbers::are_first;
+use crate::place::ShapePlace;
 use std::alloc::{AllocError, Global};
-use wit_data::{AstItem, Interface, PackageName, Stability, UnresolvedPackage, World};
-use wit_values::{Items, Names, Table};
+use wit_data::{
+    AstItem, Interface, InterfaceId, Stability, UnresolvedPackage, World, WorldId,
+    foreign_interfaces, foreign_worlds,
+};
+use wit_digraph::Listing;
+use wit_values::{Items, Names};
 
-/// Whether a foreign interface has its name, and no functions.
-fn is_name_only_interface(name: &str, interface: &Interface) -> bool
-    ensures { IsTrue result ↔ IsNameOnlyInterface name.now interface.now }
+/// The spans of the other packages, where there isn't one for each.
+pub(crate) fn spans(unresolved: &UnresolvedPackage) -> Option<ShapePlace>
+    ensures { Tells unresolved.now ForeignSpans result }
 {
-    has_name(&interface.name, name) && interface.functions.is_empty()
+    if unresolved.foreign_dep_spans.len() == unresolved.foreign_deps.len() {
+        None
+    } else {
+        Some(ShapePlace::ForeignDepSpans)
+    }
 }
 
-/// Whether a foreign world has its name, no entries and no includes.
-fn is_name_only_world(name: &str, world: &World) -> bool
-    ensures { IsTrue result ↔ IsNameOnlyWorld name.now world.now }
+/// The first interface of another package that isn't one of the first ones, or is named again.
+pub(crate) fn interfaces(
+    alloc: Global,
+    unresolved: &UnresolvedPackage,
+) -> Result<Option<ShapePlace>, AllocError>
+    ensures { IfOk result (λ found. Tells unresolved.now ForeignInterfaces found) }
 {
-    is_text(&world.name, name)
-        && world.imports.is_empty()
-        && world.exports.is_empty()
-        && world.includes.is_empty()
+    let ids = foreign_interfaces(alloc, &unresolved.foreign_deps)?;
+    let found = misplaced_id(alloc, ids.as_slice(), unresolved.interfaces.len())?;
+    Ok(found.map(|id| ShapePlace::Interface(InterfaceId::from_index(id))))
 }
 
-/// Whether a foreign item is there and bare.
+/// The same of worlds.
+pub(crate) fn worlds(
+    alloc: Global,
+    unresolved: &UnresolvedPackage,
+) -> Result<Option<ShapePlace>, AllocError>
+    ensures { IfOk result (λ found. Tells unresolved.now ForeignWorlds found) }
+{
+    let ids = foreign_worlds(alloc, &unresolved.foreign_deps)?;
+    let found = misplaced_id(alloc, ids.as_slice(), unresolved.worlds.len())?;
+    Ok(found.map(|id| ShapePlace::World(WorldId::from_index(id))))
+}
+
+/// Of ids that are to name the first things of a list of so many things, each once, the first that doesn't.
+fn misplaced_id(alloc: Global, ids: &[usize], count: usize) -> Result<Option<usize>, AllocError>
+    ensures { IfOk result (λ found. FindsMisplaced (λ id. id) ids.now count found) }
+{
+    let bound = count.min(ids.len());
+    let mut met = Listing::new(alloc, ids.len())?;
+    for id in ids {
+        if *id >= bound {
+            return Ok(Some(*id));
+        }
+        if met.has(*id) {
+            return Ok(Some(*id));
+        }
+        met.push(*id)?;
+    }
+    Ok(None)
+}
+
+/// The first item of another package that isn't there under its name, holds something or is named under no gate.
+pub(crate) fn items(unresolved: &UnresolvedPackage) -> Option<ShapePlace>
+    ensures { Tells unresolved.now ForeignBare result }
+{
+    let interfaces = unresolved.interfaces.as_slice();
+    let worlds = unresolved.worlds.as_slice();
+    for package in 0..unresolved.foreign_deps.len() {
+        let (_, named) = unresolved.foreign_deps.entry_at(package);
+        if let Some(index) = item_that_is_not_bare(interfaces, worlds, named) {
+            return Some(ShapePlace::ForeignItem(package, index));
+        }
+    }
+    None
+}
+
+fn item_that_is_not_bare(
+    interfaces: &[Interface],
+    worlds: &[World],
+    named: &Names<(AstItem, Items<Stability>)>,
+) -> Option<usize>
+    ensures { FindsFirst (λ i. i) (λ _. IsForeign interfaces.now worlds.now) named.now result }
+{
+    for index in 0..named.len() {
+        let (name, (item, gates)) = named.entry_at(index);
+        if gates.is_empty() || !is_name_only(interfaces, worlds, name, *item) {
+            return Some(index);
+        }
+    }
+    None
+}
+
+/// Whether an item that is named of a package is there and bare.
 fn is_name_only(interfaces: &[Interface], worlds: &[World], name: &str, item: AstItem) -> bool
     ensures { IsTrue result ↔ IsNameOnly interfaces.now worlds.now name.now item }
 {
@@ -45,74 +116,17 @@ fn is_name_only(interfaces: &[Interface], worlds: &[World], name: &str, item: As
     }
 }
 
-/// Whether an item that is named of a package is there, bare and named under some gate.
-fn is_foreign(
-    interfaces: &[Interface],
-    worlds: &[World],
-    name: &str,
-    item: AstItem,
-    gates: &Items<Stability>,
-) -> bool
-    ensures { IsTrue result ↔ IsForeign interfaces.now worlds.now (name.now, (item, gates.now)) }
+fn is_name_only_interface(name: &str, interface: &Interface) -> bool
+    ensures { IsTrue result ↔ IsNameOnlyInterface name.now interface.now }
 {
-    !gates.is_empty() && is_name_only(interfaces, worlds, name, item)
+    has_name(&interface.name, name) && interface.functions.is_empty()
 }
 
-/// Whether the items that are named of one package are.
-fn are_foreign(
-    interfaces: &[Interface],
-    worlds: &[World],
-    named: &Names<(AstItem, Items<Stability>)>,
-) -> bool
-    ensures { IsTrue result ↔ Each (IsForeign interfaces.now worlds.now) named.now }
+fn is_name_only_world(name: &str, world: &World) -> bool
+    ensures { IsTrue result ↔ IsNameOnlyWorld name.now world.now }
 {
-    for (name, (item, gates)) in named.iter() {
-        if !is_foreign(interfaces, worlds, name, *item, gates) {
-            return false;
-        }
-    }
-    true
-}
-
-/// The same of all packages.
-fn all_are_foreign(
-    interfaces: &[Interface],
-    worlds: &[World],
-    deps: &Table<PackageName, Names<(AstItem, Items<Stability>)>>,
-) -> bool
-    ensures { IsTrue result ↔ Each (λ (e : PackageName × List ForeignItem). Each (IsForeign interfaces.now worlds.now) e.1) deps.now }
-{
-    for (_, named) in deps.iter() {
-        if !are_foreign(interfaces, worlds, named) {
-            return false;
-        }
-    }
-    true
-}
-
-/// Whether what the package knows of other packages has its shape.
-pub(crate) fn has_foreign(
-    alloc: Global,
-    unresolved: &UnresolvedPackage,
-    interfaces: &[usize],
-    worlds: &[usize],
-) -> Result<bool, AllocError>
-    requires interfaces { interfaces.now ≡ foreign_interfaces unresolved.now.foreign_deps }
-    requires worlds { worlds.now ≡ foreign_worlds unresolved.now.foreign_deps }
-    ensures { IfOk result (λ holds. IsTrue holds ↔ HasForeign unresolved.now) }
-{
-    if unresolved.foreign_dep_spans.len() != unresolved.foreign_deps.len() {
-        return Ok(false);
-    }
-    if !are_first(alloc, interfaces, unresolved.interfaces.len())? {
-        return Ok(false);
-    }
-    if !are_first(alloc, worlds, unresolved.worlds.len())? {
-        return Ok(false);
-    }
-    Ok(all_are_foreign(
-        unresolved.interfaces.as_slice(),
-        unresolved.worlds.as_slice(),
-        &unresolved.foreign_deps,
-    ))
+    is_text(&world.name, name)
+        && world.imports.is_empty()
+        && world.exports.is_empty()
+        && world.includes.is_empty()
 }

@@ -1,61 +1,59 @@
-//! What things are called.
-ghost use Rattle.std.specs.Prelude.{◌≡◌, ◌≤◌, ◌↔◌, List, ℕ, map, length, Some, IfOk, IfSome, IsTrue};
-ghost use Rattle.std.specs.List.{IsDistinct, flat_map};
-ghost use Rattle.std.specs.Borrow.{Bor};
-ghost use Rattle.std.specs.Option.{option_to_list};
-ghost use Rattle.std.specs.Str.{bytes_eq};
+//! What a package and its things are called.
+ghost use Rattle.std.specs.Prelude.{◌≡◌, ◌↔◌, ◌++◌, ◌∷◌, [], Contains, Some, IfOk, IfSome, IsTrue, option_to_list};
 ghost use Rattle.wit_data.specs.Each.{Each};
-ghost use Rattle.wit_data.specs.Foreign.{foreign_interfaces, foreign_worlds};
-ghost use Rattle.wit_data.specs.Shape.{HasForeign, HasNames, interface_names, world_names};
-ghost use Rattle.wit_names.specs.UsePath.{IsKebabName};
 ghost use Rattle.wit_data.specs.declared.interface.Interface.{Interface};
 ghost use Rattle.wit_data.specs.declared.world.World.{World};
+ghost use Rattle.wit_names.specs.UsePath.{IsKebabName};
+ghost use Rattle.wit_shape.specs.declared.clause.ShapeClause.TheVariants.{NamesInterfacesDiffer, NamesNamespace, NamesOwn, NamesVersion, NamesWorldsDiffer};
+ghost use Rattle.wit_shape.specs.declared.place.ShapePlace.TheVariants as place;
+ghost use Rattle.wit_shape.specs.Faults.{Tells};
+ghost use Rattle.wit_shape.specs.First.{FindsFirst};
 
+use crate::place::ShapePlace;
 use std::alloc::{AllocError, Global};
-use wit_data::{Interface, UnresolvedPackage, World, is_kebab_name};
+use wit_data::{
+    Interface, InterfaceId, UnresolvedPackage, World, WorldId, foreign_interfaces, foreign_worlds,
+    is_kebab_name,
+};
 use wit_values::{NameSet, Text};
 
-/// Whether the names of the package and of its things are as they should be, where so many
-/// interfaces and worlds are foreign.
-pub(crate) fn has_names(
-    alloc: Global,
-    unresolved: &UnresolvedPackage,
-    interfaces: usize,
-    worlds: usize,
-) -> Result<bool, AllocError>
-    requires foreign { HasForeign unresolved.now }
-    requires interfaces { interfaces ≡ length (foreign_interfaces unresolved.now.foreign_deps) }
-    requires worlds { worlds ≡ length (foreign_worlds unresolved.now.foreign_deps) }
-    ensures { IfOk result (λ holds. IsTrue holds ↔ HasNames unresolved.now) }
+/// The name of the package, where its namespace is no kebab name.
+pub(crate) fn namespace(unresolved: &UnresolvedPackage) -> Option<ShapePlace>
+    ensures { Tells unresolved.now NamesNamespace result }
 {
-    if !is_kebab_name(unresolved.name.namespace.as_str()) {
-        return Ok(false);
+    if is_kebab_name(unresolved.name.namespace.as_str()) {
+        None
+    } else {
+        Some(ShapePlace::Name)
     }
-    if !is_kebab_name(unresolved.name.name.as_str()) {
-        return Ok(false);
+}
+
+/// The name of the package, where it is no kebab name.
+pub(crate) fn own(unresolved: &UnresolvedPackage) -> Option<ShapePlace>
+    ensures { Tells unresolved.now NamesOwn result }
+{
+    if is_kebab_name(unresolved.name.name.as_str()) {
+        None
+    } else {
+        Some(ShapePlace::Name)
     }
-    if !are_interfaces_kebab(unresolved.interfaces.as_slice()) {
-        return Ok(false);
-    }
-    if !are_worlds_kebab(unresolved.worlds.as_slice()) {
-        return Ok(false);
-    }
-    if !unresolved.name.has_valid_version(alloc)? {
-        return Ok(false);
-    }
-    if !interface_names_differ(alloc, unresolved.interfaces.as_slice(), interfaces)? {
-        return Ok(false);
-    }
-    world_names_differ(alloc, unresolved.worlds.as_slice(), worlds)
 }
 
 /// Whether the names of interfaces are kebab names.
 pub fn are_interfaces_kebab(interfaces: &[Interface]) -> bool
     ensures { IsTrue result ↔ Each (λ (interface : Interface). IfSome interface.name IsKebabName) interfaces.now }
 {
-    interfaces
+    self::interfaces(interfaces).is_none()
+}
+
+/// The first interface with a name that is no kebab name.
+pub(crate) fn interfaces(interfaces: &[Interface]) -> Option<ShapePlace>
+    ensures { FindsFirst place.Interface (λ _ (interface : Interface). IfSome interface.name IsKebabName) interfaces.now result }
+{
+    let index = interfaces
         .iter()
-        .all(|interface| is_interface_kebab(interface))
+        .position(|interface| !is_interface_kebab(interface))?;
+    Some(ShapePlace::Interface(InterfaceId::from_index(index)))
 }
 
 fn is_interface_kebab(interface: &Interface) -> bool
@@ -71,69 +69,94 @@ fn is_interface_kebab(interface: &Interface) -> bool
 pub fn are_worlds_kebab(worlds: &[World]) -> bool
     ensures { IsTrue result ↔ Each (λ (world : World). IsKebabName world.name) worlds.now }
 {
-    worlds
+    self::worlds(worlds).is_none()
+}
+
+/// The first world with a name that is no kebab name.
+pub(crate) fn worlds(worlds: &[World]) -> Option<ShapePlace>
+    ensures { FindsFirst place.World (λ _ (world : World). IsKebabName world.name) worlds.now result }
+{
+    let index = worlds
         .iter()
-        .all(|world| is_kebab_name(world.name.as_str()))
+        .position(|world| !is_kebab_name(world.name.as_str()))?;
+    Some(ShapePlace::World(WorldId::from_index(index)))
 }
 
-/// Whether the names of the interfaces after the foreign ones differ.
-fn interface_names_differ(
+/// The name of the package, where its version isn't one of SemVer.
+pub(crate) fn version(
     alloc: Global,
-    interfaces: &[Interface],
-    foreign: usize,
-) -> Result<bool, AllocError>
-    requires { foreign ≤ length interfaces.now }
-    ensures { IfOk result (λ differ. IsTrue differ ↔ IsDistinct bytes_eq (interface_names foreign interfaces.now)) }
+    unresolved: &UnresolvedPackage,
+) -> Result<Option<ShapePlace>, AllocError>
+    ensures { IfOk result (λ found. Tells unresolved.now NamesVersion found) }
 {
-    let names = interface_names(alloc, &interfaces[foreign..])?;
-    texts_differ(alloc, &names)
-}
-
-/// Whether the names of the worlds after the foreign ones differ.
-fn world_names_differ(alloc: Global, worlds: &[World], foreign: usize) -> Result<bool, AllocError>
-    requires { foreign ≤ length worlds.now }
-    ensures { IfOk result (λ differ. IsTrue differ ↔ IsDistinct bytes_eq (world_names foreign worlds.now)) }
-{
-    let names = world_names(alloc, &worlds[foreign..])?;
-    texts_differ(alloc, &names)
-}
-
-/// The names of interfaces that have one.
-fn interface_names(alloc: Global, interfaces: &[Interface]) -> Result<Vec<&str>, AllocError>
-    ensures { IfOk result (λ names. map (λ (name : Bor (List ℕ)). name.now) names.items ≡ flat_map (λ (interface : Interface). option_to_list interface.name) interfaces.now) }
-{
-    let mut names = Vec::new(alloc);
-    for interface in interfaces {
-        if let Some(name) = &interface.name {
-            names.push(name.as_str())?;
-        }
+    if unresolved.name.has_valid_version(alloc)? {
+        Ok(None)
+    } else {
+        Ok(Some(ShapePlace::Name))
     }
-    Ok(names)
 }
 
-/// The names of worlds.
-fn world_names(alloc: Global, worlds: &[World]) -> Result<Vec<&str>, AllocError>
-    ensures { IfOk result (λ names. map (λ (name : Bor (List ℕ)). name.now) names.items ≡ map (λ (world : World). world.name) worlds.now) }
+/// The first interface of the package with the name of an earlier one.
+pub(crate) fn interfaces_differ(
+    alloc: Global,
+    unresolved: &UnresolvedPackage,
+) -> Result<Option<ShapePlace>, AllocError>
+    ensures { IfOk result (λ found. Tells unresolved.now NamesInterfacesDiffer found) }
 {
-    let mut names = Vec::new(alloc);
-    for world in worlds {
-        names.push(world.name.as_str())?;
-    }
-    Ok(names)
-}
-
-/// Whether texts differ.
-fn texts_differ(alloc: Global, texts: &[&str]) -> Result<bool, AllocError>
-    ensures { IfOk result (λ differ. IsTrue differ ↔ IsDistinct bytes_eq (map (λ (text : Bor (List ℕ)). text.now) texts.now)) }
-{
+    let foreign = foreign_interfaces(alloc, &unresolved.foreign_deps)?.len();
     let mut met = NameSet::new(alloc);
-    for text in texts {
-        if met.contains(text) {
-            return Ok(false);
+    for (index, interface) in unresolved.interfaces.as_slice().iter().enumerate() {
+        if index < foreign {
+            continue;
         }
-        met.insert(alloc, text)?;
+        if !has_new_name(alloc, &mut met, interface)? {
+            return Ok(Some(ShapePlace::Interface(InterfaceId::from_index(index))));
+        }
     }
+    Ok(None)
+}
+
+/// Adds the name of an interface, where it has one, to those that were met, and tells whether it is new.
+fn has_new_name(alloc: Global, met: &mut NameSet, interface: &Interface) -> Result<bool, AllocError>
+    ensures new { IfOk result (λ new. IsTrue new ↔ IfSome interface.now.name (λ name. Contains met.old name → ⊥)) }
+    ensures met { IfOk result (λ new. IsTrue new → met.new ≡ met.old ++ option_to_list interface.now.name) }
+{
+    match &interface.name {
+        Some(name) => is_new(alloc, met, name.as_str()),
+        None => Ok(true),
+    }
+}
+
+/// Adds a name to those that were met, and tells whether it is new.
+fn is_new(alloc: Global, met: &mut NameSet, name: &str) -> Result<bool, AllocError>
+    ensures new { IfOk result (λ new. IsTrue new ↔ (Contains met.old name.now → ⊥)) }
+    ensures met { IfOk result (λ new. IsTrue new → met.new ≡ met.old ++ name.now ∷ []) }
+{
+    if met.contains(name) {
+        return Ok(false);
+    }
+    met.insert(alloc, name)?;
     Ok(true)
+}
+
+/// The first world of the package with the name of an earlier one.
+pub(crate) fn worlds_differ(
+    alloc: Global,
+    unresolved: &UnresolvedPackage,
+) -> Result<Option<ShapePlace>, AllocError>
+    ensures { IfOk result (λ found. Tells unresolved.now NamesWorldsDiffer found) }
+{
+    let foreign = foreign_worlds(alloc, &unresolved.foreign_deps)?.len();
+    let mut met = NameSet::new(alloc);
+    for (index, world) in unresolved.worlds.as_slice().iter().enumerate() {
+        if index < foreign {
+            continue;
+        }
+        if !is_new(alloc, &mut met, world.name.as_str())? {
+            return Ok(Some(ShapePlace::World(WorldId::from_index(index))));
+        }
+    }
+    Ok(None)
 }
 
 /// Whether there is a name, and it is the wanted one.

@@ -1,63 +1,29 @@
-//! Whether what an owner's types and functions refer to is the owner's.
-ghost use Rattle.std.specs.Prelude.{◌≡◌, ◌↔◌, IfOk, IsTrue};
+//! What an owner's types and functions refer to, which is the owner's.
+ghost use Rattle.std.specs.Prelude.{◌≡◌, ◌↔◌, ℕ, List, IfOk, IsTrue};
 ghost use Rattle.wit_data.specs.Each.{Each, EachAt};
-ghost use Rattle.wit_data.specs.Entries.{EntriesUseOwn, ItemUsesOwn};
+ghost use Rattle.wit_data.specs.Entries.{EntriesUseOwn, Entry, ItemUsesOwn};
 ghost use Rattle.wit_data.specs.Ownership.{FunctionsUseOwn, IsOwn, RefersToOwn, UsesOwn};
-ghost use Rattle.wit_data.specs.Kind.{type_references};
-ghost use Rattle.wit_data.specs.Shape.{KeepsToOwn};
-ghost use Rattle.wit_shape.specs.steps.NamedOwners.{AreNamedOwners};
-ghost use Rattle.wit_data.specs.declared.types.TypeOwner.TheVariants as owner;
+ghost use Rattle.wit_data.specs.declared.function.Function.{Function};
+ghost use Rattle.wit_data.specs.declared.interface.Interface.{Interface};
+ghost use Rattle.wit_data.specs.declared.types.TypeOwner.TheVariants as owners;
 ghost use Rattle.wit_data.specs.declared.world.World.{World};
-ghost use Rattle.wit_digraph.specs.Relation.{IsAcyclic};
+ghost use Rattle.wit_shape.specs.steps.NamedOwners.{AreNamedOwners};
+ghost use Rattle.wit_shape.specs.First.{FindsFirst, FindsWithin};
+ghost use Rattle.wit_shape.specs.declared.place.ShapePlace.TheVariants as place;
 ghost use Rattle.wit_data.specs.steps.Parts.{parts};
 
-use crate::named_owners::{NamedOwners, is_own, shown_by_each};
+use crate::named_owners::{NamedOwners, is_own};
+use crate::place::ShapePlace;
 use std::alloc::{AllocError, Global};
 use wit_data::{
-    Function, Interface, InterfaceId, PartRole, TypeDef, TypeDefKind, TypeId, TypeOwner,
-    UnresolvedPackage, World, WorldId, WorldItem, WorldKey, function_references, part_role,
-    referred,
+    Function, Interface, InterfaceId, PartRole, TypeDef, TypeDefKind, TypeId, TypeOwner, World,
+    WorldId, WorldItem, WorldKey, function_references, part_role, referred,
 };
 use wit_values::{Items, Table};
 
-/// Whether types but aliases, and functions, refer to types of their owners alone, where no type
-/// refers to itself.
-pub(crate) fn keeps_to_own(
-    alloc: Global,
-    unresolved: &UnresolvedPackage,
-) -> Result<bool, AllocError>
-    requires { IsAcyclic (type_references unresolved.now.types) }
-    ensures { IfOk result (λ holds. IsTrue holds ↔ KeepsToOwn unresolved.now) }
-{
-    let shown = shown_by_each(alloc, unresolved.types.as_slice())?;
-    all_keep_to_own(alloc, unresolved, &shown)
-}
-
-/// The same, where it is known what each type shows.
-fn all_keep_to_own(
-    alloc: Global,
-    unresolved: &UnresolvedPackage,
-    shown: &Items<NamedOwners>,
-) -> Result<bool, AllocError>
-    requires { AreNamedOwners unresolved.now.types shown.now }
-    ensures { IfOk result (λ holds. IsTrue holds ↔ KeepsToOwn unresolved.now) }
-{
-    let types = unresolved.types.as_slice();
-    if !all_refer_to_own(alloc, types, shown)? {
-        return Ok(false);
-    }
-    if !all_functions_use_own(alloc, types, shown, unresolved.interfaces.as_slice())? {
-        return Ok(false);
-    }
-    if !all_imports_use_own(alloc, types, shown, unresolved.worlds.as_slice())? {
-        return Ok(false);
-    }
-    all_exports_use_own(alloc, types, shown, unresolved.worlds.as_slice())
-}
-
-/// Whether each named type but an alias refers to types of its owner alone, as seen through types
-/// without names. What is shown of each type is told by `shown_by_each`. The only error is want of
-/// memory.
+/// Whether each named type but an alias refers to types of its owner alone, as seen through
+/// types without names. What is shown of each type is told by `shown_by_each`. The only error is
+/// want of memory.
 pub fn all_refer_to_own(
     alloc: Global,
     types: &[TypeDef],
@@ -66,12 +32,24 @@ pub fn all_refer_to_own(
     requires { AreNamedOwners types.now shown.now }
     ensures { IfOk result (λ own. IsTrue own ↔ Each (RefersToOwn types.now) types.now) }
 {
-    for def in types {
+    Ok(self::types(alloc, types, shown)?.is_none())
+}
+
+/// The first named type but an alias that refers to types of others.
+pub(crate) fn types(
+    alloc: Global,
+    types: &[TypeDef],
+    shown: &Items<NamedOwners>,
+) -> Result<Option<ShapePlace>, AllocError>
+    requires { AreNamedOwners types.now shown.now }
+    ensures { IfOk result (λ found. FindsFirst place.Type_ (λ _. RefersToOwn types.now) types.now found) }
+{
+    for (index, def) in types.iter().enumerate() {
         if !refers_to_own(alloc, types, shown, def)? {
-            return Ok(false);
+            return Ok(Some(ShapePlace::Type_(TypeId::from_index(index))));
         }
     }
-    Ok(true)
+    Ok(None)
 }
 
 fn refers_to_own(
@@ -107,6 +85,60 @@ fn are_own(types: &[TypeDef], shown: &Items<NamedOwners>, owner: TypeOwner, ids:
     ids.iter().all(|id| is_own(types, shown, owner, *id))
 }
 
+/// Whether each function of each interface refers to types of the interface alone, as seen through
+/// types without names. What is shown of each type is told by `shown_by_each`. The only error is
+/// want of memory.
+pub fn all_functions_use_own(
+    alloc: Global,
+    types: &[TypeDef],
+    shown: &Items<NamedOwners>,
+    interfaces: &[Interface],
+) -> Result<bool, AllocError>
+    requires { AreNamedOwners types.now shown.now }
+    ensures { IfOk result (λ own. IsTrue own ↔ EachAt (FunctionsUseOwn types.now) interfaces.now) }
+{
+    Ok(functions(alloc, types, shown, interfaces)?.is_none())
+}
+
+/// The first function of an interface that refers to types of others.
+pub(crate) fn functions(
+    alloc: Global,
+    types: &[TypeDef],
+    shown: &Items<NamedOwners>,
+    interfaces: &[Interface],
+) -> Result<Option<ShapePlace>, AllocError>
+    requires { AreNamedOwners types.now shown.now }
+    ensures { IfOk result (λ found. FindsWithin place.Function (λ f (interface : Interface) (e : List ℕ × Function). UsesOwn types.now (owners.Interface f) e.1) (λ (interface : Interface). interface.functions) interfaces.now found) }
+{
+    for (index, interface) in interfaces.iter().enumerate() {
+        let owner = InterfaceId::from_index(index);
+        if let Some(at) = function_of_others(alloc, types, shown, owner, interface)? {
+            return Ok(Some(ShapePlace::Function(owner, at)));
+        }
+    }
+    Ok(None)
+}
+
+/// The first function of an interface that refers to types of others.
+fn function_of_others(
+    alloc: Global,
+    types: &[TypeDef],
+    shown: &Items<NamedOwners>,
+    owner: InterfaceId,
+    interface: &Interface,
+) -> Result<Option<usize>, AllocError>
+    requires { AreNamedOwners types.now shown.now }
+    ensures { IfOk result (λ found. FindsFirst (λ i. i) (λ _ (e : List ℕ × Function). UsesOwn types.now (owners.Interface owner) e.1) interface.now.functions found) }
+{
+    for index in 0..interface.functions.len() {
+        let (_, function) = interface.functions.entry_at(index);
+        if !uses_own(alloc, types, shown, TypeOwner::Interface(owner), function)? {
+            return Ok(Some(index));
+        }
+    }
+    Ok(None)
+}
+
 /// Whether a function refers to types of an owner alone.
 fn uses_own(
     alloc: Global,
@@ -122,45 +154,6 @@ fn uses_own(
     Ok(are_own(types, shown, owner, ids.as_slice()))
 }
 
-/// Whether each function of each interface refers to types of the interface alone, as seen through
-/// types without names. What is shown of each type is told by `shown_by_each`. The only error is
-/// want of memory.
-pub fn all_functions_use_own(
-    alloc: Global,
-    types: &[TypeDef],
-    shown: &Items<NamedOwners>,
-    interfaces: &[Interface],
-) -> Result<bool, AllocError>
-    requires { AreNamedOwners types.now shown.now }
-    ensures { IfOk result (λ own. IsTrue own ↔ EachAt (FunctionsUseOwn types.now) interfaces.now) }
-{
-    for (index, interface) in interfaces.iter().enumerate() {
-        let owner = InterfaceId::from_index(index);
-        if !functions_use_own(alloc, types, shown, owner, interface)? {
-            return Ok(false);
-        }
-    }
-    Ok(true)
-}
-
-fn functions_use_own(
-    alloc: Global,
-    types: &[TypeDef],
-    shown: &Items<NamedOwners>,
-    owner: InterfaceId,
-    interface: &Interface,
-) -> Result<bool, AllocError>
-    requires { AreNamedOwners types.now shown.now }
-    ensures { IfOk result (λ own. IsTrue own ↔ FunctionsUseOwn types.now owner interface.now) }
-{
-    for (_, function) in interface.functions.iter() {
-        if !uses_own(alloc, types, shown, TypeOwner::Interface(owner), function)? {
-            return Ok(false);
-        }
-    }
-    Ok(true)
-}
-
 /// Whether each function that worlds import refers to types of its world alone, as seen through
 /// types without names. What is shown of each type is told by `shown_by_each`. The only error is
 /// want of memory.
@@ -173,13 +166,26 @@ pub fn all_imports_use_own(
     requires { AreNamedOwners types.now shown.now }
     ensures { IfOk result (λ own. IsTrue own ↔ EachAt (λ w (world : World). EntriesUseOwn types.now w world.imports) worlds.now) }
 {
+    Ok(imports(alloc, types, shown, worlds)?.is_none())
+}
+
+/// The first function that a world imports and that refers to types of others.
+pub(crate) fn imports(
+    alloc: Global,
+    types: &[TypeDef],
+    shown: &Items<NamedOwners>,
+    worlds: &[World],
+) -> Result<Option<ShapePlace>, AllocError>
+    requires { AreNamedOwners types.now shown.now }
+    ensures { IfOk result (λ found. FindsWithin place.Import (λ w (world : World) (e : Entry). ItemUsesOwn types.now w e.1) (λ (world : World). world.imports) worlds.now found) }
+{
     for (index, world) in worlds.iter().enumerate() {
         let owner = WorldId::from_index(index);
-        if !entries_use_own(alloc, types, shown, owner, &world.imports)? {
-            return Ok(false);
+        if let Some(at) = entry_of_others(alloc, types, shown, owner, &world.imports)? {
+            return Ok(Some(ShapePlace::Import(owner, at)));
         }
     }
-    Ok(true)
+    Ok(None)
 }
 
 /// Whether each function that worlds export refers to types of its world alone, as seen through
@@ -194,31 +200,46 @@ pub fn all_exports_use_own(
     requires { AreNamedOwners types.now shown.now }
     ensures { IfOk result (λ own. IsTrue own ↔ EachAt (λ w (world : World). EntriesUseOwn types.now w world.exports) worlds.now) }
 {
-    for (index, world) in worlds.iter().enumerate() {
-        let owner = WorldId::from_index(index);
-        if !entries_use_own(alloc, types, shown, owner, &world.exports)? {
-            return Ok(false);
-        }
-    }
-    Ok(true)
+    Ok(exports(alloc, types, shown, worlds)?.is_none())
 }
 
-fn entries_use_own(
+/// The first function that a world exports and that refers to types of others.
+pub(crate) fn exports(
+    alloc: Global,
+    types: &[TypeDef],
+    shown: &Items<NamedOwners>,
+    worlds: &[World],
+) -> Result<Option<ShapePlace>, AllocError>
+    requires { AreNamedOwners types.now shown.now }
+    ensures { IfOk result (λ found. FindsWithin place.Export (λ w (world : World) (e : Entry). ItemUsesOwn types.now w e.1) (λ (world : World). world.exports) worlds.now found) }
+{
+    for (index, world) in worlds.iter().enumerate() {
+        let owner = WorldId::from_index(index);
+        if let Some(at) = entry_of_others(alloc, types, shown, owner, &world.exports)? {
+            return Ok(Some(ShapePlace::Export(owner, at)));
+        }
+    }
+    Ok(None)
+}
+
+/// The first function among the entries of a world that refers to types of others.
+fn entry_of_others(
     alloc: Global,
     types: &[TypeDef],
     shown: &Items<NamedOwners>,
     owner: WorldId,
     entries: &Table<WorldKey, WorldItem>,
-) -> Result<bool, AllocError>
+) -> Result<Option<usize>, AllocError>
     requires { AreNamedOwners types.now shown.now }
-    ensures { IfOk result (λ own. IsTrue own ↔ EntriesUseOwn types.now owner entries.now) }
+    ensures { IfOk result (λ found. FindsFirst (λ i. i) (λ _ (e : Entry). ItemUsesOwn types.now owner e.1) entries.now found) }
 {
-    for (_, item) in entries.iter() {
+    for index in 0..entries.len() {
+        let (_, item) = entries.entry_at(index);
         if !item_uses_own(alloc, types, shown, owner, item)? {
-            return Ok(false);
+            return Ok(Some(index));
         }
     }
-    Ok(true)
+    Ok(None)
 }
 
 fn item_uses_own(

@@ -1,36 +1,24 @@
 //! Which types belong to which interface or world.
-ghost use Rattle.std.specs.Prelude.{◌↔◌, Contains, IfOk, IsTrue};
+ghost use Rattle.std.specs.Prelude.{◌≡◌, ◌↔◌, Contains, ℕ, List, IfOk, IsTrue};
 ghost use Rattle.std.specs.Option.{option_copied};
 ghost use Rattle.wit_data.specs.Each.{Each, EachAt, SomeAt};
 ghost use Rattle.wit_data.specs.Ownership.{IsListed, IsTypeOf, ListsOwn, NamesFunctions, world_types};
 ghost use Rattle.wit_data.specs.steps.Ownership.{IsTypeItem};
-ghost use Rattle.wit_data.specs.Shape.{HasUnresolvedOwners};
+ghost use Rattle.wit_data.specs.declared.function.Function.{Function};
 ghost use Rattle.wit_data.specs.declared.interface.Interface.{Interface};
 ghost use Rattle.wit_data.specs.declared.types.TypeDef.{TypeDef};
+ghost use Rattle.wit_data.specs.declared.types.TypeOwner.TheVariants as owners;
 ghost use Rattle.wit_data.specs.declared.world.World.{World};
+ghost use Rattle.wit_shape.specs.First.{FindsFirst, FindsWithin};
+ghost use Rattle.wit_shape.specs.declared.place.ShapePlace.TheVariants as place;
 
-use crate::names::{has_name, is_text};
+use crate::names::has_name;
+use crate::place::ShapePlace;
 use std::alloc::AllocError;
 use wit_data::{
-    Interface, InterfaceId, TypeDef, TypeId, TypeOwner, UnresolvedPackage, World, WorldId,
-    WorldItem, WorldKey,
+    Interface, InterfaceId, TypeDef, TypeId, TypeOwner, World, WorldId, WorldItem, WorldKey,
 };
 use wit_values::{Names, Text, TryClone};
-
-/// Whether types, and what lists them, agree.
-pub(crate) fn has_owners(unresolved: &UnresolvedPackage) -> Result<bool, AllocError>
-    ensures { IfOk result (λ holds. IsTrue holds ↔ HasUnresolvedOwners unresolved.now) }
-{
-    let interfaces = unresolved.interfaces.as_slice();
-    let types = unresolved.types.as_slice();
-    if !all_list_own(types, interfaces) {
-        return Ok(false);
-    }
-    if !all_name_functions(interfaces) {
-        return Ok(false);
-    }
-    are_listed(interfaces, unresolved.worlds.as_slice(), types)
-}
 
 /// Whether each type with an owner has a name and is listed by its owner under it, and each other
 /// has no name. The only error is want of memory.
@@ -41,12 +29,23 @@ pub fn are_listed(
 ) -> Result<bool, AllocError>
     ensures { IfOk result (λ listed. IsTrue listed ↔ EachAt (λ i (def : TypeDef). IsListed interfaces.now worlds.now i def.name def.owner) types.now) }
 {
+    Ok(listed(interfaces, worlds, types)?.is_none())
+}
+
+/// The first type that its owner doesn't list, or that has a name without an owner.
+pub(crate) fn listed(
+    interfaces: &[Interface],
+    worlds: &[World],
+    types: &[TypeDef],
+) -> Result<Option<ShapePlace>, AllocError>
+    ensures { IfOk result (λ found. FindsFirst place.Type_ (λ i (def : TypeDef). IsListed interfaces.now worlds.now i def.name def.owner) types.now found) }
+{
     for (index, def) in types.iter().enumerate() {
         if !is_listed(interfaces, worlds, index, def)? {
-            return Ok(false);
+            return Ok(Some(ShapePlace::Type_(TypeId::from_index(index))));
         }
     }
-    Ok(true)
+    Ok(None)
 }
 
 /// Whether a type with an owner is listed by it, or one without has no name.
@@ -130,23 +129,32 @@ fn is_type_item(item: Option<&WorldItem>, index: usize) -> bool
 pub fn all_list_own(types: &[TypeDef], interfaces: &[Interface]) -> bool
     ensures { IsTrue result ↔ EachAt (ListsOwn types.now) interfaces.now }
 {
-    for (index, interface) in interfaces.iter().enumerate() {
-        if !lists_own(types, InterfaceId::from_index(index), interface) {
-            return false;
-        }
-    }
-    true
+    own_types(types, interfaces).is_none()
 }
 
-fn lists_own(types: &[TypeDef], owner: InterfaceId, interface: &Interface) -> bool
-    ensures { IsTrue result ↔ ListsOwn types.now owner interface.now }
+/// The first type that an interface lists and that isn't its own of that name.
+pub(crate) fn own_types(types: &[TypeDef], interfaces: &[Interface]) -> Option<ShapePlace>
+    ensures { FindsWithin place.InterfaceType (λ f (interface : Interface) (e : List ℕ × ℕ). IsTypeOf types.now (owners.Interface f) e.0 e.1) (λ (interface : Interface). interface.types) interfaces.now result }
 {
-    for (name, id) in interface.types.iter() {
-        if !is_type_of(types, TypeOwner::Interface(owner), name, *id) {
-            return false;
+    for (index, interface) in interfaces.iter().enumerate() {
+        let owner = InterfaceId::from_index(index);
+        if let Some(at) = type_of_another(types, owner, interface) {
+            return Some(ShapePlace::InterfaceType(owner, at));
         }
     }
-    true
+    None
+}
+
+fn type_of_another(types: &[TypeDef], owner: InterfaceId, interface: &Interface) -> Option<usize>
+    ensures { FindsFirst (λ i. i) (λ _ (e : List ℕ × ℕ). IsTypeOf types.now (owners.Interface owner) e.0 e.1) interface.now.types result }
+{
+    for index in 0..interface.types.len() {
+        let (name, id) = interface.types.entry_at(index);
+        if !is_type_of(types, TypeOwner::Interface(owner), name, *id) {
+            return Some(index);
+        }
+    }
+    None
 }
 
 /// Whether there is such a type, with this owner and this name.
@@ -163,18 +171,29 @@ pub(crate) fn is_type_of(types: &[TypeDef], owner: TypeOwner, name: &str, id: Ty
 pub fn all_name_functions(interfaces: &[Interface]) -> bool
     ensures { IsTrue result ↔ Each NamesFunctions interfaces.now }
 {
-    interfaces
-        .iter()
-        .all(|interface| names_functions(interface))
+    functions(interfaces).is_none()
 }
 
-fn names_functions(interface: &Interface) -> bool
-    ensures { IsTrue result ↔ NamesFunctions interface.now }
+/// The first function that stands under another name.
+pub(crate) fn functions(interfaces: &[Interface]) -> Option<ShapePlace>
+    ensures { FindsWithin place.Function (λ _ (interface : Interface) (e : List ℕ × Function). e.1.name ≡ e.0) (λ (interface : Interface). interface.functions) interfaces.now result }
 {
-    for (name, function) in interface.functions.iter() {
-        if !is_text(&function.name, name) {
-            return false;
+    for (index, interface) in interfaces.iter().enumerate() {
+        if let Some(at) = function_of_another_name(interface) {
+            return Some(ShapePlace::Function(InterfaceId::from_index(index), at));
         }
     }
-    true
+    None
+}
+
+fn function_of_another_name(interface: &Interface) -> Option<usize>
+    ensures { FindsFirst (λ i. i) (λ _ (e : List ℕ × Function). e.1.name ≡ e.0) interface.now.functions result }
+{
+    for index in 0..interface.functions.len() {
+        let (name, function) = interface.functions.entry_at(index);
+        if function.name.as_str() != name {
+            return Some(index);
+        }
+    }
+    None
 }

@@ -1,45 +1,35 @@
 //! What types refer to.
 ghost use Rattle.std.specs.Prelude.{◌≡◌, ◌↔◌, ◌<◌, ◌⊎◌, None, IfOk, IsSome, IsTrue};
-ghost use Rattle.wit_data.specs.Each.{Each, EachAt, SomeAt};
-ghost use Rattle.wit_data.specs.Ownership.{AliasesNamed, IsNamed, IsNamedInterface, IsPlain};
+ghost use Rattle.wit_data.specs.Each.{Each, SomeAt};
 ghost use Rattle.wit_data.specs.Kind.{referred};
-ghost use Rattle.wit_data.specs.Shape.{HasUnresolvedReferences};
+ghost use Rattle.wit_data.specs.Ownership.{AliasesNamed, IsNamed, IsNamedInterface, IsPlain};
 ghost use Rattle.wit_data.specs.declared.types.TypeDef.{TypeDef};
+ghost use Rattle.wit_shape.specs.Faults.{Tells};
+ghost use Rattle.wit_shape.specs.First.{FindsFirst};
+ghost use Rattle.wit_shape.specs.declared.clause.ShapeClause.TheVariants.{ReferencesEarlier};
+ghost use Rattle.wit_shape.specs.declared.place.ShapePlace.TheVariants as place;
 
+use crate::place::ShapePlace;
 use std::alloc::{AllocError, Global};
 use wit_data::{
     Interface, InterfaceId, TypeDef, TypeDefKind, TypeId, TypeOwner, UnresolvedPackage,
     alias_target, referred,
 };
 
-/// Whether types refer to earlier types, aliases to named types, and types without names are
-/// neither aliases nor resources.
-pub(crate) fn has_references(
+/// The first type that refers to itself or a later one.
+pub(crate) fn earlier(
     alloc: Global,
     unresolved: &UnresolvedPackage,
-) -> Result<bool, AllocError>
-    ensures { IfOk result (λ holds. IsTrue holds ↔ HasUnresolvedReferences unresolved.now) }
+) -> Result<Option<ShapePlace>, AllocError>
+    ensures { IfOk result (λ found. Tells unresolved.now ReferencesEarlier found) }
 {
     let types = unresolved.types.as_slice();
-    if !all_alias_named(types, unresolved.interfaces.as_slice()) {
-        return Ok(false);
-    }
-    if !are_plain_if_unnamed(types) {
-        return Ok(false);
-    }
-    all_refer_back(alloc, types)
-}
-
-/// Whether each type refers to earlier types.
-fn all_refer_back(alloc: Global, types: &[TypeDef]) -> Result<bool, AllocError>
-    ensures { IfOk result (λ back. IsTrue back ↔ EachAt (λ i (def : TypeDef). Each (λ id. id < i) (referred def.kind)) types.now) }
-{
     for (index, def) in types.iter().enumerate() {
         if !refers_back(alloc, index, def)? {
-            return Ok(false);
+            return Ok(Some(ShapePlace::Type_(TypeId::from_index(index))));
         }
     }
-    Ok(true)
+    Ok(None)
 }
 
 fn refers_back(alloc: Global, index: usize, def: &TypeDef) -> Result<bool, AllocError>
@@ -59,9 +49,19 @@ fn are_before(ids: &[TypeId], index: usize) -> bool
 pub fn all_alias_named(types: &[TypeDef], interfaces: &[Interface]) -> bool
     ensures { IsTrue result ↔ Each (AliasesNamed types.now interfaces.now) types.now }
 {
-    types
-        .iter()
-        .all(|def| aliases_named(types, interfaces, def))
+    aliases(types, interfaces).is_none()
+}
+
+/// The first alias of a type that names none that it may.
+pub(crate) fn aliases(types: &[TypeDef], interfaces: &[Interface]) -> Option<ShapePlace>
+    ensures { FindsFirst place.Type_ (λ _. AliasesNamed types.now interfaces.now) types.now result }
+{
+    for (index, def) in types.iter().enumerate() {
+        if !aliases_named(types, interfaces, def) {
+            return Some(ShapePlace::Type_(TypeId::from_index(index)));
+        }
+    }
+    None
 }
 
 fn aliases_named(types: &[TypeDef], interfaces: &[Interface], def: &TypeDef) -> bool
@@ -112,7 +112,15 @@ pub(crate) fn is_named(interfaces: &[Interface], id: InterfaceId) -> bool
 pub fn are_plain_if_unnamed(types: &[TypeDef]) -> bool
     ensures { IsTrue result ↔ Each (λ (def : TypeDef). (def.name ≡ None) → IsPlain def.kind) types.now }
 {
-    types.iter().all(|def| is_plain_if_unnamed(def))
+    unnamed(types).is_none()
+}
+
+/// The first type without a name that is an alias or a resource.
+pub(crate) fn unnamed(types: &[TypeDef]) -> Option<ShapePlace>
+    ensures { FindsFirst place.Type_ (λ _ (def : TypeDef). (def.name ≡ None) → IsPlain def.kind) types.now result }
+{
+    let index = types.iter().position(|def| !is_plain_if_unnamed(def))?;
+    Some(ShapePlace::Type_(TypeId::from_index(index)))
 }
 
 fn is_plain_if_unnamed(def: &TypeDef) -> bool

@@ -1,56 +1,41 @@
-//! What an unresolved package knows of the types of other packages: types of kind `Unknown`.
-ghost use Rattle.std.specs.Prelude.{◌≡◌, ◌↔◌, ◌<◌, ℕ, List, length, Option, IsTrue};
-ghost use Rattle.wit_data.specs.Each.{Each, EachAt, SomeAt};
-ghost use Rattle.wit_data.specs.Foreign.{IsForeignType, foreign_interfaces};
-ghost use Rattle.wit_data.specs.Shape.{HasUnknown};
+//! What a package knows of the types of other packages.
+ghost use Rattle.std.specs.Prelude.{◌≡◌, ◌↔◌, ◌<◌, ℕ, List, IfOk, IsTrue};
+ghost use Rattle.wit_data.specs.Each.{SomeAt};
+ghost use Rattle.wit_data.specs.Foreign.{IsForeignType};
 ghost use Rattle.wit_data.specs.declared.types.TypeDef.{TypeDef};
 ghost use Rattle.wit_data.specs.declared.types.TypeDefKind.TheVariants as kind;
-ghost use Rattle.wit_data.specs.steps.Parts.{AreUnknownFirst, AreForeignTypes, ListUnknownAlone};
+ghost use Rattle.wit_shape.specs.Faults.{IsUnknownBelow, Tells};
+ghost use Rattle.wit_shape.specs.First.{FindsFirst};
+ghost use Rattle.wit_shape.specs.declared.clause.ShapeClause.TheVariants.{UnknownAlone, UnknownFirst, UnknownForeign, UnknownRequired};
 
-use wit_data::{Interface, TypeDef, TypeDefKind, TypeId, TypeOwner, UnresolvedPackage};
-use wit_sources::Span;
+use crate::place::ShapePlace;
+use std::alloc::{AllocError, Global};
+use wit_data::{
+    Interface, InterfaceId, TypeDef, TypeDefKind, TypeId, TypeOwner, UnresolvedPackage,
+    foreign_interfaces,
+};
 
-/// Whether what the package knows of the types of other packages has its shape, where so many
-/// interfaces are foreign.
-pub(crate) fn has_unknown(unresolved: &UnresolvedPackage, foreign: usize) -> bool
-    requires { foreign ≡ length (foreign_interfaces unresolved.now.foreign_deps) }
-    ensures { IsTrue result ↔ HasUnknown unresolved.now }
+/// The first type that is of kind `Unknown` and has no span, or has one and is of another kind; or the spans, where
+/// there are more of them than types.
+pub(crate) fn first(unresolved: &UnresolvedPackage) -> Option<ShapePlace>
+    ensures { Tells unresolved.now UnknownFirst result }
 {
     let unknown = unresolved.unknown_type_spans.len();
     let types = unresolved.types.as_slice();
-    if !are_unknown_first(unknown, types) {
-        return false;
+    if types.len() < unknown {
+        return Some(ShapePlace::UnknownTypeSpans);
     }
-    if !are_foreign_types(unknown, foreign, types) {
-        return false;
-    }
-    if !all_list_unknown_alone(unknown, foreign, unresolved.interfaces.as_slice()) {
-        return false;
-    }
-    are_required_unknown(types, unresolved.required_resource_types.as_slice())
-}
-
-/// Whether the types of kind `Unknown` are the first so many ones.
-fn are_unknown_first(unknown: usize, types: &[TypeDef]) -> bool
-    ensures { IsTrue result ↔ AreUnknownFirst unknown types.now }
-{
-    unknown <= types.len() && are_unknown_below(unknown, types)
-}
-
-fn are_unknown_below(unknown: usize, types: &[TypeDef]) -> bool
-    ensures { IsTrue result ↔ EachAt (λ index (def : TypeDef). (def.kind ≡ kind.Unknown) ↔ (index < unknown)) types.now }
-{
     for (index, def) in types.iter().enumerate() {
         if !is_unknown_below(unknown, index, def) {
-            return false;
+            return Some(ShapePlace::Type_(TypeId::from_index(index)));
         }
     }
-    true
+    None
 }
 
 /// Whether a type is of kind `Unknown` exactly if its index is below a bound.
 fn is_unknown_below(unknown: usize, index: usize, def: &TypeDef) -> bool
-    ensures { IsTrue result ↔ ((def.now.kind ≡ kind.Unknown) ↔ (index < unknown)) }
+    ensures { IsTrue result ↔ IsUnknownBelow unknown index def.now }
 {
     if index < unknown {
         is_unknown(def)
@@ -66,6 +51,30 @@ pub fn is_unknown(def: &TypeDef) -> bool
     matches!(def.kind, TypeDefKind::Unknown)
 }
 
+/// The first type with a span that isn't a named one of an interface of another package.
+pub(crate) fn foreign_types(
+    alloc: Global,
+    unresolved: &UnresolvedPackage,
+) -> Result<Option<ShapePlace>, AllocError>
+    ensures { IfOk result (λ found. Tells unresolved.now UnknownForeign found) }
+{
+    let unknown = unresolved.unknown_type_spans.len();
+    let foreign = foreign_interfaces(alloc, &unresolved.foreign_deps)?.len();
+    for (index, def) in unresolved.types.as_slice().iter().enumerate() {
+        if !is_foreign_if_unknown(unknown, foreign, index, def) {
+            return Ok(Some(ShapePlace::Type_(TypeId::from_index(index))));
+        }
+    }
+    Ok(None)
+}
+
+/// Whether a type is one of a foreign interface, if its index is below a bound.
+fn is_foreign_if_unknown(unknown: usize, foreign: usize, index: usize, def: &TypeDef) -> bool
+    ensures { IsTrue result ↔ (index < unknown → IsForeignType foreign def.now) }
+{
+    index >= unknown || is_foreign_type(foreign, def)
+}
+
 /// Whether a type is a named one of the first so many interfaces.
 fn is_foreign_type(foreign: usize, def: &TypeDef) -> bool
     ensures { IsTrue result ↔ IsForeignType foreign def.now }
@@ -76,49 +85,58 @@ fn is_foreign_type(foreign: usize, def: &TypeDef) -> bool
     }
 }
 
-/// Whether the first so many types are types of foreign interfaces.
-fn are_foreign_types(unknown: usize, foreign: usize, types: &[TypeDef]) -> bool
-    ensures { IsTrue result ↔ AreForeignTypes unknown foreign types.now }
+/// The first type that an interface of another package lists and that has no span.
+pub(crate) fn listed_types(
+    alloc: Global,
+    unresolved: &UnresolvedPackage,
+) -> Result<Option<ShapePlace>, AllocError>
+    ensures { IfOk result (λ found. Tells unresolved.now UnknownAlone found) }
 {
-    types.iter().enumerate().all(|(index, def)| index >= unknown || is_foreign_type(foreign, def))
-}
-
-fn is_below(id: TypeId, bound: usize) -> bool
-    ensures { IsTrue result ↔ (id < bound) }
-{
-    id.index() < bound
-}
-
-/// Whether an interface lists the first so many types alone.
-fn lists_unknown_alone(unknown: usize, interface: &Interface) -> bool
-    ensures { IsTrue result ↔ Each (λ (e : List ℕ × ℕ). e.1 < unknown) interface.now.types }
-{
-    for (_, id) in interface.types.iter() {
-        if !is_below(*id, unknown) {
-            return false;
+    let unknown = unresolved.unknown_type_spans.len();
+    let foreign = foreign_interfaces(alloc, &unresolved.foreign_deps)?.len();
+    for (index, interface) in unresolved.interfaces.as_slice().iter().enumerate() {
+        if let Some(at) = type_that_is_known(unknown, foreign, index, interface) {
+            let id = InterfaceId::from_index(index);
+            return Ok(Some(ShapePlace::InterfaceType(id, at)));
         }
     }
-    true
+    Ok(None)
 }
 
-/// The same of each foreign interface.
-fn all_list_unknown_alone(unknown: usize, foreign: usize, interfaces: &[Interface]) -> bool
-    ensures { IsTrue result ↔ ListUnknownAlone unknown foreign interfaces.now }
+/// The first type past a bound that an interface lists, if it is one of the first so many interfaces.
+fn type_that_is_known(
+    unknown: usize,
+    foreign: usize,
+    interface_index: usize,
+    interface: &Interface,
+) -> Option<usize>
+    ensures { FindsFirst (λ i. i) (λ _ (e : List ℕ × ℕ). interface_index < foreign → e.1 < unknown) interface.now.types result }
 {
-    interfaces.iter().enumerate().all(|(index, interface)| index >= foreign
-        || lists_unknown_alone(unknown, interface))
+    for index in 0..interface.types.len() {
+        let (_, id) = interface.types.entry_at(index);
+        if interface_index < foreign && id.index() >= unknown {
+            return Some(index);
+        }
+    }
+    None
 }
 
-/// Whether what has to be a resource is of kind `Unknown`.
-fn are_required_unknown(types: &[TypeDef], required: &[(TypeId, Span)]) -> bool
-    ensures { IsTrue result ↔ Each (λ (r : ℕ × Option (ℕ × ℕ)). SomeAt types.now r.0 (λ (def : TypeDef). def.kind ≡ kind.Unknown)) required.now }
+/// The first type that has to be a resource and isn't of kind `Unknown`.
+pub(crate) fn required(unresolved: &UnresolvedPackage) -> Option<ShapePlace>
+    ensures { Tells unresolved.now UnknownRequired result }
 {
-    for item in required {
+    let types = unresolved.types.as_slice();
+    for (index, item) in unresolved
+        .required_resource_types
+        .as_slice()
+        .iter()
+        .enumerate()
+    {
         if !is_unknown_at(types, item.0) {
-            return false;
+            return Some(ShapePlace::RequiredResource(index));
         }
     }
-    true
+    None
 }
 
 /// Whether there is such a type, of kind `Unknown`.

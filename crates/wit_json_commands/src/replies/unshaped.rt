@@ -5,11 +5,11 @@ ghost use Rattle.wit_json.specs.Values.{json_of_text, member};
 ghost use Rattle.wit_json.specs.steps.Members.{Adds};
 ghost use Rattle.wit_json_commands.specs.UnshapedJson.{fault_members, group_steps, json_of_unshaped, package_path, package_steps};
 ghost use Rattle.wit_json_commands.specs.steps.Paths.{steps_tokens};
-ghost use Rattle.wit_shape_faults.specs.FaultText.{place_text};
+ghost use Rattle.wit_shape.specs.FaultText.{place_text};
 
 use std::alloc::AllocError;
 use wit_json::{JsonText, WriteJson};
-use wit_shape_faults::{ShapeFault, ShapePlace};
+use wit_shape::{ShapeFault, ShapePlace};
 
 /// A package of a push that lacks its shape, and what it lacks first.
 #[derive(Clone, Copy)]

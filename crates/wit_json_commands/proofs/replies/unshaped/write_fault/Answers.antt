@@ -2,7 +2,7 @@ use Rattle.std.proofs.Common.{◌++◌, ℕ, List, OnOk, codes, subst}
 use Rattle.wit_json.specs.Values.{json_of_text, member}
 use Rattle.wit_json.specs.facts.MemberFacts.{then_more}
 use Rattle.wit_json.specs.steps.Members.{Adds}
-use Rattle.wit_shape_faults.specs.FaultText.{clause_name, place_text}
+use Rattle.wit_shape.specs.FaultText.{clause_name, place_text}
 use Rattle.wit_json_commands.proofs.PackagePaths.{added_last}
 use Rattle.wit_json_commands.proofs.replies.unshaped.write_fault.Goals as goal
 

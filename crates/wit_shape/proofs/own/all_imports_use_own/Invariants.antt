@@ -1,8 +1,0 @@
-use Rattle.wit_data.specs.facts.EachFacts.{EachBelow}
-use Rattle.wit_data.specs.Entries.{EntriesUseOwn}
-use Rattle.wit_data.specs.declared.world.World.{World}
-use Rattle.wit_shape.proofs.own.all_imports_use_own.Given as goal
-
--- the first ones do
-abbrev pub invariant-loop-index : goal.invariant-loop-index
-invariant-loop-index l = EachBelow l.index (λ w (world : World). EntriesUseOwn l.types w world.imports) l.worlds

@@ -1,7 +1,0 @@
-use Rattle.wit_data.specs.facts.EachFacts.{EachBelow}
-use Rattle.wit_data.specs.Ownership.{ListsOwn}
-use Rattle.wit_shape.proofs.owners.all_list_own.Given as goal
-
--- the first ones do
-abbrev pub invariant-loop-index : goal.invariant-loop-index
-invariant-loop-index l = EachBelow l.index (ListsOwn l.types) l.interfaces

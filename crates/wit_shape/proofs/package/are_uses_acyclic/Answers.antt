@@ -1,5 +1,0 @@
-use Rattle.std.proofs.Common.{rules}
-use Rattle.wit_shape.proofs.package.are_uses_acyclic.Goals as goal
-
-pub returns : goal.returns
-returns c = search rules

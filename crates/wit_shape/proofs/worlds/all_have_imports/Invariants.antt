@@ -1,7 +1,0 @@
-use Rattle.wit_data.specs.facts.EachFacts.{EachBelow}
-use Rattle.wit_data.specs.Entries.{ImportsAreAllowed}
-use Rattle.wit_shape.proofs.worlds.all_have_imports.Given as goal
-
--- the first ones have
-abbrev pub invariant-loop-index : goal.invariant-loop-index
-invariant-loop-index l = EachBelow l.index (ImportsAreAllowed l.interfaces l.types) l.worlds

@@ -1,0 +1,3 @@
+pub mod DistinctFacts
+pub mod FirstFacts
+pub mod IdFacts

@@ -1,8 +1,0 @@
-use Rattle.wit_data.specs.facts.EachFacts.{EachBelow}
-use Rattle.wit_data.specs.declared.world.World.{World}
-use Rattle.wit_data.specs.Entries.{EntriesUseOwn}
-use Rattle.wit_shape_faults.proofs.own.imports.Given as goal
-
--- it holds of the first ones
-abbrev pub invariant-loop-index : goal.invariant-loop-index
-invariant-loop-index l = EachBelow l.index (λ w (world : World). EntriesUseOwn l.unresolved.types w world.imports) l.unresolved.worlds

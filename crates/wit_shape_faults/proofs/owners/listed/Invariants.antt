@@ -1,8 +1,0 @@
-use Rattle.wit_data.specs.facts.EachFacts.{EachBelow}
-use Rattle.wit_data.specs.declared.types.TypeDef.{TypeDef}
-use Rattle.wit_data.specs.Ownership.{IsListed}
-use Rattle.wit_shape_faults.proofs.owners.listed.Given as goal
-
--- it holds of the first ones
-abbrev pub invariant-loop-index : goal.invariant-loop-index
-invariant-loop-index l = EachBelow l.index (λ i (def : TypeDef). IsListed l.unresolved.interfaces l.unresolved.worlds i def.name def.owner) l.unresolved.types

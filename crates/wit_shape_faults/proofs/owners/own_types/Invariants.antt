@@ -1,7 +1,0 @@
-use Rattle.wit_data.specs.facts.EachFacts.{EachBelow}
-use Rattle.wit_data.specs.Ownership.{ListsOwn}
-use Rattle.wit_shape_faults.proofs.owners.own_types.Given as goal
-
--- it holds of the first ones
-abbrev pub invariant-loop-index : goal.invariant-loop-index
-invariant-loop-index l = EachBelow l.index (ListsOwn l.unresolved.types) l.unresolved.interfaces

@@ -1,7 +1,0 @@
-use Rattle.wit_data.specs.facts.EachFacts.{EachBelow}
-use Rattle.wit_data.specs.Entries.{ImportsAreAllowed}
-use Rattle.wit_shape_faults.proofs.worlds.imports.Given as goal
-
--- it holds of the first ones
-abbrev pub invariant-loop-index : goal.invariant-loop-index
-invariant-loop-index l = EachBelow l.index (ImportsAreAllowed l.unresolved.interfaces l.unresolved.types) l.unresolved.worlds

@@ -1,4 +1,0 @@
-pub mod FaultText
-pub mod Faults
-pub mod First
-pub mod steps
