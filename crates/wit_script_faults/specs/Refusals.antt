@@ -1,6 +1,6 @@
 -- What is told of a refusal: its text, the lines at which it is, its way, and where more is said of its number; and of what
 -- isn't there.
-use Rattle.std.specs.Prelude.{◌≡◌, ℕ, ◌||◌, ◌==◌, not, List, [], ◌∷◌, ◌++◌, length, Option, Some, None, codes, decimal, if◌then◌else◌}
+use Rattle.std.specs.Prelude.{◌≡◌, ℕ, ◌||◌, ◌==◌, not, List, [], ◌++◌, length, Option, Some, None, codes, decimal, if◌then◌else◌}
 use Rattle.std.specs.Option.{option_map_or}
 use Rattle.wit_graph_data.specs.Error.{error_number, error_span}
 use Rattle.wit_graph_data.specs.ErrorText.{kind_text}

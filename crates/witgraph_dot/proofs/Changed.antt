@@ -2,6 +2,8 @@
 use Rattle.std.proofs.Common.{◌≡◌, ℕ, Bool, List, Option, Result, Ok, Err, true, false, ap, refl, sym, subst}
 use Rattle.std.specs.Prelude.{IfOk}
 use Rattle.wit_names.specs.declared.package_name.PackageName.{PackageName}
+use Rattle.wit_graph_data.specs.declared.error_kind.ResolveErrorKind.{ResolveErrorKind}
+use Rattle.wit_graph_data.specs.declared.error_kind.ResolveErrorKind.TheVariants.{OutOfMemory}
 use Rattle.wit_graph_data.specs.declared.graph.Graph.{Graph}
 use Rattle.wit_resolve_graph.specs.State.{State}
 use Rattle.wit_data.specs.declared.unresolved.UnresolvedPackageGroup.{UnresolvedPackageGroup}
@@ -11,6 +13,7 @@ use Rattle.wit_resolve_graph.specs.Step.{Step, command_of}
 use Rattle.wit_resolve_graph.specs.declared.command.Command.{Command}
 use Rattle.wit_resolve_graph.specs.declared.command.Command.TheVariants.{Merge}
 use Rattle.wit_resolve_graph.specs.declared.command.Reply.{Reply}
+use Rattle.wit_resolve_graph.specs.declared.command.Reply.TheVariants as reply
 use Rattle.witgraph_dot.specs.Drawn.{ListedState, listed_state}
 use Rattle.witgraph_dot.specs.Made.{AfterChange, AfterMerge, Carries, IsDone, merged_imports, merged_includes}
 use Rattle.witgraph_dot.specs.Transformed.{if_done, imports_after, includes_after}
@@ -24,6 +27,17 @@ stays true before after same = same
 stays false before after same = same
 
 -- ---- by the reply to a command
+
+-- a refusal that isn't want of memory
+pub refused-done : (kind : ResolveErrorKind) → (kind ≡ OutOfMemory → ⊥) → IsDone (reply.Refused kind) false
+refused-done OutOfMemory other = absurd (other refl)
+refused-done kind other = refl
+
+-- a command that is carried out
+pub others-done : (answer : Reply) → ((kind : ResolveErrorKind) → answer ≡ reply.Refused kind → ⊥) → (answer ≡ reply.NoWorld → ⊥) → IsDone answer true
+others-done (reply.Refused kind) refused none = absurd (refused kind refl)
+others-done reply.NoWorld refused none = absurd (none refl)
+others-done answer refused none = refl
 
 module _ {E : Type 0} (told : Result Bool E) (answer : Reply) where
   pub carried-as : (before after : State) (command : Command) → Step before command answer after → IfOk told (λ done. IsDone answer done)

@@ -1,5 +1,5 @@
 -- Commands on the graphs of a script, as `execute` has them, with what lines list.
-use Rattle.std.proofs.Common.{◌≡◌, ◌⊎◌, ◌∙◌, ℕ, Bool, List, [], ◌∷◌, ◌++◌, Option, None, Some, Result, Ok, Err, true, false, refl, inl, inr, sym, ap, subst, is_some, codes, option_map, MatchOption}
+use Rattle.std.proofs.Common.{◌≡◌, ◌⊎◌, ◌∙◌, ℕ, Bool, List, [], ◌∷◌, ◌++◌, Option, None, Some, Result, Ok, Err, true, refl, inl, inr, sym, ap, subst, is_some, codes, option_map, MatchOption}
 use Rattle.std.specs.Prelude.{IfOk}
 use Rattle.wit_commands.specs.Change.{is_setting}
 use Rattle.wit_commands.specs.declared.change.Change.{Change}
@@ -18,7 +18,7 @@ use Rattle.wit_script.specs.Ready.{CanAllBeAsked}
 use Rattle.wit_script.specs.World.{world_text_at}
 use Rattle.wit_script.specs.declared.answer.Stage.{Stage}
 use Rattle.witgraph_dot.specs.Drawn.{Follows, FollowsAll, ListedStage, ListedState, graphs, graphs_of, listed_graphs, listed_state, new_listed_state}
-use Rattle.witgraph_dot.specs.Made.{AfterChange, AfterMerge, AllMake, ChangeMakes, CommandMakes, MergeMakes, OtherMakes, with_working_of, working, working_of}
+use Rattle.witgraph_dot.specs.Made.{AfterChange, AfterMerge, AllMake, ChangeMakes, CommandMakes, MergeMakes, OtherMakes, with_working_of, working_of}
 use Rattle.witgraph_dot.specs.declared.listed_graph.ListedGraph.{ListedGraph}
 
 -- ---- what the graphs of a script are then

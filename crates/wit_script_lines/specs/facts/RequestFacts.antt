@@ -1,5 +1,5 @@
 -- A command that a line asks by its own words brings no package.
-use Rattle.std.proofs.Common.{◌≡◌, ◌∙◌, ℕ, Bool, true, false, cond, List, [], ◌∷◌, Option, Some, None, ap, subst, codes, option_and_then, option_map, bytes_eq}
+use Rattle.std.proofs.Common.{◌≡◌, ◌∙◌, ℕ, Bool, true, false, cond, List, [], ◌∷◌, Option, Some, None, ap, subst, codes, option_map, bytes_eq}
 use Rattle.wit_commands.specs.declared.change.Change.TheVariants as change
 use Rattle.wit_names.specs.declared.package_name.PackageName.{PackageName}
 use Rattle.wit_names.specs.declared.track.TrackRule.{TrackRule}
@@ -12,7 +12,6 @@ use Rattle.wit_script_lines.specs.Token.{package_name_of, part_of}
 use Rattle.wit_script_lines.specs.declared.package_line.PackageLine.{PackageLine}
 use Rattle.wit_script_lines.specs.declared.request.Request.{Request}
 use Rattle.wit_script_lines.specs.declared.request.Request.TheVariants as request
-use Rattle.wit_script_lines.specs.declared.statement.Statement.{Statement}
 use Rattle.wit_script_lines.specs.declared.statement.Statement.TheVariants as says
 use Rattle.wit_script_lines.specs.facts.OptionFacts.{map-of, step-of}
 use Rattle.wit_script_lines.specs.steps.Request.{BringsNone}

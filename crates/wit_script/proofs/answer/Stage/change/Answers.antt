@@ -1,4 +1,4 @@
-use Rattle.std.proofs.Common.{◌≡◌, ◌∙◌, Some, None, ap, rules, subst, Bool}
+use Rattle.std.proofs.Common.{◌≡◌, Some, None, rules}
 use Rattle.wit_script.proofs.Staged.{changes-first, changes-second}
 use Rattle.wit_script.proofs.answer.Stage.change.Goals as goal
 
