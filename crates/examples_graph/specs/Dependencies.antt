@@ -22,13 +22,16 @@ alias_in i name t = type_in i name (kind.Type_ (type.Id t))
 -- t of b; d has another name of c's t, and then one of a's
 abbrev pub four_types : List TypeDef
 four_types =
-    number_in 0 (codes "t") ∷ alias_in 1 (codes "t") 0 ∷ alias_in 1 (codes "t2") 0 ∷ alias_in 1 (codes "u") 1 ∷ alias_in 2 (codes "t") 1
+    number_in 0 (codes "t") ∷ alias_in 1 (codes "t") 0 ∷ alias_in 1 (codes "t2") 0
+    ∷ alias_in 1 (codes "u") 1 ∷ alias_in 2 (codes "t") 1
     ∷ alias_in 3 (codes "t") 4 ∷ alias_in 3 (codes "s") 0 ∷ []
 
 abbrev pub four : List Interface
 four =
-    interface_of (Some (codes "a")) ((codes "t", 0) ∷ []) ∷ interface_of (Some (codes "b")) ((codes "t", 1) ∷ (codes "t2", 2) ∷ (codes "u", 3) ∷ [])
-    ∷ interface_of (Some (codes "c")) ((codes "t", 4) ∷ []) ∷ interface_of (Some (codes "d")) ((codes "t", 5) ∷ (codes "s", 6) ∷ []) ∷ []
+    interface_of (Some (codes "a")) ((codes "t", 0) ∷ [])
+    ∷ interface_of (Some (codes "b")) ((codes "t", 1) ∷ (codes "t2", 2) ∷ (codes "u", 3) ∷ [])
+    ∷ interface_of (Some (codes "c")) ((codes "t", 4) ∷ [])
+    ∷ interface_of (Some (codes "d")) ((codes "t", 5) ∷ (codes "s", 6) ∷ []) ∷ []
 
 -- what an interface uses directly
 abbrev pub deps_of : ℕ → List ℕ
@@ -55,7 +58,13 @@ pub record ExamplesOfDependencies : Type 0 where
 
 -- package foo:NAME with an interface of this name
 abbrev pub package_named : List ℕ → ℕ → List (List ℕ × ℕ) → Package
-package_named name i worlds = record { name = record { namespace = codes "foo"; name = name; version = None }; docs = no_docs; interfaces = (name, i) ∷ []; worlds = worlds }
+package_named name i worlds =
+    record {
+      name = record { namespace = codes "foo"; name = name; version = None };
+      docs = no_docs;
+      interfaces = (name, i) ∷ [];
+      worlds = worlds;
+    }
 
 -- an interface of package p
 abbrev pub interface_in : ℕ → List ℕ → List (List ℕ × ℕ) → Interface
@@ -65,8 +74,11 @@ interface_in p name types = record (interface_of (Some name) types) { «package�
 -- and foo:a has this table of them
 abbrev pub order_of : List TypeDef → List (List ℕ × ℕ) → List World → List (List ℕ × ℕ) → List ℕ
 order_of types of_a worlds table =
-    topological_packages types (interface_in 0 (codes "a") of_a ∷ interface_in 1 (codes "b") ((codes "t", 0) ∷ []) ∷ interface_in 2 (codes "c") ((codes "t", 1) ∷ []) ∷ []) worlds
-    (package_named (codes "a") 0 table ∷ package_named (codes "b") 1 [] ∷ package_named (codes "c") 2 [] ∷ [])
+    topological_packages types
+    (interface_in 0 (codes "a") of_a ∷ interface_in 1 (codes "b") ((codes "t", 0) ∷ [])
+    ∷ interface_in 2 (codes "c") ((codes "t", 1) ∷ []) ∷ []) worlds
+    (package_named (codes "a") 0 table ∷ package_named (codes "b") 1 []
+    ∷ package_named (codes "c") 2 [] ∷ [])
 
 -- no package depends on another
 abbrev pub apart : List ℕ
@@ -74,15 +86,21 @@ apart = order_of (number_in 1 (codes "t") ∷ number_in 2 (codes "t") ∷ []) []
 
 -- a uses c
 abbrev pub a_uses_c : List ℕ
-a_uses_c = order_of (number_in 1 (codes "t") ∷ number_in 2 (codes "t") ∷ alias_in 0 (codes "t") 1 ∷ []) ((codes "t", 2) ∷ []) [] []
+a_uses_c =
+    order_of (number_in 1 (codes "t") ∷ number_in 2 (codes "t") ∷ alias_in 0 (codes "t") 1 ∷ [])
+    ((codes "t", 2) ∷ []) [] []
 
 -- a uses c and then b
 abbrev pub a_uses_both : List ℕ
-a_uses_both = order_of (number_in 1 (codes "t") ∷ number_in 2 (codes "t") ∷ alias_in 0 (codes "t") 1 ∷ alias_in 0 (codes "s") 0 ∷ []) ((codes "t", 2) ∷ (codes "s", 3) ∷ []) [] []
+a_uses_both =
+    order_of (number_in 1 (codes "t") ∷ number_in 2 (codes "t") ∷ alias_in 0 (codes "t") 1
+    ∷ alias_in 0 (codes "s") 0 ∷ []) ((codes "t", 2) ∷ (codes "s", 3) ∷ []) [] []
 
 -- a uses b, and b uses c
 abbrev pub in_a_row : List ℕ
-in_a_row = order_of (alias_in 1 (codes "t") 1 ∷ number_in 2 (codes "t") ∷ alias_in 0 (codes "t") 0 ∷ []) ((codes "t", 2) ∷ []) [] []
+in_a_row =
+    order_of (alias_in 1 (codes "t") 1 ∷ number_in 2 (codes "t") ∷ alias_in 0 (codes "t") 0 ∷ [])
+    ((codes "t", 2) ∷ []) [] []
 
 -- world w of foo:a imports c
 abbrev pub imports_c : List ℕ

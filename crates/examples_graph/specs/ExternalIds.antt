@@ -12,11 +12,14 @@ use Rattle.wit_graph_data.specs.examples.Samples.{function_of, no_docs, type_of}
 
 -- a number of a world with this external id
 abbrev pub number_with : List ℕ → Option (List ℕ) → TypeDef
-number_with name id = record (type_of (Some name) (kind.Type_ type.U32) (owner.World 0)) { external_id = id }
+number_with name id =
+    record (type_of (Some name) (kind.Type_ type.U32) (owner.World 0)) { external_id = id }
 
 -- types with an external id, with another one, and with none
 abbrev pub three_types : List TypeDef
-three_types = number_with (codes "t") (Some (codes "one")) ∷ number_with (codes "u") (Some (codes "two")) ∷ number_with (codes "v") None ∷ []
+three_types =
+    number_with (codes "t") (Some (codes "one")) ∷ number_with (codes "u") (Some (codes "two"))
+    ∷ number_with (codes "v") None ∷ []
 
 -- interface 0, and a function f, with this external id
 abbrev pub interface_with : Option (List ℕ) → WorldItem

@@ -47,10 +47,13 @@ round = [] ∷ (0 ∷ 2 ∷ []) ∷ (1 ∷ []) ∷ []
 
 pub record ExamplesOfFaults : Type 0 where
   -- an interface that says to which package it belongs
-  pub first_interface : IsFirstFault (placed (placed_i ∷ x ∷ [])) (fault_of clause.UnplacedInterfaces (place.Interface 0))
-  pub second_interface : IsFirstFault (placed (foreign_i ∷ placed_x ∷ [])) (fault_of clause.UnplacedInterfaces (place.Interface 1))
+  pub first_interface : IsFirstFault (placed (placed_i ∷ x ∷ []))
+      (fault_of clause.UnplacedInterfaces (place.Interface 0))
+  pub second_interface : IsFirstFault (placed (foreign_i ∷ placed_x ∷ []))
+      (fault_of clause.UnplacedInterfaces (place.Interface 1))
   -- both: the first is told
-  pub first_of_two : IsFirstFault (placed (placed_i ∷ placed_x ∷ [])) (fault_of clause.UnplacedInterfaces (place.Interface 0))
+  pub first_of_two : IsFirstFault (placed (placed_i ∷ placed_x ∷ []))
+      (fault_of clause.UnplacedInterfaces (place.Interface 0))
   -- a world that does
   pub world : IsFirstFault with_placed_w (fault_of clause.UnplacedWorlds (place.World 0))
   -- there is no span for the other package
@@ -62,20 +65,26 @@ pub record ExamplesOfFaults : Type 0 where
   pub last_clause : slice_get clauses 31 ≡ Some clause.Uses
   pub count : length clauses ≡ 32
   pub in_order : IsBefore clause.UnplacedWorlds clause.ForeignSpans
-  pub text : fault_text (fault_of clause.OwnersFunctions (place.Function 1 0)) ≡ codes "interfaces[1].functions[0] breaks owners.functions: a function stands under its name"
+  pub text : fault_text (fault_of clause.OwnersFunctions (place.Function 1 0))
+      ≡ codes "interfaces[1].functions[0] breaks owners.functions: a function stands under its name"
 
 pub record NearMissesOfFaults : Type 0 where
   -- the package that has its shape has none
   pub none : (f : ShapeFault) → IsFirstFault shaped_package f → ⊥
   -- of two things the second
-  pub second_of_two : IsFirstFault (placed (placed_i ∷ placed_x ∷ [])) (fault_of clause.UnplacedInterfaces (place.Interface 1)) → ⊥
+  pub second_of_two : IsFirstFault (placed (placed_i ∷ placed_x ∷ []))
+      (fault_of clause.UnplacedInterfaces (place.Interface 1)) → ⊥
   -- a thing that breaks nothing
-  pub other_interface : IsFirstFault (placed (foreign_i ∷ placed_x ∷ [])) (fault_of clause.UnplacedInterfaces (place.Interface 0)) → ⊥
-  pub other_list : IsFirstFault (placed (placed_i ∷ x ∷ [])) (fault_of clause.UnplacedInterfaces (place.World 0)) → ⊥
+  pub other_interface : IsFirstFault (placed (foreign_i ∷ placed_x ∷ []))
+      (fault_of clause.UnplacedInterfaces (place.Interface 0)) → ⊥
+  pub other_list : IsFirstFault (placed (placed_i ∷ x ∷ []))
+      (fault_of clause.UnplacedInterfaces (place.World 0)) → ⊥
   -- a clause that the package keeps
-  pub kept : IsFirstFault (placed (placed_i ∷ x ∷ [])) (fault_of clause.ForeignSpans place.ForeignDepSpans) → ⊥
+  pub kept : IsFirstFault (placed (placed_i ∷ x ∷ []))
+      (fault_of clause.ForeignSpans place.ForeignDepSpans) → ⊥
   -- of two clauses the later
-  pub later_clause : IsFirstFault (record (placed (placed_i ∷ x ∷ [])) { worlds = placed_w ∷ [] }) (fault_of clause.UnplacedWorlds (place.World 0)) → ⊥
+  pub later_clause : IsFirstFault (record (placed (placed_i ∷ x ∷ [])) { worlds = placed_w ∷ [] })
+      (fault_of clause.UnplacedWorlds (place.World 0)) → ⊥
   pub out_of_order : IsBefore clause.ForeignSpans clause.UnplacedWorlds → ⊥
   pub itself : IsBefore clause.Uses clause.Uses → ⊥
   -- such packages don't have their shape
@@ -83,4 +92,5 @@ pub record NearMissesOfFaults : Type 0 where
   -- a node that is on no round yet
   pub not_yet : IsFirstOnCycle round 1 → ⊥
   -- an index from 1
-  pub not_from_one : fault_text (fault_of clause.OwnersFunctions (place.Function 1 0)) ≢ codes "interfaces[2].functions[1] breaks owners.functions: a function stands under its name"
+  pub not_from_one : fault_text (fault_of clause.OwnersFunctions (place.Function 1 0))
+      ≢ codes "interfaces[2].functions[1] breaks owners.functions: a function stands under its name"

@@ -29,8 +29,10 @@ type_entry label t = (key.Name label, item.Type_ t None)
 
 -- a function entry with a parameter, and with a result where one is named
 abbrev pub function_entry_of : List ℕ → ℕ → Option ℕ → Entry
-function_entry_of label t None = (key.Name label, item.Function (function_of label (type.Id t ∷ []) None))
-function_entry_of label t (Some r) = (key.Name label, item.Function (function_of label (type.Id t ∷ []) (Some (type.Id r))))
+function_entry_of label t None =
+    (key.Name label, item.Function (function_of label (type.Id t ∷ []) None))
+function_entry_of label t (Some r) =
+    (key.Name label, item.Function (function_of label (type.Id t ∷ []) (Some (type.Id r))))
 
 -- the number of world w under a label
 abbrev pub number_of : List ℕ → ℕ → TypeDef
@@ -55,7 +57,9 @@ base_types = number_of (codes "t") 0 ∷ list_of 0 ∷ byte_of 0 ∷ unnamed (ki
 -- world base: it imports an interface x without a name, which has u, its type t and a function f from list<t>
 -- to list<u8>; it exports a function g of t and an interface y without a name
 abbrev pub base : World
-base = world_of (codes "base") (labelled_entry (codes "x") 0 ∷ type_entry (codes "t") 0 ∷ function_entry_of (codes "f") 1 (Some 3) ∷ [])
+base =
+    world_of (codes "base") (labelled_entry (codes "x") 0 ∷ type_entry (codes "t") 0
+    ∷ function_entry_of (codes "f") 1 (Some 3) ∷ [])
     (function_entry_of (codes "g") 0 None ∷ labelled_entry (codes "y") 1 ∷ [])
 
 -- the interfaces x and y
@@ -89,7 +93,8 @@ including worlds = adding no_features with_base (record (bare main_name) {
 -- new names for all labels of base
 abbrev pub second_names : List IncludeName
 second_names =
-    named_as (codes "x") (codes "x2") ∷ named_as (codes "t") (codes "t2") ∷ named_as (codes "f") (codes "f2") ∷ named_as (codes "g") (codes "g2")
+    named_as (codes "x") (codes "x2") ∷ named_as (codes "t") (codes "t2")
+    ∷ named_as (codes "f") (codes "f2") ∷ named_as (codes "g") (codes "g2")
     ∷ named_as (codes "y") (codes "y2") ∷ []
 
 -- foo:bar and foo:main with these types, interfaces and worlds behind those of foo:bar
@@ -98,7 +103,9 @@ grown types interfaces worlds table = record {
   types = base_types ++ types;
   interfaces = base_interfaces ++ interfaces;
   worlds = base ∷ worlds;
-  packages = foo_bar_of [] ((codes "base", 0) ∷ []) ∷ record { name = main_name; docs = no_docs; interfaces = []; worlds = table } ∷ [];
+  packages =
+      foo_bar_of [] ((codes "base", 0) ∷ [])
+      ∷ record { name = main_name; docs = no_docs; interfaces = []; worlds = table } ∷ [];
   package_names = (foo_bar, 0) ∷ (main_name, 1) ∷ [];
 }
 
@@ -118,7 +125,8 @@ copied_interfaces u = unnamed_interface 1 ((codes "u", u) ∷ []) ∷ unnamed_in
 -- y are interfaces x and y; list<u8> is nobody's and stays
 abbrev pub world_like_base : List ℕ → ℕ → ℕ → ℕ → ℕ → World
 world_like_base name t l x y =
-    main_world name (labelled_entry (codes "x") x ∷ type_entry (codes "t") t ∷ function_entry_of (codes "f") l (Some 3) ∷ [])
+    main_world name (labelled_entry (codes "x") x ∷ type_entry (codes "t") t
+    ∷ function_entry_of (codes "f") l (Some 3) ∷ [])
     (function_entry_of (codes "g") t None ∷ labelled_entry (codes "y") y ∷ [])
 
 -- a world with two copies, the second under other names
@@ -127,7 +135,8 @@ world_twice =
     main_world (codes "d")
     (labelled_entry (codes "x") 2 ∷ labelled_entry (codes "x2") 4 ∷ type_entry (codes "t") 4 ∷ type_entry (codes "t2") 7
     ∷ function_entry_of (codes "f") 5 (Some 3) ∷ function_entry_of (codes "f2") 8 (Some 3) ∷ [])
-    (function_entry_of (codes "g") 4 None ∷ function_entry_of (codes "g2") 7 None ∷ labelled_entry (codes "y") 3 ∷ labelled_entry (codes "y2") 5 ∷ [])
+    (function_entry_of (codes "g") 4 None ∷ function_entry_of (codes "g2") 7 None
+    ∷ labelled_entry (codes "y") 3 ∷ labelled_entry (codes "y2") 5 ∷ [])
 
 -- ---- the cases
 
@@ -135,15 +144,21 @@ world_twice =
 pub record ExamplesOfIncludedWorlds : Type 0 where
   -- once: a list, an interface without a name and its type, and what exports name are copied with the world's type
   pub once : added (including ((codes "d", include_with [] ∷ []) ∷ []))
-      ≡ grown (copied_types (codes "t") 1 4 2) (copied_interfaces 6) (world_like_base (codes "d") 4 5 2 3 ∷ []) ((codes "d", 1) ∷ [])
+      ≡ grown (copied_types (codes "t") 1 4 2) (copied_interfaces 6)
+      (world_like_base (codes "d") 4 5 2 3 ∷ []) ((codes "d", 1) ∷ [])
   -- and no cause holds against it
   pub accepted : AdditionIsAccepted (including ((codes "d", include_with [] ∷ []) ∷ []))
   -- twice in one world, under two sets of names
   pub twice : added (including ((codes "d", include_with [] ∷ include_with second_names ∷ []) ∷ []))
-      ≡ grown (copied_types (codes "t") 1 4 2 ++ copied_types (codes "t2") 1 7 4) (copied_interfaces 6 ++ copied_interfaces 9) (world_twice ∷ []) ((codes "d", 1) ∷ [])
+      ≡ grown (copied_types (codes "t") 1 4 2 ++ copied_types (codes "t2") 1 7 4)
+      (copied_interfaces 6 ++ copied_interfaces 9) (world_twice ∷ []) ((codes "d", 1) ∷ [])
   -- in two worlds: each has copies of its own
-  pub in_two : added (including ((codes "d", include_with [] ∷ []) ∷ (codes "e", include_with [] ∷ []) ∷ []))
-      ≡ grown (copied_types (codes "t") 1 4 2 ++ copied_types (codes "t") 2 7 4) (copied_interfaces 6 ++ copied_interfaces 9)
-      (world_like_base (codes "d") 4 5 2 3 ∷ world_like_base (codes "e") 7 8 4 5 ∷ []) ((codes "d", 1) ∷ (codes "e", 2) ∷ [])
+  pub in_two : added
+      (including ((codes "d", include_with [] ∷ []) ∷ (codes "e", include_with [] ∷ []) ∷ []))
+      ≡ grown (copied_types (codes "t") 1 4 2 ++ copied_types (codes "t") 2 7 4)
+      (copied_interfaces 6 ++ copied_interfaces 9)
+      (world_like_base (codes "d") 4 5 2 3 ∷ world_like_base (codes "e") 7 8 4 5 ∷ [])
+      ((codes "d", 1) ∷ (codes "e", 2) ∷ [])
   -- the world doesn't share them
-  pub shared : added (including ((codes "d", include_with [] ∷ []) ∷ [])) ≡ grown [] [] (world_like_base (codes "d") 0 1 0 1 ∷ []) ((codes "d", 1) ∷ []) → ⊥
+  pub shared : added (including ((codes "d", include_with [] ∷ []) ∷ []))
+      ≡ grown [] [] (world_like_base (codes "d") 0 1 0 1 ∷ []) ((codes "d", 1) ∷ []) → ⊥

@@ -57,11 +57,15 @@ imports_alone imports = record { imports = imports; exports = [] }
 
 -- world 1 of foo:bar, empty so far, with world 0 included
 abbrev pub derived : PartiallyLinked
-derived = with_include_of 0 1 t_to_t2 0 (record { graph = base_graph (world_type (codes "t") 0 ∷ []); lists = imports_alone [] })
+derived =
+    with_include_of 0 1 t_to_t2 0
+    (record { graph = base_graph (world_type (codes "t") 0 ∷ []); lists = imports_alone [] })
 
 -- the lists of world 1 of a package, with world 0 of package 0 included that imports a under `@since`
 abbrev pub since_included : ℕ → List Entry → EntryLists
-since_included home imports = (with_include_of home 1 [] 0 (record { graph = sample (gated_entry since_one ∷ []) []; lists = imports_alone imports })).lists
+since_included home imports =
+    (with_include_of home 1 [] 0 (record
+    { graph = sample (gated_entry since_one ∷ []) []; lists = imports_alone imports })).lists
 
 -- ---- the cases
 
@@ -81,25 +85,40 @@ pub record ExamplesOfIncludes : Type 0 where
   pub shadows : IsShadowed (function_entry (codes "f") ∷ []) (key.Name (codes "f") ∷ []) (codes "f")
   pub twice : IsShadowed [] (key.Name (codes "f") ∷ key.Name (codes "f") ∷ []) (codes "f")
   pub interfaces_never : (n : List ℕ) → IsShadowed (entry_of 0 ∷ []) (key.Interface 0 ∷ []) n → ⊥
-  pub renames : IsRenamed (world_of (codes "w") (function_entry (codes "[method]r.m") ∷ []) []) (named_as (codes "r") (codes "r2"))
-  pub renames_nothing : IsRenamed (world_of (codes "w") (entry_of 0 ∷ []) []) (named_as (codes "x") (codes "y")) → ⊥
+  pub renames : IsRenamed (world_of (codes "w") (function_entry (codes "[method]r.m") ∷ []) [])
+      (named_as (codes "r") (codes "r2"))
+  pub renames_nothing : IsRenamed (world_of (codes "w") (entry_of 0 ∷ []) [])
+      (named_as (codes "x") (codes "y")) → ⊥
   -- lists
-  pub joins : joined_entries false (entry_of 0 ∷ []) (entry_of 0 ∷ entry_of 1 ∷ []) ≡ entry_of 0 ∷ entry_of 1 ∷ []
-  pub joins_gate : joined_entries false (entry_of 0 ∷ []) (gated_entry gate_f ∷ []) ≡ gated_entry gate_f ∷ []
+  pub joins : joined_entries false (entry_of 0 ∷ []) (entry_of 0 ∷ entry_of 1 ∷ [])
+      ≡ entry_of 0 ∷ entry_of 1 ∷ []
+  pub joins_gate : joined_entries false (entry_of 0 ∷ []) (gated_entry gate_f ∷ [])
+      ≡ gated_entry gate_f ∷ []
   -- copies: of a type of the world and of a list of it; not of a type of an interface, nor of a list of numbers
   pub own_type : is_copied (base_graph (world_type (codes "t") 0 ∷ [])) 0 base_world 0 ≡ true
-  pub interface_type : is_copied (sample [] []) 0 (world_of (codes "w") (entry_of 0 ∷ []) []) 0 ≡ false
-  pub own_list : is_copied (base_graph (world_type (codes "t") 0 ∷ unnamed (kind.List (type.Id 0)) ∷ [])) 0 (world_of (codes "base") (taking 1 ∷ []) []) 1 ≡ true
-  pub other_list : is_copied (base_graph (unnamed (kind.List type.U32) ∷ [])) 0 (world_of (codes "base") (taking 0 ∷ []) []) 0 ≡ false
+  pub interface_type : is_copied (sample [] []) 0 (world_of (codes "w") (entry_of 0 ∷ []) []) 0
+      ≡ false
+  pub own_list : is_copied
+      (base_graph (world_type (codes "t") 0 ∷ unnamed (kind.List (type.Id 0)) ∷ [])) 0
+      (world_of (codes "base") (taking 1 ∷ []) []) 1 ≡ true
+  pub other_list : is_copied (base_graph (unnamed (kind.List type.U32) ∷ [])) 0
+      (world_of (codes "base") (taking 0 ∷ []) []) 0 ≡ false
 
 -- a world included, and what isn't that
 pub record ExamplesOfIncluded : Type 0 where
   -- world 1 includes world 0 with t under the name t2: it has its own t2, and its f takes that
-  pub copied : derived ≡ record { graph = base_graph (world_type (codes "t") 0 ∷ world_type (codes "t2") 1 ∷ []); lists = imports_alone derived_imports }
+  pub copied : derived
+      ≡ record {
+        graph = base_graph (world_type (codes "t") 0 ∷ world_type (codes "t2") 1 ∷ []);
+        lists = imports_alone derived_imports;
+      }
   -- the included world's own t doesn't do, nor does the old label, nor f of the old t
-  pub shared : derived.lists ≡ imports_alone ((key.Name (codes "t2"), item.Type_ 0 None) ∷ taking 1 ∷ []) → ⊥
-  pub old_label : derived.lists ≡ imports_alone ((key.Name (codes "t"), item.Type_ 1 None) ∷ taking 1 ∷ []) → ⊥
-  pub old_parameter : derived.lists ≡ imports_alone ((key.Name (codes "t2"), item.Type_ 1 None) ∷ taking 0 ∷ []) → ⊥
+  pub shared : derived.lists
+      ≡ imports_alone ((key.Name (codes "t2"), item.Type_ 0 None) ∷ taking 1 ∷ []) → ⊥
+  pub old_label : derived.lists
+      ≡ imports_alone ((key.Name (codes "t"), item.Type_ 1 None) ∷ taking 1 ∷ []) → ⊥
+  pub old_parameter : derived.lists
+      ≡ imports_alone ((key.Name (codes "t2"), item.Type_ 1 None) ∷ taking 0 ∷ []) → ⊥
   -- under `@since` a comes from another package without it, from one's own with it
   pub since_other : since_included 1 [] ≡ imports_alone (entry_of 0 ∷ [])
   pub since_own : since_included 0 [] ≡ imports_alone (gated_entry since_one ∷ [])

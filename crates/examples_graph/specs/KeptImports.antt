@@ -15,8 +15,10 @@ use Rattle.wit_transform.specs.Transformed.{importized, transformed}
 -- the sample, in which interface b uses a, and a world that defines a type k and has another name u of the type of a
 abbrev pub with_types : List ℕ → List Entry → List Entry → Graph
 with_types name imports exports = record (named name imports exports) {
-  types = type_in 0 (codes "t") (kind.Type_ type.U32) ∷ type_in 1 (codes "t") (kind.Type_ (type.Id 0))
-      ∷ type_of (Some (codes "k")) (kind.Type_ type.U32) (owner.World 0) ∷ type_of (Some (codes "u")) (kind.Type_ (type.Id 0)) (owner.World 0) ∷ [];
+  types =
+      type_in 0 (codes "t") (kind.Type_ type.U32) ∷ type_in 1 (codes "t") (kind.Type_ (type.Id 0))
+      ∷ type_of (Some (codes "k")) (kind.Type_ type.U32) (owner.World 0)
+      ∷ type_of (Some (codes "u")) (kind.Type_ (type.Id 0)) (owner.World 0) ∷ [];
 }
 
 -- the two types
@@ -28,7 +30,8 @@ u = (key.Name (codes "u"), item.Type_ 3 None)
 
 -- the world with these lists whose exports became imports
 abbrev pub typed_transformed : List Entry → List Entry → Graph
-typed_transformed imports exports = transformed (with_types (codes "w") imports exports) 0 (importized None)
+typed_transformed imports exports =
+    transformed (with_types (codes "w") imports exports) 0 (importized None)
 
 -- and the graph in which it imports these
 abbrev pub typed_result : List Entry → Graph
@@ -67,13 +70,18 @@ pub record ExamplesOfDroppedImports : Type 0 where
   pub interface_not_kept : plain_transformed (a ∷ b ∷ []) (a ∷ []) ≢ plain_result (a ∷ b ∷ [])
   -- and under a label
   pub labelled : plain_transformed (labelled_a ∷ []) (a ∷ []) ≡ plain_result (a ∷ [])
-  pub labelled_not_kept : plain_transformed (labelled_a ∷ []) (a ∷ []) ≢ plain_result (labelled_a ∷ a ∷ [])
+  pub labelled_not_kept : plain_transformed (labelled_a ∷ []) (a ∷ [])
+      ≢ plain_result (labelled_a ∷ a ∷ [])
   -- a function goes
   pub function : plain_transformed (function_f [] ∷ []) (a ∷ []) ≡ plain_result (a ∷ [])
-  pub function_not_kept : plain_transformed (function_f [] ∷ []) (a ∷ []) ≢ plain_result (a ∷ function_f [] ∷ [])
+  pub function_not_kept : plain_transformed (function_f [] ∷ []) (a ∷ [])
+      ≢ plain_result (a ∷ function_f [] ∷ [])
   -- so where a function stands under one label on both sides, that of the exports is the one that is imported then
-  pub same_label : plain_transformed (function_f [] ∷ []) (function_f (type.U32 ∷ []) ∷ []) ≡ plain_result (function_f (type.U32 ∷ []) ∷ [])
-  pub not_that_of_the_imports : plain_transformed (function_f [] ∷ []) (function_f (type.U32 ∷ []) ∷ []) ≢ plain_result (function_f [] ∷ [])
+  pub same_label : plain_transformed (function_f [] ∷ []) (function_f (type.U32 ∷ []) ∷ [])
+      ≡ plain_result (function_f (type.U32 ∷ []) ∷ [])
+  pub not_that_of_the_imports : plain_transformed (function_f [] ∷ [])
+      (function_f (type.U32 ∷ []) ∷ []) ≢ plain_result (function_f [] ∷ [])
   -- where nothing is exported nothing stays
   pub all : plain_transformed (a ∷ b ∷ function_f [] ∷ []) [] ≡ plain_result []
-  pub not_as_it_was : plain_transformed (a ∷ b ∷ function_f [] ∷ []) [] ≢ plain_result (a ∷ b ∷ function_f [] ∷ [])
+  pub not_as_it_was : plain_transformed (a ∷ b ∷ function_f [] ∷ []) []
+      ≢ plain_result (a ∷ b ∷ function_f [] ∷ [])

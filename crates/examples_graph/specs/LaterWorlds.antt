@@ -36,20 +36,31 @@ w_of_alike = loose_world (codes "w") alike_entries [] []
 
 -- a world v of these imports, and w
 abbrev pub before_alike : List Entry → Addition
-before_alike imports = adding no_features empty_graph (package_of [] [] (loose_world (codes "v") imports [] [] ∷ w_of_alike ∷ []))
+before_alike imports =
+    adding no_features empty_graph
+    (package_of [] [] (loose_world (codes "v") imports [] [] ∷ w_of_alike ∷ []))
 
 -- the error that tells of w
 abbrev pub w_is_alike : ResolveErrorKind
-w_is_alike = Semantic None (codes "import `AB` in world `w` conflicts with import `ab` (names must be strongly unique)") cause.NotStronglyUnique
+w_is_alike =
+    Semantic None
+    (codes "import `AB` in world `w` conflicts with import `ab` (names must be strongly unique)")
+    cause.NotStronglyUnique
 
 -- the same world in a package without a version, beside an interface under `@since`
 abbrev pub alike_unversioned : Addition
-alike_unversioned = adding no_features empty_graph (record (with_lists alike_entries []) { interfaces = loose_interface (codes "i") [] since_one ∷ [] })
+alike_unversioned =
+    adding no_features empty_graph (record (with_lists alike_entries [])
+    { interfaces = loose_interface (codes "i") [] since_one ∷ [] })
 
 -- such a package whose world includes another, of foo:bar
 abbrev pub including_unversioned : Addition
 including_unversioned =
-    adding no_features (sample [] []) (record (including_lists alike_entries []) { interfaces = loose_interface (codes "a") [] Unknown ∷ loose_interface (codes "i") [] since_one ∷ [] })
+    adding no_features (sample [] [])
+    (record (including_lists alike_entries []) {
+      interfaces = loose_interface (codes "a") []
+          Unknown ∷ loose_interface (codes "i") [] since_one ∷ [];
+    })
 
 -- worlds b and d with a function f each, of which d includes b, which brings f again, and w, beside these interfaces
 abbrev pub shadowing_first : List Interface → Addition
@@ -62,10 +73,15 @@ pub record ExamplesOfLaterWorlds : Type 0 where
   pub second_include : IsAdditionCause two_gates (StabilityMismatch (Some (50, 60)) gate_g gate_f)
   -- 17: of w, where nothing is wrong with v; not where v is refused itself
   pub second_world : IsAdditionCause (before_alike []) w_is_alike
-  pub first_told : (span : OptionalSpan) (message : List ℕ) → IsAdditionCause (before_alike (function_entry (codes "[set]p") ∷ [])) (Semantic span message cause.NotStronglyUnique) → ⊥
+  pub first_told : (span : OptionalSpan) (message : List ℕ)
+      → IsAdditionCause (before_alike (function_entry (codes "[set]p") ∷ []))
+      (Semantic span message cause.NotStronglyUnique) → ⊥
   -- 17 without an image: of a world that includes nothing, and not of one that does
   pub unversioned : IsAdditionCause alike_unversioned w_is_alike
-  pub including : (span : OptionalSpan) (message : List ℕ) → IsAdditionCause including_unversioned (Semantic span message cause.NotStronglyUnique) → ⊥
+  pub including : (span : OptionalSpan) (message : List ℕ)
+      → IsAdditionCause including_unversioned (Semantic span message cause.NotStronglyUnique) → ⊥
   -- nor is it asked then what worlds before it include; where there is an image, 7 is told of d, and 17 of none
-  pub behind_unmade : IsAdditionCause (shadowing_first (loose_interface (codes "i") [] since_one ∷ [])) w_is_alike
-  pub behind_shadowing : (span : OptionalSpan) (message : List ℕ) → IsAdditionCause (shadowing_first []) (Semantic span message cause.NotStronglyUnique) → ⊥
+  pub behind_unmade : IsAdditionCause
+      (shadowing_first (loose_interface (codes "i") [] since_one ∷ [])) w_is_alike
+  pub behind_shadowing : (span : OptionalSpan) (message : List ℕ)
+      → IsAdditionCause (shadowing_first []) (Semantic span message cause.NotStronglyUnique) → ⊥

@@ -6,5 +6,7 @@ use Rattle.wit_sources.specs.declared.source_map.SourceFile.{SourceFile}
 
 -- files that stand one after another, as those of every source map do, have no position in common
 abbrev pub HaveNoneInCommon : Type 0
-HaveNoneInCommon = (from end position i j : ℕ) (files : List SourceFile) (a b : SourceFile) → AreLaidOut from files end → slice_get files i ≡ Some a → slice_get files j ≡ Some b
+HaveNoneInCommon =
+    (from end position i j : ℕ) (files : List SourceFile) (a b : SourceFile)
+    → AreLaidOut from files end → slice_get files i ≡ Some a → slice_get files j ≡ Some b
     → has_position position a ≡ true → has_position position b ≡ true → i ≡ j

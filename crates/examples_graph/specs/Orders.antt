@@ -44,7 +44,8 @@ pub record ExamplesOfGroups : Type 0 where
   pub dependency_first : IsGroupOrder main_and_dep (1 ∷ 0 ∷ [])
   -- 5
   pub twice : IsDefinedTwice (twice_at 16) foo_bar (Some (24, 29)) (Some (8, 13))
-  pub not_twice : (name : PackageName) → IsDefinedTwice ((bare foo_bar, 0) ∷ []) name (Some (8, 13)) (Some (8, 13)) → ⊥
+  pub not_twice : (name : PackageName)
+      → IsDefinedTwice ((bare foo_bar, 0) ∷ []) name (Some (8, 13)) (Some (8, 13)) → ⊥
   -- 6
   pub cycle : IsOnPackageCycle each_other (Some (40, 45)) main_name
   pub own_cycle : IsOnPackageCycle itself_alone (Some (20, 25)) main_name
@@ -64,7 +65,8 @@ pub record ExamplesOfOrders : Type 0 where
   pub by_names : IsGroupOrder two_alone (1 ∷ 0 ∷ [])
   pub as_unresolved : IsGroupOrder two_alone (0 ∷ 1 ∷ []) → ⊥
   -- the packages in an order
-  pub sorted : AreSorted main_and_dep (1 ∷ 0 ∷ []) ((bare dep_name, 20) ∷ (naming main_name dep_name Unknown, 0) ∷ [])
+  pub sorted : AreSorted main_and_dep (1 ∷ 0 ∷ [])
+      ((bare dep_name, 20) ∷ (naming main_name dep_name Unknown, 0) ∷ [])
   pub unsorted : AreSorted main_and_dep (1 ∷ 0 ∷ []) main_and_dep → ⊥
   pub one : AreSorted one_alone (0 ∷ []) one_alone
   -- 27: the name that would be told ends at 4294967296, or just before

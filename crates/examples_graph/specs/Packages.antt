@@ -67,7 +67,8 @@ main_name = name_of (codes "foo") (codes "main") None
 
 -- a package that is being added into a graph, its spans to move so far
 abbrev pub adding_at : ℕ → Features → Graph → UnresolvedPackage → Addition
-adding_at offset features g u = record { features = features; graph = g; unresolved = u; offset = offset }
+adding_at offset features g u =
+    record { features = features; graph = g; unresolved = u; offset = offset }
 
 -- the same, its spans to stay where they are
 abbrev pub adding : Features → Graph → UnresolvedPackage → Addition
@@ -90,11 +91,13 @@ bare name = record {
 
 -- an interface and a world of a package that isn't added yet
 abbrev pub loose_interface : List ℕ → List (List ℕ × ℕ) → Stability → Interface
-loose_interface name types note = record (interface_of (Some name) types) { «package» = None; stability = note }
+loose_interface name types note =
+    record (interface_of (Some name) types) { «package» = None; stability = note }
 
 -- a world of these lists and includes, of a package that isn't added yet
 abbrev pub loose_world : List ℕ → List Entry → List Entry → List WorldInclude → World
-loose_world name imports exports includes = record (world_of name imports exports) { «package» = None; includes = includes }
+loose_world name imports exports includes =
+    record (world_of name imports exports) { «package» = None; includes = includes }
 
 -- the include of the first world of a package, at 50 to 60
 abbrev pub include_with : List IncludeName → WorldInclude
@@ -110,11 +113,14 @@ naming name other note = record (bare name) {
 
 -- a package with interface i under this gate
 abbrev pub gated : Option Parts → Stability → UnresolvedPackage
-gated version note = record (bare (name_of (codes "p") (codes "q") version)) { interfaces = loose_interface (codes "i") [] note ∷ [] }
+gated version note =
+    record (bare (name_of (codes "p") (codes "q") version))
+    { interfaces = loose_interface (codes "i") [] note ∷ [] }
 
 -- the same with a world that imports i
 abbrev pub gated_import : Stability → UnresolvedPackage
-gated_import note = record (gated None note) { worlds = loose_world (codes "w") (entry_of 0 ∷ []) [] [] ∷ [] }
+gated_import note =
+    record (gated None note) { worlds = loose_world (codes "w") (entry_of 0 ∷ []) [] [] ∷ [] }
 
 -- the same with a type of i in place of the world
 abbrev pub gated_owner : Stability → UnresolvedPackage
@@ -126,13 +132,18 @@ gated_owner note = record (bare (name_of (codes "p") (codes "q") None)) {
 -- a package with resource r, a borrow and an own of it, and a function with this result
 abbrev pub returning : Type_ → UnresolvedPackage
 returning ty = record (bare foo_bar) {
-  interfaces = record (loose_interface (codes "i") ((codes "r", 0) ∷ []) Unknown) { functions = (codes "f", function_of (codes "f") [] (Some ty)) ∷ [] } ∷ [];
-  types = type_in 0 (codes "r") kind.Resource ∷ unnamed (kind.Handle (handle.Borrow 0)) ∷ unnamed (kind.Handle (handle.Own 0)) ∷ unnamed (kind.List (type.Id 1)) ∷ [];
+  interfaces =
+      record (loose_interface (codes "i") ((codes "r", 0) ∷ []) Unknown)
+      { functions = (codes "f", function_of (codes "f") [] (Some ty)) ∷ [] } ∷ [];
+  types =
+      type_in 0 (codes "r") kind.Resource ∷ unnamed (kind.Handle (handle.Borrow 0))
+      ∷ unnamed (kind.Handle (handle.Own 0)) ∷ unnamed (kind.List (type.Id 1)) ∷ [];
 }
 
 -- a package with a world of these lists
 abbrev pub with_lists : List Entry → List Entry → UnresolvedPackage
-with_lists imports exports = record (bare foo_bar) { worlds = loose_world (codes "w") imports exports [] ∷ [] }
+with_lists imports exports =
+    record (bare foo_bar) { worlds = loose_world (codes "w") imports exports [] ∷ [] }
 
 -- a package that names a type of interface a of foo:bar, which has to be a resource
 abbrev pub naming_type : List ℕ → UnresolvedPackage
@@ -148,7 +159,9 @@ naming_type name = record (bare main_name) {
 -- interface a with a number t, b with another name of it, and a world w that imports b
 abbrev pub first_package : UnresolvedPackage
 first_package = record (bare foo_bar) {
-  interfaces = loose_interface (codes "a") ((codes "t", 0) ∷ []) Unknown ∷ loose_interface (codes "b") ((codes "t", 1) ∷ []) Unknown ∷ [];
+  interfaces =
+      loose_interface (codes "a") ((codes "t", 0) ∷ []) Unknown
+      ∷ loose_interface (codes "b") ((codes "t", 1) ∷ []) Unknown ∷ [];
   types = sample_types;
   worlds = loose_world (codes "w") (entry_of 1 ∷ []) [] [] ∷ [];
 }
@@ -168,29 +181,45 @@ abbrev pub beside_w : World → UnresolvedPackage
 beside_w d = record (bare main_name) {
   interfaces = loose_interface (codes "a") [] Unknown ∷ [];
   worlds = loose_world (codes "w") [] [] [] ∷ d ∷ [];
-  foreign_deps = (foo_bar, (codes "a", (named.Interface 0, Unknown ∷ [])) ∷ (codes "w", (named.World 0, Unknown ∷ [])) ∷ []) ∷ [];
+  foreign_deps = (
+    foo_bar,
+    (codes "a", (named.Interface 0, Unknown ∷ [])) ∷ (codes "w", (named.World 0, Unknown ∷ []))
+        ∷ [],
+  ) ∷ [];
   foreign_dep_spans = None ∷ [];
 }
 
 -- its world d has these lists and includes w
 abbrev pub including_lists : List Entry → List Entry → UnresolvedPackage
-including_lists imports exports = beside_w (loose_world (codes "d") imports exports (include_with [] ∷ []))
+including_lists imports exports =
+    beside_w (loose_world (codes "d") imports exports (include_with [] ∷ []))
 
 -- its world d imports a under the gate f, and a function f, and includes w under these renamings
 abbrev pub including_package : List IncludeName → UnresolvedPackage
-including_package names = beside_w (loose_world (codes "d") (gated_entry gate_f ∷ function_entry (codes "f") ∷ []) [] (include_with names ∷ []))
+including_package names =
+    beside_w (loose_world (codes "d") (gated_entry gate_f ∷ function_entry (codes "f") ∷ []) []
+    (include_with names ∷ []))
 
 -- the same without renamings, with an interface of its own under `@since`
 abbrev pub since_package : UnresolvedPackage
-since_package = record (including_package []) { interfaces = loose_interface (codes "a") [] Unknown ∷ loose_interface (codes "i") [] since_one ∷ [] }
+since_package =
+    record (including_package []) {
+      interfaces = loose_interface (codes "a") [] Unknown
+          ∷ loose_interface (codes "i") [] since_one ∷ [];
+    }
 
 -- ---- worlds that export
 
 -- foo:bar with a; b, which uses a; and c, which uses b; and these worlds
 abbrev pub three_with : List World → List (List ℕ × ℕ) → Graph
 three_with worlds table = record {
-  types = type_in 0 (codes "t") (kind.Type_ type.U32) ∷ type_in 1 (codes "t") (kind.Type_ (type.Id 0)) ∷ type_in 2 (codes "t") (kind.Type_ (type.Id 1)) ∷ [];
-  interfaces = interface_of (Some (codes "a")) ((codes "t", 0) ∷ []) ∷ interface_of (Some (codes "b")) ((codes "t", 1) ∷ []) ∷ interface_of (Some (codes "c")) ((codes "t", 2) ∷ []) ∷ [];
+  types =
+      type_in 0 (codes "t") (kind.Type_ type.U32) ∷ type_in 1 (codes "t") (kind.Type_ (type.Id 0))
+      ∷ type_in 2 (codes "t") (kind.Type_ (type.Id 1)) ∷ [];
+  interfaces =
+      interface_of (Some (codes "a")) ((codes "t", 0) ∷ [])
+      ∷ interface_of (Some (codes "b")) ((codes "t", 1) ∷ [])
+      ∷ interface_of (Some (codes "c")) ((codes "t", 2) ∷ []) ∷ [];
   worlds = worlds;
   packages = foo_bar_of ((codes "a", 0) ∷ (codes "b", 1) ∷ (codes "c", 2) ∷ []) table ∷ [];
   package_names = (foo_bar, 0) ∷ [];
@@ -202,14 +231,19 @@ three = three_with [] []
 
 -- the three, and a world w that exports one of them
 abbrev pub three_exporting : ℕ → Graph
-three_exporting i = three_with (world_of (codes "w") [] (entry_of i ∷ []) ∷ []) ((codes "w", 0) ∷ [])
+three_exporting i =
+    three_with (world_of (codes "w") [] (entry_of i ∷ []) ∷ []) ((codes "w", 0) ∷ [])
 
 -- a package that names a and another interface of foo:bar, and whose world exports both
 abbrev pub exporting_with : List ℕ → UnresolvedPackage
 exporting_with other = record (bare main_name) {
   interfaces = loose_interface (codes "a") [] Unknown ∷ loose_interface other [] Unknown ∷ [];
   worlds = loose_world (codes "w") [] (entry_of 0 ∷ entry_of 1 ∷ []) [] ∷ [];
-  foreign_deps = (foo_bar, (codes "a", (named.Interface 0, Unknown ∷ [])) ∷ (other, (named.Interface 1, Unknown ∷ [])) ∷ []) ∷ [];
+  foreign_deps = (
+    foo_bar,
+    (codes "a", (named.Interface 0, Unknown ∷ [])) ∷ (other, (named.Interface 1, Unknown ∷ []))
+        ∷ [],
+  ) ∷ [];
   foreign_dep_spans = None ∷ [];
 }
 
@@ -217,5 +251,9 @@ exporting_with other = record (bare main_name) {
 abbrev pub exporting_c : UnresolvedPackage
 exporting_c = record (beside_w (loose_world (codes "d") [] (entry_of 0 ∷ []) (include_with [] ∷ []))) {
   interfaces = loose_interface (codes "c") [] Unknown ∷ [];
-  foreign_deps = (foo_bar, (codes "c", (named.Interface 0, Unknown ∷ [])) ∷ (codes "w", (named.World 0, Unknown ∷ [])) ∷ []) ∷ [];
+  foreign_deps = (
+    foo_bar,
+    (codes "c", (named.Interface 0, Unknown ∷ [])) ∷ (codes "w", (named.World 0, Unknown ∷ []))
+        ∷ [],
+  ) ∷ [];
 }

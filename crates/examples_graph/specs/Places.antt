@@ -50,12 +50,17 @@ pub record ExamplesOfLocations : Type 0 where
 
 -- what stands under spans, and lines that are too long
 pub record ExamplesOfHighlights : Type 0 where
-  pub told : highlight_text (first ∷ []) (Some (13, 18)) (codes "bad") ≡ Some (codes "bad\n     --> m.wit:2:1\n      |\n    2 | world w {}\n      | ^----")
-  pub later : highlight_text (first ∷ second ∷ []) (Some (33, 36)) (codes "bad") ≡ Some (codes "bad\n     --> n.wit:1:9\n      |\n    1 | package c:d;\n      |         ^--")
-  pub end_of_a_file : highlight_text (first ∷ []) (Some (24, 24)) (codes "bad") ≡ Some (codes "bad\n     --> m.wit:3:1\n      |\n    3 | \n      | ^")
+  pub told : highlight_text (first ∷ []) (Some (13, 18)) (codes "bad")
+      ≡ Some (codes "bad\n     --> m.wit:2:1\n      |\n    2 | world w {}\n      | ^----")
+  pub later : highlight_text (first ∷ second ∷ []) (Some (33, 36)) (codes "bad")
+      ≡ Some (codes "bad\n     --> n.wit:1:9\n      |\n    1 | package c:d;\n      |         ^--")
+  pub end_of_a_file : highlight_text (first ∷ []) (Some (24, 24)) (codes "bad")
+      ≡ Some (codes "bad\n     --> m.wit:3:1\n      |\n    3 | \n      | ^")
   pub in_no_file : highlight_text (first ∷ []) (Some (25, 26)) (codes "bad") ≡ None
   pub unknown : highlight_text (first ∷ []) None (codes "bad") ≡ None
-  pub three_characters : highlight_text_in wide (Some (0, 5)) (codes "bad") ≡ codes "bad\n     --> u.wit:1:1\n      |\n    1 | " ++ (195 ∷ 169 ∷ 32 ∷ 195 ∷ 169 ∷ codes "\n      | ^--")
+  pub three_characters : highlight_text_in wide (Some (0, 5)) (codes "bad")
+      ≡ codes "bad\n     --> u.wit:1:1\n      |\n    1 | "
+      ++ (195 ∷ 169 ∷ 32 ∷ 195 ∷ 169 ∷ codes "\n      | ^--")
   pub within_a_line : len_in_line wide_text 0 5 ≡ 5
   pub one_character : len_in_line wide_text 0 2 ≡ 2
   pub empty : len_in_line wide_text 3 3 ≡ 0
@@ -63,13 +68,19 @@ pub record ExamplesOfHighlights : Type 0 where
   pub cut_at_its_beginning : len_in_line wide_text 1 5 ≡ 0
   pub with_a_line_feed : len_in_line wide_text 0 6 ≡ 0
   pub past_the_file : len_in_line wide_text 3 7 ≡ 0
-  pub too_long : highlight_text (line_of 501 ∷ []) (Some (1, 3)) (codes "bad") ≡ Some (codes "l.wit:1:2: bad")
+  pub too_long : highlight_text (line_of 501 ∷ []) (Some (1, 3)) (codes "bad")
+      ≡ Some (codes "l.wit:1:2: bad")
   pub just_shown : highlight_text (line_of 500 ∷ []) (Some (1, 3)) (codes "bad")
-      ≡ Some (codes "bad\n     --> l.wit:1:2\n      |\n    1 | " ++ (replicate 500 120 ++ codes "\n      |  ^-"))
+      ≡ Some (codes "bad\n     --> l.wit:1:2\n      |\n    1 | "
+      ++ (replicate 500 120 ++ codes "\n      |  ^-"))
   -- near misses: the mark a place too far, a dash too many, dashes for bytes
-  pub not_further : highlight_text_in first (Some (13, 18)) (codes "bad") ≢ codes "bad\n     --> m.wit:2:1\n      |\n    2 | world w {}\n      |  ^----"
-  pub not_longer : highlight_text_in first (Some (13, 18)) (codes "bad") ≢ codes "bad\n     --> m.wit:2:1\n      |\n    2 | world w {}\n      | ^-----"
-  pub not_bytes : highlight_text_in wide (Some (0, 5)) (codes "bad") ≢ codes "bad\n     --> u.wit:1:1\n      |\n    1 | " ++ (195 ∷ 169 ∷ 32 ∷ 195 ∷ 169 ∷ codes "\n      | ^----")
+  pub not_further : highlight_text_in first (Some (13, 18)) (codes "bad")
+      ≢ codes "bad\n     --> m.wit:2:1\n      |\n    2 | world w {}\n      |  ^----"
+  pub not_longer : highlight_text_in first (Some (13, 18)) (codes "bad")
+      ≢ codes "bad\n     --> m.wit:2:1\n      |\n    2 | world w {}\n      | ^-----"
+  pub not_bytes : highlight_text_in wide (Some (0, 5)) (codes "bad")
+      ≢ codes "bad\n     --> u.wit:1:1\n      |\n    1 | "
+      ++ (195 ∷ 169 ∷ 32 ∷ 195 ∷ 169 ∷ codes "\n      | ^----")
 
 -- a line of 501 bytes, of which the last character has two; and what of it is shown
 abbrev pub long : SourceFile
@@ -77,12 +88,23 @@ long = record { path = codes "l.wit"; contents = replicate 499 120 ++ (195 ∷ 1
 
 -- places that are shown with their lines, and the beginnings of lines that are too long
 pub record ExamplesOfShown : Type 0 where
-  pub told : shown_span (first ∷ []) (Some (13, 18)) ≡ Some (codes "     --> m.wit:2:1\n      |\n    2 | world w {}\n      | ^----")
+  pub told : shown_span (first ∷ []) (Some (13, 18))
+      ≡ Some (codes "     --> m.wit:2:1\n      |\n    2 | world w {}\n      | ^----")
   pub in_no_file : shown_span (first ∷ []) (Some (25, 26)) ≡ None
   pub unknown : shown_span (first ∷ []) None ≡ None
-  pub whole_characters : shown_in long (Some (1, 3)) ≡ codes "     --> l.wit:1:2\n      |\n    1 | " ++ (replicate 499 120 ++ codes " ..\n      |  ^-")
-  pub to_its_end : shown_in long (Some (497, 501)) ≡ codes "     --> l.wit:1:498\n      |\n    1 | " ++ (replicate 499 120 ++ (codes " ..\n      | " ++ (replicate 497 32 ++ codes "^-")))
-  pub past_its_end : shown_in (line_of 600) (Some (550, 560)) ≡ codes "     --> l.wit:1:551\n      |\n    1 | " ++ (replicate 500 120 ++ (codes " ..\n      | " ++ (replicate 500 32 ++ codes "^")))
+  pub whole_characters : shown_in long (Some (1, 3))
+      ≡ codes "     --> l.wit:1:2\n      |\n    1 | "
+      ++ (replicate 499 120 ++ codes " ..\n      |  ^-")
+  pub to_its_end : shown_in long (Some (497, 501))
+      ≡ codes "     --> l.wit:1:498\n      |\n    1 | "
+      ++ (replicate 499 120 ++ (codes " ..\n      | " ++ (replicate 497 32 ++ codes "^-")))
+  pub past_its_end : shown_in (line_of 600) (Some (550, 560))
+      ≡ codes "     --> l.wit:1:551\n      |\n    1 | "
+      ++ (replicate 500 120 ++ (codes " ..\n      | " ++ (replicate 500 32 ++ codes "^")))
   -- near misses: a part of a character, no dots
-  pub not_a_part : shown_in long (Some (1, 3)) ≢ codes "     --> l.wit:1:2\n      |\n    1 | " ++ (replicate 499 120 ++ (195 ∷ codes " ..\n      |  ^-"))
-  pub not_as_whole : shown_in long (Some (1, 3)) ≢ codes "     --> l.wit:1:2\n      |\n    1 | " ++ (replicate 499 120 ++ codes "\n      |  ^-")
+  pub not_a_part : shown_in long (Some (1, 3))
+      ≢ codes "     --> l.wit:1:2\n      |\n    1 | "
+      ++ (replicate 499 120 ++ (195 ∷ codes " ..\n      |  ^-"))
+  pub not_as_whole : shown_in long (Some (1, 3))
+      ≢ codes "     --> l.wit:1:2\n      |\n    1 | "
+      ++ (replicate 499 120 ++ codes "\n      |  ^-")

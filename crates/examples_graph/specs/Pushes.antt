@@ -21,8 +21,12 @@ use Rattle.wit_link_spec.specs.steps.Parts.{AdditionIsAccepted}
 -- foo:main: interface i uses t of foo:bar/a under the name s and has a record p with a field of s; world v imports i
 abbrev pub using_package : UnresolvedPackage
 using_package = record (bare main_name) {
-  types = type_in 0 (codes "t") kind.Unknown ∷ type_in 1 (codes "s") (kind.Type_ (type.Id 0)) ∷ type_in 1 (codes "p") (kind.Record (field_of (type.Id 1) ∷ [])) ∷ [];
-  interfaces = loose_interface (codes "a") ((codes "t", 0) ∷ []) Unknown ∷ loose_interface (codes "i") ((codes "s", 1) ∷ (codes "p", 2) ∷ []) Unknown ∷ [];
+  types =
+      type_in 0 (codes "t") kind.Unknown ∷ type_in 1 (codes "s") (kind.Type_ (type.Id 0))
+      ∷ type_in 1 (codes "p") (kind.Record (field_of (type.Id 1) ∷ [])) ∷ [];
+  interfaces =
+      loose_interface (codes "a") ((codes "t", 0) ∷ []) Unknown
+      ∷ loose_interface (codes "i") ((codes "s", 1) ∷ (codes "p", 2) ∷ []) Unknown ∷ [];
   worlds = loose_world (codes "v") (entry_of 1 ∷ []) [] [] ∷ [];
   foreign_deps = (foo_bar, (codes "a", (named.Interface 0, Unknown ∷ [])) ∷ []) ∷ [];
   foreign_dep_spans = None ∷ [];
@@ -37,10 +41,25 @@ add_using = adding no_features with_resource using_package
 abbrev pub with_user : Graph
 with_user = record {
   types = with_resource.types
-      ++ type_in 2 (codes "s") (kind.Type_ (type.Id 0)) ∷ type_in 2 (codes "p") (kind.Record (field_of (type.Id 4) ∷ [])) ∷ unnamed (kind.Handle (handle.Own 2)) ∷ [];
-  interfaces = with_resource.interfaces ++ record (interface_of (Some (codes "i")) ((codes "s", 2) ∷ (codes "p", 3) ∷ [])) { «package» = Some 1 } ∷ [];
-  worlds = with_resource.worlds ++ record (world_of (codes "v") (entry_of 0 ∷ entry_of 2 ∷ []) []) { «package» = Some 1 } ∷ [];
-  packages = with_resource.packages ++ record { name = main_name; docs = no_docs; interfaces = (codes "i", 2) ∷ []; worlds = (codes "v", 1) ∷ [] } ∷ [];
+      ++ type_in 2 (codes "s") (kind.Type_ (type.Id 0))
+      ∷ type_in 2 (codes "p") (kind.Record (field_of (type.Id 4) ∷ []))
+      ∷ unnamed (kind.Handle (handle.Own 2)) ∷ [];
+  interfaces =
+      with_resource.interfaces
+      ++ record (interface_of (Some (codes "i")) ((codes "s", 2) ∷ (codes "p", 3) ∷ []))
+      { «package» = Some 1 } ∷ [];
+  worlds =
+      with_resource.worlds
+      ++ record (world_of (codes "v") (entry_of 0 ∷ entry_of 2 ∷ []) []) { «package» = Some 1 }
+      ∷ [];
+  packages =
+      with_resource.packages
+      ++ record {
+        name = main_name;
+        docs = no_docs;
+        interfaces = (codes "i", 2) ∷ [];
+        worlds = (codes "v", 1) ∷ [];
+      } ∷ [];
   package_names = (foo_bar, 0) ∷ (main_name, 1) ∷ [];
 }
 
@@ -49,7 +68,8 @@ with_user = record {
 -- additions, and what they aren't
 pub record ExamplesOfPushes : Type 0 where
   -- the world imports a before b
-  pub first : added (adding no_features empty_graph first_package) ≡ sample (entry_of 0 ∷ entry_of 1 ∷ []) []
+  pub first : added (adding no_features empty_graph first_package)
+      ≡ sample (entry_of 0 ∷ entry_of 1 ∷ []) []
   -- and no cause holds against it
   pub accepted : AdditionIsAccepted (adding no_features empty_graph first_package)
   -- behind what is there come the alias and the record, the `own` that the record's field holds, interface, world and
@@ -57,18 +77,33 @@ pub record ExamplesOfPushes : Type 0 where
   pub whole : added add_using ≡ with_user
   pub whole_accepted : AdditionIsAccepted add_using
   -- the field doesn't hold the alias itself, and the world doesn't import i alone
-  pub not_the_alias : added add_using ≡ record with_user { types = with_resource.types ++ type_in 2 (codes "s") (kind.Type_ (type.Id 0)) ∷ type_in 2 (codes "p") (kind.Record (field_of (type.Id 2) ∷ [])) ∷ [] } → ⊥
-  pub not_alone : added add_using ≡ record with_user { worlds = with_resource.worlds ++ record (world_of (codes "v") (entry_of 2 ∷ []) []) { «package» = Some 1 } ∷ [] } → ⊥
+  pub not_the_alias : added add_using
+      ≡ record with_user {
+        types = with_resource.types
+            ++ type_in 2 (codes "s") (kind.Type_ (type.Id 0))
+            ∷ type_in 2 (codes "p") (kind.Record (field_of (type.Id 2) ∷ [])) ∷ [];
+      } → ⊥
+  pub not_alone : added add_using
+      ≡ record with_user {
+        worlds = with_resource.worlds
+            ++ record (world_of (codes "v") (entry_of 2 ∷ []) []) { «package» = Some 1 } ∷ [];
+      }
+      → ⊥
   -- not b alone, as it is written; not under another id; and not nothing
-  pub not_elaborated : added (adding no_features empty_graph first_package) ≡ sample (entry_of 1 ∷ []) [] → ⊥
-  pub other_id : (added (adding no_features empty_graph first_package)).package_names ≡ (foo_bar, 1) ∷ [] → ⊥
+  pub not_elaborated : added (adding no_features empty_graph first_package)
+      ≡ sample (entry_of 1 ∷ []) [] → ⊥
+  pub other_id : (added (adding no_features empty_graph first_package)).package_names
+      ≡ (foo_bar, 1) ∷ [] → ⊥
   pub nothing_added : added (adding no_features empty_graph first_package) ≡ empty_graph → ⊥
   -- an interface whose feature is off is left out, and one whose feature is on isn't
   pub off : (added (adding no_features empty_graph (gated None gate_f))).interfaces ≡ []
-  pub on : (added (adding feature_f empty_graph (gated None gate_f))).interfaces ≡ record (interface_of (Some (codes "i")) []) { stability = gate_f } ∷ []
+  pub on : (added (adding feature_f empty_graph (gated None gate_f))).interfaces
+      ≡ record (interface_of (Some (codes "i")) []) { stability = gate_f } ∷ []
   pub left_out : (added (adding feature_f empty_graph (gated None gate_f))).interfaces ≡ [] → ⊥
 
 -- all spans of packages
 pub record ExamplesOfSpans : Type 0 where
-  pub spans_of_world : package_spans (including_package []) ≡ Some (8, 13) ∷ None ∷ None ∷ None ∷ None ∷ None ∷ None ∷ Some (50, 60) ∷ []
-  pub spans_of_names : package_spans (naming_type (codes "t")) ≡ Some (8, 13) ∷ None ∷ Some (30, 31) ∷ Some (40, 41) ∷ None ∷ None ∷ []
+  pub spans_of_world : package_spans (including_package [])
+      ≡ Some (8, 13) ∷ None ∷ None ∷ None ∷ None ∷ None ∷ None ∷ Some (50, 60) ∷ []
+  pub spans_of_names : package_spans (naming_type (codes "t"))
+      ≡ Some (8, 13) ∷ None ∷ Some (30, 31) ∷ Some (40, 41) ∷ None ∷ None ∷ []

@@ -42,7 +42,8 @@ record_of ty = kind.Record (record { name = codes "f"; ty = ty; docs = no_docs; 
 
 -- an interface with these types and functions
 abbrev pub interface_of : List ℕ → List (List ℕ × ℕ) → List (List ℕ × Function) → Interface
-interface_of name types functions = record (new_interface (Some name)) { types = types; functions = functions }
+interface_of name types functions =
+    record (new_interface (Some name)) { types = types; functions = functions }
 
 -- a world with these imports
 abbrev pub world_of : List ℕ → List Entry → World
@@ -54,7 +55,9 @@ entry_of i = (key.Interface i, new_interface_entry i)
 
 -- `func(p: ty)`
 abbrev pub function_of : List ℕ → Type_ → Function
-function_of name ty = new_function name function.Freestanding (record { name = codes "p"; ty = ty; span = None } ∷ []) None
+function_of name ty =
+    new_function name function.Freestanding (record { name = codes "p"; ty = ty; span = None } ∷ [])
+    None
 
 -- interface i, and interface x where it lists these types
 abbrev pub foreign_i : Interface
@@ -65,7 +68,8 @@ x_of types = interface_of (codes "x") types ((codes "g", function_of (codes "g")
 
 -- the t of i, and the t and the r of x where they are of these kinds
 abbrev pub types_of : TypeDefKind → TypeDefKind → List TypeDef
-types_of t r = type_in 0 (codes "t") kind.Unknown ∷ type_in 1 (codes "t") t ∷ type_in 1 (codes "r") r ∷ []
+types_of t r =
+    type_in 0 (codes "t") kind.Unknown ∷ type_in 1 (codes "t") t ∷ type_in 1 (codes "r") r ∷ []
 
 -- what is named of a:b, under these gates
 abbrev pub deps_of : List Stability → ForeignItems
@@ -103,9 +107,13 @@ shaped_package = record {
 -- one part of the shape each that a package lacks
 pub record NearMissesOfShape : Type 0 where
   -- x lists a name twice
-  pub keys : KeysDiffer (record shaped_package { interfaces = foreign_i ∷ x_of ((codes "t", 1) ∷ (codes "t", 1) ∷ (codes "r", 2) ∷ []) ∷ [] }) → ⊥
+  pub keys : KeysDiffer (record shaped_package {
+    interfaces = foreign_i
+        ∷ x_of ((codes "t", 1) ∷ (codes "t", 1) ∷ (codes "r", 2) ∷ []) ∷ [];
+  }) → ⊥
   -- i says that it belongs to a package
-  pub unplaced : IsUnplaced (record shaped_package { interfaces = record foreign_i { «package» = Some 0 } ∷ [] }) → ⊥
+  pub unplaced : IsUnplaced
+      (record shaped_package { interfaces = record foreign_i { «package» = Some 0 } ∷ [] }) → ⊥
   -- i is named under no gate
   pub foreign : HasForeign (record shaped_package { foreign_deps = deps_of [] }) → ⊥
   -- no type is said to be unknown
@@ -113,14 +121,22 @@ pub record NearMissesOfShape : Type 0 where
   -- w has a name that isn't kebab
   pub names : HasNames (record shaped_package { worlds = world_of (codes "a_b") [] ∷ [] }) → ⊥
   -- the pre-release of its version has a `+`
-  pub version : HasNames (record shaped_package { name = record (named (codes "foo") (codes "bar")) { version = Some (1, 0, 0, codes "a+b", []) } }) → ⊥
+  pub version : HasNames (record shaped_package {
+    name = record (named (codes "foo") (codes "bar"))
+        { version = Some (1, 0, 0, codes "a+b", []) };
+  }) → ⊥
   -- x doesn't list its r
-  pub owners : HasUnresolvedOwners (record shaped_package { interfaces = foreign_i ∷ x_of ((codes "t", 1) ∷ []) ∷ [] }) → ⊥
+  pub owners : HasUnresolvedOwners
+      (record shaped_package { interfaces = foreign_i ∷ x_of ((codes "t", 1) ∷ []) ∷ [] }) → ⊥
   -- the t of x is another name of a later type
-  pub references : HasUnresolvedReferences (record shaped_package { types = types_of (kind.Type_ (type.Id 2)) kind.Resource }) → ⊥
+  pub references : HasUnresolvedReferences
+      (record shaped_package { types = types_of (kind.Type_ (type.Id 2)) kind.Resource }) → ⊥
   -- r refers to the t of i itself
-  pub own : KeepsToOwn (record shaped_package { types = types_of (kind.Type_ (type.Id 0)) (record_of (type.Id 0)) }) → ⊥
+  pub own : KeepsToOwn (record shaped_package
+      { types = types_of (kind.Type_ (type.Id 0)) (record_of (type.Id 0)) }) → ⊥
   -- under the key of i stands x
-  pub worlds : HasUnresolvedWorlds (record shaped_package { worlds = world_of (codes "w") ((key.Interface 0, new_interface_entry 1) ∷ []) ∷ [] }) → ⊥
+  pub worlds : HasUnresolvedWorlds (record shaped_package
+      { worlds = world_of (codes "w") ((key.Interface 0, new_interface_entry 1) ∷ []) ∷ [] })
+      → ⊥
   -- i and x use each other
   pub uses : IsAcyclic (uses_of (type_in 0 (codes "t") (kind.Type_ (type.Id 1)) ∷ type_in 1 (codes "t") (kind.Type_ (type.Id 0)) ∷ []) (foreign_i ∷ x_of ((codes "t", 1) ∷ []) ∷ [])) → ⊥

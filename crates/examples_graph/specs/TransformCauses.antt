@@ -30,8 +30,12 @@ foo_baz = record foo_bar { name = codes "baz" }
 -- of worlds
 abbrev pub two_packages : World → List (List ℕ × ℕ) → List (List ℕ × ℕ) → Graph
 two_packages world first second = record (sample [] []) {
-  worlds = world ∷ world_of (codes "u") [] [] ∷ record (world_of (codes "v") [] []) { «package» = Some 1 } ∷ [];
-  packages = foo_bar_of ((codes "a", 0) ∷ (codes "b", 1) ∷ []) first ∷ record (foo_bar_of [] second) { name = foo_baz } ∷ [];
+  worlds =
+      world ∷ world_of (codes "u") [] []
+      ∷ record (world_of (codes "v") [] []) { «package» = Some 1 } ∷ [];
+  packages =
+      foo_bar_of ((codes "a", 0) ∷ (codes "b", 1) ∷ []) first
+      ∷ record (foo_bar_of [] second) { name = foo_baz } ∷ [];
   package_names = (foo_bar, 0) ∷ (foo_baz, 1) ∷ [];
 }
 
@@ -44,7 +48,9 @@ of_w = two_packages w_imports_a ((codes "w", 0) ∷ (codes "u", 1) ∷ []) ((cod
 
 -- it is v then, with these imports and exports, last in the table of its package
 abbrev pub of_another_v : List Entry → List Entry → Graph
-of_another_v imports exports = two_packages (world_of (codes "v") imports exports) ((codes "u", 1) ∷ (codes "v", 0) ∷ []) ((codes "v", 2) ∷ [])
+of_another_v imports exports =
+    two_packages (world_of (codes "v") imports exports) ((codes "u", 1) ∷ (codes "v", 0) ∷ [])
+    ((codes "v", 2) ∷ [])
 
 pub record ExamplesOfNamesInUse : Type 0 where
   -- the name of a world of another package is free, for either turn: whatever is told, there is no reason
@@ -54,14 +60,19 @@ pub record ExamplesOfNamesInUse : Type 0 where
   pub free_in_the_second : NoCause (IsImportizeCause of_w 2 (Some (codes "w")))
   -- and two worlds have it then, each in its package
   pub importized_to_it : transformed of_w 0 (importized (Some (codes "v"))) ≡ of_another_v [] []
-  pub exportized_to_it : transformed of_w 0 (exportized (true ∷ []) (Some (codes "v"))) ≡ of_another_v [] (a ∷ [])
+  pub exportized_to_it : transformed of_w 0 (exportized (true ∷ []) (Some (codes "v")))
+      ≡ of_another_v [] (a ∷ [])
   -- not: the graph as it was, the other package's v gone from its table
   pub not_left : transformed of_w 0 (importized (Some (codes "v"))) ≢ of_w
-  pub not_in_its_place : transformed of_w 0 (importized (Some (codes "v"))) ≢ two_packages (world_of (codes "v") [] []) ((codes "u", 1) ∷ (codes "v", 0) ∷ []) []
+  pub not_in_its_place : transformed of_w 0 (importized (Some (codes "v")))
+      ≢ two_packages (world_of (codes "v") [] []) ((codes "u", 1) ∷ (codes "v", 0) ∷ []) []
   -- that of another world of the package is taken, which that package's name tells
-  pub taken : IsImportizeCause of_w 0 (Some (codes "u")) (Semantic None (codes "world `u` is already defined in package `foo:bar`") NameTaken)
-  pub taken_to_exportize : IsExportizeCause of_w 0 (true ∷ []) (Some (codes "u")) (Semantic None (codes "world `u` is already defined in package `foo:bar`") NameTaken)
-  pub not_in_the_other : IsImportizeCause of_w 0 (Some (codes "u")) (Semantic None (codes "world `u` is already defined in package `foo:baz`") NameTaken) → ⊥
+  pub taken : IsImportizeCause of_w 0 (Some (codes "u"))
+      (Semantic None (codes "world `u` is already defined in package `foo:bar`") NameTaken)
+  pub taken_to_exportize : IsExportizeCause of_w 0 (true ∷ []) (Some (codes "u"))
+      (Semantic None (codes "world `u` is already defined in package `foo:bar`") NameTaken)
+  pub not_in_the_other : IsImportizeCause of_w 0 (Some (codes "u"))
+      (Semantic None (codes "world `u` is already defined in package `foo:baz`") NameTaken) → ⊥
 
 -- ---- a conflict beside a type
 
@@ -88,8 +99,12 @@ IsRefusedAsX answers error = IsExportizeCause chain_with_k 0 answers (Some (code
 
 pub record ExamplesOfConflictsBesideTypes : Type 0 where
   -- where the type stays the conflict is told, and no type
-  pub conflict : IsRefusedAsX (ends_and false) (InvalidTransitiveDependency None (codes "foo:bar/c"))
-  pub no_type : (label : List ℕ) → IsRefusedAsX (ends_and false) (Semantic None (type_exported_text label) TypeExported) → ⊥
+  pub conflict : IsRefusedAsX (ends_and false)
+      (InvalidTransitiveDependency None (codes "foo:bar/c"))
+  pub no_type : (label : List ℕ)
+      → IsRefusedAsX (ends_and false) (Semantic None (type_exported_text label) TypeExported) → ⊥
   -- where it would be exported the type is told, and no conflict, of whatever name
-  pub type_exported : IsRefusedAsX (ends_and true) (Semantic None (codes "type import `k` cannot be exported") TypeExported)
-  pub type_before : (span : OptionalSpan) (name : List ℕ) → IsRefusedAsX (ends_and true) (InvalidTransitiveDependency span name) → ⊥
+  pub type_exported : IsRefusedAsX (ends_and true)
+      (Semantic None (codes "type import `k` cannot be exported") TypeExported)
+  pub type_before : (span : OptionalSpan) (name : List ℕ)
+      → IsRefusedAsX (ends_and true) (InvalidTransitiveDependency span name) → ⊥

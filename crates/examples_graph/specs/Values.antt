@@ -21,12 +21,17 @@ use Rattle.wit_remap_spec.specs.steps.Parts.{value_image, kind_image, value_posi
 -- resource r, s another name of it, t a number, and an `own` of s
 abbrev pub resource_types : List TypeDef
 resource_types =
-    type_in 0 (codes "r") kind.Resource ∷ type_in 0 (codes "s") (kind.Type_ (type.Id 0)) ∷ type_in 0 (codes "t") (kind.Type_ type.U32)
+    type_in 0 (codes "r") kind.Resource ∷ type_in 0 (codes "s") (kind.Type_ (type.Id 0))
+    ∷ type_in 0 (codes "t") (kind.Type_ type.U32)
     ∷ unnamed (kind.Handle (handle.Own 1)) ∷ []
 
 -- foo:bar, whose interface a has a resource t, and whose b has another name of it
 abbrev pub with_resource : Graph
-with_resource = record (sample [] []) { types = type_in 0 (codes "t") kind.Resource ∷ type_in 1 (codes "t") (kind.Type_ (type.Id 0)) ∷ [] }
+with_resource =
+    record (sample [] []) {
+      types = type_in 0 (codes "t") kind.Resource
+          ∷ type_in 1 (codes "t") (kind.Type_ (type.Id 0)) ∷ [];
+    }
 
 -- a field x of this type
 abbrev pub field_of : Type_ → Field
@@ -37,8 +42,13 @@ field_of ty = record { name = codes "x"; ty = ty; docs = no_docs; span = None }
 abbrev pub holding : UnresolvedPackage
 holding = record (bare main_name) {
   interfaces = loose_interface (codes "a") ((codes "t", 0) ∷ []) Unknown
-      ∷ record (loose_interface (codes "i") ((codes "s", 1) ∷ (codes "p", 2) ∷ []) Unknown) { functions = (codes "f", function_of (codes "f") (type.Id 1 ∷ []) (Some (type.Id 2))) ∷ [] } ∷ [];
-  types = type_in 0 (codes "t") kind.Unknown ∷ type_in 1 (codes "s") (kind.Type_ (type.Id 0)) ∷ type_in 1 (codes "p") (kind.Record (field_of (type.Id 1) ∷ [])) ∷ [];
+      ∷ record (loose_interface (codes "i") ((codes "s", 1) ∷ (codes "p", 2) ∷ []) Unknown) {
+        functions = (codes "f", function_of (codes "f") (type.Id 1 ∷ []) (Some (type.Id 2)))
+            ∷ [];
+      } ∷ [];
+  types =
+      type_in 0 (codes "t") kind.Unknown ∷ type_in 1 (codes "s") (kind.Type_ (type.Id 0))
+      ∷ type_in 1 (codes "p") (kind.Record (field_of (type.Id 1) ∷ [])) ∷ [];
   foreign_deps = (foo_bar, (codes "a", (named.Interface 0, Unknown ∷ [])) ∷ []) ∷ [];
   foreign_dep_spans = None ∷ [];
   unknown_type_spans = Some (30, 31) ∷ [];
@@ -47,7 +57,10 @@ holding = record (bare main_name) {
 -- a package with a function that takes a t of foo:bar/a
 abbrev pub taking_foreign : UnresolvedPackage
 taking_foreign = record holding {
-  interfaces = loose_interface (codes "a") ((codes "t", 0) ∷ []) Unknown ∷ record (loose_interface (codes "i") [] Unknown) { functions = (codes "f", function_of (codes "f") (type.Id 0 ∷ []) None) ∷ [] } ∷ [];
+  interfaces =
+      loose_interface (codes "a") ((codes "t", 0) ∷ []) Unknown
+      ∷ record (loose_interface (codes "i") [] Unknown)
+      { functions = (codes "f", function_of (codes "f") (type.Id 0 ∷ []) None) ∷ [] } ∷ [];
   types = type_in 0 (codes "t") kind.Unknown ∷ [];
 }
 
@@ -73,18 +86,29 @@ pub record ExamplesOfValues : Type 0 where
   -- t itself stands at no value position
   pub not_asked_for : needs_own (remap_of_addition add_holding) 0 ≡ false
   pub primitive : value_image (addition_maps add_holding) type.U8 ≡ type.U8
-  pub alias_stays : kind_image (addition_maps add_holding) (kind.Type_ (type.Id 1)) ≡ kind.Type_ (type.Id 2)
-  pub handle_stays : kind_image (addition_maps add_holding) (kind.Handle (handle.Borrow 1)) ≡ kind.Handle (handle.Borrow 2)
-  pub part_becomes_own : kind_image (addition_maps add_holding) (kind.List (type.Id 1)) ≡ kind.List (type.Id 4)
+  pub alias_stays : kind_image (addition_maps add_holding) (kind.Type_ (type.Id 1))
+      ≡ kind.Type_ (type.Id 2)
+  pub handle_stays : kind_image (addition_maps add_holding) (kind.Handle (handle.Borrow 1))
+      ≡ kind.Handle (handle.Borrow 2)
+  pub part_becomes_own : kind_image (addition_maps add_holding) (kind.List (type.Id 1))
+      ≡ kind.List (type.Id 4)
   -- all types and interfaces of the new graph
   pub types : (added add_holding).types
-      ≡ type_in 0 (codes "t") kind.Resource ∷ type_in 1 (codes "t") (kind.Type_ (type.Id 0)) ∷ type_in 2 (codes "s") (kind.Type_ (type.Id 0))
-      ∷ type_in 2 (codes "p") (kind.Record (field_of (type.Id 4) ∷ [])) ∷ unnamed (kind.Handle (handle.Own 2)) ∷ []
+      ≡ type_in 0 (codes "t") kind.Resource ∷ type_in 1 (codes "t") (kind.Type_ (type.Id 0))
+      ∷ type_in 2 (codes "s") (kind.Type_ (type.Id 0))
+      ∷ type_in 2 (codes "p") (kind.Record (field_of (type.Id 4) ∷ []))
+      ∷ unnamed (kind.Handle (handle.Own 2)) ∷ []
   pub interfaces : (added add_holding).interfaces
-      ≡ interface_of (Some (codes "a")) ((codes "t", 0) ∷ []) ∷ interface_of (Some (codes "b")) ((codes "t", 1) ∷ [])
-      ∷ record (interface_of (Some (codes "i")) ((codes "s", 2) ∷ (codes "p", 3) ∷ [])) { «package» = Some 1; functions = (codes "f", function_of (codes "f") (type.Id 4 ∷ []) (Some (type.Id 3))) ∷ [] } ∷ []
+      ≡ interface_of (Some (codes "a")) ((codes "t", 0) ∷ [])
+      ∷ interface_of (Some (codes "b")) ((codes "t", 1) ∷ [])
+      ∷ record (interface_of (Some (codes "i")) ((codes "s", 2) ∷ (codes "p", 3) ∷ [])) {
+        «package» = Some 1;
+        functions = (codes "f", function_of (codes "f") (type.Id 4 ∷ []) (Some (type.Id 3)))
+            ∷ [];
+      } ∷ []
   -- a value of the foreign t itself is an `own` of that of foo:bar
   pub foreign_value : (added (adding no_features with_resource taking_foreign)).types
-      ≡ type_in 0 (codes "t") kind.Resource ∷ type_in 1 (codes "t") (kind.Type_ (type.Id 0)) ∷ unnamed (kind.Handle (handle.Own 0)) ∷ []
+      ≡ type_in 0 (codes "t") kind.Resource ∷ type_in 1 (codes "t") (kind.Type_ (type.Id 0))
+      ∷ unnamed (kind.Handle (handle.Own 0)) ∷ []
   -- the value isn't the alias itself
   pub apart : value_id (remap_of_addition add_holding) 1 ≡ remapped_type add_holding 1 → ⊥

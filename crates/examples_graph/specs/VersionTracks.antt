@@ -35,10 +35,13 @@ pub record NearMissesOfTracks : Type 0 where
   pub other_build : track_of candidate ≡ track_of (1, 2, 0, codes "rc.1", codes "b")
   pub not_built : track_of (1, 2, 0, codes "rc.1", codes "b") ≢ (1, 2, 0, codes "rc.1", codes "b")
   -- by the other rule it is on the track of its release, and on no other one
-  pub by_each_rule : (track_by Published (1, 2, 3, codes "rc.1", codes "b") ≡ (1, 2, 3, codes "rc.1", [])) × (track_by WithPrereleases (1, 2, 3, codes "rc.1", codes "b") ≡ release 1 0 0)
+  pub by_each_rule : (track_by Published (1, 2, 3, codes "rc.1", codes "b")
+      ≡ (1, 2, 3, codes "rc.1", []))
+      × (track_by WithPrereleases (1, 2, 3, codes "rc.1", codes "b") ≡ release 1 0 0)
   pub with_release : track_by WithPrereleases candidate ≡ track_by WithPrereleases (release 1 9 0)
   pub not_alone : track_by WithPrereleases candidate ≢ track_by Published candidate
-  pub still_other_major : track_by WithPrereleases candidate ≢ track_by WithPrereleases (release 2 0 0)
+  pub still_other_major : track_by WithPrereleases candidate
+      ≢ track_by WithPrereleases (release 2 0 0)
 
 pub record NearMissesOfTrackTexts : Type 0 where
   -- the text of a track is shorter than that of a version, by just what doesn't count

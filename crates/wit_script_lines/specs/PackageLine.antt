@@ -22,11 +22,14 @@ each_of read (x ∷ xs) = option_and_then (λ y. option_map (λ ys. y ∷ ys) (e
 
 -- a name, which has at least one byte, with a type of this text
 abbrev pub typed_name_with : List ℕ → List ℕ → Option TypedName
-typed_name_with name ty = option_map (λ (own : List ℕ). record { name = own; ty = type_text_of ty }) (part_of name)
+typed_name_with name ty =
+    option_map (λ (own : List ℕ). record { name = own; ty = type_text_of ty }) (part_of name)
 
 -- `NAME:TYPE`; the name ends at the first colon
 abbrev pub typed_name_of : List ℕ → Option TypedName
-typed_name_of token = option_and_then (λ (parts : List ℕ × List ℕ). typed_name_with parts.0 parts.1) (split_at 58 token)
+typed_name_of token =
+    option_and_then (λ (parts : List ℕ × List ℕ). typed_name_with parts.0 parts.1)
+    (split_at 58 token)
 
 -- the parameters between the brackets, which commas part
 abbrev pub params_of : List ℕ → Option (List TypedName)
@@ -47,7 +50,9 @@ signature_with name between after =
 -- `NAME(P:TYPE,..)` or `NAME(P:TYPE,..)->TYPE`; the name ends at the first `(`, the parameters at the first `)` after it
 abbrev pub signature_of : List ℕ → Option Signature
 signature_of token =
-    option_and_then (λ (named : List ℕ × List ℕ). option_and_then (λ (parts : List ℕ × List ℕ). signature_with named.0 parts.0 parts.1) (split_at 41 named.1)) (split_at 40 token)
+    option_and_then (λ (named : List ℕ × List ℕ).
+    option_and_then (λ (parts : List ℕ × List ℕ). signature_with named.0 parts.0 parts.1)
+    (split_at 41 named.1)) (split_at 40 token)
 
 -- one name
 abbrev pub named_line_of : List (List ℕ) → Option (List ℕ)
@@ -66,13 +71,17 @@ type_line_of _ = None
 
 -- `NAME F:TYPE ..`, with at least one field
 abbrev pub record_line_of : List (List ℕ) → Option PackageLine
-record_line_of (name ∷ field ∷ fields) = option_and_then (λ own. option_map (line.Record own) (each_of typed_name_of (field ∷ fields))) (part_of name)
+record_line_of (name ∷ field ∷ fields) =
+    option_and_then (λ own. option_map (line.Record own) (each_of typed_name_of (field ∷ fields)))
+    (part_of name)
 record_line_of _ = None
 
 -- the use of a type of this name under a new one
 abbrev pub use_line_with : List ℕ → List ℕ → List ℕ → Option PackageLine
 use_line_with path name new =
-    option_and_then (λ from. option_and_then (λ own. option_map (line.Use from own) (part_of new)) (part_of name)) (path_of path)
+    option_and_then (λ from.
+    option_and_then (λ own. option_map (line.Use from own) (part_of new)) (part_of name))
+    (path_of path)
 
 -- `PATH NAME`, where the new name is the old one, or `PATH NAME NEW`
 abbrev pub use_line_of : List (List ℕ) → Option PackageLine
@@ -83,7 +92,9 @@ use_line_of _ = None
 -- a label, where there is one, and a path
 abbrev pub entry_by : List ℕ → Option (List ℕ × List ℕ) → Option (Option (List ℕ) × ParsedUsePath)
 entry_by token None = option_map (λ path. (None, path)) (path_of token)
-entry_by token (Some parts) = option_and_then (λ label. option_map (λ path. (Some label, path)) (path_of parts.1)) (part_of parts.0)
+entry_by token (Some parts) =
+    option_and_then (λ label. option_map (λ path. (Some label, path)) (path_of parts.1))
+    (part_of parts.0)
 
 -- `PATH` or `LABEL=PATH`; the label ends at the first `=`
 abbrev pub entry_tokens : List (List ℕ) → Option (Option (List ℕ) × ParsedUsePath)
@@ -92,16 +103,22 @@ entry_tokens _ = None
 
 -- another name for a label
 abbrev pub rename_with : List ℕ → List ℕ → Option IncludeName
-rename_with old new = option_and_then (λ (name : List ℕ). option_map (λ (other : List ℕ). record { name = name; as_ = other }) (part_of new)) (part_of old)
+rename_with old new =
+    option_and_then (λ (name : List ℕ).
+    option_map (λ (other : List ℕ). record { name = name; as_ = other }) (part_of new))
+    (part_of old)
 
 -- `OLD=NEW`; the old name ends at the first `=`
 abbrev pub rename_of : List ℕ → Option IncludeName
-rename_of token = option_and_then (λ (parts : List ℕ × List ℕ). rename_with parts.0 parts.1) (split_at 61 token)
+rename_of token =
+    option_and_then (λ (parts : List ℕ × List ℕ). rename_with parts.0 parts.1) (split_at 61 token)
 
 -- `PATH OLD=NEW ..`
 abbrev pub include_line_of : List (List ℕ) → Option PackageLine
 include_line_of [] = None
-include_line_of (path ∷ names) = option_and_then (λ from. option_map (line.Include from) (each_of rename_of names)) (path_of path)
+include_line_of (path ∷ names) =
+    option_and_then (λ from. option_map (line.Include from) (each_of rename_of names))
+    (path_of path)
 
 -- a line of a package by its first token and its arguments without the gate
 abbrev pub package_line_by : List ℕ → List (List ℕ) → Option PackageLine
@@ -122,7 +139,9 @@ package_line_by word arguments =
 
 -- an argument that is a gate by its beginning
 abbrev pub is_gate : List ℕ → Bool
-is_gate argument = is_some (after_prefix (codes "@since=") argument) || is_some (after_prefix (codes "@unstable=") argument)
+is_gate argument =
+    is_some (after_prefix (codes "@since=") argument)
+    || is_some (after_prefix (codes "@unstable=") argument)
 
 -- the gate of what follows `@since=`, or else of what follows `@unstable=`: a version, a feature
 abbrev pub gate_by : Option (List ℕ) → Option (List ℕ) → Option Stability
@@ -132,7 +151,8 @@ gate_by None None = Some Unknown
 
 -- the gate of a line whose last argument this is: one that looks like a gate has to be one, any other says no gate
 abbrev pub gate_of : List ℕ → Option Stability
-gate_of last = gate_by (after_prefix (codes "@since=") last) (after_prefix (codes "@unstable=") last)
+gate_of last =
+    gate_by (after_prefix (codes "@since=") last) (after_prefix (codes "@unstable=") last)
 
 -- the last argument of a line
 abbrev pub last_of : List (List ℕ) → Option (List ℕ)
@@ -148,4 +168,5 @@ has_gate arguments = option_map_or is_gate (last_of arguments) false
 
 -- the arguments of a line without its gate
 abbrev pub ungated_of : List (List ℕ) → List (List ℕ)
-ungated_of arguments = if has_gate arguments then take (length arguments - 1) arguments else arguments
+ungated_of arguments =
+    if has_gate arguments then take (length arguments - 1) arguments else arguments

@@ -19,7 +19,10 @@ push_statement_of (argument ∷ arguments) = None
 
 -- a line of a package, with its gate
 abbrev pub gated_line_by : List ℕ → List (List ℕ) → Option Statement
-gated_line_by word arguments = option_and_then (λ gate. option_map (λ said. says.Line said gate) (package_line_by word (ungated_of arguments))) (gate_of_line arguments)
+gated_line_by word arguments =
+    option_and_then (λ gate.
+    option_map (λ said. says.Line said gate) (package_line_by word (ungated_of arguments)))
+    (gate_of_line arguments)
 
 -- a line, by its first token
 abbrev pub statement_by : List ℕ → List (List ℕ) → Option Statement
@@ -32,7 +35,8 @@ statement_by word arguments =
 -- what the tokens of a line say: None where they aren't understood, and inside it None where they say nothing
 abbrev pub statement_of_tokens : List (List ℕ) → Option (Option Statement)
 statement_of_tokens [] = Some None
-statement_of_tokens (word ∷ arguments) = if is_comment word then Some None else option_map Some (statement_by word arguments)
+statement_of_tokens (word ∷ arguments) =
+    if is_comment word then Some None else option_map Some (statement_by word arguments)
 
 -- what a line says
 abbrev pub statement_of : List ℕ → Option (Option Statement)

@@ -18,7 +18,9 @@ part_of text = if length text == 0 then None else Some text
 -- what stands before and after the first of a byte, where there is one
 abbrev pub split_at : ℕ → List ℕ → Option (List ℕ × List ℕ)
 split_at byte token =
-    if nat_lt (position_or_len (λ b. b == byte) token) (length token) then Some (before_first (λ b. b == byte) token, after_first (λ b. b == byte) token) else None
+    if nat_lt (position_or_len (λ b. b == byte) token) (length token)
+    then Some (before_first (λ b. b == byte) token, after_first (λ b. b == byte) token)
+    else None
 
 -- what was read, where it was read
 abbrev pub read_part : Result Parts Error → Option Parts
@@ -32,13 +34,18 @@ version_of text = read_part (version_parts text)
 -- a package of these parts
 abbrev pub package_with : List ℕ → List ℕ → Option Parts → Option PackageName
 package_with namespace name version =
-    option_and_then (λ (space : List ℕ). option_map (λ (own : List ℕ). record { namespace = space; name = own; version = version }) (part_of name)) (part_of namespace)
+    option_and_then (λ (space : List ℕ).
+    option_map
+    (λ (own : List ℕ). record { namespace = space; name = own; version = version })
+    (part_of name)) (part_of namespace)
 
 -- `name` or `name@version` after a namespace; the name ends at the first `@`
 abbrev pub name_after : List ℕ → List ℕ → Option PackageName
 name_after namespace rest =
     if nat_lt (position_or_len (λ b. b == 64) rest) (length rest)
-    then option_and_then (λ version. package_with namespace (before_first (λ b. b == 64) rest) (Some version)) (version_of (after_first (λ b. b == 64) rest))
+    then option_and_then
+    (λ version. package_with namespace (before_first (λ b. b == 64) rest) (Some version))
+    (version_of (after_first (λ b. b == 64) rest))
     else package_with namespace rest None
 
 -- `namespace:name` or `namespace:name@version`; the namespace ends at the first colon
@@ -51,7 +58,8 @@ package_name_of token =
 -- a name of the same package, or a use path, which has a colon and names something foreign even where it names the package
 -- itself
 abbrev pub path_of : List ℕ → Option ParsedUsePath
-path_of token = if list_any (λ b. b == 58) token then use_path_of token else option_map Name (part_of token)
+path_of token =
+    if list_any (λ b. b == 58) token then use_path_of token else option_map Name (part_of token)
 
 -- a primitive type in WIT's spelling
 abbrev pub primitive_of : List ℕ → Option Type_
@@ -74,11 +82,13 @@ primitive_of token =
 
 -- what follows a word at the beginning of a text
 abbrev pub after_prefix : List ℕ → List ℕ → Option (List ℕ)
-after_prefix word text = if starts_with nat_eq text word then Some (drop (length word) text) else None
+after_prefix word text =
+    if starts_with nat_eq text word then Some (drop (length word) text) else None
 
 -- what stands before a `>` at the end of a text
 abbrev pub before_end : List ℕ → Option (List ℕ)
-before_end text = if ends_with nat_eq text (codes ">") then Some (take (length text - 1) text) else None
+before_end text =
+    if ends_with nat_eq text (codes ">") then Some (take (length text - 1) text) else None
 
 -- what stands inside `WORD<..>`; the word is given with its `<`
 abbrev pub inside : List ℕ → List ℕ → Option (List ℕ)

@@ -28,7 +28,8 @@ abbrev pub written_of : List ℕ → Written
 written_of text =
     if bytes_eq text (codes "future") then written.Future
     else if bytes_eq text (codes "stream") then written.Stream
-    else or_written written.Own (inside (codes "own<") text) (or_written written.Borrow (inside (codes "borrow<") text) (written.Named text))
+    else or_written written.Own (inside (codes "own<") text)
+    (or_written written.Borrow (inside (codes "borrow<") text) (written.Named text))
 
 -- forms around what a text says
 abbrev pub in_forms : List Wrap → TypeText → TypeText

@@ -22,8 +22,10 @@ pub(crate) fn keys_differ(unresolved: &UnresolvedPackage)
 
 /// The names in the tables of interfaces differ.
 pub fn interfaces_keys_differ(interfaces: &[Interface])
-    ensures types { Each (λ (interface : Interface). HasDistinctKeys interface.types) interfaces.now }
-    ensures functions { Each (λ (interface : Interface). HasDistinctKeys interface.functions) interfaces.now }
+    ensures types { Each (λ (interface : Interface). HasDistinctKeys interface.types)
+        interfaces.now }
+    ensures functions { Each (λ (interface : Interface). HasDistinctKeys interface.functions)
+        interfaces.now }
 {
     interfaces
         .iter()

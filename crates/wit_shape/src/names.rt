@@ -41,14 +41,16 @@ pub(crate) fn own(unresolved: &UnresolvedPackage) -> Option<ShapePlace>
 
 /// Whether the names of interfaces are kebab names.
 pub fn are_interfaces_kebab(interfaces: &[Interface]) -> bool
-    ensures { IsTrue result ↔ Each (λ (interface : Interface). IfSome interface.name IsKebabName) interfaces.now }
+    ensures { IsTrue result
+        ↔ Each (λ (interface : Interface). IfSome interface.name IsKebabName) interfaces.now }
 {
     self::interfaces(interfaces).is_none()
 }
 
 /// The first interface with a name that is no kebab name.
 pub(crate) fn interfaces(interfaces: &[Interface]) -> Option<ShapePlace>
-    ensures { FindsFirst place.Interface (λ _ (interface : Interface). IfSome interface.name IsKebabName) interfaces.now result }
+    ensures { FindsFirst place.Interface
+        (λ _ (interface : Interface). IfSome interface.name IsKebabName) interfaces.now result }
 {
     let index = interfaces
         .iter()
@@ -74,7 +76,8 @@ pub fn are_worlds_kebab(worlds: &[World]) -> bool
 
 /// The first world with a name that is no kebab name.
 pub(crate) fn worlds(worlds: &[World]) -> Option<ShapePlace>
-    ensures { FindsFirst place.World (λ _ (world : World). IsKebabName world.name) worlds.now result }
+    ensures { FindsFirst place.World (λ _ (world : World). IsKebabName world.name) worlds.now
+        result }
 {
     let index = worlds
         .iter()
@@ -118,8 +121,10 @@ pub(crate) fn interfaces_differ(
 
 /// Adds the name of an interface, where it has one, to those that were met, and tells whether it is new.
 fn has_new_name(alloc: Global, met: &mut NameSet, interface: &Interface) -> Result<bool, AllocError>
-    ensures new { IfOk result (λ new. IsTrue new ↔ IfSome interface.now.name (λ name. Contains met.old name → ⊥)) }
-    ensures met { IfOk result (λ new. IsTrue new → met.new ≡ met.old ++ option_to_list interface.now.name) }
+    ensures new { IfOk result
+        (λ new. IsTrue new ↔ IfSome interface.now.name (λ name. Contains met.old name → ⊥)) }
+    ensures met { IfOk result
+        (λ new. IsTrue new → met.new ≡ met.old ++ option_to_list interface.now.name) }
 {
     match &interface.name {
         Some(name) => is_new(alloc, met, name.as_str()),

@@ -42,7 +42,8 @@ pub(crate) fn types(
     shown: &Items<NamedOwners>,
 ) -> Result<Option<ShapePlace>, AllocError>
     requires { AreNamedOwners types.now shown.now }
-    ensures { IfOk result (λ found. FindsFirst place.Type_ (λ _. RefersToOwn types.now) types.now found) }
+    ensures { IfOk result
+        (λ found. FindsFirst place.Type_ (λ _. RefersToOwn types.now) types.now found) }
 {
     for (index, def) in types.iter().enumerate() {
         if !refers_to_own(alloc, types, shown, def)? {
@@ -108,7 +109,10 @@ pub(crate) fn functions(
     interfaces: &[Interface],
 ) -> Result<Option<ShapePlace>, AllocError>
     requires { AreNamedOwners types.now shown.now }
-    ensures { IfOk result (λ found. FindsWithin place.Function (λ f (interface : Interface) (e : List ℕ × Function). UsesOwn types.now (owners.Interface f) e.1) (λ (interface : Interface). interface.functions) interfaces.now found) }
+    ensures { IfOk result (λ found.
+        FindsWithin place.Function (λ f (interface : Interface) (e : List ℕ × Function).
+        UsesOwn types.now (owners.Interface f) e.1)
+        (λ (interface : Interface). interface.functions) interfaces.now found) }
 {
     for (index, interface) in interfaces.iter().enumerate() {
         let owner = InterfaceId::from_index(index);
@@ -128,7 +132,10 @@ fn function_of_others(
     interface: &Interface,
 ) -> Result<Option<usize>, AllocError>
     requires { AreNamedOwners types.now shown.now }
-    ensures { IfOk result (λ found. FindsFirst (λ i. i) (λ _ (e : List ℕ × Function). UsesOwn types.now (owners.Interface owner) e.1) interface.now.functions found) }
+    ensures { IfOk result (λ found.
+        FindsFirst (λ i. i)
+        (λ _ (e : List ℕ × Function). UsesOwn types.now (owners.Interface owner) e.1)
+        interface.now.functions found) }
 {
     for index in 0..interface.functions.len() {
         let (_, function) = interface.functions.entry_at(index);
@@ -164,7 +171,9 @@ pub fn all_imports_use_own(
     worlds: &[World],
 ) -> Result<bool, AllocError>
     requires { AreNamedOwners types.now shown.now }
-    ensures { IfOk result (λ own. IsTrue own ↔ EachAt (λ w (world : World). EntriesUseOwn types.now w world.imports) worlds.now) }
+    ensures { IfOk result (λ own.
+        IsTrue own
+        ↔ EachAt (λ w (world : World). EntriesUseOwn types.now w world.imports) worlds.now) }
 {
     Ok(imports(alloc, types, shown, worlds)?.is_none())
 }
@@ -177,7 +186,9 @@ pub(crate) fn imports(
     worlds: &[World],
 ) -> Result<Option<ShapePlace>, AllocError>
     requires { AreNamedOwners types.now shown.now }
-    ensures { IfOk result (λ found. FindsWithin place.Import (λ w (world : World) (e : Entry). ItemUsesOwn types.now w e.1) (λ (world : World). world.imports) worlds.now found) }
+    ensures { IfOk result (λ found.
+        FindsWithin place.Import (λ w (world : World) (e : Entry). ItemUsesOwn types.now w e.1)
+        (λ (world : World). world.imports) worlds.now found) }
 {
     for (index, world) in worlds.iter().enumerate() {
         let owner = WorldId::from_index(index);
@@ -198,7 +209,9 @@ pub fn all_exports_use_own(
     worlds: &[World],
 ) -> Result<bool, AllocError>
     requires { AreNamedOwners types.now shown.now }
-    ensures { IfOk result (λ own. IsTrue own ↔ EachAt (λ w (world : World). EntriesUseOwn types.now w world.exports) worlds.now) }
+    ensures { IfOk result (λ own.
+        IsTrue own
+        ↔ EachAt (λ w (world : World). EntriesUseOwn types.now w world.exports) worlds.now) }
 {
     Ok(exports(alloc, types, shown, worlds)?.is_none())
 }
@@ -211,7 +224,9 @@ pub(crate) fn exports(
     worlds: &[World],
 ) -> Result<Option<ShapePlace>, AllocError>
     requires { AreNamedOwners types.now shown.now }
-    ensures { IfOk result (λ found. FindsWithin place.Export (λ w (world : World) (e : Entry). ItemUsesOwn types.now w e.1) (λ (world : World). world.exports) worlds.now found) }
+    ensures { IfOk result (λ found.
+        FindsWithin place.Export (λ w (world : World) (e : Entry). ItemUsesOwn types.now w e.1)
+        (λ (world : World). world.exports) worlds.now found) }
 {
     for (index, world) in worlds.iter().enumerate() {
         let owner = WorldId::from_index(index);
@@ -231,7 +246,9 @@ fn entry_of_others(
     entries: &Table<WorldKey, WorldItem>,
 ) -> Result<Option<usize>, AllocError>
     requires { AreNamedOwners types.now shown.now }
-    ensures { IfOk result (λ found. FindsFirst (λ i. i) (λ _ (e : Entry). ItemUsesOwn types.now owner e.1) entries.now found) }
+    ensures { IfOk result (λ found.
+        FindsFirst (λ i. i) (λ _ (e : Entry). ItemUsesOwn types.now owner e.1) entries.now
+        found) }
 {
     for index in 0..entries.len() {
         let (_, item) = entries.entry_at(index);

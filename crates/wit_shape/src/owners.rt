@@ -27,7 +27,10 @@ pub fn are_listed(
     worlds: &[World],
     types: &[TypeDef],
 ) -> Result<bool, AllocError>
-    ensures { IfOk result (λ listed. IsTrue listed ↔ EachAt (λ i (def : TypeDef). IsListed interfaces.now worlds.now i def.name def.owner) types.now) }
+    ensures { IfOk result (λ listed.
+        IsTrue listed
+        ↔ EachAt (λ i (def : TypeDef). IsListed interfaces.now worlds.now i def.name def.owner)
+        types.now) }
 {
     Ok(listed(interfaces, worlds, types)?.is_none())
 }
@@ -38,7 +41,10 @@ pub(crate) fn listed(
     worlds: &[World],
     types: &[TypeDef],
 ) -> Result<Option<ShapePlace>, AllocError>
-    ensures { IfOk result (λ found. FindsFirst place.Type_ (λ i (def : TypeDef). IsListed interfaces.now worlds.now i def.name def.owner) types.now found) }
+    ensures { IfOk result (λ found.
+        FindsFirst place.Type_
+        (λ i (def : TypeDef). IsListed interfaces.now worlds.now i def.name def.owner)
+        types.now found) }
 {
     for (index, def) in types.iter().enumerate() {
         if !is_listed(interfaces, worlds, index, def)? {
@@ -55,7 +61,8 @@ fn is_listed(
     index: usize,
     def: &TypeDef,
 ) -> Result<bool, AllocError>
-    ensures { IfOk result (λ listed. IsTrue listed ↔ IsListed interfaces.now worlds.now index def.now.name def.now.owner) }
+    ensures { IfOk result (λ listed.
+        IsTrue listed ↔ IsListed interfaces.now worlds.now index def.now.name def.now.owner) }
 {
     let Some(name) = &def.name else {
         return Ok(matches!(def.owner, TypeOwner::None));
@@ -69,7 +76,9 @@ fn is_listed(
 
 /// Whether there is such an interface, and it lists a type under a name.
 fn is_in_interface(interfaces: &[Interface], owner: InterfaceId, name: &str, index: usize) -> bool
-    ensures { IsTrue result ↔ SomeAt interfaces.now owner (λ (interface : Interface). Contains interface.types (name.now, index)) }
+    ensures { IsTrue result
+        ↔ SomeAt interfaces.now owner
+        (λ (interface : Interface). Contains interface.types (name.now, index)) }
 {
     match interfaces.get(owner.index()) {
         Some(interface) => lists(&interface.types, name, index),
@@ -84,7 +93,10 @@ fn is_in_world(
     name: &Text,
     index: usize,
 ) -> Result<bool, AllocError>
-    ensures { IfOk result (λ listed. IsTrue listed ↔ SomeAt worlds.now owner (λ (world : World). Contains (world_types world) (name.now, index))) }
+    ensures { IfOk result (λ listed.
+        IsTrue listed
+        ↔ SomeAt worlds.now owner
+        (λ (world : World). Contains (world_types world) (name.now, index))) }
 {
     match worlds.get(owner.index()) {
         Some(world) => world_lists(world, name, index),
@@ -107,7 +119,8 @@ fn lists(types: &Names<TypeId>, name: &str, index: usize) -> bool
 
 /// Whether a world lists a type under a name.
 fn world_lists(world: &World, name: &Text, index: usize) -> Result<bool, AllocError>
-    ensures { IfOk result (λ listed. IsTrue listed ↔ Contains (world_types world.now) (name.now, index)) }
+    ensures { IfOk result
+        (λ listed. IsTrue listed ↔ Contains (world_types world.now) (name.now, index)) }
 {
     if world.imports.len() == 0 {
         return Ok(false);
@@ -134,7 +147,9 @@ pub fn all_list_own(types: &[TypeDef], interfaces: &[Interface]) -> bool
 
 /// The first type that an interface lists and that isn't its own of that name.
 pub(crate) fn own_types(types: &[TypeDef], interfaces: &[Interface]) -> Option<ShapePlace>
-    ensures { FindsWithin place.InterfaceType (λ f (interface : Interface) (e : List ℕ × ℕ). IsTypeOf types.now (owners.Interface f) e.0 e.1) (λ (interface : Interface). interface.types) interfaces.now result }
+    ensures { FindsWithin place.InterfaceType (λ f (interface : Interface) (e : List ℕ × ℕ).
+        IsTypeOf types.now (owners.Interface f) e.0 e.1)
+        (λ (interface : Interface). interface.types) interfaces.now result }
 {
     for (index, interface) in interfaces.iter().enumerate() {
         let owner = InterfaceId::from_index(index);
@@ -146,7 +161,9 @@ pub(crate) fn own_types(types: &[TypeDef], interfaces: &[Interface]) -> Option<S
 }
 
 fn type_of_another(types: &[TypeDef], owner: InterfaceId, interface: &Interface) -> Option<usize>
-    ensures { FindsFirst (λ i. i) (λ _ (e : List ℕ × ℕ). IsTypeOf types.now (owners.Interface owner) e.0 e.1) interface.now.types result }
+    ensures { FindsFirst (λ i. i)
+        (λ _ (e : List ℕ × ℕ). IsTypeOf types.now (owners.Interface owner) e.0 e.1)
+        interface.now.types result }
 {
     for index in 0..interface.types.len() {
         let (name, id) = interface.types.entry_at(index);
@@ -176,7 +193,9 @@ pub fn all_name_functions(interfaces: &[Interface]) -> bool
 
 /// The first function that stands under another name.
 pub(crate) fn functions(interfaces: &[Interface]) -> Option<ShapePlace>
-    ensures { FindsWithin place.Function (λ _ (interface : Interface) (e : List ℕ × Function). e.1.name ≡ e.0) (λ (interface : Interface). interface.functions) interfaces.now result }
+    ensures { FindsWithin place.Function
+        (λ _ (interface : Interface) (e : List ℕ × Function). e.1.name ≡ e.0)
+        (λ (interface : Interface). interface.functions) interfaces.now result }
 {
     for (index, interface) in interfaces.iter().enumerate() {
         if let Some(at) = function_of_another_name(interface) {
@@ -187,7 +206,8 @@ pub(crate) fn functions(interfaces: &[Interface]) -> Option<ShapePlace>
 }
 
 fn function_of_another_name(interface: &Interface) -> Option<usize>
-    ensures { FindsFirst (λ i. i) (λ _ (e : List ℕ × Function). e.1.name ≡ e.0) interface.now.functions result }
+    ensures { FindsFirst (λ i. i) (λ _ (e : List ℕ × Function). e.1.name ≡ e.0)
+        interface.now.functions result }
 {
     for index in 0..interface.functions.len() {
         let (name, function) = interface.functions.entry_at(index);

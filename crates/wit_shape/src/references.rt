@@ -75,7 +75,10 @@ fn aliases_named(types: &[TypeDef], interfaces: &[Interface], def: &TypeDef) -> 
 
 /// Whether there is such a type, it has a name, and an alias of this owner may name it.
 fn is_aliased(types: &[TypeDef], interfaces: &[Interface], owner: TypeOwner, target: TypeId) -> bool
-    ensures { IsTrue result ↔ SomeAt types.now target (λ (named : TypeDef). IsSome named.name × ((named.owner ≡ owner) ⊎ IsNamedInterface interfaces.now named.owner)) }
+    ensures { IsTrue result
+        ↔ SomeAt types.now target (λ (named : TypeDef).
+        IsSome named.name
+        × ((named.owner ≡ owner) ⊎ IsNamedInterface interfaces.now named.owner)) }
 {
     match types.get(target.index()) {
         Some(named) => named.name.is_some() && may_own_aliased(interfaces, owner, named.owner),
@@ -110,14 +113,16 @@ pub(crate) fn is_named(interfaces: &[Interface], id: InterfaceId) -> bool
 
 /// Whether no type without a name is an alias or a resource.
 pub fn are_plain_if_unnamed(types: &[TypeDef]) -> bool
-    ensures { IsTrue result ↔ Each (λ (def : TypeDef). (def.name ≡ None) → IsPlain def.kind) types.now }
+    ensures { IsTrue result
+        ↔ Each (λ (def : TypeDef). (def.name ≡ None) → IsPlain def.kind) types.now }
 {
     unnamed(types).is_none()
 }
 
 /// The first type without a name that is an alias or a resource.
 pub(crate) fn unnamed(types: &[TypeDef]) -> Option<ShapePlace>
-    ensures { FindsFirst place.Type_ (λ _ (def : TypeDef). (def.name ≡ None) → IsPlain def.kind) types.now result }
+    ensures { FindsFirst place.Type_ (λ _ (def : TypeDef). (def.name ≡ None) → IsPlain def.kind)
+        types.now result }
 {
     let index = types.iter().position(|def| !is_plain_if_unnamed(def))?;
     Some(ShapePlace::Type_(TypeId::from_index(index)))

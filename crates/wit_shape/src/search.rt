@@ -51,7 +51,8 @@ pub fn find_shape_fault(
     unresolved: &UnresolvedPackage,
 ) -> Result<Option<ShapeFault>, AllocError>
     ensures none { IfOk result (λ found. IsNone found ↔ IsShaped unresolved.now) }
-    ensures some { IfOk result (λ found. (fault : ShapeFault) → (found ≡ Some fault) ↔ IsFirstFault unresolved.now fault) }
+    ensures some { IfOk result (λ found.
+        (fault : ShapeFault) → (found ≡ Some fault) ↔ IsFirstFault unresolved.now fault) }
 {
     first_fault(alloc, unresolved)
 }
@@ -61,7 +62,8 @@ fn first_fault(
     alloc: Global,
     unresolved: &UnresolvedPackage,
 ) -> Result<Option<ShapeFault>, AllocError>
-    ensures { IfOk result (λ found. Finds (IsShaped unresolved.now) (IsFirstFault unresolved.now) found) }
+    ensures { IfOk result
+        (λ found. Finds (IsShaped unresolved.now) (IsFirstFault unresolved.now) found) }
 {
     keys_differ(unresolved);
     for clause in ShapeClause::ALL {

@@ -110,7 +110,8 @@ fn type_that_is_known(
     interface_index: usize,
     interface: &Interface,
 ) -> Option<usize>
-    ensures { FindsFirst (λ i. i) (λ _ (e : List ℕ × ℕ). interface_index < foreign → e.1 < unknown) interface.now.types result }
+    ensures { FindsFirst (λ i. i) (λ _ (e : List ℕ × ℕ). interface_index < foreign → e.1 < unknown)
+        interface.now.types result }
 {
     for index in 0..interface.types.len() {
         let (_, id) = interface.types.entry_at(index);

@@ -36,7 +36,9 @@ pub(crate) fn imports(
     types: &[TypeDef],
     worlds: &[World],
 ) -> Option<ShapePlace>
-    ensures { FindsWithin place.Import (λ w (world : World) (e : Entry). IsImport interfaces.now types.now w e.0 e.1) (λ (world : World). world.imports) worlds.now result }
+    ensures { FindsWithin place.Import
+        (λ w (world : World) (e : Entry). IsImport interfaces.now types.now w e.0 e.1)
+        (λ (world : World). world.imports) worlds.now result }
 {
     for (index, world) in worlds.iter().enumerate() {
         let owner = WorldId::from_index(index);
@@ -53,7 +55,8 @@ fn entry_that_is_no_import(
     owner: WorldId,
     world: &World,
 ) -> Option<usize>
-    ensures { FindsFirst (λ i. i) (λ _ (e : Entry). IsImport interfaces.now types.now owner e.0 e.1) world.now.imports result }
+    ensures { FindsFirst (λ i. i) (λ _ (e : Entry). IsImport interfaces.now types.now owner e.0 e.1)
+        world.now.imports result }
 {
     for index in 0..world.imports.len() {
         let (key, item) = world.imports.entry_at(index);
@@ -113,7 +116,9 @@ pub fn all_have_exports(interfaces: &[Interface], worlds: &[World]) -> bool
 
 /// The first export that may not stand under its key.
 pub(crate) fn exports(interfaces: &[Interface], worlds: &[World]) -> Option<ShapePlace>
-    ensures { FindsWithin place.Export (λ _ (world : World) (e : Entry). IsExport interfaces.now e.0 e.1) (λ (world : World). world.exports) worlds.now result }
+    ensures { FindsWithin place.Export
+        (λ _ (world : World) (e : Entry). IsExport interfaces.now e.0 e.1)
+        (λ (world : World). world.exports) worlds.now result }
 {
     for (index, world) in worlds.iter().enumerate() {
         if let Some(at) = entry_that_is_no_export(interfaces, world) {
@@ -124,7 +129,8 @@ pub(crate) fn exports(interfaces: &[Interface], worlds: &[World]) -> Option<Shap
 }
 
 fn entry_that_is_no_export(interfaces: &[Interface], world: &World) -> Option<usize>
-    ensures { FindsFirst (λ i. i) (λ _ (e : Entry). IsExport interfaces.now e.0 e.1) world.now.exports result }
+    ensures { FindsFirst (λ i. i) (λ _ (e : Entry). IsExport interfaces.now e.0 e.1)
+        world.now.exports result }
 {
     for index in 0..world.exports.len() {
         let (key, item) = world.exports.entry_at(index);
@@ -144,7 +150,9 @@ pub fn all_include_earlier(worlds: &[World]) -> bool
 
 /// The first include of the world itself or a later one.
 pub(crate) fn includes(worlds: &[World]) -> Option<ShapePlace>
-    ensures { FindsWithin place.Include (λ w (world : World) (include : WorldInclude). include.id < w) (λ (world : World). world.includes) worlds.now result }
+    ensures { FindsWithin place.Include
+        (λ w (world : World) (include : WorldInclude). include.id < w)
+        (λ (world : World). world.includes) worlds.now result }
 {
     for (index, world) in worlds.iter().enumerate() {
         if let Some(at) = include_of_no_earlier(index, world) {
@@ -155,7 +163,8 @@ pub(crate) fn includes(worlds: &[World]) -> Option<ShapePlace>
 }
 
 fn include_of_no_earlier(index: usize, world: &World) -> Option<usize>
-    ensures { FindsFirst (λ i. i) (λ _ (include : WorldInclude). include.id < index) world.now.includes result }
+    ensures { FindsFirst (λ i. i) (λ _ (include : WorldInclude). include.id < index)
+        world.now.includes result }
 {
     let includes = world.includes.as_slice();
     includes
@@ -194,7 +203,10 @@ pub(crate) fn once(
 /// Of numbers below a bound, the first that stands among those before it.
 fn first_again(alloc: Global, numbers: &[usize], bound: usize) -> Result<Option<usize>, AllocError>
     requires { Each (λ number. number < bound) numbers.now }
-    ensures { IfOk result (λ found. Finds (IsDistinct nat_eq numbers.now) (AtFirstId (λ id. id) (λ i id. Contains (take i numbers.now) id → ⊥) numbers.now) found) }
+    ensures { IfOk result (λ found.
+        Finds (IsDistinct nat_eq numbers.now)
+        (AtFirstId (λ id. id) (λ i id. Contains (take i numbers.now) id → ⊥) numbers.now)
+        found) }
 {
     let mut met = Listing::new(alloc, bound)?;
     for number in numbers {

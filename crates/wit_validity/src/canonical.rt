@@ -17,8 +17,14 @@ use wit_graph_data::{Graph, ResolveError, ResolveErrorKind, ResolveResult};
 /// Whether each world is its own elaboration.
 pub(crate) fn are_canonical(alloc: Global, graph: &Graph) -> ResolveResult<bool>
     requires acyclic { IsAcyclic (graph_uses graph.now) }
-    requires listed { Each (λ (world : World). HasSoundEntries graph.now.types (length graph.now.interfaces) world.imports world.exports) graph.now.worlds }
-    ensures holds { IfOk result (λ canonical. IsTrue canonical ↔ Each (λ (world : World). Elaborated graph.now.types (graph_uses graph.now) world world) graph.now.worlds) }
+    requires listed { Each (λ (world : World).
+        HasSoundEntries graph.now.types (length graph.now.interfaces) world.imports
+        world.exports) graph.now.worlds }
+    ensures holds { IfOk result (λ canonical.
+        IsTrue canonical
+        ↔ Each
+        (λ (world : World). Elaborated graph.now.types (graph_uses graph.now) world world)
+        graph.now.worlds) }
     ensures err { IfErr result (λ e. e ≡ OutOfMemory) }
 {
     let mut elaborator = Elaborator::new(
@@ -43,8 +49,11 @@ fn is_canonical(
 ) -> ResolveResult<bool>
     requires uses { elaborator.old ≡ graph_uses graph.now }
     requires acyclic { IsAcyclic (graph_uses graph.now) }
-    requires listed { HasSoundEntries graph.now.types (length graph.now.interfaces) world.now.imports world.now.exports }
-    ensures holds { IfOk result (λ canonical. IsTrue canonical ↔ Elaborated graph.now.types (graph_uses graph.now) world.now world.now) }
+    requires listed { HasSoundEntries graph.now.types (length graph.now.interfaces)
+        world.now.imports world.now.exports }
+    ensures holds { IfOk result (λ canonical.
+        IsTrue canonical
+        ↔ Elaborated graph.now.types (graph_uses graph.now) world.now world.now) }
     ensures err { IfErr result (λ e. e ≡ OutOfMemory) }
     ensures same { elaborator.new ≡ elaborator.old }
 {
@@ -56,7 +65,8 @@ fn is_canonical(
 
 /// Whether lists are those of a world.
 fn are_of(lists: &Lists, world: &World) -> bool
-    ensures { IsTrue result ↔ ((lists.now.imports ≡ world.now.imports) × (lists.now.exports ≡ world.now.exports)) }
+    ensures { IsTrue result
+        ↔ ((lists.now.imports ≡ world.now.imports) × (lists.now.exports ≡ world.now.exports)) }
 {
     same_entries(&lists.imports, &world.imports) && same_entries(&lists.exports, &world.exports)
 }

@@ -51,7 +51,8 @@ fn has_valid_names(
 }
 
 fn have_valid_versions(alloc: Global, packages: &[Package]) -> Result<bool, AllocError>
-    ensures { IfOk result (λ valid. IsTrue valid ↔ Each (λ (home : Package). HasValidVersion home.name) packages.now) }
+    ensures { IfOk result (λ valid.
+        IsTrue valid ↔ Each (λ (home : Package). HasValidVersion home.name) packages.now) }
 {
     for home in packages {
         if !home.name.has_valid_version(alloc)? {
@@ -62,7 +63,8 @@ fn have_valid_versions(alloc: Global, packages: &[Package]) -> Result<bool, Allo
 }
 
 fn are_namespaces_kebab(packages: &[Package]) -> bool
-    ensures { IsTrue result ↔ Each (λ (home : Package). IsKebabName home.name.namespace) packages.now }
+    ensures { IsTrue result
+        ↔ Each (λ (home : Package). IsKebabName home.name.namespace) packages.now }
 {
     packages
         .iter()

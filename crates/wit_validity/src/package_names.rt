@@ -18,7 +18,10 @@ pub(crate) fn has_package_names(packages: &[Package], names: &Table<PackageName,
 
 /// Whether each name is that of the package that it names.
 fn name_their_own(packages: &[Package], names: &Table<PackageName, PackageId>) -> bool
-    ensures { IsTrue result ↔ Each (λ (e : PackageName × ℕ). SomeAt packages.now e.1 (λ (home : Package). home.name ≡ e.0)) names.now }
+    ensures { IsTrue result
+        ↔ Each
+        (λ (e : PackageName × ℕ). SomeAt packages.now e.1 (λ (home : Package). home.name ≡ e.0))
+        names.now }
 {
     for (name, id) in names.iter() {
         if !has_this_name(packages, *id, name) {
@@ -46,7 +49,8 @@ fn same_name(a: &PackageName, b: &PackageName) -> bool
 
 /// Whether each package is named under its name.
 fn are_named(packages: &[Package], names: &Table<PackageName, PackageId>) -> bool
-    ensures { IsTrue result ↔ EachAt (λ p (home : Package). Contains names.now (home.name, p)) packages.now }
+    ensures { IsTrue result
+        ↔ EachAt (λ p (home : Package). Contains names.now (home.name, p)) packages.now }
 {
     packages
         .iter()

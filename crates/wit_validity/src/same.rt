@@ -85,7 +85,9 @@ fn same_function(a: &Function, b: &Function) -> bool
 
 /// Whether functions have the same name, kind, parameters and result.
 fn same_signature(a: &Function, b: &Function) -> bool
-    ensures { IsTrue result ↔ ((a.now.name ≡ b.now.name) × (a.now.kind ≡ b.now.kind) × (a.now.params ≡ b.now.params) × (a.now.result_ ≡ b.now.result_)) }
+    ensures { IsTrue result
+        ↔ ((a.now.name ≡ b.now.name) × (a.now.kind ≡ b.now.kind) × (a.now.params ≡ b.now.params)
+        × (a.now.result_ ≡ b.now.result_)) }
 {
     a.name == b.name
         && a.kind == b.kind
@@ -95,7 +97,9 @@ fn same_signature(a: &Function, b: &Function) -> bool
 
 /// Whether functions have the same of what is noted of them.
 fn same_gates(a: &Function, b: &Function) -> bool
-    ensures { IsTrue result ↔ ((a.now.docs ≡ b.now.docs) × (a.now.stability ≡ b.now.stability) × (a.now.span ≡ b.now.span) × (a.now.external_id ≡ b.now.external_id)) }
+    ensures { IsTrue result
+        ↔ ((a.now.docs ≡ b.now.docs) × (a.now.stability ≡ b.now.stability)
+        × (a.now.span ≡ b.now.span) × (a.now.external_id ≡ b.now.external_id)) }
 {
     a.docs == b.docs
         && a.stability == b.stability

@@ -53,7 +53,8 @@ fn is_in_table(packages: &[Package], index: usize, interface: &Interface) -> boo
 
 /// Whether the table of a package has an interface under its name, where it has one.
 fn has_interface_if_named(home: &Package, index: usize, interface: &Interface) -> bool
-    ensures { IsTrue result ↔ IfSome interface.now.name (λ name. Contains home.now.interfaces (name, index)) }
+    ensures { IsTrue result
+        ↔ IfSome interface.now.name (λ name. Contains home.now.interfaces (name, index)) }
 {
     match &interface.name {
         Some(name) => has_interface(&home.interfaces, name.as_str(), index),
@@ -105,7 +106,10 @@ fn has_world(worlds: &Names<WorldId>, name: &str, index: usize) -> bool
 
 /// Whether the tables of packages have their interfaces alone, each under its name.
 fn have_interfaces(packages: &[Package], interfaces: &[Interface]) -> bool
-    ensures { IsTrue result ↔ EachAt (λ p (home : Package). Each (λ (e : List ℕ × ℕ). IsInterfaceOf interfaces.now p e.0 e.1) home.interfaces) packages.now }
+    ensures { IsTrue result
+        ↔ EachAt (λ p (home : Package).
+        Each (λ (e : List ℕ × ℕ). IsInterfaceOf interfaces.now p e.0 e.1) home.interfaces)
+        packages.now }
 {
     for (index, home) in packages.iter().enumerate() {
         if !has_interfaces(interfaces, index, &home.interfaces) {
@@ -116,7 +120,8 @@ fn have_interfaces(packages: &[Package], interfaces: &[Interface]) -> bool
 }
 
 fn has_interfaces(interfaces: &[Interface], home: usize, table: &Names<InterfaceId>) -> bool
-    ensures { IsTrue result ↔ Each (λ (e : List ℕ × ℕ). IsInterfaceOf interfaces.now home e.0 e.1) table.now }
+    ensures { IsTrue result
+        ↔ Each (λ (e : List ℕ × ℕ). IsInterfaceOf interfaces.now home e.0 e.1) table.now }
 {
     for (name, id) in table.iter() {
         if !is_interface_of(interfaces, home, name, *id) {
@@ -147,7 +152,9 @@ fn is_package(id: Option<PackageId>, index: usize) -> bool
 
 /// Whether the tables of packages have their worlds alone, each under its name.
 fn have_worlds(packages: &[Package], worlds: &[World]) -> bool
-    ensures { IsTrue result ↔ EachAt (λ p (home : Package). Each (λ (e : List ℕ × ℕ). IsWorldOf worlds.now p e.0 e.1) home.worlds) packages.now }
+    ensures { IsTrue result
+        ↔ EachAt (λ p (home : Package).
+        Each (λ (e : List ℕ × ℕ). IsWorldOf worlds.now p e.0 e.1) home.worlds) packages.now }
 {
     for (index, home) in packages.iter().enumerate() {
         if !has_worlds(worlds, index, &home.worlds) {
@@ -158,7 +165,8 @@ fn have_worlds(packages: &[Package], worlds: &[World]) -> bool
 }
 
 fn has_worlds(worlds: &[World], home: usize, table: &Names<WorldId>) -> bool
-    ensures { IsTrue result ↔ Each (λ (e : List ℕ × ℕ). IsWorldOf worlds.now home e.0 e.1) table.now }
+    ensures { IsTrue result
+        ↔ Each (λ (e : List ℕ × ℕ). IsWorldOf worlds.now home e.0 e.1) table.now }
 {
     for (name, id) in table.iter() {
         if !is_world_of(worlds, home, name, *id) {

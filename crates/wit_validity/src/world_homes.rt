@@ -10,14 +10,20 @@ use wit_data::{Interface, PackageId, Table, World, WorldItem, WorldKey};
 
 /// Whether the interfaces without names among the imports of worlds are of the worlds' packages.
 pub(crate) fn import_own(interfaces: &[Interface], worlds: &[World]) -> bool
-    ensures { IsTrue result ↔ Each (λ (world : World). Each (λ (e : Entry). IsOfPackage interfaces.now world.package e.1) world.imports) worlds.now }
+    ensures { IsTrue result
+        ↔ Each (λ (world : World).
+        Each (λ (e : Entry). IsOfPackage interfaces.now world.package e.1) world.imports)
+        worlds.now }
 {
     worlds.iter().all(|world| are_of_package(interfaces, &world.package, &world.imports))
 }
 
 /// Whether those among the exports are.
 pub(crate) fn export_own(interfaces: &[Interface], worlds: &[World]) -> bool
-    ensures { IsTrue result ↔ Each (λ (world : World). Each (λ (e : Entry). IsOfPackage interfaces.now world.package e.1) world.exports) worlds.now }
+    ensures { IsTrue result
+        ↔ Each (λ (world : World).
+        Each (λ (e : Entry). IsOfPackage interfaces.now world.package e.1) world.exports)
+        worlds.now }
 {
     worlds.iter().all(|world| are_of_package(interfaces, &world.package, &world.exports))
 }
@@ -27,7 +33,8 @@ fn are_of_package(
     home: &Option<PackageId>,
     entries: &Table<WorldKey, WorldItem>,
 ) -> bool
-    ensures { IsTrue result ↔ Each (λ (e : Entry). IsOfPackage interfaces.now home.now e.1) entries.now }
+    ensures { IsTrue result
+        ↔ Each (λ (e : Entry). IsOfPackage interfaces.now home.now e.1) entries.now }
 {
     for (_, item) in entries.iter() {
         if !is_of_package(interfaces, home, item) {

@@ -21,12 +21,14 @@ word_text begins.Include = codes "include"
 -- the first of some words that a token is
 abbrev pub word_among : List LineWord → List ℕ → Option LineWord
 word_among [] token = None
-word_among (word ∷ words) token = if bytes_eq token (word_text word) then Some word else word_among words token
+word_among (word ∷ words) token =
+    if bytes_eq token (word_text word) then Some word else word_among words token
 
 -- all of them
 abbrev pub line_words : List LineWord
 line_words =
-    begins.Use ∷ begins.Type_ ∷ begins.Function ∷ begins.Interface ∷ begins.Import ∷ begins.Export ∷ begins.World ∷ begins.Record ∷ begins.Resource
+    begins.Use ∷ begins.Type_ ∷ begins.Function ∷ begins.Interface ∷ begins.Import ∷ begins.Export
+    ∷ begins.World ∷ begins.Record ∷ begins.Resource
     ∷ begins.Include ∷ begins.ImportFunction ∷ begins.ExportFunction ∷ []
 
 -- the word that a token is, or None where no line of a package begins with it

@@ -23,7 +23,10 @@ pub record AreNamedOwners (types : List TypeDef) (shown : List NamedOwners) : Ty
 
 -- it is told of each type that the type at a place refers to
 abbrev pub IsTold : List TypeDef → List NamedOwners → ℕ → Type 0
-IsTold types shown index = (def : TypeDef) → slice_get types index ≡ Some def → Each (λ id. SomeAt shown id (IsNamedOwners (NamesThroughUnnamed types id))) (referred def.kind)
+IsTold types shown index =
+    (def : TypeDef) → slice_get types index ≡ Some def
+    → Each (λ id. SomeAt shown id (IsNamedOwners (NamesThroughUnnamed types id)))
+    (referred def.kind)
 
 abbrev pub same_owner : TypeOwner → TypeOwner → Bool
 same_owner owner.None owner.None = true
