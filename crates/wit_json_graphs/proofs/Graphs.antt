@@ -40,7 +40,7 @@ use Rattle.wit_json_reading.specs.Values.{boolean_of, text_of}
 use Rattle.wit_json_reading.specs.Worlds.{interface_of, world_of}
 use Rattle.wit_json_reading.specs.declared.fault.Step.TheVariants as step
 use Rattle.wit_json_graphs.proofs.Bare.{bare_type, reads_bare_type}
-use Rattle.wit_json_graphs.proofs.Details.{interface_complete, list_complete, type_complete, world_complete}
+use Rattle.wit_json_graphs.proofs.DetailsRead.{interface_complete, list_complete, type_complete, world_complete}
 use Rattle.wit_json_graphs.proofs.BareThings.{bare_interface, bare_world, reads_bare_interface, reads_bare_world, reads_home_package, reads_homes}
 use Rattle.wit_json_graphs.proofs.Slots.{Slot, get_slot, only_slots, slots}
 use Rattle.wit_json_graphs.proofs.Sources.{reads_sources}

@@ -11,6 +11,6 @@ mod Packages
 mod Sources
 mod Bare
 mod BareThings
-mod Details
+mod DetailsRead
 mod Graphs
 mod Plain
