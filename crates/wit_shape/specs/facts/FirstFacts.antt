@@ -1,7 +1,7 @@
 -- The first element of which something doesn't hold is one, and there is none where it holds of all; so a search finds
 -- nothing exactly where it does.
 use Rattle.std.proofs.Common.{◌≡◌, ◌∙◌, ℕ, ◌<◌, Bool, true, false, List, Option, None, Some, slice_get, refl, sym, ap, subst, arith}
-use Rattle.std.specs.Prelude.{◌↔◌, is_none, is_some}
+use Rattle.std.specs.Prelude.{◌↔◌, IsTrue, is_some, not}
 use Rattle.std.proofs.lemmas.Bool.{false≢true}
 use Rattle.wit_data.specs.Each.{Each, EachAt, SomeAt}
 use Rattle.wit_data.specs.facts.EachFacts.{SomeAt-is}
@@ -57,39 +57,22 @@ module _ {X Y A : Type 0} {place : ℕ → ℕ → A} {Q : ℕ → X → Y → T
 
 -- ---- what a search finds
 
-module _ {A : Type 0} (holds : Type 0) (breaks : A → Type 0) where
-  -- where it finds nothing, it holds
-  pub holds_if_none : (found : Option A) → Finds holds breaks found → is_some found ≡ false → holds
-  holds_if_none None it none = it
-  holds_if_none (Some at) broken none = absurd (false≢true (sym none))
-
-  -- where it finds something, it doesn't, of what can't hold where it is broken
-  pub not_if_some : ((at : A) → breaks at → holds → ⊥) → (found : Option A) → Finds holds breaks found → is_some found ≡ true → holds → ⊥
-  not_if_some fails None it some = absurd (false≢true some)
-  not_if_some fails (Some at) broken some = fails at broken
-
-  -- so it finds nothing exactly where it holds
-  pub none_is : ((at : A) → breaks at → holds → ⊥) → (found : Option A) → Finds holds breaks found → (is_none found ≡ true) ↔ holds
-  none_is fails None it = (λ _. it, λ _. refl)
-  none_is fails (Some at) broken = (λ none. absurd (false≢true none), λ it. absurd (fails at broken it))
+-- where a test says of what it finds that there is nothing, it holds, and where it doesn't, it doesn't, of what can't hold
+-- where it is broken
+pub none_is : {A : Type 0} (holds : Type 0) (breaks : A → Type 0) → ((at : A) → breaks at → holds → ⊥)
+    → (found : Option A) (none : Bool) → is_some found ≡ not none → Finds holds breaks found → IsTrue none ↔ holds
+none_is holds breaks fails None true test it = (λ _. it, λ _. refl)
+none_is holds breaks fails None false test it = absurd (false≢true test)
+none_is holds breaks fails (Some at) true test broken = absurd (false≢true (sym test))
+none_is holds breaks fails (Some at) false test broken = (λ none. absurd (false≢true none), λ it. absurd (fails at broken it))
 
 -- the same of the first thing, and of the first within
-module _ {X A : Type 0} (place : ℕ → A) (P : ℕ → X → Type 0) (xs : List X) where
-  pub first_kept : (found : Option A) → FindsFirst place P xs found → is_some found ≡ false → EachAt P xs
-  first_kept = holds_if_none (EachAt P xs) (AtFirst place P xs)
+pub first_none : {X A : Type 0} (place : ℕ → A) (P : ℕ → X → Type 0) (xs : List X)
+    → (found : Option A) (none : Bool) → is_some found ≡ not none → FindsFirst place P xs found → IsTrue none ↔ EachAt P xs
+first_none place P xs = none_is (EachAt P xs) (AtFirst place P xs) (λ at broken each. first_fails broken each)
 
-  pub first_some : (found : Option A) → FindsFirst place P xs found → is_some found ≡ true → EachAt P xs → ⊥
-  first_some = not_if_some (EachAt P xs) (AtFirst place P xs) (λ at broken each. first_fails broken each)
-
-  pub first_none : (found : Option A) → FindsFirst place P xs found → (is_none found ≡ true) ↔ EachAt P xs
-  first_none = none_is (EachAt P xs) (AtFirst place P xs) (λ at broken each. first_fails broken each)
-
-module _ {X Y A : Type 0} (place : ℕ → ℕ → A) (Q : ℕ → X → Y → Type 0) (list : X → List Y) (xs : List X) where
-  pub within_kept : (found : Option A) → FindsWithin place Q list xs found → is_some found ≡ false → EachAt (λ i x. Each (Q i x) (list x)) xs
-  within_kept = holds_if_none (EachAt (λ i x. Each (Q i x) (list x)) xs) (WithinFirst place Q list xs)
-
-  pub within_some : (found : Option A) → FindsWithin place Q list xs found → is_some found ≡ true → EachAt (λ i x. Each (Q i x) (list x)) xs → ⊥
-  within_some = not_if_some (EachAt (λ i x. Each (Q i x) (list x)) xs) (WithinFirst place Q list xs) (λ at broken each. within_fails list broken each)
-
-  pub within_none : (found : Option A) → FindsWithin place Q list xs found → (is_none found ≡ true) ↔ EachAt (λ i x. Each (Q i x) (list x)) xs
-  within_none = none_is (EachAt (λ i x. Each (Q i x) (list x)) xs) (WithinFirst place Q list xs) (λ at broken each. within_fails list broken each)
+pub within_none : {X Y A : Type 0} (place : ℕ → ℕ → A) (Q : ℕ → X → Y → Type 0) (list : X → List Y) (xs : List X)
+    → (found : Option A) (none : Bool) → is_some found ≡ not none → FindsWithin place Q list xs found
+    → IsTrue none ↔ EachAt (λ i x. Each (Q i x) (list x)) xs
+within_none place Q list xs =
+    none_is (EachAt (λ i x. Each (Q i x) (list x)) xs) (WithinFirst place Q list xs) (λ at broken each. within_fails list broken each)

@@ -1,6 +1,6 @@
 -- Ids that name the first things of a list, each once; and numbers that stand once.
-use Rattle.std.proofs.Common.{◌≡◌, ◌∙◌, ℕ, ◌<◌, Option, true, List, take, eqb, length, slice_get, Some, ap, arith}
-use Rattle.std.specs.Prelude.{◌↔◌, Contains, is_none}
+use Rattle.std.proofs.Common.{◌≡◌, ◌∙◌, ℕ, ◌<◌, Bool, List, Option, take, eqb, length, slice_get, Some, ap, arith}
+use Rattle.std.specs.Prelude.{◌↔◌, Contains, IsTrue, is_some, not}
 use Rattle.std.specs.List.{IsDistinct}
 use Rattle.std.proofs.lemmas.Bool.Decides.{Decides-eqb}
 use Rattle.std.proofs.lemmas.Map.Steps.{length-le_from_distinct_below}
@@ -39,8 +39,9 @@ are_new ids count first i id at =
     let below : id < length ids = first.first i id at in
     (below, omega (arith, first.there), none_again ids first.once i id at)
 
--- a search for one that stands again finds nothing exactly where each stands once
-pub again_none : (interfaces : List Interface) (worlds : List World) (found : Option ShapePlace) → FindsAgain interfaces worlds found → (is_none found ≡ true) ↔ StandOnce interfaces worlds
+-- a test of what a search for one that stands again finds says whether each stands once
+pub again_none : (interfaces : List Interface) (worlds : List World) (found : Option ShapePlace) (none : Bool)
+    → is_some found ≡ not none → FindsAgain interfaces worlds found → IsTrue none ↔ StandOnce interfaces worlds
 again_none interfaces worlds =
     let ids = unnamed_in_worlds interfaces worlds in
     none_is (StandOnce interfaces worlds) (AtFirstId place.Interface (λ i id. Contains (take i ids) id → ⊥) ids) (λ at broken once. id_fails broken (none_again ids once))
