@@ -3,6 +3,7 @@
 
     bench/documents.py LIBRARY [--worlds N] [--times N]
     bench/documents.py LIBRARY --growth
+    bench/documents.py --instructions WITGRAPH_JSON [--worlds N]
 
 LIBRARY is a shared library, made as bindings/README.md says. The documents are the packages of examples/wasi at both
 versions, and a package of N worlds, each of which imports an interface. Of each first the push is carried out, then the
@@ -10,12 +11,15 @@ graph that came out is read, looked at whether it is valid, and written again. R
 last command isn't one. The least processor time of several calls counts; a megabyte is a million bytes.
 
 With --growth documents that have many things of one sort are carried out, and the graphs that come out read and written
-again, at two sizes: four times the size takes about four times as long.
+again, at two sizes: four times the size takes about four times as long. With --instructions valgrind's callgrind counts, in
+millions, what the program takes for the documents, in all and to read them alone: other work on the machine changes nothing.
 """
 import argparse
 import ctypes
 import json
 import pathlib
+import re
+import subprocess
 import sys
 import time
 
@@ -118,6 +122,19 @@ class Library:
         return ctypes.string_at(self.output, self.needed.value), min(spent)
 
 
+class Program:
+    """The program, under callgrind."""
+
+    def __init__(self, path):
+        self.command = ["valgrind", "--tool=callgrind", "--callgrind-out-file=/dev/null", path]
+
+    def timed(self, text, _):
+        """What comes out of a document, and the millions of instructions."""
+        ran = subprocess.run(self.command, input=text, capture_output=True, check=False)
+        found = re.search(rb"Collected : (\d+)", ran.stderr)
+        return ran.stdout, int(found[1]) / 1e6 if found else sys.exit(f"no count is told:\n{ran.stderr.decode()}")
+
+
 def row(library, name, begin, commands, times):
     """Times a document, and tells what comes out of it."""
     text = begin + b'"commands":[' + commands + b"]}"
@@ -127,7 +144,9 @@ def row(library, name, begin, commands, times):
     if not out.startswith(b'{"replies":') or not fault.startswith(b'{"fault":'):
         sys.exit(f"{name}: {out[:300]} {fault[:300]}")
     size = len(text) / 1e6, len(out) / 1e6
-    print(f"| {name} | {size[0]:.2f}, {size[1]:.2f} | {1000 * whole:.2f} | {size[0] / reading:.0f} | {size[1] / (whole - reading):.0f} |")
+    told = [f"{1000 * whole:.2f}", f"{size[0] / reading:.0f}", f"{size[1] / (whole - reading):.0f}"]
+    told = told if isinstance(library, Library) else [f"{whole:.0f}", f"{reading:.0f}"]
+    print(f"| {name} | {size[0]:.2f}, {size[1]:.2f} | {' | '.join(told)} |", flush=True)
     return out
 
 
@@ -155,16 +174,20 @@ def show_growth(library, less, more, times):
 
 def main():
     parser = argparse.ArgumentParser()
-    parser.add_argument("library")
+    parser.add_argument("library", nargs="?")
+    parser.add_argument("--instructions")
     parser.add_argument("--growth", action="store_true")
     parser.add_argument("--worlds", type=int, default=10000)
     parser.add_argument("--times", type=int, default=200)
     asked = parser.parse_args()
-    library = Library(asked.library)
+    if not asked.library and not asked.instructions:
+        parser.error("a library or a program is needed")
+    library = Program(asked.instructions) if asked.instructions else Library(asked.library)
     if asked.growth:
         show_growth(library, 4000, 16000, 5)
         return
-    print("| Document | MB in, out | ms | reading, MB/s in | the rest, MB/s out |\n|---|---|---|---|---|")
+    columns = "millions | reading |\n|---|---|---|---|" if asked.instructions else "ms | reading, MB/s in | the rest, MB/s out |\n|---|---|---|---|---|"
+    print(f"| Document | MB in, out | {columns}")
     for name, push in (("WASI", wasi()), (f"{asked.worlds} worlds", worlds(asked.worlds))):
         out = row(library, f"{name}, pushed", b"{", compact(push), asked.times)
         resolve = resolve_of(out)

@@ -18,7 +18,7 @@ commit says whose turn it is, so each edit comes once in TURNS runs in the mean.
 edits, however many they are: so they stay together, but for those of a crate of more than PART minutes, and for those of
 a crate that is proved again for a named wrong body anyway.
 
-What edits cost is reckoned, in seconds of the processor (measured in November 2026): an edit EDIT; a second proof, where
+What edits cost is reckoned, in seconds of the processor (as `bench/gate.py` measures it): an edit EDIT; a second proof, where
 no edit in must-fail asks for one already, PROOF, and LINE for each line of src.
 
 `rt ci` passes where an edit can't be applied or doesn't compile. It says BAD EDIT, and says so again where it keeps that
