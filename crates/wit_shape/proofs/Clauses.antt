@@ -3,7 +3,7 @@ use Rattle.std.proofs.Common.{◌≡◌, ◌∙◌, ℕ, zero, suc, ◌<◌, ◌
 use Rattle.std.proofs.lemmas.Option.{get_or_from_slice_get, slice_get_within}
 use Rattle.wit_data.specs.Shape.{IsShaped, KeysDiffer}
 use Rattle.wit_data.specs.declared.unresolved.UnresolvedPackage.{UnresolvedPackage}
-use Rattle.wit_shape.specs.Faults.{BreaksAt, Holds, IsBefore, IsFirstFault, KeepsBefore, Tells, clauses}
+use Rattle.wit_shape.specs.Faults.{Holds, IsBefore, IsFirstFault, KeepsBefore, Tells, clauses}
 use Rattle.wit_shape.specs.declared.clause.ShapeClause.{ShapeClause}
 use Rattle.wit_shape.specs.declared.place.ShapePlace.{ShapePlace}
 use Rattle.wit_shape.specs.declared.clause.ShapeClause.TheVariants as clause

@@ -3,11 +3,10 @@
 use Rattle.std.specs.Prelude.{◌≡◌, ◌↔◌, ℕ, ◌<◌, ◌≤◌, ◌+◌, ◌⊎◌, List, [], ◌∷◌, Option, Some, None, length, filter, map, nat_lt, slice_get, take, bytes_eq, Contains, IfSome}
 use Rattle.std.specs.List.{IsDistinct}
 use Rattle.wit_digraph.specs.Relation.{IsAcyclic}
-use Rattle.wit_data.specs.Each.{EachAt, SomeAt}
+use Rattle.wit_data.specs.Each.{Each, EachAt, SomeAt}
 use Rattle.wit_data.specs.Entries.{Entry, IsExport, IsImport, ItemUsesOwn, StandOnce, interfaces_in_worlds, is_unnamed}
 use Rattle.wit_data.specs.Foreign.{AreFirst, ForeignItem, IsForeign, IsForeignType, foreign_interfaces, foreign_worlds}
 use Rattle.wit_data.specs.Kind.{referred}
-use Rattle.wit_data.specs.Each.{Each}
 use Rattle.wit_data.specs.Ownership.{AliasesNamed, IsListed, IsPlain, IsTypeOf, RefersToOwn, UsesOwn}
 use Rattle.wit_data.specs.Shape.{interface_names, world_names}
 use Rattle.wit_data.specs.Uses.{uses_of}
