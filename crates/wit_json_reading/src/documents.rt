@@ -61,11 +61,10 @@ fn take_step(reader: &mut Reader<'_>, step: &Step, most: usize) -> bool {
 /// may stand without a mark and with one.
 fn second_offset(reader: &mut Reader<'_>, step: &Step, most: usize) -> usize {
     let first = reader.offset();
-    let Step::Member(name) = step else {
-        return first;
-    };
-    if reader.skip_value(MAX_DEPTH).is_ok() && take_to(reader, name.as_str(), most) {
-        return reader.offset();
+    if let Step::Member(name) = step {
+        if reader.skip_value(MAX_DEPTH).is_ok() && take_to(reader, name.as_str(), most) {
+            return reader.offset();
+        }
     }
     first
 }
