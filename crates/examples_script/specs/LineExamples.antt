@@ -37,36 +37,54 @@ pub record ExamplesOfLines : Type 0 where
   pub nothing : statement_of (codes "   ") ≡ Some None
   pub comment : statement_of (codes "  # push") ≡ Some None
   pub package_line : Says (codes " package  a:b ") (says.Package a_b)
-  pub gated : Says (codes "interface i @unstable=f") (says.Line (line.Interface (codes "i")) (Unstable (codes "f") None))
+  pub gated : Says (codes "interface i @unstable=f")
+      (says.Line (line.Interface (codes "i")) (Unstable (codes "f") None))
   pub world_line : Says (codes "world w") (says.Line (line.World (codes "w")) Unknown)
   pub type_line : Says (codes "type l list<option<own<r>>>")
-      (says.Line (line.Type_ (codes "l") (record { wraps = wrap.List ∷ wrap.Option ∷ []; core = written.Own (codes "r") })) Unknown)
-  pub plain_future : Says (codes "type f future") (says.Line (line.Type_ (codes "f") (record { wraps = []; core = written.Future })) Unknown)
+      (says.Line (line.Type_ (codes "l")
+      (record { wraps = wrap.List ∷ wrap.Option ∷ []; core = written.Own (codes "r") }))
+      Unknown)
+  pub plain_future : Says (codes "type f future")
+      (says.Line (line.Type_ (codes "f") (record { wraps = []; core = written.Future })) Unknown)
   pub record_line : Says (codes "record r a:u32 b:l")
-      (says.Line (line.Record (codes "r") (record { name = codes "a"; ty = named (codes "u32") } ∷ record { name = codes "b"; ty = named (codes "l") } ∷ [])) Unknown)
+      (says.Line (line.Record (codes "r") (record { name = codes "a"; ty = named (codes "u32") }
+      ∷ record { name = codes "b"; ty = named (codes "l") } ∷ [])) Unknown)
   pub resource_line : Says (codes "resource r") (says.Line (line.Resource (codes "r")) Unknown)
   pub use_own : Says (codes "use i t") (says.Line (line.Use (path.Name (codes "i")) (codes "t") (codes "t")) Unknown)
   pub use_foreign : Says (codes "use c:d/e t u") (says.Line (line.Use (path.Package (package_of (codes "c") (codes "d")) (codes "e")) (codes "t") (codes "u")) Unknown)
   pub func_line : Says (codes "func f(x:u32,y:l)->l")
       (says.Line (line.Function (record {
         name = codes "f";
-        params = record { name = codes "x"; ty = named (codes "u32") } ∷ record { name = codes "y"; ty = named (codes "l") } ∷ [];
+        params =
+            record { name = codes "x"; ty = named (codes "u32") }
+            ∷ record { name = codes "y"; ty = named (codes "l") } ∷ [];
         answer = Some (named (codes "l"));
       }))
       Unknown)
-  pub import_label : Says (codes "import lab=i") (says.Line (line.Import (Some (codes "lab")) (path.Name (codes "i"))) Unknown)
+  pub import_label : Says (codes "import lab=i")
+      (says.Line (line.Import (Some (codes "lab")) (path.Name (codes "i"))) Unknown)
   -- a path without a colon is a name of the same package
-  pub import_slash : Says (codes "import a/b") (says.Line (line.Import None (path.Name (codes "a/b"))) Unknown)
-  pub export_line : Says (codes "export i") (says.Line (line.Export None (path.Name (codes "i"))) Unknown)
-  pub import_func : Says (codes "import-func f()") (says.Line (line.ImportFunction (record { name = codes "f"; params = []; answer = None })) Unknown)
-  pub include_line : Says (codes "include w a=b") (says.Line (line.Include (path.Name (codes "w")) (record { name = codes "a"; as_ = codes "b" } ∷ [])) Unknown)
+  pub import_slash : Says (codes "import a/b")
+      (says.Line (line.Import None (path.Name (codes "a/b"))) Unknown)
+  pub export_line : Says (codes "export i")
+      (says.Line (line.Export None (path.Name (codes "i"))) Unknown)
+  pub import_func : Says (codes "import-func f()") (says.Line
+      (line.ImportFunction (record { name = codes "f"; params = []; answer = None })) Unknown)
+  pub include_line : Says (codes "include w a=b") (says.Line (line.Include (path.Name (codes "w"))
+      (record { name = codes "a"; as_ = codes "b" } ∷ [])) Unknown)
   pub push_line : Says (codes "push") says.Push
-  pub feature_line : Says (codes "feature f") (says.Request (request.Change (change.AddFeature (codes "f"))))
-  pub tracks_line : Says (codes "tracks with-prereleases") (says.Request (request.Change (change.SetTrackRule rule.WithPrereleases)))
-  pub importize_line : Says (codes "importize a:b w -") (says.Request (request.Change (change.Importize a_b (codes "w") (Some (codes "-")))))
-  pub exportize_line : Says (codes "exportize a:b w - k") (says.Request (request.Change (change.Exportize a_b (codes "w") None (Some (codes "k" ∷ [])))))
-  pub exportize_all : Says (codes "exportize a:b w x") (says.Request (request.Change (change.Exportize a_b (codes "w") (Some (codes "x")) None)))
-  pub semver_line : Says (codes "semver a:b w") (says.Request (request.Change (change.Semver a_b (codes "w"))))
+  pub feature_line : Says (codes "feature f")
+      (says.Request (request.Change (change.AddFeature (codes "f"))))
+  pub tracks_line : Says (codes "tracks with-prereleases")
+      (says.Request (request.Change (change.SetTrackRule rule.WithPrereleases)))
+  pub importize_line : Says (codes "importize a:b w -")
+      (says.Request (request.Change (change.Importize a_b (codes "w") (Some (codes "-")))))
+  pub exportize_line : Says (codes "exportize a:b w - k") (says.Request
+      (request.Change (change.Exportize a_b (codes "w") None (Some (codes "k" ∷ [])))))
+  pub exportize_all : Says (codes "exportize a:b w x")
+      (says.Request (request.Change (change.Exportize a_b (codes "w") (Some (codes "x")) None)))
+  pub semver_line : Says (codes "semver a:b w")
+      (says.Request (request.Change (change.Semver a_b (codes "w"))))
   pub select_line : Says (codes "select a:b") (says.Request (request.Select a_b None))
   -- an unknown word, a word too many
   pub no_word : IsNeverUnderstood (codes "interfaces i")

@@ -44,33 +44,50 @@ pub record ExamplesOfOtherLines : Type 0 where
   -- not: no second one, the same once more, one with the features of the first, the first left empty, a word
   pub not_alone : IsAnswered (only_first bar) other_line [] (only_first bar) → ⊥
   pub not_the_same : IsAnswered (only_first bar) other_line [] (both bar bar) → ⊥
-  pub not_its_features : IsAnswered (only_first bar) other_line [] (both bar (record new_state { features = bar.features })) → ⊥
+  pub not_its_features : IsAnswered (only_first bar) other_line []
+      (both bar (record new_state { features = bar.features })) → ⊥
   pub not_left_empty : IsAnswered (only_first bar) other_line [] (both new_state new_state) → ⊥
   pub not_aloud : IsAnswered (only_first bar) other_line (codes "done\n") (both bar new_state) → ⊥
   -- where a second one is open there is no other
-  pub not_twice : (text : List ℕ) (last : Stage) → IsAnswered (both bar new_state) other_line text last → ⊥
+  pub not_twice : (text : List ℕ) (last : Stage)
+      → IsAnswered (both bar new_state) other_line text last → ⊥
 
 pub record ExamplesOfMergeLines : Type 0 where
   -- the second graph goes into the first, and is no longer there
-  pub merged : IsAnswered (both bar baz) merge_line (codes "merged\n") (only_first (after (two foo_bar foo_baz)))
+  pub merged : IsAnswered (both bar baz) merge_line (codes "merged\n")
+      (only_first (after (two foo_bar foo_baz)))
   -- not: it stays open, a new one is opened, it is gone and didn't go into the first, no word, another word
-  pub not_open : IsAnswered (both bar baz) merge_line (codes "merged\n") (both (after (two foo_bar foo_baz)) baz) → ⊥
-  pub not_opened_anew : IsAnswered (both bar baz) merge_line (codes "merged\n") (both (after (two foo_bar foo_baz)) new_state) → ⊥
+  pub not_open : IsAnswered (both bar baz) merge_line (codes "merged\n")
+      (both (after (two foo_bar foo_baz)) baz) → ⊥
+  pub not_opened_anew : IsAnswered (both bar baz) merge_line (codes "merged\n")
+      (both (after (two foo_bar foo_baz)) new_state) → ⊥
   pub not_dropped : IsAnswered (both bar baz) merge_line (codes "merged\n") (only_first bar) → ⊥
-  pub not_quiet : IsAnswered (both bar baz) merge_line [] (only_first (after (two foo_bar foo_baz))) → ⊥
-  pub not_done : IsAnswered (both bar baz) merge_line (codes "done\n") (only_first (after (two foo_bar foo_baz))) → ⊥
+  pub not_quiet : IsAnswered (both bar baz) merge_line [] (only_first (after (two foo_bar foo_baz)))
+      → ⊥
+  pub not_done : IsAnswered (both bar baz) merge_line (codes "done\n")
+      (only_first (after (two foo_bar foo_baz))) → ⊥
   -- nothing is merged without a second graph
-  pub no_second : (text : List ℕ) (last : Stage) → IsAnswered (only_first bar) merge_line text last → ⊥
+  pub no_second : (text : List ℕ) (last : Stage) → IsAnswered (only_first bar) merge_line text last
+      → ⊥
   -- after a refusal the second graph is gone too, and the first is as it was, but for the file
-  pub refused : IsAnswered (both under_f under_g) merge_line gates_told (only_first (after (gated (codes "f"))))
+  pub refused : IsAnswered (both under_f under_g) merge_line gates_told
+      (only_first (after (gated (codes "f"))))
   -- not: it stays open, all is as before, the first is changed, merged nevertheless
-  pub refused_not_open : IsAnswered (both under_f under_g) merge_line gates_told (both (after (gated (codes "f"))) under_g) → ⊥
-  pub refused_not_before : IsAnswered (both under_f under_g) merge_line gates_told (both under_f under_g) → ⊥
-  pub refused_not_changed : IsAnswered (both under_f under_g) merge_line gates_told (only_first (after (gated (codes "g")))) → ⊥
-  pub refused_not_merged : (last : Stage) → IsAnswered (both under_f under_g) merge_line (codes "merged\n") last → ⊥
+  pub refused_not_open : IsAnswered (both under_f under_g) merge_line gates_told
+      (both (after (gated (codes "f"))) under_g) → ⊥
+  pub refused_not_before : IsAnswered (both under_f under_g) merge_line gates_told
+      (both under_f under_g) → ⊥
+  pub refused_not_changed : IsAnswered (both under_f under_g) merge_line gates_told
+      (only_first (after (gated (codes "g")))) → ⊥
+  pub refused_not_merged : (last : Stage)
+      → IsAnswered (both under_f under_g) merge_line (codes "merged\n") last → ⊥
   -- want of memory, after which the second is gone as well
-  pub memory : IsAnswered (both bar baz) merge_line (codes "refused 28 out of memory\n") (only_first bar)
-  pub memory_not_open : IsAnswered (both bar baz) merge_line (codes "refused 28 out of memory\n") (both bar baz) → ⊥
+  pub memory : IsAnswered (both bar baz) merge_line (codes "refused 28 out of memory\n")
+      (only_first bar)
+  pub memory_not_open : IsAnswered (both bar baz) merge_line (codes "refused 28 out of memory\n")
+      (both bar baz) → ⊥
   -- the rule that is set between the two lines is that of the second graph, and lost with it
-  pub lines : AreAnswered (only_first bar) (other_line ∷ tracks_line ∷ merge_line ∷ []) (codes "merged\n") (only_first bar)
-  pub lines_not_set : AreAnswered (only_first bar) (other_line ∷ tracks_line ∷ merge_line ∷ []) (codes "merged\n") (only_first (record bar { track_rule = WithPrereleases })) → ⊥
+  pub lines : AreAnswered (only_first bar) (other_line ∷ tracks_line ∷ merge_line ∷ [])
+      (codes "merged\n") (only_first bar)
+  pub lines_not_set : AreAnswered (only_first bar) (other_line ∷ tracks_line ∷ merge_line ∷ [])
+      (codes "merged\n") (only_first (record bar { track_rule = WithPrereleases })) → ⊥

@@ -28,7 +28,9 @@ use Rattle.examples_script.specs.LineExamples.{a_b, package_of}
 
 -- what lines ask, where all are understood and nothing waits
 abbrev pub Asks : List ℕ → List Request → Type 0
-Asks text commands = reading_of (lines_of text) ≡ Some (record { commands = commands; finished = []; current = None; other = false })
+Asks text commands =
+    reading_of (lines_of text)
+    ≡ Some (record { commands = commands; finished = []; current = None; other = false })
 
 -- lines of which one isn't understood
 abbrev pub IsNeverRead : List ℕ → Type 0
@@ -53,7 +55,13 @@ unnamed made stands = type_with None made owner.None stands
 
 -- a package with this file, as a group of its own
 abbrev pub group_of : UnresolvedPackage → List ℕ → List ℕ → ℕ → UnresolvedPackageGroup
-group_of main path contents end = record { main = main; nested = []; source_map = record { files = record { path = path; contents = contents; start = 0 } ∷ []; end = end } }
+group_of main path contents end =
+    record {
+      main = main;
+      nested = [];
+      source_map = record
+          { files = record { path = path; contents = contents; start = 0 } ∷ []; end = end };
+    }
 
 -- ---- a package that uses another one
 
@@ -78,7 +86,9 @@ first_package = record {
         types = (codes "t", 1) ∷ (codes "r", 2) ∷ (codes "l", 4) ∷ [];
         functions = (
           codes "[method]r.m",
-          record (new_function (codes "[method]r.m") (role.Method 2) (record { name = codes "x"; ty = type.Id 5; span = at 82 111 } ∷ []) (Some (type.Id 4))) { span = at 82 111 },
+          record (new_function (codes "[method]r.m") (role.Method 2)
+              (record { name = codes "x"; ty = type.Id 5; span = at 82 111 } ∷ [])
+              (Some (type.Id 4))) { span = at 82 111 },
         )
             ∷ [];
       }
@@ -92,7 +102,10 @@ first_package = record {
       ∷ unnamed (kind.Handle (handle.Own 1)) (here 82 111)
       ∷ [];
   -- two lines name e
-  foreign_deps = (package_of (codes "c") (codes "d"), (codes "e", (foreign.Interface 0, Unknown ∷ Unknown ∷ [])) ∷ []) ∷ [];
+  foreign_deps = (
+    package_of (codes "c") (codes "d"),
+    (codes "e", (foreign.Interface 0, Unknown ∷ Unknown ∷ [])) ∷ [],
+  ) ∷ [];
   foreign_dep_spans = at 36 47 ∷ [];
   unknown_type_spans = at 36 47 ∷ [];
   -- own<t> is for resources alone
@@ -109,10 +122,13 @@ gates_package = record {
   name = a_b;
   package_name_span = at 0 11;
   docs = record { contents = None };
-  worlds = record (empty_world (codes "w") (here 90 97)) { imports = (key.Interface 0, interface_entry 0 (under (codes "g") 98 122)) ∷ [] } ∷ [];
+  worlds =
+      record (empty_world (codes "w") (here 90 97))
+      { imports = (key.Interface 0, interface_entry 0 (under (codes "g") 98 122)) ∷ [] } ∷ [];
   interfaces =
       record (empty_interface (codes "e") (here 24 49)) { types = (codes "t", 0) ∷ [] }
-      ∷ record (empty_interface (codes "i") (here 12 23)) { types = (codes "u", 1) ∷ (codes "v", 2) ∷ (codes "h", 3) ∷ [] }
+      ∷ record (empty_interface (codes "i") (here 12 23))
+      { types = (codes "u", 1) ∷ (codes "v", 2) ∷ (codes "h", 3) ∷ [] }
       ∷ [];
   types =
       -- the foreign type has the gate of the first line that uses it
@@ -122,8 +138,17 @@ gates_package = record {
       ∷ named (codes "h") (kind.Handle (handle.Own 2)) (owner.Interface 1) (under (codes "k") 64 89)
       ∷ [];
   -- the foreign interface has a gate for each line that names it
-  foreign_deps =
-      (package_of (codes "c") (codes "d"), (codes "e", (foreign.Interface 0, Unstable (codes "f") None ∷ Unknown ∷ Unstable (codes "g") None ∷ [])) ∷ []) ∷ [];
+  foreign_deps = (
+    package_of (codes "c") (codes "d"),
+    (
+      codes "e",
+      (
+        foreign.Interface 0,
+        Unstable (codes "f") None ∷ Unknown ∷ Unstable (codes "g") None ∷ [],
+      ),
+    ) ∷ [],
+  )
+      ∷ [];
   foreign_dep_spans = at 24 49 ∷ [];
   unknown_type_spans = at 24 49 ∷ [];
   -- v leads to t
@@ -148,7 +173,9 @@ world_package = record {
             ∷ (key.Name (codes "p"), item.Type_ 6 (at 104 116))
             ∷ (
               key.Name (codes "g"),
-              item.Function (record (new_function (codes "g") role.Freestanding (record { name = codes "x"; ty = type.Id 6; span = at 117 135 } ∷ []) None) { span = at 117 135 }),
+              item.Function (record (new_function (codes "g") role.Freestanding
+                  (record { name = codes "x"; ty = type.Id 6; span = at 117 135 } ∷ [])
+                  None) { span = at 117 135 }),
             )
             ∷ [];
       }
@@ -173,7 +200,13 @@ world_package = record {
       ∷ unnamed (kind.Handle (handle.Own 1)) (under (codes "f") 44 87)
       ∷ unnamed (kind.List (type.Id 3)) (under (codes "f") 44 87)
       ∷ named (codes "s") (kind.Type_ (type.Id 1)) (owner.World 0) (here 96 103)
-      ∷ named (codes "p") (kind.Record (record { name = codes "a"; ty = type.Id 5; docs = record { contents = None }; span = at 104 116 } ∷ [])) (owner.World 0) (here 104 116)
+      ∷ named (codes "p") (kind.Record (record {
+        name = codes "a";
+        ty = type.Id 5;
+        docs = record { contents = None };
+        span = at 104 116;
+      } ∷ [])) (owner.World 0)
+      (here 104 116)
       ∷ [];
   foreign_deps = [];
   foreign_dep_spans = [];
@@ -191,10 +224,14 @@ main_package = record {
   name = a_b;
   package_name_span = at 0 11;
   docs = record { contents = None };
-  worlds = record (empty_world (codes "w") (here 12 19)) { imports = (key.Interface 0, interface_entry 0 (here 20 32)) ∷ [] } ∷ [];
+  worlds =
+      record (empty_world (codes "w") (here 12 19))
+      { imports = (key.Interface 0, interface_entry 0 (here 20 32)) ∷ [] } ∷ [];
   interfaces = empty_interface (codes "e") (here 20 32) ∷ [];
   types = [];
-  foreign_deps = (package_of (codes "c") (codes "d"), (codes "e", (foreign.Interface 0, Unknown ∷ [])) ∷ []) ∷ [];
+  foreign_deps =
+      (package_of (codes "c") (codes "d"), (codes "e", (foreign.Interface 0, Unknown ∷ [])) ∷ [])
+      ∷ [];
   foreign_dep_spans = at 20 32 ∷ [];
   unknown_type_spans = [];
   required_resource_types = [];
@@ -214,7 +251,12 @@ dep_package = record {
       ∷ record (empty_world (codes "v") (here 12 19)) {
         includes =
             record { stability = Unknown; id = 0; names = []; span = at 20 33 }
-            ∷ record { stability = Unknown; id = 1; names = record { name = codes "a"; as_ = codes "b" } ∷ []; span = at 34 51 }
+            ∷ record {
+              stability = Unknown;
+              id = 1;
+              names = record { name = codes "a"; as_ = codes "b" } ∷ [];
+              span = at 34 51;
+            }
             ∷ [];
       }
       ∷ [];
@@ -230,13 +272,18 @@ dep_package = record {
 }
 
 pub record ExamplesOfPackages : Type 0 where
-  pub first : Asks (first_text ++ codes "push\n") (request.Change (change.PushGroups (group_of first_package (codes "a:b") first_text 147) []) ∷ [])
-  pub gates : Asks (gates_text ++ codes "push\n") (request.Change (change.PushGroups (group_of gates_package (codes "a:b") gates_text 124) []) ∷ [])
-  pub world : Asks (world_text ++ codes "push\n") (request.Change (change.PushGroups (group_of world_package (codes "a:b") world_text 137) []) ∷ [])
+  pub first : Asks (first_text ++ codes "push\n") (request.Change
+      (change.PushGroups (group_of first_package (codes "a:b") first_text 147) []) ∷ [])
+  pub gates : Asks (gates_text ++ codes "push\n") (request.Change
+      (change.PushGroups (group_of gates_package (codes "a:b") gates_text 124) []) ∷ [])
+  pub world : Asks (world_text ++ codes "push\n") (request.Change
+      (change.PushGroups (group_of world_package (codes "a:b") world_text 137) []) ∷ [])
   pub two_packages : Asks (main_text ++ (dep_text ++ codes "push\n"))
-      (request.Change (change.PushGroups (group_of main_package (codes "a:b") main_text 34) (group_of dep_package (codes "f:g") dep_text 53 ∷ [])) ∷ [])
+      (request.Change (change.PushGroups (group_of main_package (codes "a:b") main_text 34)
+      (group_of dep_package (codes "f:g") dep_text 53 ∷ [])) ∷ [])
   pub commands : Asks (codes "all-features\nother\nfeature f\nmerge")
-      (request.Change (change.SetAllFeatures true) ∷ request.Other ∷ request.Change (change.AddFeature (codes "f")) ∷ request.Merge ∷ [])
+      (request.Change (change.SetAllFeatures true) ∷ request.Other
+      ∷ request.Change (change.AddFeature (codes "f")) ∷ request.Merge ∷ [])
   -- nothing is open to be merged, or something is open already
   pub nothing_open : IsNeverRead (codes "merge")
   pub open_twice : IsNeverRead (codes "other\nother")
@@ -247,17 +294,20 @@ pub record ExamplesOfPackages : Type 0 where
   pub no_name : IsNeverRead (codes "package a:b\ninterface i\nfunc [get]()")
   pub unknown_group : IsNeverRead (codes "package a:b\ninterface i\nfunc [x]p()")
   pub group_twice : IsNeverRead (codes "package a:b\ninterface i\nfunc [get][set]p()")
-  pub groups_transformed : IsNeverRead (codes "package a:b\ninterface i\nresource r\nfunc [set][method]r.p()")
+  pub groups_transformed : IsNeverRead
+      (codes "package a:b\ninterface i\nresource r\nfunc [set][method]r.p()")
   -- no dot, no such resource
   pub no_dot : IsNeverRead (codes "package a:b\ninterface i\nresource r\nfunc [method]r()")
   pub no_resource : IsNeverRead (codes "package a:b\ninterface i\nfunc [method]r.m()")
   -- a handle of what is no resource, of an alias of it, of a form
   pub no_handle : IsNeverRead (codes "package a:b\ninterface i\ntype t u32\ntype h own<t>")
-  pub no_handle_of_list : IsNeverRead (codes "package a:b\ninterface i\ntype t list<u8>\ntype s t\ntype h borrow<s>")
+  pub no_handle_of_list : IsNeverRead
+      (codes "package a:b\ninterface i\ntype t list<u8>\ntype s t\ntype h borrow<s>")
   pub no_inner : IsNeverRead (codes "package a:b\ninterface i\ntype t list<>")
   -- names that are there already
   pub type_twice : IsNeverRead (codes "package a:b\nworld w\ntype t u8\ntype t u16")
-  pub label_twice : IsNeverRead (codes "package a:b\ninterface i\nworld w\nexport l=i\nexport-func l()")
+  pub label_twice : IsNeverRead
+      (codes "package a:b\ninterface i\nworld w\nexport l=i\nexport-func l()")
   -- types stand neither before the first interface or world nor functions in worlds
   pub no_scope : IsNeverRead (codes "package a:b\ntype t u8")
   pub no_interface : IsNeverRead (codes "package a:b\nworld w\nfunc f()")

@@ -27,7 +27,8 @@ foo_bar = package_of (codes "foo") (codes "bar")
 
 -- a name of a type of interface i, by a line that stands here
 abbrev pub name_in : ℕ → List ℕ → Type_ → ℕ → ℕ → TypeDef
-name_in i name target start end = named name (kind.Type_ target) (owner.Interface i) (here start end)
+name_in i name target start end =
+    named name (kind.Type_ target) (owner.Interface i) (here start end)
 
 -- what the lines of foo:bar make
 abbrev pub first_group : UnresolvedPackageGroup
@@ -35,11 +36,14 @@ first_group = group_of (record {
   name = foo_bar;
   package_name_span = at 0 15;
   docs = record { contents = None };
-  worlds = record (empty_world (codes "w") (here 90 97)) { imports = (key.Interface 2, interface_entry 2 (here 98 106)) ∷ [] } ∷ [];
+  worlds =
+      record (empty_world (codes "w") (here 90 97))
+      { imports = (key.Interface 2, interface_entry 2 (here 98 106)) ∷ [] } ∷ [];
   interfaces =
       record (empty_interface (codes "a") (here 16 27)) { types = (codes "t", 0) ∷ [] }
       ∷ record (empty_interface (codes "b") (here 39 50)) { types = (codes "t", 1) ∷ [] }
-      ∷ record (empty_interface (codes "c") (here 59 70)) { types = (codes "t", 2) ∷ (codes "t2", 3) ∷ [] }
+      ∷ record (empty_interface (codes "c") (here 59 70))
+      { types = (codes "t", 2) ∷ (codes "t2", 3) ∷ [] }
       ∷ [];
   types =
       name_in 0 (codes "t") type.U32 28 38
@@ -56,10 +60,14 @@ first_group = group_of (record {
 -- scripts and what they ask, and scripts that aren't understood
 pub record ExamplesOfScripts : Type 0 where
   pub first_package : Asks (first_package ++ codes "push\nprint foo:bar w\nselect foo:bar")
-      (request.Change (change.PushGroups first_group []) ∷ request.Print foo_bar (codes "w") ∷ request.Select foo_bar None ∷ [])
-  pub features : Asks (codes "feature f\nall-features\n") (request.Change (change.AddFeature (codes "f")) ∷ request.Change (change.SetAllFeatures true) ∷ [])
+      (request.Change (change.PushGroups first_group []) ∷ request.Print foo_bar (codes "w")
+      ∷ request.Select foo_bar None ∷ [])
+  pub features : Asks (codes "feature f\nall-features\n") (request.Change
+      (change.AddFeature (codes "f")) ∷ request.Change (change.SetAllFeatures true) ∷ [])
   pub tracks : Asks (codes "tracks with-prereleases\ntracks published\nsemver foo:bar w\n")
-      (request.Change (change.SetTrackRule WithPrereleases) ∷ request.Change (change.SetTrackRule Published) ∷ request.Change (change.Semver foo_bar (codes "w")) ∷ [])
+      (request.Change (change.SetTrackRule WithPrereleases)
+      ∷ request.Change (change.SetTrackRule Published)
+      ∷ request.Change (change.Semver foo_bar (codes "w")) ∷ [])
   -- `-` is no name for `exportize` alone, and no key asks for no filter
   pub turns : Asks (codes "exportize foo:bar w - k\nexportize foo:bar w x\nimportize foo:bar w -\nimportize foo:bar w")
       (request.Change (change.Exportize foo_bar (codes "w") None (Some (codes "k" ∷ [])))
@@ -67,7 +75,8 @@ pub record ExamplesOfScripts : Type 0 where
       ∷ request.Change (change.Importize foo_bar (codes "w") (Some (codes "-")))
       ∷ request.Change (change.Importize foo_bar (codes "w") None)
       ∷ [])
-  pub spaces : Asks (codes "  select   foo:bar  w ") (request.Select foo_bar (Some (codes "w")) ∷ [])
+  pub spaces : Asks (codes "  select   foo:bar  w ")
+      (request.Select foo_bar (Some (codes "w")) ∷ [])
   pub nothing : IsUnderstood [] []
   pub comments : IsUnderstood (codes "# only\n\n   \n") []
   -- there is no package to push
@@ -83,7 +92,8 @@ pub record ExamplesOfScripts : Type 0 where
   -- the key of an interface of another package twice
   pub foreign_twice : IsNotUnderstood (codes "package a:b\nworld w\nimport c:d/e\nimport c:d/e\n") 4
   -- one thing of another package as an interface and as a world
-  pub foreign_twofold : IsNotUnderstood (codes "package a:b\nworld w\nimport c:d/e\ninclude c:d/e\n") 4
+  pub foreign_twofold : IsNotUnderstood
+      (codes "package a:b\nworld w\nimport c:d/e\ninclude c:d/e\n") 4
   -- another graph that isn't remapped, a third one, one that is not there
   pub unmerged : IsNotUnderstood (codes "other\nfeature f\n\n# end\n") 2
   pub other_twice : IsNotUnderstood (codes "feature f\nother\nother\nmerge\n") 3

@@ -15,7 +15,8 @@ use Rattle.wit_resolve_graph.specs.State.{State}
 
 -- packages alone
 abbrev pub bare : List Package → List (PackageName × ℕ) → Graph
-bare packages names = record { types = []; interfaces = []; worlds = []; packages = packages; package_names = names }
+bare packages names =
+    record { types = []; interfaces = []; worlds = []; packages = packages; package_names = names }
 
 -- a package that has nothing
 abbrev pub empty_package : PackageName → Package
@@ -29,7 +30,8 @@ abbrev pub one : PackageName → Graph
 one name = bare (empty_package name ∷ []) ((name, 0) ∷ [])
 
 abbrev pub two : PackageName → PackageName → Graph
-two first second = bare (empty_package first ∷ empty_package second ∷ []) ((first, 0) ∷ (second, 1) ∷ [])
+two first second =
+    bare (empty_package first ∷ empty_package second ∷ []) ((first, 0) ∷ (second, 1) ∷ [])
 
 -- the name foo:baz
 abbrev pub foo_baz : PackageName
@@ -64,11 +66,23 @@ two_files first second = record { files = file_at first 0 ∷ file_at second 10 
 
 -- a graph with feature f and file f, by the published rule of tracks
 abbrev pub first_of : Graph → State
-first_of g = record { graph = g; features = record { names = codes "f" ∷ []; all = false }; source_map = one_file (codes "f"); track_rule = Published }
+first_of g =
+    record {
+      graph = g;
+      features = record { names = codes "f" ∷ []; all = false };
+      source_map = one_file (codes "f");
+      track_rule = Published;
+    }
 
 -- a graph that goes into it, with feature g and all others on, and file g, by the other rule
 abbrev pub second_of : Graph → State
-second_of g = record { graph = g; features = record { names = codes "g" ∷ []; all = true }; source_map = one_file (codes "g"); track_rule = WithPrereleases }
+second_of g =
+    record {
+      graph = g;
+      features = record { names = codes "g" ∷ []; all = true };
+      source_map = one_file (codes "g");
+      track_rule = WithPrereleases;
+    }
 
 -- the first with this graph after that: the file of the second stands behind its own, and all else is its own
 abbrev pub after : Graph → State

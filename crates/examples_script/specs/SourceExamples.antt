@@ -22,13 +22,17 @@ use Rattle.examples_script.specs.SmallGraphs.{nothing, one}
 
 pub record ExamplesOfNoSources : Type 0 where
   -- a file of 4294967295 bytes passes the last position, one of a byte less doesn't
-  pub too_long : (contents : List ℕ) → length contents ≡ 4294967295 → IsNoSource contents (fault.Resolve OffsetOverflow)
-  pub just_fits : (contents : List ℕ) → length contents ≡ 4294967294 → IsNoSource contents (fault.Resolve OffsetOverflow) → ⊥
+  pub too_long : (contents : List ℕ) → length contents ≡ 4294967295
+      → IsNoSource contents (fault.Resolve OffsetOverflow)
+  pub just_fits : (contents : List ℕ) → length contents ≡ 4294967294
+      → IsNoSource contents (fault.Resolve OffsetOverflow) → ⊥
   -- memory may be wanted for any
   pub memory : (contents : List ℕ) → IsNoSource contents (fault.Resolve OutOfMemory)
   -- nothing else is told before a parse
-  pub not_read : (contents : List ℕ) (span : OptionalSpan) (message : List ℕ) → IsNoSource contents (fault.Parse span message) → ⊥
-  pub not_there : (contents : List ℕ) → IsNoSource contents (fault.Resolve (DuplicatePackage foo_bar None None)) → ⊥
+  pub not_read : (contents : List ℕ) (span : OptionalSpan) (message : List ℕ)
+      → IsNoSource contents (fault.Parse span message) → ⊥
+  pub not_there : (contents : List ℕ)
+      → IsNoSource contents (fault.Resolve (DuplicatePackage foo_bar None None)) → ⊥
 
 -- ---- what comes of an answer
 
@@ -61,8 +65,10 @@ is_there = fault.Resolve (DuplicatePackage foo_bar None None)
 pub record ExamplesOfParsed : Type 0 where
   -- a parse that wants memory: 28, and all is as it was
   pub memory : RefusesParse once (Err parse.OutOfMemory) (fault.Resolve OutOfMemory) once
-  pub memory_not_added : RefusesParse once (Err parse.OutOfMemory) (fault.Resolve OutOfMemory) twice → ⊥
-  pub memory_alone : (told : SourceFault) (new : State) → RefusesParse once (Err parse.OutOfMemory) told new → told ≡ fault.Resolve OutOfMemory
+  pub memory_not_added : RefusesParse once (Err parse.OutOfMemory) (fault.Resolve OutOfMemory) twice
+      → ⊥
+  pub memory_alone : (told : SourceFault) (new : State)
+      → RefusesParse once (Err parse.OutOfMemory) told new → told ≡ fault.Resolve OutOfMemory
   -- a text that can't be read is told at its place, with its file at the end
   pub placed : RefusesParse once (Err bad) (bad_at 38 43) twice
   pub not_left_out : RefusesParse once (Err bad) (bad_at 38 43) once → ⊥
@@ -73,20 +79,26 @@ pub record ExamplesOfParsed : Type 0 where
   pub no_room : RefusesParse full (Err bad) (fault.Resolve OffsetOverflow) full
   -- a package that is there: 5, with its file at the end; not without it, and not where it isn't there
   pub there : RefusesAnswer (before (one foo_bar)) (made_of file) is_there (behind (one foo_bar))
-  pub there_told : RefusesParse (before (one foo_bar)) (Ok (made_of file)) is_there (behind (one foo_bar))
-  pub there_not_left_out : RefusesAnswer (before (one foo_bar)) (made_of file) is_there (before (one foo_bar)) → ⊥
+  pub there_told : RefusesParse (before (one foo_bar)) (Ok (made_of file)) is_there
+      (behind (one foo_bar))
+  pub there_not_left_out : RefusesAnswer (before (one foo_bar)) (made_of file) is_there
+      (before (one foo_bar)) → ⊥
   pub not_there : (new : State) → RefusesAnswer once (made_of file) is_there new → ⊥
   -- its file past the end: 27, and all is as it was; a byte before it fits, and nothing but memory is told
-  pub too_far : RefusesAnswer (ending 4294967278) (made_of file) (fault.Resolve OffsetOverflow) (ending 4294967278)
-  pub just_fits : (told : SourceFault) (new : State) → RefusesAnswer (ending 4294967277) (made_of file) told new → told ≡ fault.Resolve OutOfMemory
+  pub too_far : RefusesAnswer (ending 4294967278) (made_of file) (fault.Resolve OffsetOverflow)
+      (ending 4294967278)
+  pub just_fits : (told : SourceFault) (new : State)
+      → RefusesAnswer (ending 4294967277) (made_of file) told new → told ≡ fault.Resolve OutOfMemory
   -- else it is added, with its file at the end
   pub pushed : PushesAnswer once (made_of file) 0 (behind (one foo_bar))
   -- not: another id, the graph as it was, its file left out, its file alone, a package that is there once more
   pub not_its_id : (new : State) → PushesAnswer once (made_of file) 1 new → ⊥
   pub not_as_it_was : PushesAnswer once (made_of file) 0 (behind nothing) → ⊥
   pub file_not_left_out : PushesAnswer once (made_of file) 0 (before (one foo_bar)) → ⊥
-  pub file_not_alone : PushesAnswer once (made_of file) 0 (record (before (one foo_bar)) { source_map = file }) → ⊥
-  pub not_again : (id : ℕ) (new : State) → PushesAnswer (before (one foo_bar)) (made_of file) id new → ⊥
+  pub file_not_alone : PushesAnswer once (made_of file) 0
+      (record (before (one foo_bar)) { source_map = file }) → ⊥
+  pub not_again : (id : ℕ) (new : State) → PushesAnswer (before (one foo_bar)) (made_of file) id new
+      → ⊥
 
 -- ---- with the parse
 
@@ -109,7 +121,11 @@ wanting files = Err parse.OutOfMemory
 
 -- and one that makes it or can't read it, as it happens
 abbrev pub either : Once ⊤ (Sources × Unit {0}) (Result UnresolvedPackageGroup ParseFault)
-either = record { pre = λ f given. ⊤; post = λ f given answer. (answer ≡ making given.0) ⊎ (answer ≡ failing given.0) }
+either =
+    record {
+      pre = λ f given. ⊤;
+      post = λ f given answer. (answer ≡ making given.0) ⊎ (answer ≡ failing given.0);
+    }
 
 -- file f.wit of this text is pushed, with this parse, behind another file
 abbrev pub Pushes : Parse → Graph → ℕ → State → Type 0
@@ -122,16 +138,20 @@ pub record ExamplesOfPushedSources : Type 0 where
   -- the package is added, and its file stands behind the other
   pub pushed : Pushes making nothing 0 (behind (one foo_bar))
   -- so where the parse may answer otherwise, too
-  pub may_push : PushesSource either tt (before nothing) (codes "f.wit") text 0 (behind (one foo_bar))
+  pub may_push : PushesSource either tt (before nothing) (codes "f.wit") text 0
+      (behind (one foo_bar))
   -- not: its file left out, another parse than the incoming one, a file that is too long for any
   pub not_left_out : Pushes making nothing 0 (before (one foo_bar)) → ⊥
   pub not_failing : (id : ℕ) (new : State) → Pushes failing nothing id new → ⊥
   pub not_wanting : (id : ℕ) (new : State) → Pushes wanting nothing id new → ⊥
-  pub not_too_long : (f : Parse) (contents : List ℕ) (id : ℕ) (new : State) → length contents ≡ 4294967295 → PushesSource computing f once (codes "f.wit") contents id new → ⊥
+  pub not_too_long : (f : Parse) (contents : List ℕ) (id : ℕ) (new : State)
+      → length contents ≡ 4294967295 → PushesSource computing f once (codes "f.wit") contents id new
+      → ⊥
 
 pub record ExamplesOfRefusedSources : Type 0 where
   -- a file that is too long is 27, whatever the parse would say of it, and all is as it was
-  pub too_long : (f : Parse) (contents : List ℕ) → length contents ≡ 4294967295 → RefusesSource computing f once (codes "f.wit") contents (fault.Resolve OffsetOverflow) once
+  pub too_long : (f : Parse) (contents : List ℕ) → length contents ≡ 4294967295
+      → RefusesSource computing f once (codes "f.wit") contents (fault.Resolve OffsetOverflow) once
   -- not of a file that fits, where its parse wants memory
   pub not_too_long : (new : State) → Refuses wanting nothing (fault.Resolve OffsetOverflow) new → ⊥
   -- a parse that wants memory: 28, without the file
@@ -139,7 +159,8 @@ pub record ExamplesOfRefusedSources : Type 0 where
   pub memory_not_added : Refuses wanting nothing (fault.Resolve OutOfMemory) (behind nothing) → ⊥
   -- one that can't read it is told where its file stands then
   pub failed : Refuses failing nothing (bad_at 25 32) (behind nothing)
-  pub may_fail : RefusesSource either tt (before nothing) (codes "f.wit") text (bad_at 25 32) (behind nothing)
+  pub may_fail : RefusesSource either tt (before nothing) (codes "f.wit") text (bad_at 25 32)
+      (behind nothing)
   pub not_left_out : Refuses failing nothing (bad_at 25 32) (before nothing) → ⊥
   pub not_moved : Refuses failing nothing (bad_at 0 7) (behind nothing) → ⊥
   -- nor is that told of one that makes a package
@@ -147,4 +168,5 @@ pub record ExamplesOfRefusedSources : Type 0 where
   -- the package that it makes is there
   pub there : Refuses making (one foo_bar) is_there (behind (one foo_bar))
   -- where it isn't, nothing but want of memory is told
-  pub memory_alone : (told : SourceFault) (new : State) → Refuses making nothing told new → told ≡ fault.Resolve OutOfMemory
+  pub memory_alone : (told : SourceFault) (new : State) → Refuses making nothing told new
+      → told ≡ fault.Resolve OutOfMemory

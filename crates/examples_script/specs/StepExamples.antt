@@ -42,19 +42,27 @@ pub record ExamplesOfSteps : Type 0 where
   pub merged : MayStep of_three (semver (codes "w")) Done (published (three 1 (1 ∷ 3 ∷ 2 ∷ [])))
   -- not: nothing changed, the rule changed, no world, refused for a type
   pub not_kept : MayStep of_three (semver (codes "w")) Done (published of_three) → ⊥
-  pub rule_kept : MayStep of_three (semver (codes "w")) Done (by_prereleases (three 1 (1 ∷ 3 ∷ 2 ∷ []))) → ⊥
+  pub rule_kept : MayStep of_three (semver (codes "w")) Done
+      (by_prereleases (three 1 (1 ∷ 3 ∷ 2 ∷ []))) → ⊥
   pub not_absent : (new : State) → MayStep of_three (semver (codes "w")) NoWorld new → ⊥
-  pub not_refused : (message : List ℕ) (new : State) → MayStep of_three (semver (codes "w")) (Refused (Semantic None message UpgradeMismatch)) new → ⊥
+  pub not_refused : (message : List ℕ) (new : State)
+      → MayStep of_three (semver (codes "w")) (Refused (Semantic None message UpgradeMismatch)) new
+      → ⊥
   -- there is no world v
   pub absent : MayStep of_three (semver (codes "v")) NoWorld (published of_three)
   pub not_there : (new : State) → MayStep of_three (semver (codes "v")) Done new → ⊥
   -- x@0.2.1 lacks a type that y uses: nothing changes, and nothing else is answered
-  pub missing : MayStep without_type (semver (codes "w")) (Refused (failed (codes "type `t` is missing"))) (published without_type)
+  pub missing : MayStep without_type (semver (codes "w"))
+      (Refused (failed (codes "type `t` is missing"))) (published without_type)
   pub not_done : (new : State) → MayStep without_type (semver (codes "w")) Done new → ⊥
   -- a pre-release stands on the track of its release after that rule is set, and not before
-  pub by_rule : Run (published (first_release (0 ∷ 1 ∷ []))) (SetTrackRule WithPrereleases ∷ semver (codes "w") ∷ []) (Done ∷ Done ∷ []) (by_prereleases (first_release (1 ∷ [])))
-  pub before : MayStep (first_release (0 ∷ 1 ∷ [])) (semver (codes "w")) Done (published (first_release (0 ∷ 1 ∷ [])))
-  pub not_ignored : Run (by_prereleases (first_release (0 ∷ 1 ∷ []))) (semver (codes "w") ∷ []) (Done ∷ []) (by_prereleases (first_release (0 ∷ 1 ∷ []))) → ⊥
+  pub by_rule : Run (published (first_release (0 ∷ 1 ∷ [])))
+      (SetTrackRule WithPrereleases ∷ semver (codes "w") ∷ []) (Done ∷ Done ∷ [])
+      (by_prereleases (first_release (1 ∷ [])))
+  pub before : MayStep (first_release (0 ∷ 1 ∷ [])) (semver (codes "w")) Done
+      (published (first_release (0 ∷ 1 ∷ [])))
+  pub not_ignored : Run (by_prereleases (first_release (0 ∷ 1 ∷ []))) (semver (codes "w") ∷ [])
+      (Done ∷ []) (by_prereleases (first_release (0 ∷ 1 ∷ []))) → ⊥
 
 -- ---- what a script answers
 
@@ -74,13 +82,19 @@ abbrev pub both : State → State → Stage
 both first second = record { first = first; second = Some second }
 
 pub record ExamplesOfAnswers : Type 0 where
-  pub merged : IsAnswered (only_first (published of_three)) semver_line (codes "done\n") (only_first (published (three 1 (1 ∷ 3 ∷ 2 ∷ []))))
+  pub merged : IsAnswered (only_first (published of_three)) semver_line (codes "done\n")
+      (only_first (published (three 1 (1 ∷ 3 ∷ 2 ∷ []))))
   pub missing : IsAnswered (only_first (published without_type)) semver_line
       (codes "refused 25 failed to upgrade `foo:x/x@0.2.0` to `foo:x/x@0.2.1`, was this semver-compatible update not semver compatible?: type `t` is missing\n") (only_first (published without_type))
-  pub absent : IsAnswered (only_first new_state) semver_line (codes "no world\n") (only_first new_state)
-  pub tracks : IsAnswered (only_first new_state) tracks_line [] (only_first (by_prereleases new_state.graph))
+  pub absent : IsAnswered (only_first new_state) semver_line (codes "no world\n")
+      (only_first new_state)
+  pub tracks : IsAnswered (only_first new_state) tracks_line []
+      (only_first (by_prereleases new_state.graph))
   -- between `other` and `merge` the rule is that of the second graph
-  pub tracks_of_second : IsAnswered (both new_state new_state) tracks_line [] (both new_state (by_prereleases new_state.graph))
-  pub not_of_first : IsAnswered (both new_state new_state) tracks_line [] (both (by_prereleases new_state.graph) new_state) → ⊥
+  pub tracks_of_second : IsAnswered (both new_state new_state) tracks_line []
+      (both new_state (by_prereleases new_state.graph))
+  pub not_of_first : IsAnswered (both new_state new_state) tracks_line []
+      (both (by_prereleases new_state.graph) new_state) → ⊥
   -- and it is told by nothing
-  pub not_aloud : IsAnswered (only_first new_state) tracks_line (codes "done\n") (only_first (by_prereleases new_state.graph)) → ⊥
+  pub not_aloud : IsAnswered (only_first new_state) tracks_line (codes "done\n")
+      (only_first (by_prereleases new_state.graph)) → ⊥

@@ -48,7 +48,9 @@ fn with_another(
     alloc: Global,
     package: &UnresolvedPackage,
 ) -> Option<Items<(UnresolvedPackage, u32)>>
-    ensures { IfSome result (λ list. (name : _) × (list ≡ («package».now, 0) ∷ (record «package».now { name = name }, 0) ∷ [])) }
+    ensures { IfSome result (λ list.
+        (name : _)
+        × (list ≡ («package».now, 0) ∷ (record «package».now { name = name }, 0) ∷ [])) }
 {
     let mut list = alone(alloc, package)?;
     let mut other = package.try_clone().ok()?;

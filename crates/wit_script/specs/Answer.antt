@@ -27,7 +27,8 @@ use Rattle.wit_script.specs.declared.answer.Stage.{Stage}
 -- `refused N TEXT`, N being the number of the refusal
 abbrev pub refusal_text : ResolveErrorKind → List ℕ
 refusal_text kind =
-    codes "refused " ++ (decimal (error_number kind) ++ (codes " " ++ (kind_text kind ++ codes "\n")))
+    codes "refused "
+    ++ (decimal (error_number kind) ++ (codes " " ++ (kind_text kind ++ codes "\n")))
 
 -- `pushed PKG`
 abbrev pub pushed_text : Graph → ℕ → List ℕ
@@ -86,7 +87,8 @@ AnswersCommand told before command text after =
 abbrev pub AnswersChange : Stage → Change → List ℕ → Stage → Type 0
 AnswersChange before change text after =
     (new : State)
-    × AnswersCommand (line_of (is_setting change)) (working_state before) (command_of change) text new
+    × AnswersCommand (line_of (is_setting change)) (working_state before) (command_of change) text
+    new
     × (after ≡ with_working_state before new)
 
 -- `merge`: the second graph goes into the first, and is no longer there

@@ -27,14 +27,16 @@ use Rattle.wit_script_package.specs.declared.mention.Mention.{Mention}
 -- What the lines of a package mention of other packages, looked at ahead, since what is foreign stands first in a package.
 
 -- what a line of the package mentions, where it stands in its file, and the lines after it
-abbrev pub mentions_at_line : PackageLine → Stability → ℕ → (ℕ → List Mention) → Option OptionalSpan → List Mention
+abbrev pub mentions_at_line : PackageLine → Stability → ℕ → (ℕ → List Mention) → Option OptionalSpan
+    → List Mention
 mentions_at_line said gate next after None = []
 mentions_at_line said gate next after (Some span) = mentions_of said gate span ++ after next
 
 -- what a line mentions, and the lines after it, where it is a line of the package
 abbrev pub mentions_by : ℕ → List ℕ → (ℕ → List Mention) → Statement → List Mention
 mentions_by at line after (says.Package name) = []
-mentions_by at line after (says.Line said gate) = mentions_at_line said gate (at + length line + 1) after (span_after at line)
+mentions_by at line after (says.Line said gate) =
+    mentions_at_line said gate (at + length line + 1) after (span_after at line)
 mentions_by at line after says.Push = []
 mentions_by at line after (says.Request asked) = []
 
@@ -45,7 +47,8 @@ mentions_past next after (Some span) = after next
 
 -- a line that isn't understood is passed over: it mentions nothing, and those behind it are looked at. (What these mention
 -- changes no answer: the script isn't understood at that line at the latest)
-abbrev pub mentions_with : ℕ → List ℕ → (ℕ → List Mention) → Option (Option Statement) → List Mention
+abbrev pub mentions_with : ℕ → List ℕ → (ℕ → List Mention) → Option (Option Statement)
+    → List Mention
 mentions_with at line after None = mentions_past (at + length line + 1) after (span_after at line)
 mentions_with at line after (Some None) = after at
 mentions_with at line after (Some (Some said)) = mentions_by at line after said
@@ -54,7 +57,8 @@ mentions_with at line after (Some (Some said)) = mentions_by at line after said
 -- before them
 abbrev pub mentions_ahead : ℕ → List (List ℕ) → List Mention
 mentions_ahead at [] = []
-mentions_ahead at (line ∷ lines) = mentions_with at line (λ after. mentions_ahead after lines) (statement_of line)
+mentions_ahead at (line ∷ lines) =
+    mentions_with at line (λ after. mentions_ahead after lines) (statement_of line)
 
 -- no line is read
 abbrev pub new_reading : Reading
@@ -66,14 +70,16 @@ with_begun r p = record r { finished = r.finished ++ option_to_list r.current; c
 
 -- `package PKG`, with what the lines ahead mention
 abbrev pub with_package : Reading → PackageName → List ℕ → List (List ℕ) → Option Reading
-with_package r name line ahead = option_map (with_begun r) (new_draft name line (mentions_ahead (length line + 1) ahead))
+with_package r name line ahead =
+    option_map (with_begun r) (new_draft name line (mentions_ahead (length line + 1) ahead))
 
 -- a line of the package that gets the lines
 abbrev pub with_current : Reading → Draft → Reading
 with_current r p = record r { current = Some p }
 
 abbrev pub with_package_line : Reading → PackageLine → Stability → List ℕ → Option Reading
-with_package_line r said gate line = option_and_then (λ p. option_map (with_current r) (with_line p said gate line)) r.current
+with_package_line r said gate line =
+    option_and_then (λ p. option_map (with_current r) (with_line p said gate line)) r.current
 
 -- one more command
 abbrev pub with_command : Reading → Request → Reading
@@ -88,7 +94,9 @@ with_groups r (main ∷ deps) =
 
 -- `push`, after a package or several, whose files fit into source maps
 abbrev pub with_push : Reading → Option Reading
-with_push r = option_and_then (λ p. option_and_then (with_groups r) (each_of as_group (r.finished ++ p ∷ []))) r.current
+with_push r =
+    option_and_then (λ p. option_and_then (with_groups r) (each_of as_group (r.finished ++ p ∷ [])))
+    r.current
 
 -- another command, after which an `other` waits for its `merge` or none does
 abbrev pub with_asked : Reading → Request → Bool → Reading
@@ -96,7 +104,8 @@ with_asked r asked other = record (with_command r asked) { other = other }
 
 -- another command that can be asked, where no package waits for its `push`
 abbrev pub with_request : Reading → Request → Option Reading
-with_request r asked = if is_some r.current then None else option_map (with_asked r asked) (other_after asked r.other)
+with_request r asked =
+    if is_some r.current then None else option_map (with_asked r asked) (other_after asked r.other)
 
 -- what a line says, before the lines ahead, added
 abbrev pub with_statement : Reading → Statement → List ℕ → List (List ℕ) → Option Reading
@@ -106,7 +115,8 @@ with_statement r says.Push line ahead = with_push r
 with_statement r (says.Request asked) line ahead = with_request r asked
 
 -- what a line says, where it is understood, added: nothing for a line that says nothing
-abbrev pub after_statement_in : Reading → List ℕ → List (List ℕ) → Option (Option Statement) → Option Reading
+abbrev pub after_statement_in : Reading → List ℕ → List (List ℕ) → Option (Option Statement)
+    → Option Reading
 after_statement_in r line ahead None = None
 after_statement_in r line ahead (Some None) = Some r
 after_statement_in r line ahead (Some (Some said)) = with_statement r said line ahead
@@ -118,7 +128,8 @@ after_line r line ahead = after_statement_in r line ahead (statement_of line)
 -- lines, one after another
 abbrev pub after_lines : Reading → List (List ℕ) → Option Reading
 after_lines r [] = Some r
-after_lines r (line ∷ lines) = option_and_then (λ next. after_lines next lines) (after_line r line lines)
+after_lines r (line ∷ lines) =
+    option_and_then (λ next. after_lines next lines) (after_line r line lines)
 
 -- what lines say from the first on
 abbrev pub reading_of : List (List ℕ) → Option Reading
@@ -128,7 +139,8 @@ reading_of lines = after_lines new_reading lines
 abbrev pub after_first : Reading → ℕ → List (List ℕ) → Option Reading
 after_first r zero lines = Some r
 after_first r (suc k) [] = Some r
-after_first r (suc k) (line ∷ lines) = option_and_then (λ next. after_first next k lines) (after_line r line lines)
+after_first r (suc k) (line ∷ lines) =
+    option_and_then (λ next. after_first next k lines) (after_line r line lines)
 
 -- the same from the first line of all
 abbrev pub reading_before : ℕ → List (List ℕ) → Option Reading

@@ -16,7 +16,8 @@ labelled_interface_text label (Some id) = label ++ (codes " = " ++ id)
 
 -- an entry under a label
 abbrev pub labelled_text : Graph → List ℕ → WorldItem → List ℕ
-labelled_text g label (item.Interface id stability docs span external_id) = labelled_interface_text label (interface_id_at g.packages g.interfaces id)
+labelled_text g label (item.Interface id stability docs span external_id) =
+    labelled_interface_text label (interface_id_at g.packages g.interfaces id)
 labelled_text g label (item.Function function) = codes "func " ++ label
 labelled_text g label (item.Type_ id span) = codes "type " ++ label
 
@@ -27,11 +28,13 @@ entry_text g (key.Interface id) entry = key_text g.packages g.interfaces (key.In
 
 -- the line of an entry: two spaces, `import` or `export`, a space, the entry
 abbrev pub entry_line : Graph → List ℕ → WorldKey × WorldItem → List ℕ
-entry_line g word entry = codes "  " ++ (word ++ (codes " " ++ (entry_text g entry.0 entry.1 ++ codes "\n")))
+entry_line g word entry =
+    codes "  " ++ (word ++ (codes " " ++ (entry_text g entry.0 entry.1 ++ codes "\n")))
 
 -- the id text of a world that has a package
 abbrev pub world_id_text : Graph → World → List ℕ
-world_id_text g world = option_map_or (λ owner. id_text g.packages owner world.name) world.package []
+world_id_text g world =
+    option_map_or (λ owner. id_text g.packages owner world.name) world.package []
 
 -- the id text of world w, where it is there and has a package
 abbrev pub world_id_text_at : Graph → ℕ → List ℕ

@@ -46,7 +46,9 @@ fn line_ahead(
     said: PackageLine,
     gate: Stability,
 ) -> Result<Ahead, AllocError>
-    ensures { IfOk result (λ ahead. (after : ℕ → List Mention) → mentions_then ahead at after ≡ mentions_by at line.now after (says.Line said gate)) }
+    ensures { IfOk result (λ ahead.
+        (after : ℕ → List Mention)
+        → mentions_then ahead at after ≡ mentions_by at line.now after (says.Line said gate)) }
 {
     match span_of(at, line) {
         Ok(span) => Ok(Ahead::Line {
@@ -59,7 +61,9 @@ fn line_ahead(
 
 /// What a line says, where the file of the package has so many bytes before it.
 fn statement_ahead(at: usize, line: &str, said: Statement) -> Result<Ahead, AllocError>
-    ensures { IfOk result (λ ahead. (after : ℕ → List Mention) → mentions_then ahead at after ≡ mentions_by at line.now after said) }
+    ensures { IfOk result (λ ahead.
+        (after : ℕ → List Mention)
+        → mentions_then ahead at after ≡ mentions_by at line.now after said) }
 {
     match said {
         Statement::Line { said, gate } => line_ahead(at, line, said, gate),
@@ -72,7 +76,10 @@ fn statement_ahead(at: usize, line: &str, said: Statement) -> Result<Ahead, Allo
 /// A line that mentions nothing, or isn't understood, where the file of the package has so many bytes
 /// before it.
 fn pass_over(at: usize, line: &str) -> Result<Ahead, AllocError>
-    ensures { IfOk result (λ ahead. (after : ℕ → List Mention) → mentions_then ahead at after ≡ mentions_past (at + length line.now + 1) after (span_after at line.now)) }
+    ensures { IfOk result (λ ahead.
+        (after : ℕ → List Mention)
+        → mentions_then ahead at after
+        ≡ mentions_past (at + length line.now + 1) after (span_after at line.now)) }
 {
     match span_of(at, line) {
         Ok(_) => {
@@ -89,7 +96,10 @@ fn pass_over(at: usize, line: &str) -> Result<Ahead, AllocError>
 /// What a line ahead is, where the file of the package has so many bytes before it. It is read only where
 /// it may mention something of another package, or end the package.
 fn look_ahead(alloc: Global, at: usize, line: &str) -> Result<Ahead, AllocError>
-    ensures { IfOk result (λ next. (after : ℕ → List Mention) → mentions_then next at after ≡ mentions_with at line.now after (statement_of line.now)) }
+    ensures { IfOk result (λ next.
+        (after : ℕ → List Mention)
+        → mentions_then next at after
+        ≡ mentions_with at line.now after (statement_of line.now)) }
 {
     if mentions_nothing(line) {
         return pass_over(at, line);
@@ -120,7 +130,8 @@ pub fn mentions_ahead(
     file_len: usize,
     lines: &[&str],
 ) -> Result<Items<Mention>, AllocError>
-    ensures { IfOk result (λ mentions. mentions ≡ mentions_ahead file_len (map (λ line. line.now) lines.now)) }
+    ensures { IfOk result
+        (λ mentions. mentions ≡ mentions_ahead file_len (map (λ line. line.now) lines.now)) }
 {
     let mut mentions = Items::new(alloc);
     let mut at = file_len;

@@ -72,7 +72,8 @@ impl Stage {
     /// `merge`: the second graph goes into the first, and is no longer there, whether it is refused or not.
     fn merge(&mut self, alloc: Global) -> Result<String, AllocError>
         requires { self.old.second ≢ None }
-        ensures { IfOk result (λ text. AnswersMerge self.old self.old.second (string_bytes text) self.new) }
+        ensures { IfOk result
+            (λ text. AnswersMerge self.old self.old.second (string_bytes text) self.new) }
     {
         match self.second.take() {
             Some(second) => reply_to(alloc, &mut self.first, Command::Merge(second), false),
@@ -85,7 +86,9 @@ impl Stage {
 /// `other_after` tells. Want of memory in a command is told as its answer (28); elsewhere it is the only error.
 pub fn answers_to(alloc: Global, commands: Items<ReadyCommand>) -> Result<String, AllocError>
     requires { CanAllBeAsked commands false }
-    ensures { IfOk result (λ text. (after : Stage) × AnswersAll (only_first new_state) commands (string_bytes text) after) }
+    ensures { IfOk result (λ text.
+        (after : Stage)
+        × AnswersAll (only_first new_state) commands (string_bytes text) after) }
 {
     let mut stage = Stage::new(alloc);
     let mut answers = String::new(alloc);
@@ -121,7 +124,9 @@ fn reply_to(
     is_setting: bool,
 ) -> Result<String, AllocError>
     requires { IsCommandShaped command }
-    ensures { IfOk result (λ text. AnswersCommand (line_of is_setting) resolve.old command (string_bytes text) resolve.new) }
+    ensures { IfOk result (λ text.
+        AnswersCommand (line_of is_setting) resolve.old command (string_bytes text)
+        resolve.new) }
 {
     let reply = carry_out(alloc, resolve, command);
     if is_setting {
@@ -145,7 +150,8 @@ fn reply_text(alloc: Global, resolve: &Resolve, reply: &Reply) -> Result<String,
 
 /// The line of a reply, where a command that is carried out answers nothing.
 fn line_unless_done(alloc: Global, resolve: &Resolve, reply: &Reply) -> Result<String, AllocError>
-    ensures { IfOk result (λ text. string_bytes text ≡ line_unless_done resolve.now.graph reply.now) }
+    ensures { IfOk result
+        (λ text. string_bytes text ≡ line_unless_done resolve.now.graph reply.now) }
 {
     match reply {
         Reply::Done => Ok(String::new(alloc)),
@@ -191,7 +197,8 @@ fn print(
     owner: &PackageName,
     world: &Text,
 ) -> Result<String, AllocError>
-    ensures { IfOk result (λ text. AnswersPrint resolve.now.graph owner.now world.now (string_bytes text)) }
+    ensures { IfOk result
+        (λ text. AnswersPrint resolve.now.graph owner.now world.now (string_bytes text)) }
 {
     match resolve.world_named(owner, world.as_str()) {
         Some(id) => told(alloc, print_world(alloc, resolve, id)),
@@ -206,7 +213,8 @@ fn select(
     owner: &PackageName,
     text: &Option<Text>,
 ) -> Result<String, AllocError>
-    ensures { IfOk result (λ out. AnswersSelect resolve.now.graph owner.now text.now (string_bytes out)) }
+    ensures { IfOk result
+        (λ out. AnswersSelect resolve.now.graph owner.now text.now (string_bytes out)) }
 {
     match resolve.package_names().get(owner) {
         Some(id) => told(alloc, selected(alloc, resolve, *id, text)),
@@ -221,7 +229,9 @@ fn selected(
     id: PackageId,
     text: &Option<Text>,
 ) -> ResolveResult<String>
-    ensures ok { IfOk result (λ out. (world : ℕ) × IsChoice resolve.now.graph id text.now (Ok world) × (string_bytes out ≡ selected_text resolve.now.graph world)) }
+    ensures ok { IfOk result (λ out.
+        (world : ℕ) × IsChoice resolve.now.graph id text.now (Ok world)
+        × (string_bytes out ≡ selected_text resolve.now.graph world)) }
     ensures err { IfErr result (λ kind. IsChoice resolve.now.graph id text.now (Err kind)) }
 {
     let text = match text {

@@ -51,7 +51,8 @@ fn print_entries(
     text: &mut String,
 ) -> ResolveResult<()>
     ensures err { IfErr result (λ e. e ≡ OutOfMemory) }
-    ensures text { OnOk result (string_bytes text.new ≡ string_bytes text.old ++ flat_map (entry_line graph.now word.now) entries.now) }
+    ensures text { OnOk result (string_bytes text.new
+        ≡ string_bytes text.old ++ flat_map (entry_line graph.now word.now) entries.now) }
 {
     for (key, item) in entries.iter() {
         let entry = print_entry(alloc, graph, key, item)?;
@@ -83,7 +84,8 @@ fn print_labelled(
     label: &Text,
     item: &WorldItem,
 ) -> ResolveResult<String>
-    ensures text { IfOk result (λ text. string_bytes text ≡ labelled_text graph.now label.now item.now) }
+    ensures text { IfOk result
+        (λ text. string_bytes text ≡ labelled_text graph.now label.now item.now) }
     ensures err { IfErr result (λ e. e ≡ OutOfMemory) }
 {
     match item {

@@ -39,7 +39,8 @@ pub struct Reading {
 
 /// Whether each of these groups may be pushed, where lines built it: what lines may break of its shape is asked.
 fn are_pushable(groups: &[UnresolvedPackageGroup]) -> bool
-    ensures { IsTrue result ↔ Each (λ (group : UnresolvedPackageGroup). IsPushable group.main) groups.now }
+    ensures { IsTrue result
+        ↔ Each (λ (group : UnresolvedPackageGroup). IsPushable group.main) groups.now }
 {
     groups.iter().all(|group| is_pushable(&group.main))
 }
@@ -109,7 +110,8 @@ impl Reading {
         requires ready { AreReady self.old.commands }
         requires built { AreBuilt self.old }
         requires said { IsReadyStatement said }
-        ensures { GoesOn (after_statement_in self.old line.now (map (λ line. line.now) ahead.now) (Some (Some said))) result self.new }
+        ensures { GoesOn (after_statement_in self.old line.now (map (λ line. line.now) ahead.now)
+            (Some (Some said))) result self.new }
     {
         match said {
             Statement::Package(name) => self.add_package(alloc, name, line, ahead),
@@ -127,7 +129,9 @@ impl Reading {
         line: &str,
         ahead: &[&str],
     ) -> Result<(), LineFault>
-        ensures next { DraftResult (with_package self.old name line.now (map (λ line. line.now) ahead.now)) result self.new }
+        ensures next { DraftResult
+            (with_package self.old name line.now (map (λ line. line.now) ahead.now)) result
+            self.new }
         ensures commands { self.new.commands ≡ self.old.commands }
     {
         let mentions = mentions_ahead(alloc, line.len() + 1, ahead)?;
@@ -219,7 +223,8 @@ fn add_line(
 ) -> Result<bool, LineFault>
     requires ready { AreReady reading.old.commands }
     requires built { AreBuilt reading.old }
-    ensures next { GoesOn (after_line reading.old line.now (map (λ line. line.now) ahead.now)) result reading.new }
+    ensures next { GoesOn (after_line reading.old line.now (map (λ line. line.now) ahead.now))
+        result reading.new }
     ensures told { IfOk result (λ said. said ≡ not (is_blank_or_comment line.now)) }
 {
     match read_line(alloc, line)? {
@@ -236,7 +241,8 @@ fn add_lines(alloc: Global, reading: &mut Reading, lines: &[&str]) -> Result<usi
     requires { reading.old ≡ new_reading }
     ensures read { OnOk result (reading_of (map (λ line. line.now) lines.now) ≡ Some reading.new) }
     ensures ready { OnOk result (AreReady reading.new.commands) }
-    ensures last { IfOk result (λ last. last ≡ last_statement_line (map (λ line. line.now) lines.now)) }
+    ensures last { IfOk result
+        (λ last. last ≡ last_statement_line (map (λ line. line.now) lines.now)) }
     ensures fault { IfErr result (λ fault. HasLineFault (map (λ line. line.now) lines.now) fault) }
 {
     let mut last = 0;

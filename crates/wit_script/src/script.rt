@@ -28,12 +28,15 @@ pub fn execute<R: Read, W: Write>(
         (text : List ℕ) × Prints input understood text × Appends (W.contents writer.old.inner) (W.contents writer.new.inner) text)) }
     ensures cut { IsErrOf result ScriptFault.Write → IfSome (R.remaining reader.old.inner) (λ input.
         (understood : Bool) × (text : List ℕ) × Prints input understood text × AppendsBeginning (W.contents writer.old.inner) (W.contents writer.new.inner) text) }
-    ensures untouched { IfErr result (λ fault. (fault ≡ ScriptFault.Write) ⊎ (writer.new ≡ writer.old)) }
+    ensures untouched { IfErr result
+        (λ fault. (fault ≡ ScriptFault.Write) ⊎ (writer.new ≡ writer.old)) }
     ensures end { OnOk result (IfSome (R.remaining reader.new.inner) (λ rest. rest ≡ [])) }
     ensures read { IsErrOf result ScriptFault.Read → reader.new.failed ≡ true }
     ensures write { IsErrOf result ScriptFault.Write → writer.new.failed ≡ true }
-    ensures utf8 { IsErrOf result ScriptFault.NotUtf8 → IfSome (R.remaining reader.old.inner) (λ input. IsUtf8 input → ⊥) }
-    ensures memory { IsErrOf result ScriptFault.OutOfMemory → (reader.new.ended ≡ reader.old.ended) ⊎ IfSome (R.remaining reader.old.inner) IsUtf8 }
+    ensures utf8 { IsErrOf result ScriptFault.NotUtf8
+        → IfSome (R.remaining reader.old.inner) (λ input. IsUtf8 input → ⊥) }
+    ensures memory { IsErrOf result ScriptFault.OutOfMemory
+        → (reader.new.ended ≡ reader.old.ended) ⊎ IfSome (R.remaining reader.old.inner) IsUtf8 }
 {
     let input = read_all(alloc, reader)?;
     let (understood, text) = printed(alloc, &input)?;

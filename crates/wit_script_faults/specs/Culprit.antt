@@ -51,11 +51,14 @@ world_after world _ = world
 
 -- the search after a line of a package
 abbrev pub with_part : Search → ℕ → PackageLine → Search
-with_part s index said = record { found = noted s.found (is_at_fault s.world said) index; world = world_after s.world said }
+with_part s index said =
+    record
+    { found = noted s.found (is_at_fault s.world said) index; world = world_after s.world said }
 
 -- the search after a line that says this; a command begins it anew
 abbrev pub with_said : Search → ℕ → Statement → Search
-with_said s index (says.Package name) = record { found = noted s.found (names_badly name) index; world = None }
+with_said s index (says.Package name) =
+    record { found = noted s.found (names_badly name) index; world = None }
 with_said s index (says.Line said gate) = with_part s index said
 with_said s index says.Push = no_search
 with_said s index (says.Request asked) = no_search
@@ -84,9 +87,13 @@ is_push_sort _ = false
 
 -- the line of an index is a `push`
 abbrev pub is_push : ScriptLines → ℕ → Bool
-is_push script index = option_map_or (λ line. is_push_sort (sort_of line)) (slice_get script.lines index) false
+is_push script index =
+    option_map_or (λ line. is_push_sort (sort_of line)) (slice_get script.lines index) false
 
 -- the index of the line at which what isn't understood stands, where the line of this number isn't
 abbrev pub fault_index : ScriptLines → ℕ → ℕ
 fault_index script number =
-    if is_push script (number - 1) then option_map_or (λ found. found) (culprit (take (number - 1) script.lines)) (number - 1) else number - 1
+    if is_push script (number - 1)
+    then option_map_or (λ found. found) (culprit (take (number - 1) script.lines))
+    (number - 1)
+    else number - 1

@@ -29,7 +29,8 @@ use Rattle.wit_ways.specs.declared.asked.Asked.TheVariants.{Other}
 
 -- a command whose files, where it brings any, begin with these lines, and the packages that it brings with those; and what
 -- is told of its reply
-abbrev pub ExplainsReply : ScriptLines → CommandPlace → TrackedGraph → Command → List ℕ → List ℕ → List ℕ → TrackedGraph → Type 0
+abbrev pub ExplainsReply : ScriptLines → CommandPlace → TrackedGraph → Command → List ℕ → List ℕ
+    → List ℕ → TrackedGraph → Type 0
 ExplainsReply script place before command coming brought text after =
     (answer : Reply) × (new : State) × Step before.resolve command answer new
     × (after ≡ tracked_after before new coming (unless_refused answer brought))
@@ -44,7 +45,8 @@ ExplainsChange script place before change text after =
     × (after ≡ with_working before new)
 
 -- `merge`: the second graph goes into the first, and is no longer there
-abbrev pub ExplainsMerge : ScriptLines → CommandPlace → Desk → Option TrackedGraph → List ℕ → Desk → Type 0
+abbrev pub ExplainsMerge : ScriptLines → CommandPlace → Desk → Option TrackedGraph → List ℕ → Desk
+    → Type 0
 ExplainsMerge script place before None text after = (text ≡ []) × (after ≡ before)
 ExplainsMerge script place before (Some second) text after =
     (new : TrackedGraph)
@@ -53,7 +55,8 @@ ExplainsMerge script place before (Some second) text after =
     × (after ≡ only_first new)
 
 -- what is told of a choice of a world
-abbrev pub TellsChoice : ScriptLines → CommandPlace → TrackedGraph → Result ℕ ResolveErrorKind → List ℕ → Type 0
+abbrev pub TellsChoice : ScriptLines → CommandPlace → TrackedGraph → Result ℕ ResolveErrorKind
+    → List ℕ → Type 0
 TellsChoice script place tracked (Ok world) text = text ≡ []
 TellsChoice script place tracked (Err kind) text = TellsRefusal script place tracked Other kind text
 
@@ -64,7 +67,8 @@ print_text script place tracked owner world =
     (missing_text script place (codes "no world"))
 
 -- `select`: there is no such package, or a choice that may be made of it
-abbrev pub ExplainsSelect : ScriptLines → CommandPlace → TrackedGraph → PackageName → Option (List ℕ) → List ℕ → Type 0
+abbrev pub ExplainsSelect : ScriptLines → CommandPlace → TrackedGraph → PackageName
+    → Option (List ℕ) → List ℕ → Type 0
 ExplainsSelect script place tracked owner said text =
     MatchOption (package_named tracked.resolve.graph owner)
     (text ≡ missing_text script place (codes "no package"))
@@ -86,7 +90,8 @@ ExplainsCommand script place before (request.Select owner said) text after =
 
 -- the first of some commands; where there is none, one behind all lines
 abbrev pub place_of : ScriptLines → List CommandPlace → CommandPlace
-place_of script [] = record { line = length script.lines; packages = length script.packages; is_push = false }
+place_of script [] =
+    record { line = length script.lines; packages = length script.packages; is_push = false }
 place_of script (place ∷ places) = place
 
 -- those after it
@@ -95,7 +100,8 @@ rest_of [] = []
 rest_of (place ∷ places) = places
 
 -- what is told of commands, one after another, which stand at these places
-abbrev pub ExplainsAll : ScriptLines → List CommandPlace → Desk → List Request → List ℕ → Desk → Type 0
+abbrev pub ExplainsAll : ScriptLines → List CommandPlace → Desk → List Request → List ℕ → Desk
+    → Type 0
 ExplainsAll script places before [] text after = (text ≡ []) × (after ≡ before)
 ExplainsAll script places before (command ∷ commands) text after =
     (between : Desk) × (first : List ℕ) × (rest : List ℕ)
@@ -108,7 +114,8 @@ pub record ExplainsScript (input text : List ℕ) : Type 0 where
   pub commands : List Request
   pub understood : IsUnderstood input commands
   pub after : Desk
-  pub told : ExplainsAll (script_lines_of (lines_of input)) (script_lines_of (lines_of input)).commands new_desk commands text after
+  pub told : ExplainsAll (script_lines_of (lines_of input))
+      (script_lines_of (lines_of input)).commands new_desk commands text after
 
 -- what is told of a script that isn't understood: the line at which it isn't
 pub record ExplainsMisread (input text : List ℕ) : Type 0 where

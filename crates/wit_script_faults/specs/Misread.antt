@@ -7,11 +7,16 @@ use Rattle.wit_script_places.specs.declared.lines.ScriptLines.{ScriptLines}
 
 -- `line N: REASON`, and the line with a mark
 abbrev pub misread_text_of : ℕ → List ℕ → List ℕ → List ℕ
-misread_text_of index reason line = codes "line " ++ (decimal (index + 1) ++ (codes ": " ++ (reason ++ (codes "\n" ++ snippet_text (index + 1) line))))
+misread_text_of index reason line =
+    codes "line "
+    ++ (decimal (index + 1)
+    ++ (codes ": " ++ (reason ++ (codes "\n" ++ snippet_text (index + 1) line))))
 
 abbrev pub misread_text : ScriptLines → ℕ → List ℕ → List ℕ
-misread_text script index reason = option_map_or (misread_text_of index reason) (slice_get script.lines index) []
+misread_text script index reason =
+    option_map_or (misread_text_of index reason) (slice_get script.lines index) []
 
 -- what is told where the line of this number isn't understood
 abbrev pub IsMisreadText : ScriptLines → ℕ → List ℕ → Type 0
-IsMisreadText script number text = (reason : List ℕ) × (text ≡ misread_text script (fault_index script number) reason)
+IsMisreadText script number text =
+    (reason : List ℕ) × (text ≡ misread_text script (fault_index script number) reason)

@@ -14,7 +14,8 @@ pub fn misread_text(
     number: usize,
     index: usize,
 ) -> Result<String, AllocError>
-    ensures { IfOk result (λ text. (reason : List ℕ) × (string_bytes text ≡ misread_text script.now index reason)) }
+    ensures { IfOk result
+        (λ text. (reason : List ℕ) × (string_bytes text ≡ misread_text script.now index reason)) }
 {
     let reason = reason(alloc, script, number.saturating_sub(1), index)?;
     reason_text(alloc, script, index, reason.as_str())

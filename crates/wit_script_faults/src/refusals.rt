@@ -74,7 +74,10 @@ fn refusals_to(
     script: &ScriptLines,
     commands: Items<ReadyCommand>,
 ) -> ResolveResult<String>
-    ensures { IfOk result (λ text. (after : Desk) × ExplainsAll script.now script.now.commands new_desk commands (string_bytes text) after) }
+    ensures { IfOk result (λ text.
+        (after : Desk)
+        × ExplainsAll script.now script.now.commands new_desk commands (string_bytes text)
+        after) }
 {
     let mut desk = Desk::new(alloc);
     let mut all = String::new(alloc);
@@ -96,7 +99,8 @@ fn refusal_to(
     desk: &mut Desk,
     command: ReadyCommand,
 ) -> ResolveResult<String>
-    ensures { IfOk result (λ text. ExplainsCommand script.now place.now desk.old command (string_bytes text) desk.new) }
+    ensures { IfOk result (λ text.
+        ExplainsCommand script.now place.now desk.old command (string_bytes text) desk.new) }
 {
     match command.into_request() {
         Request::Change(change) => change_graph(alloc, script, place, desk, change),
@@ -123,7 +127,8 @@ fn change_graph(
     change: Change,
 ) -> ResolveResult<String>
     requires { IsCommandShaped (command_of change) }
-    ensures { IfOk result (λ text. ExplainsChange script.now place.now desk.old change (string_bytes text) desk.new) }
+    ensures { IfOk result (λ text.
+        ExplainsChange script.now place.now desk.old change (string_bytes text) desk.new) }
 {
     let command = command_of(change);
     let coming = coming_packages(script, place);
@@ -148,7 +153,9 @@ fn merge(
     place: &CommandPlace,
     desk: &mut Desk,
 ) -> ResolveResult<String>
-    ensures { IfOk result (λ text. ExplainsMerge script.now place.now desk.old desk.old.second (string_bytes text) desk.new) }
+    ensures { IfOk result (λ text.
+        ExplainsMerge script.now place.now desk.old desk.old.second (string_bytes text)
+        desk.new) }
 {
     let Some(second) = desk.second.take() else {
         return Ok(String::new(alloc));
@@ -183,7 +190,9 @@ fn explain_reply(
     brought: &[usize],
 ) -> ResolveResult<String>
     requires { IsCommandShaped command }
-    ensures { IfOk result (λ text. ExplainsReply script.now place.now tracked.old command coming.now brought.now (string_bytes text) tracked.new) }
+    ensures { IfOk result (λ text.
+        ExplainsReply script.now place.now tracked.old command coming.now brought.now
+        (string_bytes text) tracked.new) }
 {
     let asked = Asked::of(alloc, &tracked.resolve, &command)?;
     let reply = carry_out(alloc, &mut tracked.resolve, command);
@@ -210,7 +219,8 @@ fn reply_text(
     asked: &Asked,
     reply: &Reply,
 ) -> ResolveResult<String>
-    ensures { IfOk result (λ text. TellsReply script.now place.now tracked.now asked.now reply.now (string_bytes text)) }
+    ensures { IfOk result (λ text.
+        TellsReply script.now place.now tracked.now asked.now reply.now (string_bytes text)) }
 {
     match reply {
         Reply::Refused(refusal) => refusal_text(alloc, script, place, tracked, asked, refusal),
@@ -226,7 +236,8 @@ fn missing_text(
     place: &CommandPlace,
     missing: &str,
 ) -> Result<String, AllocError>
-    ensures { IfOk result (λ text. string_bytes text ≡ missing_text script.now place.now missing.now) }
+    ensures { IfOk result
+        (λ text. string_bytes text ≡ missing_text script.now place.now missing.now) }
 {
     let command = command_text(alloc, script, place.line)?;
     format!(in alloc; "{missing}\n{command}")
@@ -241,7 +252,9 @@ fn refusal_text(
     asked: &Asked,
     refusal: &ResolveError,
 ) -> ResolveResult<String>
-    ensures { IfOk result (λ text. TellsRefusal script.now place.now tracked.now asked.now refusal.now (string_bytes text)) }
+    ensures { IfOk result (λ text.
+        TellsRefusal script.now place.now tracked.now asked.now refusal.now
+        (string_bytes text)) }
 {
     let number = refusal.number();
     let kind = refusal.kind();
@@ -262,7 +275,8 @@ fn places_text(
     tracked: &TrackedGraph,
     kind: &ResolveErrorKind,
 ) -> Result<String, AllocError>
-    ensures { IfOk result (λ text. string_bytes text ≡ places_text script.now place.now tracked.now kind.now) }
+    ensures { IfOk result
+        (λ text. string_bytes text ≡ places_text script.now place.now tracked.now kind.now) }
 {
     let mut text = spans_text(alloc, script, tracked, kind)?;
     if !place.is_push || text.is_empty() {
@@ -301,7 +315,8 @@ fn other_text(
     name: &PackageName,
     span: Span,
 ) -> Result<String, AllocError>
-    ensures { IfOk result (λ text. string_bytes text ≡ other_text script.now tracked.now name.now span) }
+    ensures { IfOk result
+        (λ text. string_bytes text ≡ other_text script.now tracked.now name.now span) }
 {
     if span.is_known() {
         return span_text(alloc, script, tracked, span);
@@ -339,7 +354,8 @@ fn print(
     owner: &PackageName,
     world: &Text,
 ) -> ResolveResult<String>
-    ensures { IfOk result (λ text. string_bytes text ≡ print_text script.now place.now tracked.now owner.now world.now) }
+    ensures { IfOk result (λ text.
+        string_bytes text ≡ print_text script.now place.now tracked.now owner.now world.now) }
 {
     match tracked.resolve.world_named(owner, world.as_str()) {
         Some(_) => Ok(String::new(alloc)),
@@ -356,7 +372,8 @@ fn select(
     owner: &PackageName,
     text: &Option<Text>,
 ) -> ResolveResult<String>
-    ensures { IfOk result (λ out. ExplainsSelect script.now place.now tracked.now owner.now text.now (string_bytes out)) }
+    ensures { IfOk result (λ out.
+        ExplainsSelect script.now place.now tracked.now owner.now text.now (string_bytes out)) }
 {
     let Some(id) = tracked.resolve.package_names().get(owner) else {
         return Ok(missing_text(alloc, script, place, "no package")?);

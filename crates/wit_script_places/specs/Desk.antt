@@ -16,7 +16,11 @@ new_files t = length t.resolve.source_map.files - length t.file_starts
 -- of the files that the graph's sources have got, which are the first of those that were to come, the places of their first
 -- lines are noted, and those of the packages that it has got with them
 abbrev pub with_files : TrackedGraph → List ℕ → List ℕ → TrackedGraph
-with_files t coming brought = record t { file_starts = t.file_starts ++ take (new_files t) coming; package_starts = t.package_starts ++ take (new_files t) brought }
+with_files t coming brought =
+    record t {
+      file_starts = t.file_starts ++ take (new_files t) coming;
+      package_starts = t.package_starts ++ take (new_files t) brought;
+    }
 
 -- a graph after a command that may have brought files
 abbrev pub tracked_after : TrackedGraph → State → List ℕ → List ℕ → TrackedGraph

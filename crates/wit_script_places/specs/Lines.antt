@@ -29,21 +29,25 @@ no_lines = record { lines = []; filed = []; packages = []; commands = []; pushed
 -- a command in the line that comes next
 abbrev pub with_command : ScriptLines → Bool → ScriptLines
 with_command s is_push = record s {
-  commands = s.commands ++ record { line = length s.lines; packages = s.pushed; is_push = is_push } ∷ [];
+  commands =
+      s.commands ++ record { line = length s.lines; packages = s.pushed; is_push = is_push } ∷ [];
   pushed = length s.packages;
 }
 
 -- a line of a sort that comes next
 abbrev pub with_sort : ScriptLines → LineSort → ScriptLines
 with_sort s sort.Silent = s
-with_sort s sort.Package = record s { packages = s.packages ++ length s.filed ∷ []; filed = s.filed ++ length s.lines ∷ [] }
+with_sort s sort.Package =
+    record s
+    { packages = s.packages ++ length s.filed ∷ []; filed = s.filed ++ length s.lines ∷ [] }
 with_sort s sort.Part = record s { filed = s.filed ++ length s.lines ∷ [] }
 with_sort s sort.Push = with_command s true
 with_sort s sort.Request = with_command s false
 
 -- one more line
 abbrev pub with_line : ScriptLines → List ℕ → ScriptLines
-with_line s line = let noted = with_sort s (sort_of line) in record noted { lines = noted.lines ++ line ∷ [] }
+with_line s line =
+    let noted = with_sort s (sort_of line) in record noted { lines = noted.lines ++ line ∷ [] }
 
 -- more lines
 abbrev pub with_lines : ScriptLines → List (List ℕ) → ScriptLines

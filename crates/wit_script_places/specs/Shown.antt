@@ -8,11 +8,15 @@ use Rattle.wit_script_places.specs.declared.lines.ScriptLines.{ScriptLines}
 
 -- a line with its number, and a mark under what it says; of a line over 500 bytes its beginning
 abbrev pub snippet_text : ℕ → List ℕ → List ℕ
-snippet_text number line = marked_line number line (content_start_of line) (content_end_of line) ++ codes "\n"
+snippet_text number line =
+    marked_line number line (content_start_of line) (content_end_of line) ++ codes "\n"
 
 -- what is said under a line that a carriage return ends, which can't be seen there
 abbrev pub return_note : List ℕ → List ℕ
-return_note line = if option_map_or (λ b. b == 13) (slice_get line (length line - 1)) false then codes "      = a carriage return ends it: lines end with a line feed alone\n" else []
+return_note line =
+    if option_map_or (λ b. b == 13) (slice_get line (length line - 1)) false
+    then codes "      = a carriage return ends it: lines end with a line feed alone\n"
+    else []
 
 -- a line as it is shown, and that where it is so
 abbrev pub noted_text : ℕ → List ℕ → List ℕ
@@ -20,7 +24,8 @@ noted_text number line = snippet_text number line ++ return_note line
 
 -- where a command stands: its number in the script
 abbrev pub command_text_of : ℕ → List ℕ → List ℕ
-command_text_of index line = codes "     --> line " ++ (decimal (index + 1) ++ (codes "\n" ++ noted_text (index + 1) line))
+command_text_of index line =
+    codes "     --> line " ++ (decimal (index + 1) ++ (codes "\n" ++ noted_text (index + 1) line))
 
 abbrev pub command_text : ScriptLines → ℕ → List ℕ
 command_text script index = option_map_or (command_text_of index) (slice_get script.lines index) []

@@ -15,4 +15,6 @@ line_text script t a = option_map_or (place_text script) (span_place script t a.
 -- `way: A -> B -> .. -> C`, and the line of each arrow
 abbrev pub way_text : ScriptLines → TrackedGraph → List Arrow → List ℕ
 way_text script t [] = []
-way_text script t (a ∷ way) = codes "      = way: " ++ (way_names (a ∷ way) ++ (codes "\n" ++ flat_map (line_text script t) (a ∷ way)))
+way_text script t (a ∷ way) =
+    codes "      = way: "
+    ++ (way_names (a ∷ way) ++ (codes "\n" ++ flat_map (line_text script t) (a ∷ way)))

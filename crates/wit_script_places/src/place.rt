@@ -19,7 +19,8 @@ pub fn span_place<'a>(
     tracked: &'a TrackedGraph,
     span: Span,
 ) -> Option<(usize, &'a str, usize)>
-    ensures { option_map (λ p. (p.0, p.1.now, p.2)) result ≡ span_place script.now tracked.now span }
+    ensures { option_map (λ p. (p.0, p.1.now, p.2)) result
+        ≡ span_place script.now tracked.now span }
 {
     if !span.is_known() {
         return None;
@@ -41,7 +42,8 @@ fn place_at<'a>(
     file_starts: &[usize],
     position: usize,
 ) -> Option<(&'a str, usize, usize)>
-    ensures { option_map (λ p. (p.0.now, p.1, p.2)) result ≡ place_at (files_of source_map.now.files) file_starts.now position }
+    ensures { option_map (λ p. (p.0.now, p.1, p.2)) result
+        ≡ place_at (files_of source_map.now.files) file_starts.now position }
 {
     let mut rest = position;
     let mut left = file_starts;

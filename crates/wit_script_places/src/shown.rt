@@ -17,7 +17,8 @@ pub fn place_text(
     path: &str,
     first: usize,
 ) -> Result<String, AllocError>
-    ensures { IfOk result (λ text. string_bytes text ≡ place_text script.now (index, path.now, first)) }
+    ensures { IfOk result
+        (λ text. string_bytes text ≡ place_text script.now (index, path.now, first)) }
 {
     let Some(line) = script.line_at(index) else {
         return Ok(String::new(alloc));

@@ -34,7 +34,8 @@ fn lines_text(
     tracked: &TrackedGraph,
     way: &[Arrow],
 ) -> Result<String, AllocError>
-    ensures { IfOk result (λ text. string_bytes text ≡ flat_map (line_text script.now tracked.now) way.now) }
+    ensures { IfOk result
+        (λ text. string_bytes text ≡ flat_map (line_text script.now tracked.now) way.now) }
 {
     let mut text = String::new(alloc);
     for arrow in way {

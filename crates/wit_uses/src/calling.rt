@@ -13,7 +13,8 @@ pub fn push_if_shaped(
     resolve: &mut Resolve,
     group: UnresolvedPackageGroup,
 ) -> ResolveResult<Option<PackageId>>
-    ensures pushed { IfOk result (λ id. IfSome id (λ id. PushesGroups resolve.old group [] id resolve.new)) }
+    ensures pushed { IfOk result
+        (λ id. IfSome id (λ id. PushesGroups resolve.old group [] id resolve.new)) }
     ensures not_shaped { IfOk result (λ id. id ≡ None → resolve.new ≡ resolve.old) }
     ensures err { OnErr result (resolve.new.graph ≡ resolve.old.graph) }
 {

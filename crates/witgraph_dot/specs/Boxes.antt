@@ -18,27 +18,38 @@ name_box p owner =
 
 -- interface i
 abbrev pub interface_box : ℕ → List ℕ → List ℕ
-interface_box i name = codes "    i" ++ (decimal i ++ (codes " [label=\"" ++ (quoted_text name ++ codes "\"];\n")))
+interface_box i name =
+    codes "    i" ++ (decimal i ++ (codes " [label=\"" ++ (quoted_text name ++ codes "\"];\n")))
 
 -- the interfaces of a package that are shown
 abbrev pub interface_boxes : List ℕ → Package → List ℕ
-interface_boxes shown «package» = flat_map (λ (e : List ℕ × ℕ). if is_among shown e.1 then interface_box e.1 e.0 else []) «package».interfaces
+interface_boxes shown «package» =
+    flat_map (λ (e : List ℕ × ℕ). if is_among shown e.1 then interface_box e.1 e.0 else [])
+    «package».interfaces
 
 -- the line of an entry below the name of its world: of a function or a type under a label
 abbrev pub line_of_entry : List ℕ → WorldKey → WorldItem → List ℕ
 line_of_entry word (key.Interface i) held = []
 line_of_entry word (key.Name label) (item.Interface i stability docs span external_id) = []
-line_of_entry word (key.Name label) (item.Function function) = codes "\\n" ++ (word ++ (codes " func " ++ quoted_text label))
-line_of_entry word (key.Name label) (item.Type_ id span) = codes "\\n" ++ (word ++ (codes " type " ++ quoted_text label))
+line_of_entry word (key.Name label) (item.Function function) =
+    codes "\\n" ++ (word ++ (codes " func " ++ quoted_text label))
+line_of_entry word (key.Name label) (item.Type_ id span) =
+    codes "\\n" ++ (word ++ (codes " type " ++ quoted_text label))
 
 abbrev pub entry_line : List ℕ → Entry → List ℕ
 entry_line word e = line_of_entry word e.0 e.1
 
 -- the beginning of world w, with its name
 abbrev pub world_head : ℕ → List ℕ → List ℕ
-world_head w name = codes "    w" ++ (decimal w ++ (codes " [shape=component, style=filled, fillcolor=\"#dbe7f6\", label=\"" ++ quoted_text name))
+world_head w name =
+    codes "    w"
+    ++ (decimal w
+    ++ (codes " [shape=component, style=filled, fillcolor=\"#dbe7f6\", label=\""
+    ++ quoted_text name))
 
 -- world w, with its functions and types
 abbrev pub world_box : ℕ → World → List ℕ
 world_box w world =
-    world_head w world.name ++ (flat_map (entry_line (codes "import")) world.imports ++ (flat_map (entry_line (codes "export")) world.exports ++ codes "\"];\n"))
+    world_head w world.name
+    ++ (flat_map (entry_line (codes "import")) world.imports
+    ++ (flat_map (entry_line (codes "export")) world.exports ++ codes "\"];\n"))

@@ -9,7 +9,8 @@ use Rattle.witgraph_dot.specs.declared.arrow.Target.TheVariants as target
 
 -- the interfaces of a package that are shown, in the order of its table
 abbrev pub frame_of : List ℕ → Package → List ℕ
-frame_of shown «package» = filter (is_among shown) (map (λ (e : List ℕ × ℕ). e.1) «package».interfaces)
+frame_of shown «package» =
+    filter (is_among shown) (map (λ (e : List ℕ × ℕ). e.1) «package».interfaces)
 
 -- the frame of each package
 abbrev pub frames_of : List ℕ → List Package → List (List ℕ)
@@ -25,16 +26,22 @@ is_whole targets frame = nat_lt 1 (length frame) && are_among frame targets
 
 -- the interfaces of the frames that are whole
 abbrev pub whole_frames : List (List ℕ) → List ℕ → List ℕ
-whole_frames frames targets = flat_map (λ frame. if is_whole targets frame then frame else []) frames
+whole_frames frames targets =
+    flat_map (λ frame. if is_whole targets frame then frame else []) frames
 
 -- an arrow of a kind to each frame that is whole
 abbrev pub frame_arrows : List (List ℕ) → ArrowKind → List ℕ → List Arrow
-frame_arrows frames kind targets = map (λ p. record { kind = kind; target = target.Frame p }) (indices_from (λ p. is_whole targets) 0 frames)
+frame_arrows frames kind targets =
+    map (λ p. record { kind = kind; target = target.Frame p })
+    (indices_from (λ p. is_whole targets) 0 frames)
 
 -- an arrow of a kind to each interface
 abbrev pub interface_arrows : ArrowKind → List ℕ → List Arrow
-interface_arrows kind targets = map (λ i. record { kind = kind; target = target.Interface i }) targets
+interface_arrows kind targets =
+    map (λ i. record { kind = kind; target = target.Interface i }) targets
 
 -- the arrows of a kind to some interfaces: one to each frame that is whole, and one to each other interface
 abbrev pub bundle : List (List ℕ) → ArrowKind → List ℕ → List Arrow
-bundle frames kind targets = frame_arrows frames kind targets ++ interface_arrows kind (without targets (whole_frames frames targets))
+bundle frames kind targets =
+    frame_arrows frames kind targets
+    ++ interface_arrows kind (without targets (whole_frames frames targets))

@@ -22,7 +22,9 @@ is_version_of (Some picked) version = option_eq version_eq (Some picked) version
 -- the pick is of this package, or of something in it
 abbrev pub picks_package : Pick → PackageName → Bool
 picks_package pick owner =
-    bytes_eq pick.«package».namespace owner.namespace && (bytes_eq pick.«package».name owner.name && is_version_of pick.«package».version owner.version)
+    bytes_eq pick.«package».namespace owner.namespace
+    && (bytes_eq pick.«package».name owner.name
+    && is_version_of pick.«package».version owner.version)
 
 -- the pick is of all in its package, or of this name alone
 abbrev pub picks_name : Pick → List ℕ → Bool
@@ -40,7 +42,8 @@ is_picked picked owner name = list_any (λ (pick : Pick). picks pick owner name)
 
 -- what a statement picks: only `select` does
 abbrev pub pick_of_statement : Option (Option Statement) → Option Pick
-pick_of_statement (Some (Some (says.Request (request.Select owner name)))) = Some (record { «package» = owner; name = name })
+pick_of_statement (Some (Some (says.Request (request.Select owner name)))) =
+    Some (record { «package» = owner; name = name })
 pick_of_statement _ = None
 
 -- what `# show` or `# hide` with this text picks: what `select` with it says
@@ -58,17 +61,28 @@ and_pick picked (Some pick) = picked ++ pick ∷ []
 
 -- with what `# show` says with this text
 abbrev pub with_shown : Choice → List ℕ → Choice
-with_shown choice text = record { shown = and_pick choice.shown (pick_of text); hidden = choice.hidden; only_added = choice.only_added }
+with_shown choice text =
+    record {
+      shown = and_pick choice.shown (pick_of text);
+      hidden = choice.hidden;
+      only_added = choice.only_added;
+    }
 
 -- with what `# hide` says with this text
 abbrev pub with_hidden : Choice → List ℕ → Choice
-with_hidden choice text = record { shown = choice.shown; hidden = and_pick choice.hidden (pick_of text); only_added = choice.only_added }
+with_hidden choice text =
+    record {
+      shown = choice.shown;
+      hidden = and_pick choice.hidden (pick_of text);
+      only_added = choice.only_added;
+    }
 
 -- with what a line chooses
 abbrev pub with_line : Choice → List ℕ → Choice
 with_line choice line =
     if bytes_eq line (codes "# only-added") then record { shown = choice.shown; hidden = choice.hidden; only_added = true }
-    else option_map_or (with_shown choice) (after_prefix (codes "# show ") line) (option_map_or (with_hidden choice) (after_prefix (codes "# hide ") line) choice)
+    else option_map_or (with_shown choice) (after_prefix (codes "# show ") line)
+    (option_map_or (with_hidden choice) (after_prefix (codes "# hide ") line) choice)
 
 -- with what lines choose, one after another
 abbrev pub with_lines : Choice → List (List ℕ) → Choice

@@ -20,7 +20,12 @@ pub record ListedState : Type 0 where
   pub includes : List Include
 
 abbrev pub listed_state : ListedGraph → ListedState
-listed_state graph = record { state = graph.resolve; imports = graph.listing.imports.items; includes = graph.listing.includes.items }
+listed_state graph =
+    record {
+      state = graph.resolve;
+      imports = graph.listing.imports.items;
+      includes = graph.listing.includes.items;
+    }
 
 -- an empty one
 abbrev pub new_listed_state : ListedState
@@ -37,11 +42,16 @@ only_listed first = record { first = first; second = None }
 -- that on which commands work, and the first one where it waits for `merge`
 abbrev pub listed_graphs : ListedGraph → Option ListedGraph → ListedStage
 listed_graphs active None = only_listed (listed_state active)
-listed_graphs active (Some first) = record { first = listed_state first; second = Some (listed_state active) }
+listed_graphs active (Some first) =
+    record { first = listed_state first; second = Some (listed_state active) }
 
 -- the graphs alone, as `execute` has them
 abbrev pub graphs_of : ListedStage → Stage
-graphs_of stage = record { first = stage.first.state; second = option_map (λ (second : ListedState). second.state) stage.second }
+graphs_of stage =
+    record {
+      first = stage.first.state;
+      second = option_map (λ (second : ListedState). second.state) stage.second;
+    }
 
 abbrev pub graphs : ListedGraph → Option ListedGraph → Stage
 graphs active waiting = graphs_of (listed_graphs active waiting)

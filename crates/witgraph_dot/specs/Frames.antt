@@ -19,23 +19,30 @@ has_inner_frame worlds «package» interfaces = nat_lt 1 interfaces && shows_wor
 
 -- the beginning of that frame of package p
 abbrev pub inner_head : ℕ → List ℕ
-inner_head p = codes "    subgraph cluster_" ++ (decimal p ++ codes "_interfaces {\n    style=rounded; color=\"#dcdcd4\"; label=\"\";\n")
+inner_head p =
+    codes "    subgraph cluster_"
+    ++ (decimal p ++ codes "_interfaces {\n    style=rounded; color=\"#dcdcd4\"; label=\"\";\n")
 
 -- the interfaces of package p that are shown, in it
 abbrev pub inner_frame : ℕ → Package → List ℕ → List ℕ
-inner_frame p «package» interfaces = inner_head p ++ (interface_boxes interfaces «package» ++ codes "    }\n")
+inner_frame p «package» interfaces =
+    inner_head p ++ (interface_boxes interfaces «package» ++ codes "    }\n")
 
 -- the interfaces of package p that are shown, beside its worlds of these
 abbrev pub shown_boxes : List ℕ → ℕ → Package → List ℕ → List ℕ
-shown_boxes worlds p «package» interfaces = if has_inner_frame worlds «package» (length interfaces) then inner_frame p «package» interfaces else interface_boxes interfaces «package»
+shown_boxes worlds p «package» interfaces =
+    if has_inner_frame worlds «package» (length interfaces) then inner_frame p «package» interfaces
+    else interface_boxes interfaces «package»
 
 -- a world, where it is one of these
 abbrev pub shown_world : List World → List ℕ → ℕ → List ℕ
-shown_world all worlds w = if is_among worlds w then option_map_or (world_box w) (slice_get all w) [] else []
+shown_world all worlds w =
+    if is_among worlds w then option_map_or (world_box w) (slice_get all w) [] else []
 
 -- the worlds of a package that are shown
 abbrev pub world_boxes : List World → List ℕ → Package → List ℕ
-world_boxes all worlds «package» = flat_map (λ (e : List ℕ × ℕ). shown_world all worlds e.1) «package».worlds
+world_boxes all worlds «package» =
+    flat_map (λ (e : List ℕ × ℕ). shown_world all worlds e.1) «package».worlds
 
 -- the beginning of the frame of package p, with its name
 abbrev pub frame_head : ℕ → PackageName → List ℕ
@@ -45,15 +52,20 @@ frame_head p owner =
 -- the frame of package p with these interfaces
 abbrev pub whole_frame : View → ℕ → Package → List ℕ → List ℕ
 whole_frame v p «package» interfaces =
-    frame_head p «package».name ++ (shown_boxes v.worlds p «package» interfaces ++ (world_boxes v.graph.worlds v.worlds «package» ++ codes "  }\n"))
+    frame_head p «package».name
+    ++ (shown_boxes v.worlds p «package» interfaces
+    ++ (world_boxes v.graph.worlds v.worlds «package» ++ codes "  }\n"))
 
 -- the same, where there is something in it
 abbrev pub frame_unless_empty : View → ℕ → Package → List ℕ → List ℕ
-frame_unless_empty v p «package» interfaces = if (length interfaces == 0) && not (shows_world v.worlds «package») then [] else whole_frame v p «package» interfaces
+frame_unless_empty v p «package» interfaces =
+    if (length interfaces == 0) && not (shows_world v.worlds «package») then []
+    else whole_frame v p «package» interfaces
 
 -- the frame of package p
 abbrev pub frame_text : View → ℕ → Package → List ℕ
-frame_text v p «package» = option_map_or (frame_unless_empty v p «package») (slice_get v.frames p) []
+frame_text v p «package» =
+    option_map_or (frame_unless_empty v p «package») (slice_get v.frames p) []
 
 -- the frames of packages, of which the first has this id
 abbrev pub frame_texts : View → ℕ → List Package → List ℕ

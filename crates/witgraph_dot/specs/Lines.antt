@@ -30,24 +30,33 @@ look kind.Exported = codes "color=\"#2e7d32\", arrowhead=diamond"
 
 -- the end of an arrow of this look at the interface, i, or the world, w, of an index
 abbrev pub thing_end : List ℕ → ℕ → List ℕ → List ℕ
-thing_end letter n attributes = letter ++ (decimal n ++ (codes " [" ++ (attributes ++ codes "];\n")))
+thing_end letter n attributes =
+    letter ++ (decimal n ++ (codes " [" ++ (attributes ++ codes "];\n")))
 
 -- the rest of the name of the frame that holds the interfaces of a package: its own, or one in that
 abbrev pub inner_suffix : List ℕ → Package → ℕ → List ℕ
-inner_suffix worlds «package» interfaces = if has_inner_frame worlds «package» interfaces then codes "_interfaces" else []
+inner_suffix worlds «package» interfaces =
+    if has_inner_frame worlds «package» interfaces then codes "_interfaces" else []
 
 -- the end of an arrow at the frame of package p: it leads to an interface in it, and ends at the frame
 abbrev pub frame_end : ℕ → List ℕ → List ℕ → ℕ → List ℕ
-frame_end p suffix attributes i = codes "i" ++ (decimal i ++ (codes " [" ++ (attributes ++ (codes ", lhead=cluster_" ++ (decimal p ++ (suffix ++ codes "];\n"))))))
+frame_end p suffix attributes i =
+    codes "i"
+    ++ (decimal i
+    ++ (codes " ["
+    ++ (attributes ++ (codes ", lhead=cluster_" ++ (decimal p ++ (suffix ++ codes "];\n"))))))
 
 -- the interface is the last in the frame
 abbrev pub end_in_frame : View → ℕ → List ℕ → Package → List ℕ → List ℕ
 end_in_frame v p attributes «package» interfaces =
-    option_map_or (frame_end p (inner_suffix v.worlds «package» (length interfaces)) attributes) (slice_get interfaces (length interfaces - 1)) []
+    option_map_or (frame_end p (inner_suffix v.worlds «package» (length interfaces)) attributes)
+    (slice_get interfaces (length interfaces - 1)) []
 
 abbrev pub end_at_frame : View → ℕ → List ℕ → List ℕ
 end_at_frame v p attributes =
-    option_map_or (λ (owner : Package). option_map_or (end_in_frame v p attributes owner) (slice_get v.frames p) []) (slice_get v.graph.packages p) []
+    option_map_or (λ (owner : Package).
+    option_map_or (end_in_frame v p attributes owner) (slice_get v.frames p) [])
+    (slice_get v.graph.packages p) []
 
 -- the end of an arrow
 abbrev pub arrow_end : View → Target → List ℕ → List ℕ
@@ -57,11 +66,16 @@ arrow_end v (target.Frame p) attributes = end_at_frame v p attributes
 
 -- an arrow from the interface, i, or the world, w, of an index
 abbrev pub arrow_line : View → List ℕ → ℕ → Arrow → List ℕ
-arrow_line v letter n arrow = codes "  " ++ (letter ++ (decimal n ++ (codes " -> " ++ arrow_end v arrow.target (look arrow.kind))))
+arrow_line v letter n arrow =
+    codes "  "
+    ++ (letter ++ (decimal n ++ (codes " -> " ++ arrow_end v arrow.target (look arrow.kind))))
 
 -- the arrows from interface i, where it is there
 abbrev pub uses_lines : View → ℕ → List ℕ
-uses_lines v i = if nat_lt i (length v.graph.interfaces) then flat_map (arrow_line v (codes "i") i) (uses_arrows v i) else []
+uses_lines v i =
+    if nat_lt i (length v.graph.interfaces)
+    then flat_map (arrow_line v (codes "i") i) (uses_arrows v i)
+    else []
 
 -- ---- arrows with labels
 
@@ -72,11 +86,13 @@ key_label (key.Interface i) = None
 
 -- the label of an entry that has interface i under one
 abbrev pub label_for : ℕ → Entry → Option (List ℕ)
-label_for i e = if option_eq nat_eq (labelled_interface e.0 e.1) (Some i) then key_label e.0 else None
+label_for i e =
+    if option_eq nat_eq (labelled_interface e.0 e.1) (Some i) then key_label e.0 else None
 
 -- a label below others, where there are any
 abbrev pub and_label : List ℕ → List ℕ → List ℕ
-and_label labels label = if length labels == 0 then quoted_text label else labels ++ (codes "\\n" ++ quoted_text label)
+and_label labels label =
+    if length labels == 0 then quoted_text label else labels ++ (codes "\\n" ++ quoted_text label)
 
 -- labels, one on a line
 abbrev pub label_lines : List (List ℕ) → List ℕ
@@ -98,30 +114,44 @@ label_box name labels =
 
 -- an arrow of this look from world w to the box, which ends there without a head
 abbrev pub arrow_to_box : List ℕ → ℕ → List ℕ → List ℕ
-arrow_to_box name w attributes = codes "  w" ++ (decimal w ++ (codes " -> " ++ (name ++ (codes " [" ++ (attributes ++ codes ", dir=none];\n")))))
+arrow_to_box name w attributes =
+    codes "  w"
+    ++ (decimal w
+    ++ (codes " -> " ++ (name ++ (codes " [" ++ (attributes ++ codes ", dir=none];\n")))))
 
 -- and on to interface i
 abbrev pub arrow_from_box : List ℕ → ℕ → List ℕ → List ℕ
-arrow_from_box name i attributes = codes "  " ++ (name ++ (codes " -> i" ++ (decimal i ++ (codes " [" ++ (attributes ++ codes "];\n")))))
+arrow_from_box name i attributes =
+    codes "  "
+    ++ (name ++ (codes " -> i" ++ (decimal i ++ (codes " [" ++ (attributes ++ codes "];\n")))))
 
 -- an arrow through the box with labels
 abbrev pub arrow_through_box : List ℕ → ℕ → ℕ → List ℕ → List ℕ → List ℕ
-arrow_through_box name w i labels attributes = label_box name labels ++ (arrow_to_box name w attributes ++ arrow_from_box name i attributes)
+arrow_through_box name w i labels attributes =
+    label_box name labels ++ (arrow_to_box name w attributes ++ arrow_from_box name i attributes)
 
 -- that from world w to interface i, with the labels under which entries have the interface
 abbrev pub labelled_lines : ArrowKind → ℕ → List Entry → ℕ → List ℕ
-labelled_lines sort w entries i = arrow_through_box (box_name sort w i) w i (label_lines (filter_map (label_for i) entries)) (look sort)
+labelled_lines sort w entries i =
+    arrow_through_box (box_name sort w i) w i (label_lines (filter_map (label_for i) entries))
+    (look sort)
 
 -- all that entries of world w have under labels, each interface once
 abbrev pub labelled_entries : ArrowKind → List ℕ → ℕ → List Entry → List ℕ
-labelled_entries sort shown w entries = flat_map (labelled_lines sort w entries) (first_of_each (filter (is_among shown) (labelled_interfaces entries)))
+labelled_entries sort shown w entries =
+    flat_map (labelled_lines sort w entries)
+    (first_of_each (filter (is_among shown) (labelled_interfaces entries)))
 
 abbrev pub labelled_of : List ℕ → ℕ → World → List ℕ
-labelled_of shown w world = labelled_entries kind.Listed shown w world.imports ++ labelled_entries kind.Exported shown w world.exports
+labelled_of shown w world =
+    labelled_entries kind.Listed shown w world.imports
+    ++ labelled_entries kind.Exported shown w world.exports
 
 -- so of world w, where all entries are shown
 abbrev pub all_labelled : View → ℕ → List ℕ
-all_labelled v w = if v.only_added then [] else option_map_or (labelled_of v.interfaces w) (slice_get v.graph.worlds w) []
+all_labelled v w =
+    if v.only_added then []
+    else option_map_or (labelled_of v.interfaces w) (slice_get v.graph.worlds w) []
 
 -- ---- all arrows
 

@@ -31,12 +31,15 @@ others_of world imports = filter (λ (listed : Import). not (is_of world listed)
 
 -- with one interface more for a world, where it isn't there
 abbrev pub with_import : List Import → ℕ → ℕ → List Import
-with_import imports world interface = if lists imports world interface then imports else imports ++ record { world = world; interface = interface } ∷ []
+with_import imports world interface =
+    if lists imports world interface then imports
+    else imports ++ record { world = world; interface = interface } ∷ []
 
 -- with several more
 abbrev pub with_imports : List Import → ℕ → List ℕ → List Import
 with_imports imports world [] = imports
-with_imports imports world (interface ∷ interfaces) = with_imports (with_import imports world interface) world interfaces
+with_imports imports world (interface ∷ interfaces) =
+    with_imports (with_import imports world interface) world interfaces
 
 -- it is an include of this world
 abbrev pub is_include_of : ℕ → Include → Bool
@@ -60,22 +63,29 @@ includes_of world all = flat_map (included_by world) all
 
 -- with one include more, where it isn't there
 abbrev pub with_include : List Include → ℕ → ℕ → List Include
-with_include all world included = if includes all world included then all else all ++ record { world = world; included = included } ∷ []
+with_include all world included =
+    if includes all world included then all
+    else all ++ record { world = world; included = included } ∷ []
 
 -- with several more
 abbrev pub with_includes : List Include → ℕ → List ℕ → List Include
 with_includes all world [] = all
-with_includes all world (included ∷ more) = with_includes (with_include all world included) world more
+with_includes all world (included ∷ more) =
+    with_includes (with_include all world included) world more
 
 -- ---- of several worlds
 
 -- with some imports more, each where it isn't there
 abbrev pub with_all_imports : List Import → List Import → List Import
-with_all_imports imports more = fold (λ (all : List Import) (one : Import). with_import all one.world one.interface) imports more
+with_all_imports imports more =
+    fold (λ (all : List Import) (one : Import). with_import all one.world one.interface) imports
+    more
 
 -- so with includes
 abbrev pub with_all_includes : List Include → List Include → List Include
-with_all_includes includes more = fold (λ (all : List Include) (one : Include). with_include all one.world one.included) includes more
+with_all_includes includes more =
+    fold (λ (all : List Include) (one : Include). with_include all one.world one.included) includes
+    more
 
 -- ---- after a merge
 
@@ -85,8 +95,14 @@ moved places i = option_and_then (λ (place : Option ℕ). place) (slice_get pla
 
 -- an import whose world and interface are now where these lists say
 abbrev pub moved_import : List (Option ℕ) → List (Option ℕ) → Import → Option Import
-moved_import worlds interfaces listed = option_and_then (λ w. option_map (λ i. record { world = w; interface = i }) (moved interfaces listed.interface)) (moved worlds listed.world)
+moved_import worlds interfaces listed =
+    option_and_then (λ w.
+    option_map (λ i. record { world = w; interface = i }) (moved interfaces listed.interface))
+    (moved worlds listed.world)
 
 -- so an include
 abbrev pub moved_include : List (Option ℕ) → Include → Option Include
-moved_include worlds include = option_and_then (λ w. option_map (λ u. record { world = w; included = u }) (moved worlds include.included)) (moved worlds include.world)
+moved_include worlds include =
+    option_and_then
+    (λ w. option_map (λ u. record { world = w; included = u }) (moved worlds include.included))
+    (moved worlds include.world)

@@ -36,7 +36,10 @@ note_line note =
 
 -- the frames of the packages, the arrows, the legend, and a note
 abbrev pub picture_text : View → List ℕ → List ℕ
-picture_text v note = HEAD.now ++ (frame_texts v 0 v.graph.packages ++ (arrow_lines v ++ (LEGEND.now ++ (note_line note ++ END.now))))
+picture_text v note =
+    HEAD.now
+    ++ (frame_texts v 0 v.graph.packages
+    ++ (arrow_lines v ++ (LEGEND.now ++ (note_line note ++ END.now))))
 
 -- what is told of a script: its refusals, what isn't there, or why it isn't understood
 abbrev pub IsTold : List ℕ → List ℕ → Type 0

@@ -22,7 +22,9 @@ use Rattle.witgraph_dot.specs.declared.listing.Include.{Include}
 
 -- what a package names of others, each with the name of its package
 abbrev pub foreign_items : ForeignItems → List (PackageName × ForeignItem)
-foreign_items deps = flat_map (λ (dep : PackageName × List ForeignItem). map (λ (named : ForeignItem). (dep.0, named)) dep.1) deps
+foreign_items deps =
+    flat_map (λ (dep : PackageName × List ForeignItem).
+    map (λ (named : ForeignItem). (dep.0, named)) dep.1) deps
 
 -- the interface of this name in the package of that name
 abbrev pub interface_named : Graph → PackageName → List ℕ → Option ℕ
@@ -40,16 +42,23 @@ is_world w (item.World other) = nat_eq other w
 
 -- interface i of a package, where it isn't of another one
 abbrev pub own_interface : Graph → UnresolvedPackage → ℕ → Option ℕ
-own_interface g p i = option_and_then (λ (interface : Interface). option_and_then (interface_named g p.name) interface.name) (slice_get p.interfaces i)
+own_interface g p i =
+    option_and_then
+    (λ (interface : Interface). option_and_then (interface_named g p.name) interface.name)
+    (slice_get p.interfaces i)
 
 -- world w of a package, where it isn't of another one
 abbrev pub own_world : Graph → UnresolvedPackage → ℕ → Option ℕ
-own_world g p w = option_and_then (λ (world : World). world_named g p.name world.name) (slice_get p.worlds w)
+own_world g p w =
+    option_and_then (λ (world : World). world_named g p.name world.name) (slice_get p.worlds w)
 
 -- interface i of a package, where these are what it names of others
-abbrev pub interface_among : Graph → UnresolvedPackage → ℕ → List (PackageName × ForeignItem) → Option ℕ
+abbrev pub interface_among : Graph → UnresolvedPackage → ℕ → List (PackageName × ForeignItem)
+    → Option ℕ
 interface_among g p i items =
-    option_map_or (λ (named : PackageName × ForeignItem). interface_named g named.0 named.1.0) (find (λ (named : PackageName × ForeignItem). is_interface i named.1.1.0) items) (own_interface g p i)
+    option_map_or (λ (named : PackageName × ForeignItem). interface_named g named.0 named.1.0)
+    (find (λ (named : PackageName × ForeignItem). is_interface i named.1.1.0) items)
+    (own_interface g p i)
 
 abbrev pub interface_of : Graph → UnresolvedPackage → ℕ → Option ℕ
 interface_of g p i = interface_among g p i (foreign_items p.foreign_deps)
@@ -57,7 +66,9 @@ interface_of g p i = interface_among g p i (foreign_items p.foreign_deps)
 -- so world w of a package
 abbrev pub world_among : Graph → UnresolvedPackage → ℕ → List (PackageName × ForeignItem) → Option ℕ
 world_among g p w items =
-    option_map_or (λ (named : PackageName × ForeignItem). world_named g named.0 named.1.0) (find (λ (named : PackageName × ForeignItem). is_world w named.1.1.0) items) (own_world g p w)
+    option_map_or (λ (named : PackageName × ForeignItem). world_named g named.0 named.1.0)
+    (find (λ (named : PackageName × ForeignItem). is_world w named.1.1.0) items)
+    (own_world g p w)
 
 abbrev pub world_of : Graph → UnresolvedPackage → ℕ → Option ℕ
 world_of g p w = world_among g p w (foreign_items p.foreign_deps)
@@ -70,7 +81,8 @@ line_imports g p world = filter_map (interface_of g p) (keyed_interfaces world.i
 
 -- the worlds that its `include` lines include
 abbrev pub line_includes : Graph → UnresolvedPackage → World → List ℕ
-line_includes g p world = filter_map (λ (include : WorldInclude). world_of g p include.id) world.includes
+line_includes g p world =
+    filter_map (λ (include : WorldInclude). world_of g p include.id) world.includes
 
 -- what lines list for world w of a graph
 abbrev pub imports_for : List ℕ → ℕ → List Import
@@ -85,14 +97,17 @@ abbrev pub world_imports : Graph → UnresolvedPackage → ℕ → World → Lis
 world_imports g p w world = option_map_or (imports_for (line_imports g p world)) (world_of g p w) []
 
 abbrev pub world_includes : Graph → UnresolvedPackage → ℕ → World → List Include
-world_includes g p w world = option_map_or (includes_for (line_includes g p world)) (world_of g p w) []
+world_includes g p w world =
+    option_map_or (includes_for (line_includes g p world)) (world_of g p w) []
 
 -- so of all worlds of a package
 abbrev pub package_imports : Graph → UnresolvedPackage → List Import
-package_imports g p = flat_map (λ (at : ℕ × World). world_imports g p at.0 at.1) (enumerate_from 0 p.worlds)
+package_imports g p =
+    flat_map (λ (at : ℕ × World). world_imports g p at.0 at.1) (enumerate_from 0 p.worlds)
 
 abbrev pub package_includes : Graph → UnresolvedPackage → List Include
-package_includes g p = flat_map (λ (at : ℕ × World). world_includes g p at.0 at.1) (enumerate_from 0 p.worlds)
+package_includes g p =
+    flat_map (λ (at : ℕ × World). world_includes g p at.0 at.1) (enumerate_from 0 p.worlds)
 
 -- the packages of groups
 abbrev pub packages_of : List UnresolvedPackageGroup → List UnresolvedPackage
@@ -112,7 +127,8 @@ with_brought_imports imports one = with_imports imports one.world (imports_of on
 
 -- what an included world includes, the world includes that includes it
 abbrev pub with_brought_includes : List Include → Include → List Include
-with_brought_includes includes one = with_includes includes one.world (includes_of one.included includes)
+with_brought_includes includes one =
+    with_includes includes one.world (includes_of one.included includes)
 
 -- so by each of some includes in turn, so many times over
 abbrev pub repeated : {A : Type 0} → (A → Include → A) → List Include → ℕ → A → A
@@ -123,8 +139,10 @@ repeated brings includes (suc times) all = repeated brings includes times (fold 
 -- there are lines
 abbrev pub pushed_imports : Graph → List UnresolvedPackageGroup → List Import → List Import
 pushed_imports g groups imports =
-    repeated with_brought_imports (group_includes g groups) (length (group_includes g groups)) (with_all_imports imports (group_imports g groups))
+    repeated with_brought_imports (group_includes g groups) (length (group_includes g groups))
+    (with_all_imports imports (group_imports g groups))
 
 abbrev pub pushed_includes : Graph → List UnresolvedPackageGroup → List Include → List Include
 pushed_includes g groups includes =
-    repeated with_brought_includes (group_includes g groups) (length (group_includes g groups)) (with_all_includes includes (group_includes g groups))
+    repeated with_brought_includes (group_includes g groups) (length (group_includes g groups))
+    (with_all_includes includes (group_includes g groups))

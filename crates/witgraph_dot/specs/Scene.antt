@@ -41,7 +41,9 @@ view_of scene = record {
 
 -- the interfaces that interface i uses and that are shown, each once
 abbrev pub shown_uses : View → ℕ → List ℕ
-shown_uses v i = first_of_each (filter (is_among v.interfaces) (interface_direct_deps v.graph.types v.graph.interfaces i))
+shown_uses v i =
+    first_of_each
+    (filter (is_among v.interfaces) (interface_direct_deps v.graph.types v.graph.interfaces i))
 
 -- the arrows from interface i
 abbrev pub uses_arrows : View → ℕ → List Arrow
@@ -56,7 +58,10 @@ included_imports worlds some = flat_map (λ w. own_imports (slice_get worlds w))
 -- world w' is shown, imports something, and world w imports all that it imports
 abbrev pub is_included : View → ℕ → ℕ → Bool
 is_included v w w' =
-    is_among v.worlds w' && (not (length (own_imports (slice_get v.graph.worlds w')) == 0) && are_among (own_imports (slice_get v.graph.worlds w')) (own_imports (slice_get v.graph.worlds w)))
+    is_among v.worlds w'
+    && (not (length (own_imports (slice_get v.graph.worlds w')) == 0)
+    && are_among (own_imports (slice_get v.graph.worlds w'))
+    (own_imports (slice_get v.graph.worlds w)))
 
 -- one of some worlds includes world w
 abbrev pub is_included_by_any : List Include → List ℕ → ℕ → Bool
@@ -86,11 +91,13 @@ import_frames v w = frames_but (own_exports (slice_get v.graph.worlds w)) v.fram
 
 -- of what world w imports, that to which no arrow to an included world leads
 abbrev pub left_imports : View → ℕ → List ℕ
-left_imports v w = without (shown_imports v w) (included_imports v.graph.worlds (included_worlds v w))
+left_imports v w =
+    without (shown_imports v w) (included_imports v.graph.worlds (included_worlds v w))
 
 -- of that what some included world imports, shown or not
 abbrev pub brought_imports : View → ℕ → List ℕ
-brought_imports v w = within (left_imports v w) (included_imports v.graph.worlds (includes_of w v.includes))
+brought_imports v w =
+    within (left_imports v w) (included_imports v.graph.worlds (includes_of w v.includes))
 
 -- what stands in whole frames of what included worlds import
 abbrev pub bundled_imports : View → ℕ → List ℕ
@@ -102,10 +109,12 @@ single_imports v w = without (left_imports v w) (bundled_imports v w)
 
 -- of what is left the arrows to what lines list, and to what elaboration added
 abbrev pub listed_arrows : View → ℕ → List Arrow
-listed_arrows v w = bundle (import_frames v w) kind.Listed (within (single_imports v w) (imports_of w v.imports))
+listed_arrows v w =
+    bundle (import_frames v w) kind.Listed (within (single_imports v w) (imports_of w v.imports))
 
 abbrev pub unlisted_arrows : View → ℕ → List Arrow
-unlisted_arrows v w = bundle (import_frames v w) kind.Added (without (single_imports v w) (imports_of w v.imports))
+unlisted_arrows v w =
+    bundle (import_frames v w) kind.Added (without (single_imports v w) (imports_of w v.imports))
 
 -- the arrows to what world w imports: to included worlds, to whole frames that included worlds import, and then to what lines
 -- list and to what elaboration added
@@ -116,11 +125,13 @@ import_arrows v w =
 
 -- the arrows to what elaboration added alone
 abbrev pub added_arrows : View → ℕ → List Arrow
-added_arrows v w = bundle (import_frames v w) kind.Added (without (shown_imports v w) (imports_of w v.imports))
+added_arrows v w =
+    bundle (import_frames v w) kind.Added (without (shown_imports v w) (imports_of w v.imports))
 
 -- the arrows to what world w exports
 abbrev pub export_arrows : View → ℕ → List Arrow
-export_arrows v w = bundle v.frames kind.Exported (within (own_exports (slice_get v.graph.worlds w)) v.interfaces)
+export_arrows v w =
+    bundle v.frames kind.Exported (within (own_exports (slice_get v.graph.worlds w)) v.interfaces)
 
 -- the arrows from world w
 abbrev pub world_arrows : View → ℕ → List Arrow

@@ -8,7 +8,9 @@ use Rattle.wit_names.specs.declared.package_name.PackageName.{PackageName}
 
 -- between the quotes of a label: a quotation mark, a backslash and an ampersand stand for themselves
 abbrev pub quoted_char : ℕ → List ℕ
-quoted_char c = if nat_eq c 34 then codes "\\\"" else if nat_eq c 92 then codes "\\\\" else if nat_eq c 38 then codes "&amp;" else encode_utf8 c
+quoted_char c =
+    if nat_eq c 34 then codes "\\\""
+    else if nat_eq c 92 then codes "\\\\" else if nat_eq c 38 then codes "&amp;" else encode_utf8 c
 
 -- a text there
 abbrev pub quoted_text : List ℕ → List ℕ
@@ -16,7 +18,8 @@ quoted_text text = flat_map quoted_char (chars text)
 
 -- the name of a package there
 abbrev pub quoted_name : PackageName → List ℕ
-quoted_name p = quoted_text p.namespace ++ (codes ":" ++ (quoted_text p.name ++ version_suffix p.version))
+quoted_name p =
+    quoted_text p.namespace ++ (codes ":" ++ (quoted_text p.name ++ version_suffix p.version))
 
 -- in a label of HTML: the signs of its marks, a space and the end of a line stand for themselves
 abbrev pub html_char : ℕ → List ℕ

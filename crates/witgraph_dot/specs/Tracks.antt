@@ -12,7 +12,11 @@ use Rattle.wit_values.specs.Version.{Parts, version_eq}
 -- the name of the package of interface i, and its own, where it has both
 abbrev pub full_name : Graph → ℕ → Option (PackageName × List ℕ)
 full_name g i =
-    option_and_then (λ (interface : Interface). option_and_then (λ p. option_and_then (λ name. option_map (λ (owner : Package). (owner.name, name)) (slice_get g.packages p)) interface.name) interface.«package») (slice_get g.interfaces i)
+    option_and_then (λ (interface : Interface).
+    option_and_then (λ p.
+    option_and_then (λ name.
+    option_map (λ (owner : Package). (owner.name, name)) (slice_get g.packages p))
+    interface.name) interface.«package») (slice_get g.interfaces i)
 
 -- both versions are there and stand on one track
 abbrev pub are_on_one_track : TrackRule → Option Parts → Option Parts → Bool
@@ -25,8 +29,10 @@ abbrev pub are_of_one_base : PackageName → PackageName → Bool
 are_of_one_base p q = bytes_eq p.namespace q.namespace && bytes_eq p.name q.name
 
 -- two interfaces of these names are one but for the version, and their versions stand on one track
-abbrev pub are_versions_by_name : TrackRule → Option (PackageName × List ℕ) → Option (PackageName × List ℕ) → Bool
-are_versions_by_name rule (Some a) (Some b) = (bytes_eq a.1 b.1 && are_of_one_base a.0 b.0) && are_on_one_track rule a.0.version b.0.version
+abbrev pub are_versions_by_name : TrackRule → Option (PackageName × List ℕ)
+    → Option (PackageName × List ℕ) → Bool
+are_versions_by_name rule (Some a) (Some b) =
+    (bytes_eq a.1 b.1 && are_of_one_base a.0 b.0) && are_on_one_track rule a.0.version b.0.version
 are_versions_by_name rule (Some a) None = false
 are_versions_by_name rule None b = false
 

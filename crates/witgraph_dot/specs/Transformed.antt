@@ -34,20 +34,28 @@ importized_imports world exports imports = option_map_or (λ w. replaced w expor
 
 -- after `exportize`: what was listed and isn't exported
 abbrev pub exportized_imports : Option ℕ → Graph → List Import → List Import
-exportized_imports world g imports = option_map_or (λ w. replaced w (without (imports_of w imports) (own_exports (slice_get g.worlds w))) imports) world imports
+exportized_imports world g imports =
+    option_map_or (λ w.
+    replaced w (without (imports_of w imports) (own_exports (slice_get g.worlds w))) imports)
+    world imports
 
 -- with an interface more for a world where it stands on the track of something that is listed for it
 abbrev pub with_version : TrackRule → Graph → List Import → ℕ → ℕ → List Import
-with_version rule g imports world i = if is_version_of_any rule g (imports_of world imports) i then with_import imports world i else imports
+with_version rule g imports world i =
+    if is_version_of_any rule g (imports_of world imports) i then with_import imports world i
+    else imports
 
 -- so with several, one after another
 abbrev pub with_versions : TrackRule → Graph → List Import → ℕ → List ℕ → List Import
 with_versions rule g imports world [] = imports
-with_versions rule g imports world (i ∷ is) = with_versions rule g (with_version rule g imports world i) world is
+with_versions rule g imports world (i ∷ is) =
+    with_versions rule g (with_version rule g imports world i) world is
 
 -- after `semver`: also what the world imports on the track of something listed
 abbrev pub semver_merged_imports : Option ℕ → TrackRule → Graph → List Import → List Import
-semver_merged_imports world rule g imports = option_map_or (λ w. with_versions rule g imports w (own_imports (slice_get g.worlds w))) world imports
+semver_merged_imports world rule g imports =
+    option_map_or (λ w. with_versions rule g imports w (own_imports (slice_get g.worlds w))) world
+    imports
 
 -- after a change that came to something, on this graph before it and this state after it
 abbrev pub imports_after : Change → Graph → State → List Import → List Import

@@ -86,7 +86,8 @@ pub fn add_frames(
     targets: &[InterfaceId],
     arrows: &mut Vec<Arrow>,
 ) -> Result<(), AllocError>
-    ensures { OnOk result (arrows.new.items ≡ arrows.old.items ++ frame_arrows frames.now kind targets.now) }
+    ensures { OnOk result
+        (arrows.new.items ≡ arrows.old.items ++ frame_arrows frames.now kind targets.now) }
 {
     for (index, frame) in frames.iter().enumerate() {
         if is_whole(frame, targets) {
@@ -103,7 +104,8 @@ fn add_interfaces(
     targets: &[InterfaceId],
     arrows: &mut Vec<Arrow>,
 ) -> Result<(), AllocError>
-    ensures { OnOk result (arrows.new.items ≡ arrows.old.items ++ interface_arrows kind targets.now) }
+    ensures { OnOk result
+        (arrows.new.items ≡ arrows.old.items ++ interface_arrows kind targets.now) }
 {
     for id in targets {
         let target = Target::Interface(*id);
@@ -120,7 +122,8 @@ pub fn add_bundle(
     targets: &[InterfaceId],
     arrows: &mut Vec<Arrow>,
 ) -> Result<(), AllocError>
-    ensures { OnOk result (arrows.new.items ≡ arrows.old.items ++ bundle frames.now kind targets.now) }
+    ensures { OnOk result
+        (arrows.new.items ≡ arrows.old.items ++ bundle frames.now kind targets.now) }
 {
     let bundled = whole_frames(alloc, frames, targets)?;
     let others = without(alloc, targets, &bundled)?;

@@ -53,7 +53,8 @@ impl fmt::Display for BoxName {
 
 /// Writes the arrows of a picture, those from interfaces first.
 pub fn write_arrows(alloc: Global, scene: &Scene<'_>, text: &mut String) -> Result<(), AllocError>
-    ensures { OnOk result (string_bytes text.new ≡ string_bytes text.old ++ arrow_lines (view_of scene.now)) }
+    ensures { OnOk result
+        (string_bytes text.new ≡ string_bytes text.old ++ arrow_lines (view_of scene.now)) }
 {
     for user in &scene.interfaces {
         write_uses(alloc, scene, *user, text)?;
@@ -71,7 +72,8 @@ fn write_uses(
     user: InterfaceId,
     text: &mut String,
 ) -> Result<(), AllocError>
-    ensures { OnOk result (string_bytes text.new ≡ string_bytes text.old ++ uses_lines (view_of scene.now) user) }
+    ensures { OnOk result
+        (string_bytes text.new ≡ string_bytes text.old ++ uses_lines (view_of scene.now) user) }
 {
     if user.index() >= scene.resolve.interfaces().len() {
         return Ok(());
@@ -87,7 +89,8 @@ fn write_entries(
     world: WorldId,
     text: &mut String,
 ) -> Result<(), AllocError>
-    ensures { OnOk result (string_bytes text.new ≡ string_bytes text.old ++ world_lines (view_of scene.now) world) }
+    ensures { OnOk result
+        (string_bytes text.new ≡ string_bytes text.old ++ world_lines (view_of scene.now) world) }
 {
     let arrows = scene.world_arrows(alloc, world)?;
     write_each(scene, "w", world.index(), &arrows, text)?;
@@ -102,7 +105,9 @@ fn write_each(
     arrows: &[Arrow],
     text: &mut String,
 ) -> Result<(), AllocError>
-    ensures { OnOk result (string_bytes text.new ≡ string_bytes text.old ++ flat_map (arrow_line (view_of scene.now) letter.now from) arrows.now) }
+    ensures { OnOk result (string_bytes text.new
+        ≡ string_bytes text.old
+        ++ flat_map (arrow_line (view_of scene.now) letter.now from) arrows.now) }
 {
     for arrow in arrows {
         write_arrow(scene, letter, from, arrow, text)?;
@@ -118,7 +123,8 @@ fn write_arrow(
     arrow: &Arrow,
     text: &mut String,
 ) -> Result<(), AllocError>
-    ensures { OnOk result (string_bytes text.new ≡ string_bytes text.old ++ arrow_line (view_of scene.now) letter.now from arrow.now) }
+    ensures { OnOk result (string_bytes text.new
+        ≡ string_bytes text.old ++ arrow_line (view_of scene.now) letter.now from arrow.now) }
 {
     write!(text, "  {letter}{from} -> ")?;
     write_arrow_end(scene, arrow.target, arrow.kind.attributes(), text)
@@ -131,7 +137,8 @@ fn write_arrow_end(
     attributes: &str,
     text: &mut String,
 ) -> Result<(), AllocError>
-    ensures { OnOk result (string_bytes text.new ≡ string_bytes text.old ++ arrow_end (view_of scene.now) target attributes.now) }
+    ensures { OnOk result (string_bytes text.new
+        ≡ string_bytes text.old ++ arrow_end (view_of scene.now) target attributes.now) }
 {
     match target {
         Target::Interface(id) => {
@@ -154,7 +161,8 @@ fn write_frame_end(
     attributes: &str,
     text: &mut String,
 ) -> Result<(), AllocError>
-    ensures { OnOk result (string_bytes text.new ≡ string_bytes text.old ++ end_at_frame (view_of scene.now) id attributes.now) }
+    ensures { OnOk result (string_bytes text.new
+        ≡ string_bytes text.old ++ end_at_frame (view_of scene.now) id attributes.now) }
 {
     let index = id.index();
     let Some(package) = scene.resolve.packages().get(index) else {
@@ -192,7 +200,8 @@ fn write_labelled_entries(
     id: WorldId,
     text: &mut String,
 ) -> Result<(), AllocError>
-    ensures { OnOk result (string_bytes text.new ≡ string_bytes text.old ++ all_labelled (view_of scene.now) id) }
+    ensures { OnOk result
+        (string_bytes text.new ≡ string_bytes text.old ++ all_labelled (view_of scene.now) id) }
 {
     if scene.only_added {
         return Ok(());
@@ -213,7 +222,9 @@ fn write_labelled(
     kind: ArrowKind,
     text: &mut String,
 ) -> Result<(), AllocError>
-    ensures { OnOk result (string_bytes text.new ≡ string_bytes text.old ++ labelled_entries kind scene.now.interfaces.items world entries.now) }
+    ensures { OnOk result (string_bytes text.new
+        ≡ string_bytes text.old
+        ++ labelled_entries kind scene.now.interfaces.items world entries.now) }
 {
     let interfaces = labelled_interfaces(alloc, entries, &scene.interfaces)?;
     for id in &interfaces {
@@ -232,7 +243,8 @@ fn write_labelled_arrow(
     id: InterfaceId,
     text: &mut String,
 ) -> Result<(), AllocError>
-    ensures { OnOk result (string_bytes text.new ≡ string_bytes text.old ++ labelled_lines kind from entries.now id) }
+    ensures { OnOk result (string_bytes text.new
+        ≡ string_bytes text.old ++ labelled_lines kind from entries.now id) }
 {
     let labels = labels_of(alloc, entries, id)?;
     let attributes = kind.attributes();
@@ -252,7 +264,8 @@ fn labels_of(
     entries: &Table<WorldKey, WorldItem>,
     id: InterfaceId,
 ) -> Result<String, AllocError>
-    ensures { IfOk result (λ labels. string_bytes labels ≡ label_lines (filter_map (label_for id) entries.now)) }
+    ensures { IfOk result
+        (λ labels. string_bytes labels ≡ label_lines (filter_map (label_for id) entries.now)) }
 {
     let mut labels = String::new(alloc);
     for (key, item) in entries.iter() {
@@ -278,7 +291,8 @@ fn label_for<'a>(id: InterfaceId, key: &'a WorldKey, item: &WorldItem) -> Option
 
 /// Adds a label below others, where there are any.
 fn add_label(labels: &mut String, label: &str) -> Result<(), AllocError>
-    ensures { OnOk result (string_bytes labels.new ≡ and_label (string_bytes labels.old) label.now) }
+    ensures { OnOk result
+        (string_bytes labels.new ≡ and_label (string_bytes labels.old) label.now) }
 {
     let label = Quoted(label);
     if labels.is_empty() {

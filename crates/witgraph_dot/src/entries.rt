@@ -28,7 +28,8 @@ pub fn add_interfaces(
     entries: &Table<WorldKey, WorldItem>,
     interfaces: &mut Vec<InterfaceId>,
 ) -> Result<(), AllocError>
-    ensures { OnOk result (interfaces.new.items ≡ interfaces.old.items ++ interfaces_of_entries entries.now) }
+    ensures { OnOk result
+        (interfaces.new.items ≡ interfaces.old.items ++ interfaces_of_entries entries.now) }
 {
     for (_, item) in entries.iter() {
         if let WorldItem::Interface { id, .. } = item {
@@ -44,7 +45,8 @@ pub fn own_imports(
     resolve: &Resolve,
     world: WorldId,
 ) -> Result<Vec<InterfaceId>, AllocError>
-    ensures { IfOk result (λ interfaces. interfaces.items ≡ own_imports (slice_get resolve.now.graph.worlds world)) }
+    ensures { IfOk result (λ interfaces.
+        interfaces.items ≡ own_imports (slice_get resolve.now.graph.worlds world)) }
 {
     match resolve.worlds().get(world.index()) {
         Some(world) => own_interfaces(alloc, &world.imports),
@@ -58,7 +60,8 @@ pub fn own_exports(
     resolve: &Resolve,
     world: WorldId,
 ) -> Result<Vec<InterfaceId>, AllocError>
-    ensures { IfOk result (λ interfaces. interfaces.items ≡ own_exports (slice_get resolve.now.graph.worlds world)) }
+    ensures { IfOk result (λ interfaces.
+        interfaces.items ≡ own_exports (slice_get resolve.now.graph.worlds world)) }
 {
     match resolve.worlds().get(world.index()) {
         Some(world) => own_interfaces(alloc, &world.exports),

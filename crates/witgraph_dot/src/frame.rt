@@ -21,7 +21,8 @@ pub fn write_frame(
     id: PackageId,
     text: &mut String,
 ) -> Result<(), AllocError>
-    ensures { OnOk result (string_bytes text.new ≡ string_bytes text.old ++ frame_text (view_of scene.now) id «package».now) }
+    ensures { OnOk result (string_bytes text.new
+        ≡ string_bytes text.old ++ frame_text (view_of scene.now) id «package».now) }
 {
     let Some(interfaces) = scene.frames.get(id.index()) else {
         return Ok(());
@@ -40,7 +41,9 @@ fn write_whole_frame(
     interfaces: &[InterfaceId],
     text: &mut String,
 ) -> Result<(), AllocError>
-    ensures { OnOk result (string_bytes text.new ≡ string_bytes text.old ++ whole_frame (view_of scene.now) index «package».now interfaces.now) }
+    ensures { OnOk result (string_bytes text.new
+        ≡ string_bytes text.old
+        ++ whole_frame (view_of scene.now) index «package».now interfaces.now) }
 {
     write_frame_head(index, &package.name, text)?;
     write_shown(scene, package, index, interfaces, text)?;
@@ -50,7 +53,8 @@ fn write_whole_frame(
 
 /// Writes the beginning of a frame, with the name of its package.
 fn write_frame_head(index: usize, owner: &PackageName, text: &mut String) -> Result<(), AllocError>
-    ensures { OnOk result (string_bytes text.new ≡ string_bytes text.old ++ frame_head index owner.now) }
+    ensures { OnOk result
+        (string_bytes text.new ≡ string_bytes text.old ++ frame_head index owner.now) }
 {
     write!(
         text,
@@ -67,7 +71,9 @@ fn write_shown(
     interfaces: &[InterfaceId],
     text: &mut String,
 ) -> Result<(), AllocError>
-    ensures { OnOk result (string_bytes text.new ≡ string_bytes text.old ++ shown_boxes scene.now.worlds.items index «package».now interfaces.now) }
+    ensures { OnOk result (string_bytes text.new
+        ≡ string_bytes text.old
+        ++ shown_boxes scene.now.worlds.items index «package».now interfaces.now) }
 {
     if has_inner_frame(scene, package, interfaces.len()) {
         write_inner_frame(package, index, interfaces, text)
@@ -83,7 +89,8 @@ fn write_inner_frame(
     interfaces: &[InterfaceId],
     text: &mut String,
 ) -> Result<(), AllocError>
-    ensures { OnOk result (string_bytes text.new ≡ string_bytes text.old ++ inner_frame index «package».now interfaces.now) }
+    ensures { OnOk result (string_bytes text.new
+        ≡ string_bytes text.old ++ inner_frame index «package».now interfaces.now) }
 {
     write!(
         text,
@@ -115,7 +122,8 @@ fn shows_world(scene: &Scene<'_>, package: &Package) -> bool
 
 /// Writes the name of a package: as a box, since arrows lead round boxes, and straight through the label of a frame.
 fn write_name(index: usize, owner: &PackageName, text: &mut String) -> Result<(), AllocError>
-    ensures { OnOk result (string_bytes text.new ≡ string_bytes text.old ++ name_box index owner.now) }
+    ensures { OnOk result
+        (string_bytes text.new ≡ string_bytes text.old ++ name_box index owner.now) }
 {
     let name = QuotedName(owner);
     write!(
@@ -130,7 +138,8 @@ fn write_interfaces(
     shown: &[InterfaceId],
     text: &mut String,
 ) -> Result<(), AllocError>
-    ensures { OnOk result (string_bytes text.new ≡ string_bytes text.old ++ interface_boxes shown.now «package».now) }
+    ensures { OnOk result (string_bytes text.new
+        ≡ string_bytes text.old ++ interface_boxes shown.now «package».now) }
 {
     for (name, id) in package.interfaces.iter() {
         if is_among(shown, *id) {
@@ -142,7 +151,8 @@ fn write_interfaces(
 
 /// Writes an interface.
 fn write_interface(index: usize, name: &str, text: &mut String) -> Result<(), AllocError>
-    ensures { OnOk result (string_bytes text.new ≡ string_bytes text.old ++ interface_box index name.now) }
+    ensures { OnOk result
+        (string_bytes text.new ≡ string_bytes text.old ++ interface_box index name.now) }
 {
     let name = Quoted(name);
     write!(text, "    i{index} [label=\"{name}\"];\n")
@@ -150,7 +160,10 @@ fn write_interface(index: usize, name: &str, text: &mut String) -> Result<(), Al
 
 /// Writes the worlds of a package that are shown.
 fn write_worlds(scene: &Scene<'_>, package: &Package, text: &mut String) -> Result<(), AllocError>
-    ensures { OnOk result (string_bytes text.new ≡ string_bytes text.old ++ world_boxes scene.now.resolve.now.graph.worlds scene.now.worlds.items «package».now) }
+    ensures { OnOk result (string_bytes text.new
+        ≡ string_bytes text.old
+        ++ world_boxes scene.now.resolve.now.graph.worlds scene.now.worlds.items
+        «package».now) }
 {
     for (_, id) in package.worlds.iter() {
         write_shown_world(scene, *id, text)?;
@@ -160,7 +173,9 @@ fn write_worlds(scene: &Scene<'_>, package: &Package, text: &mut String) -> Resu
 
 /// Writes a world where it is shown.
 fn write_shown_world(scene: &Scene<'_>, id: WorldId, text: &mut String) -> Result<(), AllocError>
-    ensures { OnOk result (string_bytes text.new ≡ string_bytes text.old ++ shown_world scene.now.resolve.now.graph.worlds scene.now.worlds.items id) }
+    ensures { OnOk result (string_bytes text.new
+        ≡ string_bytes text.old
+        ++ shown_world scene.now.resolve.now.graph.worlds scene.now.worlds.items id) }
 {
     if !is_world_among(&scene.worlds, id) {
         return Ok(());
@@ -173,7 +188,8 @@ fn write_shown_world(scene: &Scene<'_>, id: WorldId, text: &mut String) -> Resul
 
 /// Writes a world, with its functions and types below its name.
 fn write_world(index: usize, world: &World, text: &mut String) -> Result<(), AllocError>
-    ensures { OnOk result (string_bytes text.new ≡ string_bytes text.old ++ world_box index world.now) }
+    ensures { OnOk result
+        (string_bytes text.new ≡ string_bytes text.old ++ world_box index world.now) }
 {
     write_world_head(index, world.name.as_str(), text)?;
     write_labels("import", &world.imports, text)?;
@@ -183,7 +199,8 @@ fn write_world(index: usize, world: &World, text: &mut String) -> Result<(), All
 
 /// Writes the beginning of a world, with its name.
 fn write_world_head(index: usize, name: &str, text: &mut String) -> Result<(), AllocError>
-    ensures { OnOk result (string_bytes text.new ≡ string_bytes text.old ++ world_head index name.now) }
+    ensures { OnOk result
+        (string_bytes text.new ≡ string_bytes text.old ++ world_head index name.now) }
 {
     let title = Quoted(name);
     write!(
@@ -198,7 +215,8 @@ fn write_labels(
     entries: &Table<WorldKey, WorldItem>,
     text: &mut String,
 ) -> Result<(), AllocError>
-    ensures { OnOk result (string_bytes text.new ≡ string_bytes text.old ++ flat_map (entry_line word.now) entries.now) }
+    ensures { OnOk result (string_bytes text.new
+        ≡ string_bytes text.old ++ flat_map (entry_line word.now) entries.now) }
 {
     for (key, item) in entries.iter() {
         write_label(word, key, item, text)?;
@@ -213,7 +231,8 @@ fn write_label(
     item: &WorldItem,
     text: &mut String,
 ) -> Result<(), AllocError>
-    ensures { OnOk result (string_bytes text.new ≡ string_bytes text.old ++ line_of_entry word.now key.now item.now) }
+    ensures { OnOk result (string_bytes text.new
+        ≡ string_bytes text.old ++ line_of_entry word.now key.now item.now) }
 {
     let WorldKey::Name(label) = key else {
         return Ok(());

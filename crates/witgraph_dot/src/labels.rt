@@ -24,7 +24,9 @@ pub fn labelled_interfaces(
     entries: &Table<WorldKey, WorldItem>,
     shown: &[InterfaceId],
 ) -> Result<Vec<InterfaceId>, AllocError>
-    ensures { IfOk result (λ found. found.items ≡ first_of_each (filter (is_among shown.now) (labelled_interfaces entries.now))) }
+    ensures { IfOk result (λ found.
+        found.items
+        ≡ first_of_each (filter (is_among shown.now) (labelled_interfaces entries.now))) }
 {
     let mut found = Vec::new(alloc);
     for (key, item) in entries.iter() {

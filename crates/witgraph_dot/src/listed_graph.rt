@@ -39,7 +39,8 @@ impl ListedGraph {
     /// Changes the graph, and answers whether that came to something. The only refusal is want of memory.
     pub fn change(&mut self, alloc: Global, change: Change) -> ResolveResult<bool>
         requires { IsCommandShaped (command_of change) }
-        ensures { IfOk result (λ done. AfterChange change (listed_state self.old) done (listed_state self.new)) }
+        ensures { IfOk result
+            (λ done. AfterChange change (listed_state self.old) done (listed_state self.new)) }
     {
         match change {
             Change::PushGroups { main, deps } => self.push(alloc, main, deps),
@@ -62,7 +63,8 @@ impl ListedGraph {
     /// Carries out a command on the graph alone, and answers whether it came to something. The only refusal is want of memory.
     pub fn carry_out(&mut self, alloc: Global, command: Command) -> ResolveResult<bool>
         requires { IsCommandShaped command }
-        ensures carried { IfOk result (λ done. Carries self.old.resolve command done self.new.resolve) }
+        ensures carried { IfOk result
+            (λ done. Carries self.old.resolve command done self.new.resolve) }
         ensures listing { self.new.listing ≡ self.old.listing }
     {
         let reply = carry_out(alloc, &mut self.resolve, command);
@@ -77,9 +79,12 @@ impl ListedGraph {
         deps: Items<UnresolvedPackageGroup>,
     ) -> ResolveResult<bool>
         requires { IsCommandShaped (PushGroups main deps) }
-        ensures carried { IfOk result (λ done. Carries self.old.resolve (PushGroups main deps) done self.new.resolve) }
-        ensures listed { IfOk result (λ done. IsListedAfter self.old (asks.PushGroups main deps) done self.new) }
-        ensures included { IfOk result (λ done. IsIncludedAfter self.old (asks.PushGroups main deps) done self.new) }
+        ensures carried { IfOk result
+            (λ done. Carries self.old.resolve (PushGroups main deps) done self.new.resolve) }
+        ensures listed { IfOk result
+            (λ done. IsListedAfter self.old (asks.PushGroups main deps) done self.new) }
+        ensures included { IfOk result
+            (λ done. IsIncludedAfter self.old (asks.PushGroups main deps) done self.new) }
     {
         let groups = all_of(alloc, &main, deps.as_slice())?;
         let done = self.carry_out(alloc, Command::PushGroups { main, deps })?;
@@ -91,7 +96,9 @@ impl ListedGraph {
 
     /// `merge`: takes the things of another graph and what lines list there.
     pub fn merge(&mut self, alloc: Global, other: ListedGraph) -> ResolveResult<bool>
-        ensures { IfOk result (λ done. AfterMerge (listed_state other) (listed_state self.old) done (listed_state self.new)) }
+        ensures { IfOk result (λ done.
+            AfterMerge (listed_state other) (listed_state self.old) done
+            (listed_state self.new)) }
     {
         let ListedGraph { resolve, listing } = other;
         let reply = carry_out(alloc, &mut self.resolve, Command::Merge(resolve));
@@ -101,8 +108,11 @@ impl ListedGraph {
 
     /// Adds what lines list in a graph to whose merge this is the reply.
     fn list_merged(&mut self, other: &Listing, reply: &Reply) -> Result<(), AllocError>
-        ensures imports { OnOk result (self.new.listing.imports.items ≡ merged_imports reply.now other.now.imports.items self.old.listing.imports.items) }
-        ensures includes { OnOk result (self.new.listing.includes.items ≡ merged_includes reply.now other.now.includes.items self.old.listing.includes.items) }
+        ensures imports { OnOk result (self.new.listing.imports.items
+            ≡ merged_imports reply.now other.now.imports.items self.old.listing.imports.items) }
+        ensures includes { OnOk result (self.new.listing.includes.items
+            ≡ merged_includes reply.now other.now.includes.items
+            self.old.listing.includes.items) }
         ensures graph { self.new.resolve ≡ self.old.resolve }
     {
         match reply {

@@ -75,7 +75,8 @@ impl Listing {
 
     /// What lines list for a world.
     pub fn imports_of(&self, alloc: Global, world: WorldId) -> Result<Vec<InterfaceId>, AllocError>
-        ensures { IfOk result (λ interfaces. interfaces.items ≡ imports_of world self.now.imports.items) }
+        ensures { IfOk result
+            (λ interfaces. interfaces.items ≡ imports_of world self.now.imports.items) }
     {
         let mut interfaces = Vec::new(alloc);
         for import in &self.imports {
@@ -88,7 +89,8 @@ impl Listing {
 
     /// Adds an interface to what is listed for a world.
     pub fn add(&mut self, world: WorldId, interface: InterfaceId) -> Result<(), AllocError>
-        ensures listed { OnOk result (self.new.imports.items ≡ with_import self.old.imports.items world interface) }
+        ensures listed { OnOk result
+            (self.new.imports.items ≡ with_import self.old.imports.items world interface) }
         ensures included { self.new.includes.items ≡ self.old.includes.items }
     {
         if !self.has(world, interface) {
@@ -99,7 +101,8 @@ impl Listing {
 
     /// Adds these interfaces to what is listed for a world.
     pub fn add_all(&mut self, world: WorldId, interfaces: &[InterfaceId]) -> Result<(), AllocError>
-        ensures listed { OnOk result (self.new.imports.items ≡ with_imports self.old.imports.items world interfaces.now) }
+        ensures listed { OnOk result
+            (self.new.imports.items ≡ with_imports self.old.imports.items world interfaces.now) }
         ensures included { self.new.includes.items ≡ self.old.includes.items }
     {
         for interface in interfaces {
@@ -130,7 +133,8 @@ impl Listing {
 
     /// Adds a world to those that a world includes.
     pub fn add_include(&mut self, world: WorldId, included: WorldId) -> Result<(), AllocError>
-        ensures included { OnOk result (self.new.includes.items ≡ with_include self.old.includes.items world included) }
+        ensures included { OnOk result
+            (self.new.includes.items ≡ with_include self.old.includes.items world included) }
         ensures listed { self.new.imports.items ≡ self.old.imports.items }
     {
         if !self.includes(world, included) {
@@ -141,7 +145,8 @@ impl Listing {
 
     /// Adds these worlds to those that a world includes.
     pub fn add_includes(&mut self, world: WorldId, included: &[WorldId]) -> Result<(), AllocError>
-        ensures included { OnOk result (self.new.includes.items ≡ with_includes self.old.includes.items world included.now) }
+        ensures included { OnOk result
+            (self.new.includes.items ≡ with_includes self.old.includes.items world included.now) }
         ensures listed { self.new.imports.items ≡ self.old.imports.items }
     {
         for other in included {
@@ -157,7 +162,8 @@ impl Listing {
         world: WorldId,
         interfaces: &[InterfaceId],
     ) -> Result<(), AllocError>
-        ensures listed { OnOk result (self.new.imports.items ≡ with_imports (others_of world self.old.imports.items) world interfaces.now) }
+        ensures listed { OnOk result (self.new.imports.items
+            ≡ with_imports (others_of world self.old.imports.items) world interfaces.now) }
         ensures included { self.new.includes.items ≡ self.old.includes.items }
     {
         let mut imports = Vec::new(alloc);
@@ -172,8 +178,13 @@ impl Listing {
 
     /// Adds what is listed in a graph that was merged, whose things are now where the remap says.
     pub fn merge(&mut self, other: &Listing, remap: &Remap) -> Result<(), AllocError>
-        ensures imports { OnOk result (self.new.imports.items ≡ with_all_imports self.old.imports.items (filter_map (moved_import remap.now.worlds remap.now.interfaces) other.now.imports.items)) }
-        ensures includes { OnOk result (self.new.includes.items ≡ with_all_includes self.old.includes.items (filter_map (moved_include remap.now.worlds) other.now.includes.items)) }
+        ensures imports { OnOk result (self.new.imports.items
+            ≡ with_all_imports self.old.imports.items
+            (filter_map (moved_import remap.now.worlds remap.now.interfaces)
+            other.now.imports.items)) }
+        ensures includes { OnOk result (self.new.includes.items
+            ≡ with_all_includes self.old.includes.items
+            (filter_map (moved_include remap.now.worlds) other.now.includes.items)) }
     {
         for import in &other.imports {
             if let Some(Import { world, interface }) = import.moved(remap) {

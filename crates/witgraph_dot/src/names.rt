@@ -75,7 +75,8 @@ pub fn world_of(resolve: &Resolve, package: &UnresolvedPackage, id: WorldId) -> 
 
 /// The name of the package of an interface of the graph, and its own, where it has both.
 pub fn full_name(resolve: &Resolve, id: InterfaceId) -> Option<(&PackageName, &Text)>
-    ensures { option_map (λ names. (names.0.now, names.1.now)) result ≡ full_name resolve.now.graph id }
+    ensures { option_map (λ names. (names.0.now, names.1.now)) result
+        ≡ full_name resolve.now.graph id }
 {
     let interface = resolve.interfaces().get(id.index())?;
     let package = interface.package?;

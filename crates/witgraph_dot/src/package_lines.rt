@@ -17,8 +17,10 @@ pub fn list_groups(
     groups: &[UnresolvedPackageGroup],
     listing: &mut Listing,
 ) -> Result<(), AllocError>
-    ensures imports { OnOk result (listing.new.imports.items ≡ pushed_imports resolve.now.graph groups.now listing.old.imports.items) }
-    ensures includes { OnOk result (listing.new.includes.items ≡ pushed_includes resolve.now.graph groups.now listing.old.includes.items) }
+    ensures imports { OnOk result (listing.new.imports.items
+        ≡ pushed_imports resolve.now.graph groups.now listing.old.imports.items) }
+    ensures includes { OnOk result (listing.new.includes.items
+        ≡ pushed_includes resolve.now.graph groups.now listing.old.includes.items) }
 {
     let mut includes = Vec::new(alloc);
     for group in groups {
@@ -38,8 +40,10 @@ fn list_included(
     includes: &[Include],
     listing: &mut Listing,
 ) -> Result<(), AllocError>
-    ensures imports { OnOk result (listing.new.imports.items ≡ fold with_brought_imports listing.old.imports.items includes.now) }
-    ensures includes { OnOk result (listing.new.includes.items ≡ fold with_brought_includes listing.old.includes.items includes.now) }
+    ensures imports { OnOk result (listing.new.imports.items
+        ≡ fold with_brought_imports listing.old.imports.items includes.now) }
+    ensures includes { OnOk result (listing.new.includes.items
+        ≡ fold with_brought_includes listing.old.includes.items includes.now) }
 {
     for include in includes {
         let imports = listing.imports_of(alloc, include.included)?;
@@ -57,9 +61,14 @@ fn list_packages(
     listing: &mut Listing,
     includes: &mut Vec<Include>,
 ) -> Result<(), AllocError>
-    ensures imports { OnOk result (listing.new.imports.items ≡ with_all_imports listing.old.imports.items (flat_map (package_imports resolve.now.graph) packages.now)) }
-    ensures includes { OnOk result (listing.new.includes.items ≡ with_all_includes listing.old.includes.items (flat_map (package_includes resolve.now.graph) packages.now)) }
-    ensures gathered { OnOk result (includes.new.items ≡ includes.old.items ++ flat_map (package_includes resolve.now.graph) packages.now) }
+    ensures imports { OnOk result (listing.new.imports.items
+        ≡ with_all_imports listing.old.imports.items
+        (flat_map (package_imports resolve.now.graph) packages.now)) }
+    ensures includes { OnOk result (listing.new.includes.items
+        ≡ with_all_includes listing.old.includes.items
+        (flat_map (package_includes resolve.now.graph) packages.now)) }
+    ensures gathered { OnOk result (includes.new.items
+        ≡ includes.old.items ++ flat_map (package_includes resolve.now.graph) packages.now) }
 {
     for package in packages {
         list_package(resolve, package, listing, includes)?;
@@ -74,9 +83,14 @@ fn list_package(
     listing: &mut Listing,
     includes: &mut Vec<Include>,
 ) -> Result<(), AllocError>
-    ensures imports { OnOk result (listing.new.imports.items ≡ with_all_imports listing.old.imports.items (package_imports resolve.now.graph «package».now)) }
-    ensures includes { OnOk result (listing.new.includes.items ≡ with_all_includes listing.old.includes.items (package_includes resolve.now.graph «package».now)) }
-    ensures gathered { OnOk result (includes.new.items ≡ includes.old.items ++ package_includes resolve.now.graph «package».now) }
+    ensures imports { OnOk result (listing.new.imports.items
+        ≡ with_all_imports listing.old.imports.items
+        (package_imports resolve.now.graph «package».now)) }
+    ensures includes { OnOk result (listing.new.includes.items
+        ≡ with_all_includes listing.old.includes.items
+        (package_includes resolve.now.graph «package».now)) }
+    ensures gathered { OnOk result (includes.new.items
+        ≡ includes.old.items ++ package_includes resolve.now.graph «package».now) }
 {
     for (index, world) in package.worlds.as_slice().iter().enumerate() {
         list_world(resolve, package, world, index, listing, includes)?;
@@ -93,9 +107,14 @@ fn list_world(
     listing: &mut Listing,
     includes: &mut Vec<Include>,
 ) -> Result<(), AllocError>
-    ensures imports { OnOk result (listing.new.imports.items ≡ with_all_imports listing.old.imports.items (world_imports resolve.now.graph «package».now index world.now)) }
-    ensures includes { OnOk result (listing.new.includes.items ≡ with_all_includes listing.old.includes.items (world_includes resolve.now.graph «package».now index world.now)) }
-    ensures gathered { OnOk result (includes.new.items ≡ includes.old.items ++ world_includes resolve.now.graph «package».now index world.now) }
+    ensures imports { OnOk result (listing.new.imports.items
+        ≡ with_all_imports listing.old.imports.items
+        (world_imports resolve.now.graph «package».now index world.now)) }
+    ensures includes { OnOk result (listing.new.includes.items
+        ≡ with_all_includes listing.old.includes.items
+        (world_includes resolve.now.graph «package».now index world.now)) }
+    ensures gathered { OnOk result (includes.new.items
+        ≡ includes.old.items ++ world_includes resolve.now.graph «package».now index world.now) }
 {
     let Some(id) = world_of(resolve, package, WorldId::from_index(index)) else {
         return Ok(());
@@ -112,7 +131,9 @@ fn list_imports(
     id: WorldId,
     listing: &mut Listing,
 ) -> Result<(), AllocError>
-    ensures imports { OnOk result (listing.new.imports.items ≡ with_imports listing.old.imports.items id (line_imports resolve.now.graph «package».now world.now)) }
+    ensures imports { OnOk result (listing.new.imports.items
+        ≡ with_imports listing.old.imports.items id
+        (line_imports resolve.now.graph «package».now world.now)) }
     ensures includes { listing.new.includes.items ≡ listing.old.includes.items }
 {
     for (key, _) in world.imports.iter() {
@@ -135,8 +156,12 @@ fn list_includes(
     includes: &mut Vec<Include>,
 ) -> Result<(), AllocError>
     ensures imports { listing.new.imports.items ≡ listing.old.imports.items }
-    ensures includes { OnOk result (listing.new.includes.items ≡ with_all_includes listing.old.includes.items (includes_for (line_includes resolve.now.graph «package».now world.now) id)) }
-    ensures gathered { OnOk result (includes.new.items ≡ includes.old.items ++ includes_for (line_includes resolve.now.graph «package».now world.now) id) }
+    ensures includes { OnOk result (listing.new.includes.items
+        ≡ with_all_includes listing.old.includes.items
+        (includes_for (line_includes resolve.now.graph «package».now world.now) id)) }
+    ensures gathered { OnOk result (includes.new.items
+        ≡ includes.old.items
+        ++ includes_for (line_includes resolve.now.graph «package».now world.now) id) }
 {
     for include in world.includes.as_slice() {
         if let Some(included) = world_of(resolve, package, include.id) {

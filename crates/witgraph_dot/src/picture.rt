@@ -49,7 +49,9 @@ pub fn draw(
     note: &str,
     choice: &Choice,
 ) -> Result<String, AllocError>
-    ensures { IfOk result (λ text. string_bytes text ≡ picture_text (chosen_view choice.now (listed_state graph.now)) note.now) }
+    ensures { IfOk result (λ text.
+        string_bytes text
+        ≡ picture_text (chosen_view choice.now (listed_state graph.now)) note.now) }
 {
     let scene = Scene::of(alloc, &graph.resolve, &graph.listing, choice)?;
     let mut text = String::from_str(alloc, HEAD)?;
@@ -63,7 +65,9 @@ pub fn draw(
 
 /// Writes the frames of the packages.
 fn write_frames(scene: &Scene<'_>, text: &mut String) -> Result<(), AllocError>
-    ensures { OnOk result (string_bytes text.new ≡ string_bytes text.old ++ frame_texts (view_of scene.now) 0 scene.now.resolve.now.graph.packages) }
+    ensures { OnOk result (string_bytes text.new
+        ≡ string_bytes text.old
+        ++ frame_texts (view_of scene.now) 0 scene.now.resolve.now.graph.packages) }
 {
     for (index, package) in scene.resolve.packages().iter().enumerate() {
         write_frame(scene, package, PackageId::from_index(index), text)?;

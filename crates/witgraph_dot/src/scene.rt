@@ -41,9 +41,14 @@ impl<'a> Scene<'a> {
     ) -> Result<Scene<'a>, AllocError>
         ensures graph { IfOk result (λ scene. scene.resolve.now ≡ resolve.now) }
         ensures listing { IfOk result (λ scene. scene.listing.now ≡ listing.now) }
-        ensures interfaces { IfOk result (λ scene. scene.interfaces.items ≡ shown_interfaces choice.now resolve.now.graph) }
-        ensures worlds { IfOk result (λ scene. scene.worlds.items ≡ shown_worlds choice.now resolve.now.graph) }
-        ensures frames { IfOk result (λ scene. scene.frames ≡ frames_of (shown_interfaces choice.now resolve.now.graph) resolve.now.graph.packages) }
+        ensures interfaces { IfOk result
+            (λ scene. scene.interfaces.items ≡ shown_interfaces choice.now resolve.now.graph) }
+        ensures worlds { IfOk result
+            (λ scene. scene.worlds.items ≡ shown_worlds choice.now resolve.now.graph) }
+        ensures frames { IfOk result (λ scene.
+            scene.frames
+            ≡ frames_of (shown_interfaces choice.now resolve.now.graph)
+            resolve.now.graph.packages) }
         ensures only_added { IfOk result (λ scene. scene.only_added ≡ choice.now.only_added) }
     {
         let interfaces = shown_interfaces(alloc, resolve, choice)?;
@@ -127,7 +132,8 @@ impl<'a> Scene<'a> {
 
     /// Of that what included worlds import, shown or not.
     fn brought_imports(&self, alloc: Global, world: WorldId) -> Result<Vec<InterfaceId>, AllocError>
-        ensures { IfOk result (λ brought. brought.items ≡ brought_imports (view_of self.now) world) }
+        ensures { IfOk result
+            (λ brought. brought.items ≡ brought_imports (view_of self.now) world) }
     {
         let included = self.listing.includes_of(alloc, world)?;
         let all = included_imports(alloc, self.resolve, &included)?;
@@ -137,7 +143,8 @@ impl<'a> Scene<'a> {
 
     /// What stands in whole frames of what included worlds import.
     fn bundled_imports(&self, alloc: Global, world: WorldId) -> Result<Vec<InterfaceId>, AllocError>
-        ensures { IfOk result (λ bundled. bundled.items ≡ bundled_imports (view_of self.now) world) }
+        ensures { IfOk result
+            (λ bundled. bundled.items ≡ bundled_imports (view_of self.now) world) }
     {
         let frames = self.import_frames(alloc, world)?;
         let brought = self.brought_imports(alloc, world)?;
@@ -160,7 +167,8 @@ impl<'a> Scene<'a> {
         world: WorldId,
         arrows: &mut Vec<Arrow>,
     ) -> Result<(), AllocError>
-        ensures { OnOk result (arrows.new.items ≡ arrows.old.items ++ added_arrows (view_of self.now) world) }
+        ensures { OnOk result
+            (arrows.new.items ≡ arrows.old.items ++ added_arrows (view_of self.now) world) }
     {
         let frames = self.import_frames(alloc, world)?;
         let imports = self.shown_imports(alloc, world)?;
@@ -176,7 +184,8 @@ impl<'a> Scene<'a> {
         world: WorldId,
         arrows: &mut Vec<Arrow>,
     ) -> Result<(), AllocError>
-        ensures { OnOk result (arrows.new.items ≡ arrows.old.items ++ included_arrows (included_worlds (view_of self.now) world)) }
+        ensures { OnOk result (arrows.new.items
+            ≡ arrows.old.items ++ included_arrows (included_worlds (view_of self.now) world)) }
     {
         let included = self.included_worlds(alloc, world)?;
         add_worlds(&included, arrows)
@@ -189,7 +198,10 @@ impl<'a> Scene<'a> {
         world: WorldId,
         arrows: &mut Vec<Arrow>,
     ) -> Result<(), AllocError>
-        ensures { OnOk result (arrows.new.items ≡ arrows.old.items ++ frame_arrows (import_frames (view_of self.now) world) Listed (brought_imports (view_of self.now) world)) }
+        ensures { OnOk result (arrows.new.items
+            ≡ arrows.old.items
+            ++ frame_arrows (import_frames (view_of self.now) world) Listed
+            (brought_imports (view_of self.now) world)) }
     {
         let frames = self.import_frames(alloc, world)?;
         let brought = self.brought_imports(alloc, world)?;
@@ -203,7 +215,8 @@ impl<'a> Scene<'a> {
         world: WorldId,
         arrows: &mut Vec<Arrow>,
     ) -> Result<(), AllocError>
-        ensures { OnOk result (arrows.new.items ≡ arrows.old.items ++ listed_arrows (view_of self.now) world) }
+        ensures { OnOk result
+            (arrows.new.items ≡ arrows.old.items ++ listed_arrows (view_of self.now) world) }
     {
         let frames = self.import_frames(alloc, world)?;
         let single = self.single_imports(alloc, world)?;
@@ -219,7 +232,8 @@ impl<'a> Scene<'a> {
         world: WorldId,
         arrows: &mut Vec<Arrow>,
     ) -> Result<(), AllocError>
-        ensures { OnOk result (arrows.new.items ≡ arrows.old.items ++ unlisted_arrows (view_of self.now) world) }
+        ensures { OnOk result
+            (arrows.new.items ≡ arrows.old.items ++ unlisted_arrows (view_of self.now) world) }
     {
         let frames = self.import_frames(alloc, world)?;
         let single = self.single_imports(alloc, world)?;
@@ -241,7 +255,8 @@ impl<'a> Scene<'a> {
         world: WorldId,
         arrows: &mut Vec<Arrow>,
     ) -> Result<(), AllocError>
-        ensures { OnOk result (arrows.new.items ≡ arrows.old.items ++ import_arrows (view_of self.now) world) }
+        ensures { OnOk result
+            (arrows.new.items ≡ arrows.old.items ++ import_arrows (view_of self.now) world) }
     {
         self.add_included(alloc, world, arrows)?;
         self.add_brought(alloc, world, arrows)?;
@@ -256,7 +271,8 @@ impl<'a> Scene<'a> {
         world: WorldId,
         arrows: &mut Vec<Arrow>,
     ) -> Result<(), AllocError>
-        ensures { OnOk result (arrows.new.items ≡ arrows.old.items ++ export_arrows (view_of self.now) world) }
+        ensures { OnOk result
+            (arrows.new.items ≡ arrows.old.items ++ export_arrows (view_of self.now) world) }
     {
         let exports = own_exports(alloc, self.resolve, world)?;
         let exports = within(alloc, &exports, &self.interfaces)?;
@@ -272,7 +288,8 @@ impl<'a> Scene<'a> {
     /// The worlds to which one arrow leads in place of arrows to their imports: those that are included, shown, and that
     /// no other of them includes.
     fn included_worlds(&self, alloc: Global, world: WorldId) -> Result<Vec<WorldId>, AllocError>
-        ensures { IfOk result (λ included. included.items ≡ included_worlds (view_of self.now) world) }
+        ensures { IfOk result
+            (λ included. included.items ≡ included_worlds (view_of self.now) world) }
     {
         let all = self.listing.includes_of(alloc, world)?;
         let mut included = Vec::new(alloc);
@@ -333,7 +350,8 @@ fn included_imports(
     resolve: &Resolve,
     worlds: &[WorldId],
 ) -> Result<Vec<InterfaceId>, AllocError>
-    ensures { IfOk result (λ imports. imports.items ≡ included_imports resolve.now.graph.worlds worlds.now) }
+    ensures { IfOk result
+        (λ imports. imports.items ≡ included_imports resolve.now.graph.worlds worlds.now) }
 {
     let mut imports = Vec::new(alloc);
     for world in worlds {

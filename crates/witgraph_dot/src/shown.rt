@@ -72,7 +72,9 @@ fn entries_of_picked(
     resolve: &Resolve,
     picked: &[Pick],
 ) -> Result<Vec<InterfaceId>, AllocError>
-    ensures { IfOk result (λ entries. entries.items ≡ entries_of_picked resolve.now.graph.packages picked.now resolve.now.graph.worlds) }
+    ensures { IfOk result (λ entries.
+        entries.items
+        ≡ entries_of_picked resolve.now.graph.packages picked.now resolve.now.graph.worlds) }
 {
     let mut entries = Vec::new(alloc);
     for world in resolve.worlds() {

@@ -24,8 +24,10 @@ impl Stage {
     /// only refusal is want of memory, in a command or outside.
     pub fn after(alloc: Global, commands: Items<ReadyCommand>) -> ResolveResult<Stage>
         requires { CanAllBeAsked commands false }
-        ensures graphs { IfOk result (λ stage. FollowsAll commands (graphs stage.active stage.waiting)) }
-        ensures made { IfOk result (λ stage. ScriptMakes commands (listed_graphs stage.active stage.waiting)) }
+        ensures graphs { IfOk result
+            (λ stage. FollowsAll commands (graphs stage.active stage.waiting)) }
+        ensures made { IfOk result
+            (λ stage. ScriptMakes commands (listed_graphs stage.active stage.waiting)) }
     {
         let mut stage = Stage {
             active: ListedGraph::new(alloc),
@@ -51,7 +53,9 @@ impl Stage {
     /// chosen.
     fn carry_out(&mut self, alloc: Global, command: ReadyCommand) -> ResolveResult<bool>
         requires { CanBeAsked command (is_some self.old.waiting) }
-        ensures { IfOk result (λ done. CommandMakes (listed_graphs self.old.active self.old.waiting) command done (listed_graphs self.new.active self.new.waiting)) }
+        ensures { IfOk result (λ done.
+            CommandMakes (listed_graphs self.old.active self.old.waiting) command done
+            (listed_graphs self.new.active self.new.waiting)) }
     {
         match command.into_request() {
             Request::Change(change) => self.active.change(alloc, change),
@@ -68,7 +72,8 @@ impl Stage {
     /// `other`: commands work on an empty graph, and the first one waits.
     fn begin_other(&mut self, alloc: Global)
         requires { self.old.waiting ≡ None }
-        ensures { listed_graphs self.new.active self.new.waiting ≡ record { first = listed_state self.old.active; second = Some new_listed_state } }
+        ensures { listed_graphs self.new.active self.new.waiting
+            ≡ record { first = listed_state self.old.active; second = Some new_listed_state } }
     {
         let first = mem::replace(&mut self.active, ListedGraph::new(alloc));
         self.waiting = Some(first);
@@ -77,7 +82,9 @@ impl Stage {
     /// `merge`: the second graph goes into the first, and is no longer there, whether it is refused or not.
     fn merge(&mut self, alloc: Global) -> ResolveResult<bool>
         requires { self.old.waiting ≢ None }
-        ensures { IfOk result (λ done. CommandMakes (listed_graphs self.old.active self.old.waiting) request.Merge done (listed_graphs self.new.active self.new.waiting)) }
+        ensures { IfOk result (λ done.
+            CommandMakes (listed_graphs self.old.active self.old.waiting) request.Merge done
+            (listed_graphs self.new.active self.new.waiting)) }
     {
         match self.waiting.take() {
             Some(first) => {

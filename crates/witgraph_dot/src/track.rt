@@ -41,7 +41,8 @@ fn are_versions_of_one(
     one: InterfaceId,
     other: InterfaceId,
 ) -> Result<bool, AllocError>
-    ensures { IfOk result (λ are. are ≡ are_versions_of_one resolve.now.track_rule resolve.now.graph one other) }
+    ensures { IfOk result
+        (λ are. are ≡ are_versions_of_one resolve.now.track_rule resolve.now.graph one other) }
 {
     match (full_name(resolve, one), full_name(resolve, other)) {
         (Some((one, name)), Some((other, other_name))) => {
@@ -66,7 +67,8 @@ pub fn is_version_of_any(
     some: &[InterfaceId],
     id: InterfaceId,
 ) -> Result<bool, AllocError>
-    ensures { IfOk result (λ is. is ≡ is_version_of_any resolve.now.track_rule resolve.now.graph some.now id) }
+    ensures { IfOk result
+        (λ is. is ≡ is_version_of_any resolve.now.track_rule resolve.now.graph some.now id) }
 {
     for other in some {
         if are_versions_of_one(alloc, resolve, id, *other)? {

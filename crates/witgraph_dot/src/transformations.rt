@@ -25,8 +25,11 @@ impl ListedGraph {
         world: Text,
         out: Option<Text>,
     ) -> ResolveResult<bool>
-        ensures carried { IfOk result (λ done. Carries self.old.resolve (does.Importize «package» world out) done self.new.resolve) }
-        ensures listed { IfOk result (λ done. IsListedAfter self.old (Importize «package» world out) done self.new) }
+        ensures carried { IfOk result (λ done.
+            Carries self.old.resolve (does.Importize «package» world out) done
+            self.new.resolve) }
+        ensures listed { IfOk result
+            (λ done. IsListedAfter self.old (Importize «package» world out) done self.new) }
         ensures included { self.new.listing.includes.items ≡ self.old.listing.includes.items }
     {
         let id = self.resolve.world_named(&package, world.as_str());
@@ -52,8 +55,11 @@ impl ListedGraph {
         out: Option<Text>,
         keys: Option<Items<Text>>,
     ) -> ResolveResult<bool>
-        ensures carried { IfOk result (λ done. Carries self.old.resolve (does.Exportize «package» world out keys) done self.new.resolve) }
-        ensures listed { IfOk result (λ done. IsListedAfter self.old (Exportize «package» world out keys) done self.new) }
+        ensures carried { IfOk result (λ done.
+            Carries self.old.resolve (does.Exportize «package» world out keys) done
+            self.new.resolve) }
+        ensures listed { IfOk result
+            (λ done. IsListedAfter self.old (Exportize «package» world out keys) done self.new) }
         ensures included { self.new.listing.includes.items ≡ self.old.listing.includes.items }
     {
         let id = self.resolve.world_named(&package, world.as_str());
@@ -77,8 +83,10 @@ impl ListedGraph {
         package: PackageName,
         world: Text,
     ) -> ResolveResult<bool>
-        ensures carried { IfOk result (λ done. Carries self.old.resolve (does.Semver «package» world) done self.new.resolve) }
-        ensures listed { IfOk result (λ done. IsListedAfter self.old (Semver «package» world) done self.new) }
+        ensures carried { IfOk result (λ done.
+            Carries self.old.resolve (does.Semver «package» world) done self.new.resolve) }
+        ensures listed { IfOk result
+            (λ done. IsListedAfter self.old (Semver «package» world) done self.new) }
         ensures included { self.new.listing.includes.items ≡ self.old.listing.includes.items }
     {
         let id = self.resolve.world_named(&package, world.as_str());
@@ -97,7 +105,8 @@ fn list_exports(
     world: Option<WorldId>,
     exports: &[InterfaceId],
 ) -> Result<(), AllocError>
-    ensures listed { OnOk result (listing.new.imports.items ≡ importized_imports world exports.now listing.old.imports.items) }
+    ensures listed { OnOk result (listing.new.imports.items
+        ≡ importized_imports world exports.now listing.old.imports.items) }
     ensures included { listing.new.includes.items ≡ listing.old.includes.items }
 {
     match world {
@@ -113,7 +122,8 @@ fn list_unexported(
     listing: &mut Listing,
     world: Option<WorldId>,
 ) -> Result<(), AllocError>
-    ensures listed { OnOk result (listing.new.imports.items ≡ exportized_imports world resolve.now.graph listing.old.imports.items) }
+    ensures listed { OnOk result (listing.new.imports.items
+        ≡ exportized_imports world resolve.now.graph listing.old.imports.items) }
     ensures included { listing.new.includes.items ≡ listing.old.includes.items }
 {
     let Some(world) = world else {
@@ -132,7 +142,9 @@ fn list_newest(
     listing: &mut Listing,
     world: Option<WorldId>,
 ) -> Result<(), AllocError>
-    ensures listed { OnOk result (listing.new.imports.items ≡ semver_merged_imports world resolve.now.track_rule resolve.now.graph listing.old.imports.items) }
+    ensures listed { OnOk result (listing.new.imports.items
+        ≡ semver_merged_imports world resolve.now.track_rule resolve.now.graph
+        listing.old.imports.items) }
     ensures included { listing.new.includes.items ≡ listing.old.includes.items }
 {
     let Some(world) = world else {
@@ -150,7 +162,9 @@ fn add_versions(
     world: WorldId,
     interfaces: &[InterfaceId],
 ) -> Result<(), AllocError>
-    ensures listed { OnOk result (listing.new.imports.items ≡ with_versions resolve.now.track_rule resolve.now.graph listing.old.imports.items world interfaces.now) }
+    ensures listed { OnOk result (listing.new.imports.items
+        ≡ with_versions resolve.now.track_rule resolve.now.graph listing.old.imports.items world
+        interfaces.now) }
     ensures included { listing.new.includes.items ≡ listing.old.includes.items }
 {
     for id in interfaces {

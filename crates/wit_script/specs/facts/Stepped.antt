@@ -27,7 +27,8 @@ else-of false o y h = h
 -- a line leaves the commands as they are, and whether an `other` waits, or it adds a command after those before it
 pub data Makes (r next : Reading) : Type 0 where
   stays : next.commands ≡ r.commands → next.other ≡ r.other → Makes r next
-  adds : (command : Request) → next.commands ≡ r.commands ++ command ∷ [] → other_after command r.other ≡ Some next.other → Makes r next
+  adds : (command : Request) → next.commands ≡ r.commands ++ command ∷ []
+      → other_after command r.other ≡ Some next.other → Makes r next
 
 groups-make : (r : Reading) (groups : List UnresolvedPackageGroup) (next : Reading) → with_groups r groups ≡ Some next → Makes r next
 groups-make r [] next made = cc

@@ -14,4 +14,5 @@ pub record AreBuilt (r : Reading) : Type 0 where
 
 -- groups lack nothing of their shape but what lines may break
 abbrev pub AreShapedIfPushable : List UnresolvedPackageGroup → Type 0
-AreShapedIfPushable groups = Each (λ (g : UnresolvedPackageGroup). IsPushable g.main → IsGroupShaped g) groups
+AreShapedIfPushable groups =
+    Each (λ (g : UnresolvedPackageGroup). IsPushable g.main → IsGroupShaped g) groups

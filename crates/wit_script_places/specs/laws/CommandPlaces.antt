@@ -18,11 +18,14 @@ said_of (request.Change (PushGroups main deps)) = says.Push
 said_of asked = says.Request asked
 
 -- at a place among lines stands one that asks the command
-pub record StandsAt (lines : List (List ℕ)) (place : CommandPlace) (command : Request) : Type 0 where
-  pub line : List ℕ
-  pub there : slice_get lines place.line ≡ Some line
-  pub said : statement_of line ≡ Some (Some (said_of command))
+pub record StandsAt (lines : List (List ℕ)) (place : CommandPlace) (command : Request) : Type 0
+  where
+    pub line : List ℕ
+    pub there : slice_get lines place.line ≡ Some line
+    pub said : statement_of line ≡ Some (Some (said_of command))
 
 -- of a script that is understood there are as many places as commands, and at each stands the line of its command
 abbrev pub CommandsHavePlaces : Type 0
-CommandsHavePlaces = (text : List ℕ) (commands : List Request) → IsUnderstood text commands → AllZip (StandsAt (lines_of text)) (script_lines_of (lines_of text)).commands commands
+CommandsHavePlaces =
+    (text : List ℕ) (commands : List Request) → IsUnderstood text commands
+    → AllZip (StandsAt (lines_of text)) (script_lines_of (lines_of text)).commands commands
