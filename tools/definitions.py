@@ -21,8 +21,8 @@ from dataclasses import dataclass, field
 from offered import Offer, is_of_laws
 
 CRATES = pathlib.Path(__file__).resolve().parent.parent / "crates"
-# not a value `record x { field = ..` at the head of a line
-BEGIN = re.compile(r"( *)(?:pub )?(?:abbrev|unfoldable|record|data)(?: pub)? ([^\s{(.]+)(?![.\w])(?! \{(?:$| \w+ =))")
+# not a value `record x { field = ..` at the head of a line, nor `record x` alone in one
+BEGIN = re.compile(r"( *)(?:pub )?(?:abbrev|unfoldable|record|data)(?: pub)? ([^\s{(.]+)(?![.\w]|$)(?! \{(?:$| \w+ =))")
 USE = re.compile(r"^(pub )?use (Rattle(?:\.[\w«»]+)+)(?:\.\{([^}]*)\}| as (\S+))")
 WORD = re.compile(r"(?<![\w.'«»-])[A-Za-z_«◌][\w'«»◌-]*(?:\.[A-Za-z_«][\w'«»-]*)*|[^\s\w(){},;\"']+")
 BOUND = re.compile(r"λ ([^.]*?)\.|\(((?:\w+ )+): ")
