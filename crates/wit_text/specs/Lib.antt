@@ -1,0 +1,6 @@
+pub mod Character
+pub mod Fault
+pub mod Front
+pub mod Keyword
+pub mod Tokens
+pub mod examples
