@@ -1,7 +1,7 @@
 use Rattle.std.proofs.Common.{◌≡◌, ◌∷◌, List, is_some, rules, subst}
 use Rattle.std.specs.Vec.Iter.{into_iter_items}
 use Rattle.wit_script.specs.Ready.{CanAllBeAsked}
-use Rattle.wit_script.specs.declared.ready.ScriptCommand.{ScriptCommand}
+use Rattle.wit_script_lines.specs.declared.request.Request.{Request}
 use Rattle.wit_script.specs.facts.Waiting.{first-comes}
 use Rattle.witgraph_dot.specs.Drawn.{graphs_of, listed_graphs, new_listed_state, only_listed}
 use Rattle.witgraph_dot.proofs.Staged.{AllMake-more, FollowsAll-more, command-answers, others-wait}
@@ -11,7 +11,7 @@ pub carry_out-requires : goal.carry_out-requires
 carry_out-requires c =
     let left : into_iter_items c.loop-command.command-iterator ≡ c.in-Some.command ∷ into_iter_items c.next.new.self = search rules in
     first-comes c.in-Some.command (into_iter_items c.next.new.self) (is_some c.loop-command.stage.waiting)
-    (subst (λ (l : List ScriptCommand). CanAllBeAsked l (is_some c.loop-command.stage.waiting)) left c.loop-command.invariant.come)
+    (subst (λ (l : List Request). CanAllBeAsked l (is_some c.loop-command.stage.waiting)) left c.loop-command.invariant.come)
 
 pub loop-command-preserved : goal.loop-command-preserved
 loop-command-preserved c =
@@ -25,5 +25,5 @@ loop-command-preserved c =
       come =
           others-wait c.loop-command.stage.active c.carry_out.new.self.active c.loop-command.stage.waiting c.carry_out.new.self.waiting c.in-Some.command
           (into_iter_items c.next.new.self) follows
-          (subst (λ (l : List ScriptCommand). CanAllBeAsked l (is_some c.loop-command.stage.waiting)) left c.loop-command.invariant.come);
+          (subst (λ (l : List Request). CanAllBeAsked l (is_some c.loop-command.stage.waiting)) left c.loop-command.invariant.come);
     }
