@@ -66,7 +66,7 @@ PLANTED = {
     "a case of DIFFERENCES": ("docs/DIFFERENCES.md", "(`groups-package-cycle`)", "(`groups-package-circle`)"),
     "a definition at another file": ("docs/DEFINITIONS.md", "`crates/wit_data/specs/Foreign.antt`: `AreFirst`", "`crates/wit_data/specs/Foreign.antt`: `IsShaped`"),
     "a file that no step has": ("docs/DEFINITIONS.md", "`crates/wit_elaboration/specs/Imported.antt`", "`crates/wit_elaboration/specs/Sound.antt`"),
-    "a lemma of PROOFS": ("docs/PROOFS.md", "(`proofs/JoinedRows`)", "(`proofs/JoinedWords`)"),
+    "a lemma of PROOFS": ("docs/PROOFS.md", "(`proofs/PassMarks`)", "(`proofs/PassMarksOf`)"),
     "a definition in DECISIONS": ("docs/DECISIONS.md", "`maps_with_owns`)", "`maps_and_owns`)"),
     "a crate of ARCHITECTURE": ("docs/ARCHITECTURE.md", "- wit_labels: renamed", "- wit_label: renamed"),
     "a file of examples/wasi": ("examples/wasi/README.md", "examples/wasi/walk.sh tool", "examples/wasi/walk_all.sh tool"),
@@ -81,7 +81,7 @@ PLANTED = {
     "a lemma at another file": ("docs/PROOFS.md", "`IsFine` of `wit_merge/Behind`", "`IsFine` of `wit_merge/MergeSteps`"),
     "a version of the toolchain": ("README.md", "logic dac8208d650f15bf", "logic dac8208d650f15be"),
     "an answer of a walk-through": ("examples/wasi/README.md", "      export wasi:cli/run@0.2.0", "      export wasi:cli/ran@0.2.0"),
-    "a name of the bindings in a document of crates": ("docs/GUARANTEES.md", "`way_of` of wit_ways", "`run_by` of wit_ways"),
+    "a name of the bindings in a document of crates": ("docs/GUARANTEES.md", "`way_of` of wit_ways", "`replies_of` of wit_ways"),
 }
 
 
@@ -115,8 +115,8 @@ class Stale(unittest.TestCase):
 
     def test_names_of_tests_and_bindings(self):
         self.assertEqual(1, self.told(names.stale_names, "`elaborate_worlds`"))
-        self.assertEqual(0, self.told(names.stale_names, "`run_by`"))
-        self.assertEqual(1, self.told(names.stale_names, "`run_by`", "docs/WALK.md"))
+        self.assertEqual(0, self.told(names.stale_names, "`replies_of`"))
+        self.assertEqual(1, self.told(names.stale_names, "`replies_of`", "docs/WALK.md"))
 
     def test_crates_and_commands(self):
         self.assertEqual(1, self.told(names.stale_crates, "wit_" + NAME + " and wit_link"))
