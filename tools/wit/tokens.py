@@ -121,7 +121,8 @@ def docs_in(comment):
     if comment.startswith("///"):
         return [comment[3:].removeprefix(" ").rstrip()]
     if comment.startswith("/**") and len(comment) > 4:
-        return [line.strip() for line in comment[3:-2].strip().splitlines()] or [""]
+        # (a line ends as Rust's `lines` has it: not at a lone carriage return)
+        return [line.strip() for line in re.split("\r?\n", comment[3:-2].strip())]
     return []
 
 
