@@ -28,7 +28,7 @@ use Rattle.wit_script_package.specs.declared.mention.Mention.{Mention}
 use Rattle.wit_script_package.specs.declared.mention.MentionKind.{MentionKind}
 use Rattle.wit_script_package.specs.declared.mention.MentionKind.TheVariants as taken
 use Rattle.wit_script_package.proofs.Firsts.{each, each-first, each-kept, filter-none, find-filter, find-firsts, find-kept, found-passes, none-first, find-last, find-same, firsts-apart, firsts-new, firsts-old, map-each, none-filter, place-new, place-old, position-same}
-use Rattle.wit_script_package.proofs.Same.{item-parent, item-through, item-turn, own-item, own-text, parent-through, parent-turn, type-through, type-turn}
+use Rattle.wit_script_package.proofs.Same.{item-parent, item-through, item-turn, own-item, parent-through, parent-turn, type-through, type-turn}
 use Rattle.wit_script_package.proofs.Tables.{Tells, Transforms, item-at, item-changed, lookup-rows, rows-same, value-changed, value-last}
 
 -- one more, kept or not
@@ -388,7 +388,7 @@ module _ (all : List Mention) where
 
         module _ (n : List ℕ) (is : m.kind ≡ taken.Type_ n) where
           uses : uses_type m ≡ true
-          uses = rw is (own-text n)
+          uses = ap (λ (k : MentionKind). is_some (used_type_name k)) is
 
           not_world : is_world m.kind ≡ false
           not_world = ap is_world is
