@@ -61,10 +61,11 @@ impl Sort {
     }
 }
 
-/// Changes an input at some places, with parts of another one.
+/// Changes an input at one place or at some, with parts of another one.
 pub fn changed(random: &mut Random, input: &[u8], other: &[u8]) -> Vec<u8> {
     let mut text = input.to_vec();
-    for _ in 0..=random.below(4) {
+    let more = *random.of(&[0, 0, 1, 3]);
+    for _ in 0..=more {
         let sort = *random.of(&[Sort::Line, Sort::Word, Sort::Value]);
         match random.below(10) {
             0 => change_byte(random, &mut text),
