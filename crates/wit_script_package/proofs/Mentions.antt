@@ -28,7 +28,7 @@ use Rattle.wit_script_package.specs.declared.mention.Mention.{Mention}
 use Rattle.wit_script_package.specs.declared.mention.MentionKind.{MentionKind}
 use Rattle.wit_script_package.specs.declared.mention.MentionKind.TheVariants as taken
 use Rattle.wit_script_package.proofs.Firsts.{each, each-first, each-kept, filter-none, find-filter, find-firsts, find-kept, found-passes, none-first, find-last, find-same, firsts-apart, firsts-new, firsts-old, map-each, none-filter, place-new, place-old, position-same}
-use Rattle.wit_script_package.proofs.Same.{item-parent, item-through, item-turn, own-item, parent-through, parent-turn, type-through, type-turn}
+use Rattle.wit_script_package.proofs.Same.{item-parent, item-through, item-turn, own-item, own-text, parent-through, parent-turn, type-through, type-turn}
 use Rattle.wit_script_package.proofs.Tables.{Tells, Transforms, item-at, item-changed, lookup-rows, rows-same, value-changed, value-last}
 
 -- one more, kept or not
@@ -390,6 +390,9 @@ module _ (all : List Mention) where
           uses : uses_type m ≡ true
           uses = ap (λ (k : MentionKind). is_some (used_type_name k)) is
 
+          of-itself : same_name (used_type_name m.kind) (used_type_name m.kind) ≡ true
+          of-itself = rw is (own-text n)
+
           not_world : is_world m.kind ≡ false
           not_world = ap is_world is
 
@@ -478,7 +481,7 @@ module _ (all : List Mention) where
           type-place none =
               ap (λ (l : List Mention). position_or_len (same_type m) (firsts same_type (filter uses_type l))) is_all
               ∙ ap (λ (l : List Mention). position_or_len (same_type m) (firsts same_type l)) (filter-append uses_type ks (m ∷ rest) ∙ rw uses refl)
-              ∙ place-new same_type type-turn type-through (filter uses_type ks) (filter uses_type rest) m none (rw (own-item m) uses)
+              ∙ place-new same_type type-turn type-through (filter uses_type ks) (filter uses_type rest) m none (rw (own-item m) of-itself)
 
           -- the interface with its type
           with-type : find (same_type m) (filter uses_type ks) ≡ None
