@@ -5,5 +5,5 @@ mod Named
 mod Outcomes
 mod PackagePaths
 mod Paths
-mod Unshaped
+mod FirstUnshaped
 mod Within

@@ -2,7 +2,7 @@ use Rattle.std.proofs.Common.{subst, sym}
 use Rattle.wit_resolve_graph.specs.Step.{IsCommandShaped}
 use Rattle.wit_resolve_graph.specs.declared.command.Command.{Command}
 use Rattle.wit_json_commands.proofs.EachAnswered.{shaped_command}
-use Rattle.wit_json_commands.proofs.Unshaped.{change_shaped, lack_answered}
+use Rattle.wit_json_commands.proofs.FirstUnshaped.{change_shaped, lack_answered}
 use Rattle.wit_json_commands.proofs.runs.changes.answer_change.Goals as goal
 
 pub answer_command-requires : goal.answer_command-requires

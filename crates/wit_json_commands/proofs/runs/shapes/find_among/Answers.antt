@@ -1,7 +1,7 @@
 use Rattle.std.proofs.Common.{refl}
 use Rattle.std.proofs.lemmas.Option.{slice_get_read}
 use Rattle.wit_data.specs.facts.EachFacts.{all_of}
-use Rattle.wit_json_commands.proofs.Unshaped.{nested_told, one_package}
+use Rattle.wit_json_commands.proofs.FirstUnshaped.{nested_told, one_package}
 use Rattle.wit_json_commands.proofs.runs.shapes.find_among.Goals as goal
 
 pub returns-in-Some : goal.returns-in-Some

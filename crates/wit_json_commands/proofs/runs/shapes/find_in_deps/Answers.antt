@@ -1,7 +1,7 @@
 use Rattle.std.proofs.Common.{refl}
 use Rattle.std.proofs.lemmas.Option.{slice_get_read}
 use Rattle.wit_data.specs.facts.EachFacts.{all_of}
-use Rattle.wit_json_commands.proofs.Unshaped.{deps_told, one_group}
+use Rattle.wit_json_commands.proofs.FirstUnshaped.{deps_told, one_group}
 use Rattle.wit_json_commands.proofs.runs.shapes.find_in_deps.Goals as goal
 
 pub returns-in-Some : goal.returns-in-Some

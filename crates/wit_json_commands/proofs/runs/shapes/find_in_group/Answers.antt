@@ -1,6 +1,6 @@
 use Rattle.std.proofs.Common.{subst}
 use Rattle.wit_json_commands.specs.steps.Searching.{TellsNested}
-use Rattle.wit_json_commands.proofs.Unshaped.{group_shaped, group_told, has_shape, main_told}
+use Rattle.wit_json_commands.proofs.FirstUnshaped.{group_shaped, group_told, has_shape, main_told}
 use Rattle.wit_json_commands.proofs.runs.shapes.find_in_group.Goals as goal
 
 pub returns-in-Some : goal.returns-in-Some

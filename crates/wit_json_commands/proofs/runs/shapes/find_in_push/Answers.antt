@@ -1,4 +1,4 @@
-use Rattle.wit_json_commands.proofs.Unshaped.{push_main, push_told}
+use Rattle.wit_json_commands.proofs.FirstUnshaped.{push_main, push_told}
 use Rattle.wit_json_commands.proofs.runs.shapes.find_in_push.Goals as goal
 
 pub returns-in-Some : goal.returns-in-Some
