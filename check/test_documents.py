@@ -74,7 +74,7 @@ PLANTED = {
     "a check that has no word": ("check/README.md", "`script_documents.py` | the same", "| the same"),
     "a crate for users without its page": ("docs/ARCHITECTURE.md", "- wit_labels: renamed", "- **wit_labels**: renamed"),
     "a tool of check": ("check/README.md", "`check/whole/test_graphs.py` changes", "`check/whole/test_graph.py` changes"),
-    "a mean of PERFORMANCE": ("docs/PERFORMANCE.md", "| 0.75 | 0.73 | 1.01 |", "| 0.65 | 0.73 | 1.01 |"),
+    "a mean of PERFORMANCE": ("docs/PERFORMANCE.md", "| 0.75 | 0.73 | 0.85 |", "| 0.65 | 0.73 | 1.01 |"),
     "whether a call takes memory": ("docs/FROM_WIT_PARSER.md", "`all_bits_valid(Type_)`, no memory", "`all_bits_valid(Type_)`"),
     "a case that shows a refusal": ("docs/REFUSALS.md", "`a_place_that_passes_the_end_is_told`", "`a_place_past_the_end_is_told`"),
     "a field of a type": ("docs/FROM_WIT_PARSER.md", "`Param { name, ty, span }`", "`Param { name, kind, span }`"),
